@@ -1,0 +1,9 @@
+pub mod Faults
+pub mod Idents
+pub mod Messages
+pub mod Moments
+pub mod Names
+pub mod Refusals
+pub mod Tags
+pub mod VersionReading
+pub mod Versions

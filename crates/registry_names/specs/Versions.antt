@@ -1,0 +1,41 @@
+-- Versions of SemVer 2.0.0 without build metadata, of at most 256 characters, with numbers of at
+-- most 9007199254740991.
+use Rattle.std.specs.Prelude.{◌≡◌, ◌≤◌, ℕ, true, List, [], length}
+use Rattle.std.specs.Ordering.{nat_cmp, ordering_then}
+use Rattle.std.specs.declared.cmp.Ordering.{Ordering}
+use Rattle.semver.specs.Grammar.{is_pre_release}
+use Rattle.semver.specs.Identifiers.{parts_text}
+use Rattle.semver.specs.Order.{pre_cmp}
+
+-- the three numbers, and the prerelease, which is empty for a release
+pub record VersionParts : Type 0 where
+  pub major : ℕ
+  pub minor : ℕ
+  pub patch : ℕ
+  pub pre : List ℕ
+
+-- 2^53 - 1, the greatest number that every JavaScript client reads as it is
+abbrev pub greatest_number : ℕ
+greatest_number = 9007199254740991
+
+abbrev pub longest_version : ℕ
+longest_version = 256
+
+-- the numbers in decimal with dots between, and behind a hyphen the prerelease
+abbrev pub text_of_version : VersionParts → List ℕ
+text_of_version v = parts_text (v.major, v.minor, v.patch, v.pre, [])
+
+-- the text is the version of these parts
+abbrev pub IsVersionOf : List ℕ → VersionParts → Type 0
+IsVersionOf t v = (t ≡ text_of_version v) × (length t ≤ longest_version) × (v.major ≤ greatest_number)
+    × (v.minor ≤ greatest_number) × (v.patch ≤ greatest_number) × (is_pre_release v.pre ≡ true)
+
+-- the text is a version
+abbrev pub IsVersion : List ℕ → Type 0
+IsVersion t = (v : VersionParts) × IsVersionOf t v
+
+-- Precedence (SemVer 2.0.0, item 11): by the numbers in turn, then by the prerelease, which a
+-- version without one is above.
+abbrev pub precedence : VersionParts → VersionParts → Ordering
+precedence a b = ordering_then (nat_cmp a.major b.major) (ordering_then (nat_cmp a.minor b.minor)
+    (ordering_then (nat_cmp a.patch b.patch) (pre_cmp a.pre b.pre)))

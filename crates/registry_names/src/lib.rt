@@ -1,0 +1,32 @@
+//! The words that every other crate of the registry speaks: names, versions, tags, messages and
+//! moments, each a type whose values are exactly the texts or numbers in form; the refusals and
+//! faults that an answer can be, with what is printed of them; texts and bytes as contracts see
+//! them; and the ends that bytes come in by and go out by.
+//!
+//! A value exists exactly for a text in form, and its text is the text that was read.
+#![tactic(auto)]
+
+mod blob;
+mod ident;
+mod message;
+mod moment;
+mod name;
+mod refusal;
+mod status;
+mod stop;
+mod tag;
+mod text;
+mod version;
+
+
+pub use crate::blob::Blob;
+pub use crate::ident::Ident;
+pub use crate::message::Message;
+pub use crate::moment::Moment;
+pub use crate::name::Name;
+pub use crate::refusal::{Refusal, Rule};
+pub use crate::status::Status;
+pub use crate::stop::{Fault, Stop};
+pub use crate::tag::TagText;
+pub use crate::text::Text;
+pub use crate::version::Ver;

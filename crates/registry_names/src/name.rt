@@ -1,0 +1,136 @@
+//! The names of packages.
+
+ghost use Rattle.std.specs.Prelude.{◌≡◌, ◌⊎◌, List, ℕ, string_bytes, Option, option_map, IfOk, IfErr, MatchOption};
+ghost use Rattle.std.specs.List.{list_all};
+ghost use Rattle.std.specs.Str.{bytes_eq};
+ghost use Rattle.registry_names.specs.Names as spec;
+ghost use Rattle.registry_names.specs.Names.{is_name_char, IsNameOf, IsName};
+
+use crate::ident::{is_ident, is_ident_byte, starts_alnum};
+use crate::refusal::Refusal;
+use crate::stop::{Fault, Stop};
+use std::alloc::Global;
+use std::marker::Model;
+
+const LONGEST: usize = 214;
+
+fn is_name_byte(byte: u8) -> bool
+    ensures { result ≡ is_name_char byte }
+{
+    is_ident_byte(byte) || byte == b'.'
+}
+
+fn all_name_bytes(text: &[u8]) -> bool
+    ensures { result ≡ list_all is_name_char text.now }
+{
+    text.iter().all(|byte| is_name_byte(*byte))
+}
+
+fn is_same(text: &str, other: &str) -> bool
+    ensures { result ≡ bytes_eq text.now other.now }
+{
+    text == other
+}
+
+fn is_plain_part(text: &str) -> bool
+    ensures { result ≡ spec.is_plain_part text.now }
+{
+    starts_alnum(text.as_bytes())
+        && all_name_bytes(text.as_bytes())
+        && !is_same(text, "node_modules")
+        && !is_same(text, "favicon.ico")
+}
+
+fn is_scoped_part(text: &str) -> bool
+    ensures { result ≡ spec.is_scoped_part text.now }
+{
+    !text.is_empty()
+        && all_name_bytes(text.as_bytes())
+        && !is_same(text, ".")
+        && !is_same(text, "..")
+}
+
+// The scope, if any, and the part of a name.
+fn parts(text: &str) -> Option<(Option<&str>, &str)>
+    ensures { MatchOption result (¬ IsName text.now)
+        (λ p. IsNameOf text.now (option_map (λ s. s.now) p.0) p.1.now) }
+{
+    if text.len() > LONGEST {
+        return None;
+    }
+    let Some(rest) = text.strip_prefix('@') else {
+        return if is_plain_part(text) { Some((None, text)) } else { None };
+    };
+    let (scope, part) = rest.split_once('/')?;
+    if is_ident(scope) && is_scoped_part(part) {
+        Some((Some(scope), part))
+    } else {
+        None
+    }
+}
+
+/// The name of a package, as npm has it: `part`, or `@scope/part`, of at most 214 characters.
+///
+/// A part has characters of `a-z 0-9 - _ .`. Without a scope it begins with a letter or digit,
+/// and is neither `node_modules` nor `favicon.ico`; with one it may begin with any of them, and
+/// is neither `.` nor `..`. A scope is the name of an organisation ([`Ident`](crate::Ident)).
+/// Contracts see its text.
+#[derive(Debug, Drop)]
+pub struct Name {
+    text: String,
+}
+
+impl Model for Name {
+    ghost Value = { List ℕ };
+
+    ghost view = { λ n. string_bytes n.text };
+
+    ghost invariant = { λ n. IsName (string_bytes n.text) };
+}
+
+impl Name {
+    /// Reads a name.
+    ///
+    /// `BadName` comes exactly for a text that is none, and `Memory` where no memory is left.
+    pub fn parse(alloc: Global, text: &str) -> Result<Name, Stop>
+        ensures ok { IfOk result (λ n. (n ≡ text.now) × IsName text.now) }
+        ensures err { IfErr result (λ e. (e ≡ Stop.Fault Fault.Memory)
+            ⊎ ((e ≡ Stop.Refused Refusal.BadName) × (¬ IsName text.now))) }
+        ensures refused { (¬ IsName text.now) → result ≡ Err (Stop.Refused Refusal.BadName) }
+    {
+        if parts(text).is_none() {
+            return Err(Stop::Refused(Refusal::BadName));
+        }
+        Ok(Name {
+            text: String::from_str(alloc, text)?,
+        })
+    }
+
+    /// The text that was read.
+    pub fn text(&self) -> &str
+        ensures text { result.now ≡ self.now }
+        ensures form { IsName self.now }
+    {
+        self.text.as_str()
+    }
+
+    /// The scope without its `@`, which is an organisation's name. None where the name has none.
+    pub fn scope(&self) -> Option<&str>
+        ensures { (p : List ℕ) × IsNameOf self.now (option_map (λ s. s.now) result) p }
+    {
+        match parts(self.text.as_str()) {
+            Some((scope, _)) => scope,
+            None => None,
+        }
+    }
+
+    /// The part behind the scope, which is the whole name where there is no scope.
+    pub fn part(&self) -> &str
+        ensures { (s : Option (List ℕ)) × IsNameOf self.now s result.now }
+    {
+        match parts(self.text.as_str()) {
+            Some((_, part)) => part,
+            None => unreachable!(),
+        }
+    }
+}

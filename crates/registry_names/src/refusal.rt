@@ -1,0 +1,157 @@
+//! Why the registry turns a request away, and what is printed of it.
+
+ghost use Rattle.std.specs.Prelude.{◌≡◌};
+ghost use Rattle.registry_names.specs.Refusals as spec;
+ghost use Rattle.registry_names.specs.Refusals.{refusal_status, refusal_text};
+
+/// A rule of access: who may do what. Its name is printed behind `Denied`.
+#[derive(Clone, Copy, Debug, PartialEq, Eq, Hash)]
+pub enum Rule {
+    /// The operator manages users, tokens and organisations.
+    A1,
+    /// An owner of an organisation manages its members.
+    A2,
+    /// An owner or an admin of an organisation manages its teams and their grants.
+    A3,
+    /// A member of an organisation, in any role, publishes a new name of its scope.
+    A4,
+    /// Any user publishes a new name that has no scope.
+    A5,
+    /// Whoever may write a package publishes its further versions, and changes its status, its
+    /// tags and its deprecations, and withdraws its versions.
+    A6,
+    /// A maintainer of a package manages its maintainers.
+    A7,
+    /// Whoever may read a package sees it.
+    A8,
+    /// A member of an organisation sees its members, its teams and their grants.
+    A9,
+}
+
+/// Why a request is turned away, in the order in which the reasons are tested: where several
+/// hold, the first is answered.
+#[derive(Clone, Copy, Debug, PartialEq, Eq, Hash)]
+pub enum Refusal {
+    /// A text is no name of a package, a user, an organisation or a team.
+    BadName,
+    /// A text is no version.
+    BadVersion,
+    /// A tag could be read as a range of versions.
+    RangeTag,
+    /// A text is no tag.
+    BadTag,
+    /// A body, or a value in it, isn't what is asked for.
+    BadBody,
+    /// A manifest states an integrity that isn't the archive's.
+    BadIntegrity,
+    /// A body has more bytes than are read.
+    TooLarge,
+    /// Nobody is known by the credential, or a request needs a user and has none.
+    NoCaller,
+    /// What is named isn't there, or the caller may not see it.
+    NotFound,
+    /// The caller may see it, and the rule doesn't let him do it.
+    Denied(Rule),
+    /// The version is published already.
+    Published,
+    /// The version was published once and withdrawn: its number is never used again.
+    Spent,
+    /// The version was published too long ago to be withdrawn.
+    TooLate,
+    /// A version of another package needs this one.
+    Depended,
+    /// `latest` can't be removed while a version lives.
+    KeepsLatest,
+    /// A text selects no versions.
+    BadSelector,
+    /// The last owner of an organisation, or the last maintainer of a package, would go.
+    LastOwner,
+    /// The team `developers` can't be destroyed.
+    KeepsDevelopers,
+    /// What would be made is there already.
+    Exists,
+    /// A package of another scope can't be granted.
+    OtherScope,
+    /// A package without a scope can't be restricted.
+    AlwaysPublic,
+    /// Too little time has passed since the last version was withdrawn.
+    Waiting,
+}
+
+impl Refusal {
+    /// The name that is printed, as `BadName`; behind `Denied` the rule's, as `Denied A6`.
+    pub fn text(self) -> &'static str
+        ensures { result.now ≡ refusal_text self }
+    {
+        match self {
+            Refusal::BadName => "BadName",
+            Refusal::BadVersion => "BadVersion",
+            Refusal::RangeTag => "RangeTag",
+            Refusal::BadTag => "BadTag",
+            Refusal::BadBody => "BadBody",
+            Refusal::BadIntegrity => "BadIntegrity",
+            Refusal::TooLarge => "TooLarge",
+            Refusal::NoCaller => "NoCaller",
+            Refusal::NotFound => "NotFound",
+            Refusal::Denied(rule) => denied_text(rule),
+            Refusal::Published => "Published",
+            Refusal::Spent => "Spent",
+            Refusal::TooLate => "TooLate",
+            Refusal::Depended => "Depended",
+            Refusal::KeepsLatest => "KeepsLatest",
+            Refusal::BadSelector => "BadSelector",
+            Refusal::LastOwner => "LastOwner",
+            Refusal::KeepsDevelopers => "KeepsDevelopers",
+            Refusal::Exists => "Exists",
+            Refusal::OtherScope => "OtherScope",
+            Refusal::AlwaysPublic => "AlwaysPublic",
+            Refusal::Waiting => "Waiting",
+        }
+    }
+
+    /// The HTTP status code (RFC 9110) of a response that says so.
+    pub fn status(self) -> u16
+        ensures { result ≡ refusal_status self }
+    {
+        match self {
+            Refusal::BadName
+            | Refusal::BadVersion
+            | Refusal::RangeTag
+            | Refusal::BadTag
+            | Refusal::BadBody
+            | Refusal::BadIntegrity
+            | Refusal::BadSelector => 400,
+            Refusal::TooLarge => 413,
+            Refusal::NoCaller => 401,
+            Refusal::NotFound => 404,
+            Refusal::Denied(_) => 403,
+            Refusal::Published
+            | Refusal::Spent
+            | Refusal::TooLate
+            | Refusal::Depended
+            | Refusal::KeepsLatest
+            | Refusal::LastOwner
+            | Refusal::KeepsDevelopers
+            | Refusal::Exists
+            | Refusal::OtherScope
+            | Refusal::AlwaysPublic
+            | Refusal::Waiting => 409,
+        }
+    }
+}
+
+fn denied_text(rule: Rule) -> &'static str
+    ensures { result.now ≡ spec.denied_text rule }
+{
+    match rule {
+        Rule::A1 => "Denied A1",
+        Rule::A2 => "Denied A2",
+        Rule::A3 => "Denied A3",
+        Rule::A4 => "Denied A4",
+        Rule::A5 => "Denied A5",
+        Rule::A6 => "Denied A6",
+        Rule::A7 => "Denied A7",
+        Rule::A8 => "Denied A8",
+        Rule::A9 => "Denied A9",
+    }
+}

@@ -1,0 +1,10 @@
+//! Who may read a package.
+
+/// Who may read a package without being granted it.
+#[derive(Clone, Copy, Debug, PartialEq, Eq, Hash)]
+pub enum Status {
+    /// Everybody.
+    Public,
+    /// Nobody: it looks as if it had never been published.
+    Restricted,
+}

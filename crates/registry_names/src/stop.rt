@@ -1,0 +1,90 @@
+//! Why nothing is answered: a refusal, or a fault.
+
+ghost use Rattle.std.specs.Prelude.{◌≡◌};
+ghost use Rattle.registry_names.specs.Faults.{fault_status, fault_text};
+ghost use Rattle.registry_names.specs.declared.stop.Stop.TheVariants.{Fault as Faulted};
+ghost use Rattle.registry_names.specs.declared.stop.Fault.TheVariants.{Memory};
+
+use crate::refusal::Refusal;
+use std::alloc::{AllocError, AllocFailed};
+
+/// What went wrong in the machine. A fault may come at any place instead of an answer, and it
+/// changes nothing.
+#[derive(Clone, Copy, Debug, PartialEq, Eq, Hash)]
+pub enum Fault {
+    /// No memory was left.
+    Memory,
+    /// The database failed, or held what the registry never writes.
+    Database,
+}
+
+impl Fault {
+    /// The name that is printed, as `Memory`.
+    pub fn text(self) -> &'static str
+        ensures { result.now ≡ fault_text self }
+    {
+        match self {
+            Fault::Memory => "Memory",
+            Fault::Database => "Database",
+        }
+    }
+
+    /// The HTTP status code (RFC 9110) of a response that says so.
+    pub fn status(self) -> u16
+        ensures { result ≡ fault_status self }
+    {
+        match self {
+            Fault::Memory => 503,
+            Fault::Database => 500,
+        }
+    }
+}
+
+/// Why a call answers nothing. It hands out nothing then.
+#[derive(Clone, Copy, Debug, PartialEq, Eq, Hash)]
+pub enum Stop {
+    /// The request is turned away.
+    Refused(Refusal),
+    /// The machine failed.
+    Fault(Fault),
+}
+
+impl From<AllocError> for Fault {
+    ghost from_gives = { λ _ fault. fault ≡ Memory };
+
+    fn from(_error: AllocError) -> Fault {
+        Fault::Memory
+    }
+}
+
+impl<T: Drop> From<AllocFailed<T>> for Fault {
+    ghost from_gives = { λ _ fault. fault ≡ Memory };
+
+    fn from(_error: AllocFailed<T>) -> Fault {
+        Fault::Memory
+    }
+}
+
+impl From<AllocError> for Stop {
+    ghost from_gives = { λ _ stop. stop ≡ Faulted Memory };
+
+    fn from(_error: AllocError) -> Stop {
+        Stop::Fault(Fault::Memory)
+    }
+}
+
+impl<T: Drop> From<AllocFailed<T>> for Stop {
+    ghost from_gives = { λ _ stop. stop ≡ Faulted Memory };
+
+    fn from(_error: AllocFailed<T>) -> Stop {
+        Stop::Fault(Fault::Memory)
+    }
+}
+
+impl From<Fault> for Stop {
+    ghost from_gives = { λ fault stop. stop ≡ Faulted fault };
+
+    fn from(fault: Fault) -> Stop {
+        Stop::Fault(fault)
+    }
+}

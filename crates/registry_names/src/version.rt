@@ -1,0 +1,104 @@
+//! Versions.
+
+ghost use Rattle.std.specs.Prelude.{◌≡◌, ◌≢◌, ◌⊎◌, IfOk, IfErr, false};
+ghost use Rattle.semver.specs.Identifiers.{parts_of};
+ghost use Rattle.semver.specs.Parse.{memory_error};
+ghost use Rattle.registry_names.specs.VersionReading as spec;
+ghost use Rattle.registry_names.specs.Versions.{IsVersion, IsVersionOf, precedence, text_of_version};
+
+use crate::refusal::Refusal;
+use crate::stop::{Fault, Stop};
+use semver::{Error, Version};
+use std::alloc::{AllocError, Global};
+use std::cmp::Ordering;
+use std::marker::Model;
+
+const LONGEST: usize = 256;
+
+/// 2^53 - 1, the greatest number that every JavaScript client reads as it is.
+const GREATEST_NUMBER: u64 = 9_007_199_254_740_991;
+
+// Whether reading stopped for want of memory.
+fn is_memory(error: Error) -> bool
+    ensures { result ≡ false → error ≢ memory_error }
+{
+    error == Error::from(AllocError)
+}
+
+fn in_profile(version: &Version) -> bool
+    ensures { result ≡ spec.in_profile (parts_of version.now) }
+{
+    version.major <= GREATEST_NUMBER
+        && version.minor <= GREATEST_NUMBER
+        && version.patch <= GREATEST_NUMBER
+        && version.build.as_str().is_empty()
+}
+
+/// A version of [SemVer 2.0.0](https://semver.org/spec/v2.0.0.html) without build metadata, of at
+/// most 256 characters, its numbers at most 9007199254740991. So two versions of one precedence
+/// are one version. Contracts see its parts.
+#[derive(Debug, Drop)]
+pub struct Ver {
+    text: String,
+    version: Version,
+}
+
+impl Model for Ver {
+    ghost use Rattle.std.specs.Prelude.{string_bytes};
+    ghost use Rattle.semver.specs.Identifiers.{pre_text};
+    ghost use Rattle.registry_names.specs.Versions.{VersionParts, IsVersionOf};
+
+    ghost Value = { VersionParts };
+
+    ghost view = { λ v. record { major = v.version.major; minor = v.version.minor; patch = v.version.patch; pre = pre_text v.version.pre } };
+
+    ghost invariant = { λ v. IsVersionOf (string_bytes v.text) (record { major = v.version.major; minor = v.version.minor; patch = v.version.patch; pre = pre_text v.version.pre }) };
+}
+
+impl Ver {
+    /// Reads a version.
+    ///
+    /// `BadVersion` comes for no other text than one that is no version, and `Memory` where no
+    /// memory is left, which may be before such a text is read to its end.
+    pub fn parse(alloc: Global, text: &str) -> Result<Ver, Stop>
+        ensures ok { IfOk result (λ v. IsVersionOf text.now v) }
+        ensures err { IfErr result (λ e. (e ≡ Stop.Fault Fault.Memory)
+            ⊎ ((e ≡ Stop.Refused Refusal.BadVersion) × (¬ IsVersion text.now))) }
+    {
+        if text.len() > LONGEST {
+            return Err(Stop::Refused(Refusal::BadVersion));
+        }
+        let version = match Version::parse(alloc, text) {
+            Ok(version) => version,
+            Err(error) => {
+                return if is_memory(error) {
+                    Err(Stop::Fault(Fault::Memory))
+                } else {
+                    Err(Stop::Refused(Refusal::BadVersion))
+                };
+            }
+        };
+        if !in_profile(&version) {
+            return Err(Stop::Refused(Refusal::BadVersion));
+        }
+        Ok(Ver {
+            text: String::from_str(alloc, text)?,
+            version,
+        })
+    }
+
+    /// The text that was read.
+    pub fn text(&self) -> &str
+        ensures text { result.now ≡ text_of_version self.now }
+        ensures form { IsVersionOf result.now self.now }
+    {
+        self.text.as_str()
+    }
+
+    /// The order by precedence (SemVer 2.0.0, item 11).
+    pub fn cmp(&self, other: &Ver) -> Ordering
+        ensures { result ≡ precedence self.now other.now }
+    {
+        self.version.cmp_precedence(&other.version)
+    }
+}
