@@ -26,7 +26,7 @@ pub not_kept : (t : List ℕ) (p : Parts) → version_parts t ≡ Ok p → in_pr
 not_kept t p h out (v, i) =
     let same : p ≡ (v.major, v.minor, v.patch, v.pre, []) = cc (reads t v i) in
     let yes : in_profile (v.major, v.minor, v.patch, v.pre, []) ≡ true =
-        both (both (both (le-leb v.major greatest_number i.2) (le-leb v.minor greatest_number i.3)) (le-leb v.patch greatest_number i.4)) refl in
+    both (both (both (le-leb v.major greatest_number i.2) (le-leb v.minor greatest_number i.3)) (le-leb v.patch greatest_number i.4)) refl in
     true≢false (sym yes ∙ (sym (ap in_profile same) ∙ out))
 
 none_left : (l : List ℕ) → (length l == 0) ≡ true → l ≡ []

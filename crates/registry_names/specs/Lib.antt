@@ -1,9 +1,12 @@
 pub mod Faults
 pub mod Idents
+pub mod Keys
+pub mod Maps
 pub mod Messages
 pub mod Moments
 pub mod Names
 pub mod Refusals
 pub mod Tags
+pub mod Texts
 pub mod VersionReading
 pub mod Versions

@@ -7,6 +7,7 @@
 #![tactic(auto)]
 
 mod blob;
+mod dist_tag;
 mod ident;
 mod message;
 mod moment;
@@ -15,11 +16,13 @@ mod refusal;
 mod status;
 mod stop;
 mod tag;
+#[cfg(test)]
+mod tests;
 mod text;
 mod version;
 
-
 pub use crate::blob::Blob;
+pub use crate::dist_tag::DistTag;
 pub use crate::ident::Ident;
 pub use crate::message::Message;
 pub use crate::moment::Moment;

@@ -59,7 +59,11 @@ fn parts(text: &str) -> Option<(Option<&str>, &str)>
         return None;
     }
     let Some(rest) = text.strip_prefix('@') else {
-        return if is_plain_part(text) { Some((None, text)) } else { None };
+        return if is_plain_part(text) {
+            Some((None, text))
+        } else {
+            None
+        };
     };
     let (scope, part) = rest.split_once('/')?;
     if is_ident(scope) && is_scoped_part(part) {

@@ -19,10 +19,10 @@ returns-in_err-scope c =
 pub returns-else-is_ident : goal.returns-else-is_ident
 returns-else-is_ident c =
     let bad : (is_ident c.in_ok-scope.scope.now && is_scoped_part c.in_ok-scope.part.now) ≡ false =
-        elim c.else-is_ident.branch [
-          | else-is_ident-via-then-is_ident+else-is_scoped_part w ↦ rw (← c.is_ident.ensures, ← w.is_scoped_part.ensures, w.if-is_ident.true, w.if-is_scoped_part.false) refl
-          | else-is_ident-via-else-is_ident w ↦ rw (← c.is_ident.ensures, w.if-is_ident.false) refl
-        ] in
+    elim c.else-is_ident.branch [
+      | else-is_ident-via-then-is_ident+else-is_scoped_part w ↦ rw (← c.is_ident.ensures, ← w.is_scoped_part.ensures, w.if-is_ident.true, w.if-is_scoped_part.false) refl
+      | else-is_ident-via-else-is_ident w ↦ rw (← c.is_ident.ensures, w.if-is_ident.false) refl
+    ] in
     no_unsplit_name c.args.text.now c.in-Some.rest.now c.split_once.result
     (rw c.in-Some.is at (strip_prefix_char 64 _ _ c.strip_prefix.ensures.cases (lit< tt)))
     c.split_once.ensures.cases (rw c.in_ok-scope.was bad)

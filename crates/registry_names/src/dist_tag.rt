@@ -1,0 +1,12 @@
+//! Dist-tags.
+
+use crate::text::Text;
+
+/// A dist-tag of a package, and the version that it names.
+#[derive(Debug, PartialEq, Eq, Drop)]
+pub struct DistTag {
+    /// The tag, as `latest`.
+    pub tag: Text,
+    /// The version, as `1.0.0`.
+    pub version: Text,
+}
