@@ -40,6 +40,10 @@ kept_out true true x y n h = absurd (true≢false (h refl))
 kept_out true false x y n h = refl
 kept_out false t x y n h = refl
 
+agree_in : {A : Type 0} (b : Bool) (x y n : A) → (b ≡ true → x ≡ y) → cond b x n ≡ cond b y n
+agree_in true x y n h = h refl
+agree_in false x y n h = refl
+
 kept_none : {A : Type 0} (s t : Bool) (y n : A) → cond t (cond s n y) n ≡ cond s n (cond t y n)
 kept_none true true y n = refl
 kept_none true false y n = refl
@@ -143,10 +147,19 @@ module _ {K X : Type 0} {cmp : K → K → Ordering} {same : K → K → Bool} (
       at-keep key (erase m q) test k ∙ ap (λ o. cond (test k) o None) (at-erase key m q k) ∙ kept_none (same q k) (test k) _ _
       ∙ sym (at-erase key (keep m test) q k ∙ ap (cond (same q k) None) (at-keep key m test k)))
 
+  pub keep_erase_out : (m : MapBy cmp X) (test : K → Bool) (q : K) → test q ≡ false → keep (erase m q) test ≡ keep m test
+  keep_erase_out m test q t = same_map key _ _ (λ k.
+      at-keep key (erase m q) test k ∙ ap (λ o. cond (test k) o None) (at-erase key m q k) ∙ kept_out (same q k) (test k) _ _ _ (λ s. sym (ap test (same_true key q k s)) ∙ t)
+      ∙ sym (at-keep key m test k))
+
   pub keep_keep : (m : MapBy cmp X) (first second : K → Bool) → keep (keep m first) second ≡ keep m (λ k. first k && second k)
   keep_keep m first second = same_map key _ _ (λ k.
       at-keep key (keep m first) second k ∙ ap (λ o. cond (second k) o None) (at-keep key m first k) ∙ kept_twice (first k) (second k) _ _
       ∙ sym (at-keep key m (λ q. first q && second q) k))
+
+  -- maps that agree at each key that passes the test are one in what is kept
+  pub keep_agree : (m n : MapBy cmp X) (test : K → Bool) → ((k : K) → test k ≡ true → at m k ≡ at n k) → keep m test ≡ keep n test
+  keep_agree m n test h = same_map key _ _ (λ k. at-keep key m test k ∙ agree_in (test k) _ _ None (h k) ∙ sym (at-keep key n test k))
 
   -- tests that agree at each key of the map keep the same
   pub keep_alike : (m : MapBy cmp X) (f g : K → Bool) → ((k : K) (x : X) → at m k ≡ Some x → f k ≡ g k) → keep m f ≡ keep m g

@@ -3,7 +3,7 @@ use Rattle.std.proofs.Common.{◌≡◌, Bool, true, false, cond, List, [], ◌�
 use Rattle.std.specs.FinMap as fin
 use Rattle.registry_names.specs.Keys.{IsKey}
 use Rattle.registry_names.specs.Maps.{MapBy, empty, at, put, erase, keep, entries, revise, rows, first_at}
-use Rattle.registry_names.proofs.KeyFacts.{same_true, look_up_test}
+use Rattle.registry_names.proofs.KeyFacts.{same_true, same_self, look_up_test}
 
 module _ {K X : Type 0} {cmp : K → K → Ordering} {same : K → K → Bool} (key : IsKey cmp same) where
   pub at-empty : (k : K) → at (empty {X = X} {cmp = cmp}) k ≡ None
@@ -14,9 +14,21 @@ module _ {K X : Type 0} {cmp : K → K → Ordering} {same : K → K → Bool} (
   unfolding at put
   at-put m q x k = fin.get-insert key.total m q x k ∙ ap (λ b. cond b (Some x) (fin.get m k)) (look_up_test key k q)
 
+  pub at-put_same : (m : MapBy cmp X) (q : K) (x : X) → at (put m q x) q ≡ Some x
+  at-put_same m q x = at-put m q x q ∙ ap (λ b. cond b (Some x) (at m q)) (same_self key q)
+
+  pub at-put_other : (m : MapBy cmp X) (q : K) (x : X) (k : K) → same q k ≡ false → at (put m q x) k ≡ at m k
+  at-put_other m q x k differ = at-put m q x k ∙ ap (λ b. cond b (Some x) (at m k)) differ
+
   pub at-erase : (m : MapBy cmp X) (q k : K) → at (erase m q) k ≡ cond (same q k) None (at m k)
   unfolding at erase
   at-erase m q k = fin.get-remove key.total m q k ∙ ap (λ b. cond b None (fin.get m k)) (look_up_test key k q)
+
+  pub at-erase_same : (m : MapBy cmp X) (q : K) → at (erase m q) q ≡ None
+  at-erase_same m q = at-erase m q q ∙ ap (λ b. cond b None (at m q)) (same_self key q)
+
+  pub at-erase_other : (m : MapBy cmp X) (q k : K) → same q k ≡ false → at (erase m q) k ≡ at m k
+  at-erase_other m q k differ = at-erase m q k ∙ ap (λ b. cond b None (at m k)) differ
 
   pub at-keep : (m : MapBy cmp X) (test : K → Bool) (k : K) → at (keep m test) k ≡ cond (test k) (at m k) None
   unfolding at keep

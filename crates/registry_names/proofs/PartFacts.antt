@@ -1,5 +1,5 @@
 -- The part of a map under a first text.
-use Rattle.std.proofs.Common.{◌≡◌, Bool, true, false, cond, not, ◌&&◌, List, [], ◌∷◌, map, is_some, refl, sym, ap, ◌∙◌, Ordering, is_lt, Some, None, Option, option_map, filter}
+use Rattle.std.proofs.Common.{◌≡◌, Bool, true, false, cond, not, ◌&&◌, ◌||◌, List, [], ◌∷◌, map, is_some, refl, sym, ap, ◌∙◌, Ordering, is_lt, Some, None, Option, option_map, filter}
 use Rattle.std.specs.Ordering.{ordering_then}
 use Rattle.std.specs.FinMap.Entries.{below_all}
 use Rattle.std.specs.Cmp.{tied_itself}
@@ -89,6 +89,26 @@ module _ {R X : Type 0} {cmp : R → R → Ordering} {same : R → R → Bool} (
 
   pub part-erase : (m : MapBy (by_first cmp) X) (q : Text) (r : R) (p : Text) → is q p ≡ false → part cmp (erase m (q, r)) p ≡ part cmp m p
   part-erase m q r p d = same_part _ _ p (λ k. at-erase (first_key rest) m (q, r) (p, k) ∙ ap (λ b. cond b None (at m (p, k))) (other same p q k r d))
+
+  -- who is in a part after a put, and after an erasure
+
+  pub any-put : (m : MapBy (by_first cmp) X) (p : Text) (r : R) (x : X) (k : R) → among same (keys (part cmp (put m (p, r) x) p)) k ≡ (same r k || among same (keys (part cmp m p)) k)
+  any-put m p r x k =
+      any-part (put m (p, r) x) p k ∙ ap is_some (at-put (first_key rest) m (p, r) x (p, k) ∙ ap (λ b. cond (b && same r k) (Some x) (at m (p, k))) (is_self p))
+      ∙ some_or (same r k) (at m (p, k)) ∙ ap (λ b. same r k || b) (sym (any-part m p k))
+    where
+      some_or : (b : Bool) (o : Option X) → is_some (cond b (Some x) o) ≡ (b || is_some o)
+      some_or true o = refl
+      some_or false o = refl
+
+  pub any-erase : (m : MapBy (by_first cmp) X) (p : Text) (r k : R) → among same (keys (part cmp (erase m (p, r)) p)) k ≡ (not (same r k) && among same (keys (part cmp m p)) k)
+  any-erase m p r k =
+      any-part (erase m (p, r)) p k ∙ ap is_some (at-erase (first_key rest) m (p, r) (p, k) ∙ ap (λ b. cond (b && same r k) None (at m (p, k))) (is_self p))
+      ∙ none_and (same r k) (at m (p, k)) ∙ ap (λ b. not (same r k) && b) (sym (any-part m p k))
+    where
+      none_and : (b : Bool) (o : Option X) → is_some (cond b None o) ≡ (not b && is_some o)
+      none_and true o = refl
+      none_and false o = refl
 
   -- what is kept of a part
   pub part-keep : (m : MapBy (by_first cmp) X) (test : Text × R → Bool) (p : Text) → part cmp (keep m test) p ≡ filter (λ (e : R × X). test (p, e.0)) (part cmp m p)

@@ -1,10 +1,13 @@
 pub mod Faults
+pub mod Greatest
 pub mod Idents
 pub mod Keys
+pub mod Laws
 pub mod Maps
 pub mod Messages
 pub mod Moments
 pub mod Names
+pub mod Precedence
 pub mod Refusals
 pub mod Tags
 pub mod Texts

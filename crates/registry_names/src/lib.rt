@@ -9,6 +9,7 @@
 mod blob;
 mod dist_tag;
 mod ident;
+pub mod laws;
 mod message;
 mod moment;
 mod name;
