@@ -3,8 +3,9 @@
 KIT := $(shell command -v rt 2>/dev/null)
 PROGRAM := crates/registry_main
 BODY := examples/lab-kit-1.0.0.publish.json
+PACKUMENT := examples/lab-kit-1.0.0.packument.json
 
-.PHONY: help run build test check fmt kit
+.PHONY: help run build test examples check fmt kit
 
 help:
 	@echo 'make run    publish $(BODY) to an empty registry, and print its packument'
@@ -28,8 +29,13 @@ build: kit
 run: build
 	@out/registry < $(BODY)
 
-test: kit
+test: kit examples
 	@rt ci
+
+# The gate runs the program on its own copies of the example.
+examples:
+	@cmp $(BODY) $(PROGRAM)/stdin
+	@cmp $(PACKUMENT) $(PROGRAM)/stdout
 
 check: kit
 	@rt all check

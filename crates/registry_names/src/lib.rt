@@ -8,6 +8,7 @@
 
 mod blob;
 mod dist_tag;
+mod ends;
 mod ident;
 pub mod laws;
 mod message;
@@ -24,6 +25,10 @@ mod version;
 
 pub use crate::blob::Blob;
 pub use crate::dist_tag::DistTag;
+pub use crate::ends::{
+    ByteIn, ByteOut, FromRead, RETRY_LIMIT, ReadFailed, ReadStop, ToWrite, WriteFailed, read_whole,
+    write_whole,
+};
 pub use crate::ident::Ident;
 pub use crate::message::Message;
 pub use crate::moment::Moment;

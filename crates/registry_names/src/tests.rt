@@ -256,7 +256,7 @@ fn refusals_are_printed(rt: HostRuntime) {
         (Refusal::Waiting, "Waiting", 409),
     ];
     for (refusal, text, status) in table {
-        assert_eq!(rt; refusal.text(), text);
+        assert!(rt; refusal.text() == text, "{text}");
         assert_eq!(rt; refusal.status(), status, "{text}");
     }
 }

@@ -1,0 +1,46 @@
+//! The form of an example.
+
+use registry_names::Refusal;
+
+/// Requests to an empty registry, and what is answered.
+#[derive(Clone, Copy)]
+pub struct Example {
+    /// What it shows.
+    pub shows: &'static str,
+    /// The requests, in their order.
+    pub steps: &'static [Step],
+}
+
+/// A request, and the reply to it.
+#[derive(Clone, Copy)]
+pub struct Step {
+    /// When it is asked, in seconds.
+    pub at: i64,
+    /// What is asked.
+    pub ask: Ask,
+    /// What is answered.
+    pub expected: Expected,
+}
+
+/// What is asked.
+#[derive(Clone, Copy)]
+pub enum Ask {
+    /// The publication of a body as it stands.
+    Body(&'static str),
+    /// The publication of a version whose manifest has its name and its version alone, with the
+    /// archive `abc`.
+    Publish(&'static str, &'static str),
+    /// The packument of a package.
+    Packument(&'static str),
+}
+
+/// What is answered.
+#[derive(Clone, Copy)]
+pub enum Expected {
+    /// The version was published.
+    Created,
+    /// This document.
+    Doc(&'static str),
+    /// A refusal.
+    Refused(Refusal),
+}

@@ -1,0 +1,13 @@
+//! Examples that cross the crates: lists of requests to an empty registry, with the reply to each
+//! and what the list shows. Their expected replies are worked out by hand from the rules.
+//!
+//! An example is data; one runner asks its requests in their order and compares the replies.
+#![tactic(auto)]
+
+mod example;
+mod table;
+#[cfg(test)]
+mod tests;
+
+pub use crate::example::{Ask, Example, Expected, Step};
+pub use crate::table::EXAMPLES;

@@ -1,0 +1,127 @@
+//! The examples.
+
+use crate::example::{Ask, Example, Expected, Step};
+use registry_names::Refusal;
+
+/// The body that the npm client sends for `@lab/kit` 1.0.0.
+const KIT_BODY: &str =
+    r#"{"_id":"@lab/kit","name":"@lab/kit","dist-tags":{"latest":"1.0.0"},"versions":{"1.0.0":{"name":"@lab/kit","version":"1.0.0","dist":{"integrity":"sha512-3a81oZNherrMQXNJriBBMRLm+k6JqX6iCp7u5ktV05ohkpkqJ0/BqDa6PCOj/uu9RU1EI2Q86A4qmslPpUyknw==","shasum":"a9993e364706816aba3e25717850c26c9cd0d89d","tarball":"http://localhost:8080/@lab/kit/-/@lab/kit-1.0.0.tgz"}}},"access":null,"_attachments":{"@lab/kit-1.0.0.tgz":{"content_type":"application/octet-stream","data":"YWJj","length":3}}}"#;
+
+/// Its packument.
+const KIT_PACKUMENT: &str =
+    r#"{"_id":"@lab/kit","dist-tags":{"latest":"1.0.0"},"name":"@lab/kit","versions":{"1.0.0":{"dist":{"integrity":"sha512-3a81oZNherrMQXNJriBBMRLm+k6JqX6iCp7u5ktV05ohkpkqJ0/BqDa6PCOj/uu9RU1EI2Q86A4qmslPpUyknw==","shasum":"a9993e364706816aba3e25717850c26c9cd0d89d","tarball":"http://localhost:8080/@lab/kit/-/@lab/kit-1.0.0.tgz"},"name":"@lab/kit","version":"1.0.0"}}}"#;
+
+/// All examples.
+pub const EXAMPLES: [Example; 4] = [
+    Example {
+        shows: "the body of @lab/kit gives its packument byte for byte",
+        steps: &[
+            Step {
+                at: 100,
+                ask: Ask::Body(KIT_BODY),
+                expected: Expected::Created,
+            },
+            Step {
+                at: 100,
+                ask: Ask::Packument("@lab/kit"),
+                expected: Expected::Doc(KIT_PACKUMENT),
+            },
+        ],
+    },
+    Example {
+        shows: "a version is published once, and every query answers as before",
+        steps: &[
+            Step {
+                at: 100,
+                ask: Ask::Body(KIT_BODY),
+                expected: Expected::Created,
+            },
+            Step {
+                at: 101,
+                ask: Ask::Body(KIT_BODY),
+                expected: Expected::Refused(Refusal::Published),
+            },
+            Step {
+                at: 102,
+                ask: Ask::Publish("@lab/kit", "1.0.0"),
+                expected: Expected::Refused(Refusal::Published),
+            },
+            Step {
+                at: 103,
+                ask: Ask::Packument("@lab/kit"),
+                expected: Expected::Doc(KIT_PACKUMENT),
+            },
+            Step {
+                at: 103,
+                ask: Ask::Packument("@lab/kid"),
+                expected: Expected::Refused(Refusal::NotFound),
+            },
+        ],
+    },
+    Example {
+        shows: "a package that was never published is not found",
+        steps: &[
+            Step {
+                at: 0,
+                ask: Ask::Packument("kit"),
+                expected: Expected::Refused(Refusal::NotFound),
+            },
+            Step {
+                at: 0,
+                ask: Ask::Publish("kit", "1.0.0"),
+                expected: Expected::Created,
+            },
+            Step {
+                at: 0,
+                ask: Ask::Packument("@lab/kit"),
+                expected: Expected::Refused(Refusal::NotFound),
+            },
+            Step {
+                at: 0,
+                ask: Ask::Packument("kit"),
+                expected: Expected::Doc(
+                    r#"{"_id":"kit","dist-tags":{"latest":"1.0.0"},"name":"kit","versions":{"1.0.0":{"name":"kit","version":"1.0.0"}}}"#,
+                ),
+            },
+        ],
+    },
+    Example {
+        shows: "latest follows the last publish, and versions stand in byte order of their texts",
+        steps: &[
+            Step {
+                at: 5,
+                ask: Ask::Publish("kit", "1.10.0"),
+                expected: Expected::Created,
+            },
+            Step {
+                at: 4,
+                ask: Ask::Publish("kit", "1.9.0"),
+                expected: Expected::Created,
+            },
+            Step {
+                at: 3,
+                ask: Ask::Publish("kid", "1.0.0"),
+                expected: Expected::Created,
+            },
+            Step {
+                at: 2,
+                ask: Ask::Publish("kit", "2.0.0-beta"),
+                expected: Expected::Created,
+            },
+            Step {
+                at: 2,
+                ask: Ask::Packument("kit"),
+                expected: Expected::Doc(
+                    r#"{"_id":"kit","dist-tags":{"latest":"2.0.0-beta"},"name":"kit","versions":{"1.10.0":{"name":"kit","version":"1.10.0"},"1.9.0":{"name":"kit","version":"1.9.0"},"2.0.0-beta":{"name":"kit","version":"2.0.0-beta"}}}"#,
+                ),
+            },
+            Step {
+                at: 2,
+                ask: Ask::Packument("kid"),
+                expected: Expected::Doc(
+                    r#"{"_id":"kid","dist-tags":{"latest":"1.0.0"},"name":"kid","versions":{"1.0.0":{"name":"kid","version":"1.0.0"}}}"#,
+                ),
+            },
+        ],
+    },
+];

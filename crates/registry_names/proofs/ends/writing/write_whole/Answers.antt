@@ -1,0 +1,19 @@
+use Rattle.std.proofs.Common.{arith, ◌≤◌, ◌-◌, length, drop, ◌∙◌, length-drop}
+use Rattle.std.proofs.lemmas.List.{length-take, take-take}
+use Rattle.std.proofs.Math.Seq.{take-add}
+use Rattle.registry_names.proofs.EndFacts.{Writes-append, Writes-one}
+use Rattle.registry_names.proofs.ends.writing.write_whole.Goals as goal
+
+pub pieces-preserved : goal.pieces-preserved
+pieces-preserved g c =
+    let text = c.args.text.now in
+    let at = c.pieces.written in
+    let n = c.in_ok-written.field-0 in
+    let fits : n ≤ length text - at = omega (arith, c.in_ok-written.ensures.bound, length-take (length text - at) (drop at text), length-drop at text) in
+    record {
+      within = omega (arith, fits, c.pieces.invariant.within);
+      wrote = rw (take-add at n text, ← take-take n (length text - at) (drop at text) fits) (Writes-append c.pieces.invariant.wrote (Writes-one c.in_ok-written.ensures.added) c.in_ok-written.ensures.silent);
+      unwritten = λ full. let refused = c.in_ok-written.ensures.full (c.pieces.invariant.failures ∙ full) in cc;
+      failures = cc (c.in_ok-written.ensures.counted);
+      silence = cc (c.in_ok-written.ensures.told);
+    }

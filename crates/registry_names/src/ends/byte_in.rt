@@ -1,0 +1,59 @@
+//! Ends that bytes come in by.
+
+ghost use Rattle.std.specs.Prelude.{◌≡◌, ◌≤◌, ℕ, List, Option, Bool, true, false, IfOk, OnOk, IsErr, length};
+ghost use Rattle.std.specs.Io.KnownBytes.{ReadConsumes};
+ghost use Rattle.registry_names.specs.Ends.{failures_after, full_count};
+
+use std::error::Error;
+use std::fmt;
+
+/// Why a read gave no bytes.
+#[derive(Clone, Copy, Debug, PartialEq, Eq, Hash)]
+pub enum ReadFailed {
+    /// A signal came before any byte; the next read may go on.
+    Interrupted,
+    /// Anything else.
+    Broken,
+}
+
+impl fmt::Display for ReadFailed {
+    fn fmt<W: fmt::Write>(&self, f: &mut fmt::Formatter<W>) -> fmt::Result {
+        f.write_str(match self {
+            ReadFailed::Interrupted => "the read was interrupted",
+            ReadFailed::Broken => "the read failed",
+        })
+    }
+}
+
+impl Error for ReadFailed {}
+
+/// An end that bytes come in by.
+///
+/// Contracts see the bytes that are left, where the end tells them, and how many of its calls
+/// failed. An end tells its bytes if `bytes` is `Some` and it is not silent. Each failed call
+/// raises the count by one; at 2^64 - 1 the count stays, and every later call fails.
+pub trait ByteIn {
+    // The bytes that are left, where the end tells them.
+    ghost bytes: { Self → Option (List ℕ) };
+
+    // How many calls failed.
+    ghost failures: { Self → ℕ };
+
+    // Whether the end tells its bytes no more. A failed call may make it so, for good.
+    ghost is_silent: { Self → Bool } = { λ _. false };
+
+    /// Moves some of the bytes that are left to the front of the buffer, and gives how many.
+    /// It gives 0 for a buffer with room only where no byte is left.
+    ///
+    /// A failed read takes no byte, or leaves the end silent.
+    fn read(&mut self, buf: &mut [u8]) -> Result<usize, ReadFailed>
+        ensures bound { IfOk result (λ n. n ≤ length buf.new) }
+        ensures taken { is_silent self.new ≡ false → ReadConsumes (bytes self.old) (bytes self.new) result buf.new }
+
+        ensures counted { failures self.new ≡ failures_after result (failures self.old) }
+        ensures full { failures self.old ≡ full_count → IsErr result }
+
+        // Only a failed call makes the end silent, and for good.
+        ensures told { OnOk result (is_silent self.new ≡ is_silent self.old) }
+        ensures silent { is_silent self.old ≡ true → is_silent self.new ≡ true };
+}

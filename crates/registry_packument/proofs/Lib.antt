@@ -1,0 +1,3 @@
+pub mod DocumentFacts
+pub mod FloatFacts
+pub mod PackFacts

@@ -1,0 +1,4 @@
+pub mod Documents
+pub mod ObjectTexts
+pub mod Packuments
+pub mod Writing

@@ -1,0 +1,59 @@
+-- Packuments: as texts, and as the values that these are the texts of.
+use Rattle.std.specs.Prelude.{◌≡◌, ℕ, List, [], ◌∷◌, Option, Some, option_map, option_and_then, map, codes}
+use Rattle.json.specs.Print.{quoted}
+use Rattle.serde_json.specs.Data.{Data, string, object, Members, no_members, member}
+use Rattle.serde_json.specs.Written.{compact_text}
+use Rattle.registry_packument.specs.Documents.{document_text}
+use Rattle.registry_packument.specs.ObjectTexts.{Pair, object_text}
+use Rattle.registry_packument.specs.declared.head.PackHead.{PackHead}
+use Rattle.registry_names.specs.declared.dist_tag.DistTag.{DistTag}
+use Rattle.registry_packument.specs.declared.packument.VersionRow.{VersionRow}
+
+-- a tag, and the version that it names as a JSON string
+abbrev pub tag_pair : DistTag → Pair
+tag_pair r = (r.tag, quoted r.version)
+
+-- a version, and its document
+abbrev pub version_pair : VersionRow → Option Pair
+version_pair r = option_map (λ document. (r.version, document)) (document_text r.manifest r.message)
+
+-- the versions with their documents, unless one of them has none
+abbrev pub version_pairs : List VersionRow → Option (List Pair)
+version_pairs [] = Some []
+version_pairs (r ∷ rs) = option_and_then (λ p. option_map (λ ps. p ∷ ps) (version_pairs rs)) (version_pair r)
+
+-- the members of a packument, with those of `versions` as texts
+abbrev pub pack_pairs : PackHead → List Pair → List Pair
+pack_pairs head versions =
+    (codes "_id", quoted head.name)
+    ∷ (codes "dist-tags", object_text (map tag_pair head.tags.items))
+    ∷ (codes "name", quoted head.name)
+    ∷ (codes "versions", object_text versions)
+    ∷ []
+
+-- the packument of a package's head and its versions, unless one of these has no document
+abbrev pub pack_text : PackHead → List VersionRow → Option (List ℕ)
+pack_text head versions = option_map (λ ps. object_text (pack_pairs head ps)) (version_pairs versions)
+
+-- ---- the same as a value
+
+-- each tag, with the version that it names
+abbrev pub tag_members : List DistTag → Members
+tag_members [] = no_members
+tag_members (r ∷ rs) = member r.tag (string r.version) (tag_members rs)
+
+-- each document's text is the compact one of its value
+abbrev pub AreDocumentsOf : List VersionRow → Members → Type 0
+AreDocumentsOf [] no_members = Unit {0}
+AreDocumentsOf [] (member k d ms) = ⊥
+AreDocumentsOf (r ∷ rs) no_members = ⊥
+AreDocumentsOf (r ∷ rs) (member k d ms) = (r.version ≡ k) × ((document_text r.manifest r.message ≡ Some (compact_text d)) × AreDocumentsOf rs ms)
+
+-- the packument of a package's head and its versions' documents
+abbrev pub pack_value : PackHead → Members → Data
+pack_value head documents =
+    object (member (codes "_id") (string head.name)
+    (member (codes "dist-tags") (object (tag_members head.tags.items))
+    (member (codes "name") (string head.name)
+    (member (codes "versions") (object documents)
+    no_members))))

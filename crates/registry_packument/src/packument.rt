@@ -1,0 +1,95 @@
+//! Packuments.
+
+ghost use Rattle.std.specs.Prelude.{◌≡◌, ◌++◌, Some, map, string_bytes, OnOk, IfOk, IfErr};
+ghost use Rattle.serde_json.specs.Data.{Members};
+ghost use Rattle.serde_json.specs.Written.{compact_text};
+ghost use Rattle.registry_packument.specs.ObjectTexts.{member_text, object_text};
+ghost use Rattle.registry_packument.specs.Packuments.{tag_pair, version_pair, version_pairs, pack_text, pack_value, AreDocumentsOf};
+ghost use Rattle.registry_packument.specs.Writing.{Writes, IsFaultOf};
+
+use crate::document::push_document;
+use crate::head::PackHead;
+use crate::json_text::{push_key, push_text_member};
+use registry_names::{DistTag, Fault, Text};
+use std::alloc::{AllocError, Global};
+
+/// A version of a package, with its document.
+#[derive(Debug, Drop)]
+pub struct VersionRow {
+    /// The text of the version, as `1.0.0`.
+    pub version: Text,
+    /// The manifest as it is stored: the compact JSON of an object.
+    pub manifest: Text,
+    /// The message of its deprecation, or the empty text where it isn't deprecated.
+    pub message: Text,
+}
+
+fn push_tags(alloc: Global, out: &mut String, tags: &[DistTag]) -> Result<(), AllocError>
+    ensures { OnOk result (string_bytes out.new
+        ≡ string_bytes out.old ++ object_text (map tag_pair tags.now)) }
+{
+    out.push_str("{")?;
+    let mut later = false;
+    for row in tags {
+        push_text_member(alloc, out, later, row.tag.as_str(), row.version.as_str())?;
+        later = true;
+    }
+    out.push_str("}")
+}
+
+// The member of one version.
+fn push_version(alloc: Global, out: &mut String, later: bool, row: &VersionRow) -> Result<(), Fault>
+    ensures ok { OnOk result (Writes (member_text later) (version_pair row.now)
+        (string_bytes out.old) (string_bytes out.new)) }
+    ensures err { IfErr result (IsFaultOf (version_pair row.now)) }
+{
+    push_key(alloc, out, later, row.version.as_str())?;
+    push_document(alloc, out, row.manifest.as_str(), row.message.as_str())?;
+    Ok(())
+}
+
+fn push_versions(alloc: Global, out: &mut String, versions: &[VersionRow]) -> Result<(), Fault>
+    ensures ok { OnOk result (Writes object_text (version_pairs versions.now)
+        (string_bytes out.old) (string_bytes out.new)) }
+    ensures err { IfErr result (IsFaultOf (version_pairs versions.now)) }
+{
+    out.push_str("{")?;
+    let mut later = false;
+    for row in versions {
+        push_version(alloc, out, later, row)?;
+        later = true;
+    }
+    Ok(out.push_str("}")?)
+}
+
+/// The packument of a package, as npm's registry answers it: an object with `_id` and `name` (the
+/// package's name), `dist-tags` (tag to version) and `versions` (version to document), in compact
+/// JSON.
+///
+/// The tags and the versions come in byte order, each once, and are written as they come. A version's
+/// document is that of [`version_text`](crate::version_text). Where each manifest is the compact JSON
+/// of a value, so is the packument. `Database` comes exactly where a version has no document, and
+/// `Memory` where no memory is left.
+pub fn packument_text(
+    alloc: Global,
+    head: &PackHead,
+    versions: &[VersionRow],
+) -> Result<Text, Fault>
+    ensures text { IfOk result (λ text. pack_text head.now versions.now ≡ Some text) }
+    ensures json { IfOk result (λ text. (documents : Members)
+        → AreDocumentsOf versions.now documents
+        → text ≡ compact_text (pack_value head.now documents)) }
+    ensures err { IfErr result (IsFaultOf (pack_text head.now versions.now)) }
+{
+    let name = head.name.as_str();
+    let mut out = String::new(alloc);
+    out.push_str("{")?;
+    push_text_member(alloc, &mut out, false, "_id", name)?;
+    push_key(alloc, &mut out, true, "dist-tags")?;
+    push_tags(alloc, &mut out, &head.tags)?;
+    push_text_member(alloc, &mut out, true, "name", name)?;
+    push_key(alloc, &mut out, true, "versions")?;
+    push_versions(alloc, &mut out, versions)?;
+    out.push_str("}")?;
+    Ok(Text::from(out))
+}

@@ -1,0 +1,5 @@
+pub mod BodyFacts
+pub mod DepthFacts
+pub mod FloatFacts
+pub mod FormFacts
+pub mod MemberFacts

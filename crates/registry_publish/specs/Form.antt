@@ -1,0 +1,62 @@
+-- The form of a publish body, and why a body has none.
+use Rattle.std.specs.Prelude.{◌≡◌, ◌≤◌, ◌<◌, ℕ, true, List, length, codes, Option, Some, None}
+use Rattle.serde_json.specs.Data.{Data}
+use Rattle.serde_json.specs.Read.{read}
+use Rattle.serde_json.specs.Written.{compact_text}
+use Rattle.registry_names.specs.Names.{IsName}
+use Rattle.registry_names.specs.Versions.{VersionParts, IsVersion, IsVersionOf, text_of_version}
+use Rattle.registry_names.specs.declared.refusal.Refusal.{Refusal}
+use Rattle.registry_names.specs.declared.refusal.Refusal.TheVariants.{BadName, BadVersion, BadBody, TooLarge}
+use Rattle.registry_names.specs.declared.status.Status.{Status}
+use Rattle.registry_names.specs.declared.stop.Stop.{Stop}
+use Rattle.registry_names.specs.declared.stop.Stop.TheVariants.{Refused, Fault as Faulted}
+use Rattle.registry_names.specs.declared.stop.Fault.TheVariants.{Memory, Database}
+use Rattle.registry_publish.specs.Body.{BodyParts, IsBodyOf, is_manifest}
+
+-- what a form holds
+pub record FormParts : Type 0 where
+  pub name : List ℕ
+  pub version : VersionParts
+  pub tag : List ℕ
+  pub access : Option Status
+  pub manifest : List ℕ
+  pub archive : List ℕ
+
+abbrev pub most_bytes : ℕ
+most_bytes = 4194304
+
+-- the tag of a form that asks for none
+abbrev pub latest : List ℕ
+latest = codes "latest"
+
+-- the text is the compact JSON of this value, and reads back to it
+abbrev pub IsTextOf : Data → List ℕ → Type 0
+IsTextOf m text = (text ≡ compact_text m) × (read text ≡ Some m)
+
+-- the text is that of a manifest of this name and version
+abbrev pub IsManifestText : List ℕ → VersionParts → List ℕ → Type 0
+IsManifestText name version text = (m : Data) × (is_manifest name (text_of_version version) m ≡ true) × IsTextOf m text
+
+-- the body isn't too large, and it has parts that are so
+abbrev pub HasBody : List ℕ → (BodyParts → Type 0) → Type 0
+HasBody b P = (length b ≤ most_bytes) × ((p : BodyParts) × ((z : List ℕ) × (IsBodyOf b p z × P p)))
+
+-- the body has this form
+abbrev pub IsFormOf : List ℕ → FormParts → Type 0
+IsFormOf b f = (p : BodyParts) × (length b ≤ most_bytes) × IsBodyOf b p f.archive
+    × (f.name ≡ p.name) × IsName p.name × IsVersionOf p.version f.version
+    × (f.tag ≡ latest) × (f.access ≡ None) × IsTextOf p.manifest f.manifest
+
+-- the body is refused so: of the reasons that hold, this is the first
+abbrev pub IsRefusedBody : List ℕ → Refusal → Type 0
+IsRefusedBody b TooLarge = most_bytes < length b
+IsRefusedBody b BadBody = (length b ≤ most_bytes) × ((p : BodyParts) (z : List ℕ) → ¬ (IsBodyOf b p z))
+IsRefusedBody b BadName = HasBody b (λ p. ¬ (IsName p.name))
+IsRefusedBody b BadVersion = HasBody b (λ p. IsName p.name × (¬ (IsVersion p.version)))
+IsRefusedBody b _ = ⊥
+
+-- why no form is read; a body that is too large takes no memory
+abbrev pub StopsForm : List ℕ → Stop → Type 0
+StopsForm b (Refused r) = IsRefusedBody b r
+StopsForm b (Faulted Memory) = length b ≤ most_bytes
+StopsForm b (Faulted Database) = ⊥

@@ -1,0 +1,9 @@
+pub mod Body
+pub mod Form
+pub mod Integrity
+pub mod Members
+pub mod Stops
+pub mod Views
+pub use Rattle.registry_names.specs.Names
+pub use Rattle.registry_names.specs.Tags
+pub use Rattle.registry_names.specs.Versions

@@ -1,0 +1,23 @@
+//! The integrity of an archive.
+
+ghost use Rattle.std.specs.Prelude.{◌≡◌, IfOk, IfErr};
+ghost use Rattle.registry_publish.specs.Integrity.{integrity_text};
+
+use base64::engine::general_purpose::STANDARD;
+use registry_names::{Fault, Text};
+use sha2::{Digest, Sha512};
+use std::alloc::Global;
+
+/// The integrity of these bytes, as [Subresource Integrity](https://www.w3.org/TR/SRI/) writes
+/// it: `sha512-`, and behind it the padded base64 (RFC 4648) of the bytes' SHA-512 (FIPS 180-4).
+///
+/// `Memory` comes where no memory is left, and no other fault comes.
+pub fn integrity_of(alloc: Global, bytes: &[u8]) -> Result<Text, Fault>
+    ensures ok { IfOk result (λ text. text ≡ integrity_text bytes.now) }
+    ensures err { IfErr result (λ fault. fault ≡ Fault.Memory) }
+{
+    let digest = Sha512::digest(bytes);
+    let mut text = String::from_str(alloc, "sha512-")?;
+    STANDARD.encode_string(&digest, &mut text)?;
+    Ok(Text::from(text))
+}

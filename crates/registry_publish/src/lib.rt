@@ -1,0 +1,17 @@
+//! What a publication asks for, read from the body that an npm client sends.
+//!
+//! A form is read exactly where the body has one: its parts are the body's own, its manifest is
+//! written as compact JSON that reads back to the same value, and its archive is decoded. Every
+//! other body is refused, each with the first reason that holds for it.
+#![tactic(auto)]
+
+mod body;
+mod floats;
+mod form;
+mod integrity;
+mod members;
+#[cfg(test)]
+mod tests;
+
+pub use crate::form::PublishForm;
+pub use crate::integrity::integrity_of;

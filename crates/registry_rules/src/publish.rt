@@ -1,0 +1,56 @@
+//! The decision on a publish.
+
+use crate::change::{Change, Changes, LATEST, SetTag};
+use crate::facts::PackageRows;
+use registry_names::{Name, Refusal, Status};
+use registry_publish::PublishForm;
+use std::alloc::{AllocError, Global};
+
+/// Why the publish is turned away, if it is: a live version is never published again, and a
+/// package without a scope is never restricted.
+pub(crate) fn publish_refusal(rows: &PackageRows, form: &PublishForm) -> Option<Refusal> {
+    if rows.has_version(form.version().text()) {
+        return Some(Refusal::Published);
+    }
+    if form.access() == Some(Status::Restricted) && form.name().scope().is_none() {
+        return Some(Refusal::AlwaysPublic);
+    }
+    None
+}
+
+/// What a publish that isn't turned away changes.
+pub(crate) fn publish_changes(
+    alloc: Global,
+    rows: &PackageRows,
+    form: &PublishForm,
+) -> Result<Changes, AllocError> {
+    let mut changes = Vec::with_capacity(alloc, 4)?;
+    if let Some(status) = new_status(rows.status, form) {
+        changes.push(Change::PutStatus(status))?;
+    }
+    changes.push(Change::AddVersion)?;
+    if !rows.has_tag(LATEST) {
+        changes.push(Change::PutTag(SetTag::Latest))?;
+    }
+    changes.push(Change::PutTag(SetTag::Named))?;
+    Ok(changes)
+}
+
+// The status that a publish gives: the one that it asks for; else, for a first publication, what
+// the name's scope says; else none, and the old one stays.
+fn new_status(old: Option<Status>, form: &PublishForm) -> Option<Status> {
+    match (form.access(), old) {
+        (Some(status), _) => Some(status),
+        (None, Some(_)) => None,
+        (None, None) => Some(first_status(form.name())),
+    }
+}
+
+// A package of an organisation is its own until it says otherwise.
+fn first_status(name: &Name) -> Status {
+    if name.scope().is_some() {
+        Status::Restricted
+    } else {
+        Status::Public
+    }
+}

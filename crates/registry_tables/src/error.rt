@@ -1,0 +1,13 @@
+//! Errors of the database as faults.
+
+use registry_names::Fault;
+use sqlite::{Error, ErrorCode};
+
+/// The fault that is answered where the database answers this error: `Memory` where it had no
+/// memory left, and else `Database`.
+pub fn fault_of(error: Error) -> Fault {
+    match error {
+        Error::SqliteFailure(ErrorCode::OutOfMemory) => Fault::Memory,
+        _ => Fault::Database,
+    }
+}

@@ -1,0 +1,111 @@
+//! The tables of schema 1.
+//!
+//! Each has one primary key of its first columns, no column may be null, and every value has its
+//! column's type (`STRICT`). A foreign key names rows that must be there; where it cascades, a
+//! row goes with the one that it names. Tables are made in this order, and later ones are added
+//! behind them.
+
+ghost use Rattle.std.specs.Prelude.{◌≡◌};
+
+use crate::error::fault_of;
+use crate::meta::put_schema;
+use registry_names::Fault;
+use sqlite::{Alter, Error, Transaction};
+
+/// Makes the tables in a database that has none: all of them empty, but for the number of the
+/// schema.
+pub fn create<S: Alter>(tx: &mut Transaction<'_, S>) -> Result<(), Fault>
+    ensures same_reference { tx.new.conn.ghost_name ≡ tx.old.conn.ghost_name }
+{
+    create_all(tx).map_err(fault_of)
+}
+
+fn create_all<S: Alter>(tx: &mut Transaction<'_, S>) -> Result<(), Error>
+    ensures same_reference { tx.new.conn.ghost_name ≡ tx.old.conn.ghost_name }
+{
+    create_members(tx)?;
+    create_grants(tx)?;
+    create_versions(tx)?;
+    create_needs(tx)?;
+    put_schema(tx)
+}
+
+fn create_members<S: Alter>(tx: &mut Transaction<'_, S>) -> Result<(), Error>
+    ensures same_reference { tx.new.conn.ghost_name ≡ tx.old.conn.ghost_name }
+{
+    tx.execute(
+        "CREATE TABLE users (name TEXT NOT NULL, PRIMARY KEY (name)) STRICT",
+        &[],
+    )?;
+    tx.execute(
+        "CREATE TABLE tokens (digest BLOB NOT NULL, user TEXT NOT NULL, PRIMARY KEY (digest), FOREIGN KEY (user) REFERENCES users) STRICT",
+        &[],
+    )?;
+    tx.execute(
+        "CREATE TABLE orgs (name TEXT NOT NULL, PRIMARY KEY (name)) STRICT",
+        &[],
+    )?;
+    tx.execute(
+        "CREATE TABLE members (org TEXT NOT NULL, user TEXT NOT NULL, role INTEGER NOT NULL, PRIMARY KEY (org, user), FOREIGN KEY (org) REFERENCES orgs, FOREIGN KEY (user) REFERENCES users) STRICT",
+        &[],
+    )?;
+    Ok(())
+}
+
+fn create_grants<S: Alter>(tx: &mut Transaction<'_, S>) -> Result<(), Error>
+    ensures same_reference { tx.new.conn.ghost_name ≡ tx.old.conn.ghost_name }
+{
+    tx.execute(
+        "CREATE TABLE teams (org TEXT NOT NULL, team TEXT NOT NULL, PRIMARY KEY (org, team), FOREIGN KEY (org) REFERENCES orgs) STRICT",
+        &[],
+    )?;
+    tx.execute(
+        "CREATE TABLE team_members (org TEXT NOT NULL, team TEXT NOT NULL, user TEXT NOT NULL, PRIMARY KEY (org, team, user), FOREIGN KEY (org, team) REFERENCES teams ON DELETE CASCADE, FOREIGN KEY (org, user) REFERENCES members ON DELETE CASCADE) STRICT",
+        &[],
+    )?;
+    tx.execute(
+        "CREATE TABLE packages (name TEXT NOT NULL, status INTEGER NOT NULL, PRIMARY KEY (name)) STRICT",
+        &[],
+    )?;
+    tx.execute(
+        "CREATE TABLE grants (org TEXT NOT NULL, team TEXT NOT NULL, package TEXT NOT NULL, level INTEGER NOT NULL, PRIMARY KEY (org, team, package), FOREIGN KEY (org, team) REFERENCES teams ON DELETE CASCADE, FOREIGN KEY (package) REFERENCES packages) STRICT",
+        &[],
+    )?;
+    Ok(())
+}
+
+fn create_versions<S: Alter>(tx: &mut Transaction<'_, S>) -> Result<(), Error>
+    ensures same_reference { tx.new.conn.ghost_name ≡ tx.old.conn.ghost_name }
+{
+    tx.execute(
+        "CREATE TABLE owners (package TEXT NOT NULL, user TEXT NOT NULL, PRIMARY KEY (package, user), FOREIGN KEY (package) REFERENCES packages, FOREIGN KEY (user) REFERENCES users) STRICT",
+        &[],
+    )?;
+    tx.execute(
+        "CREATE TABLE versions (package TEXT NOT NULL, version TEXT NOT NULL, published INTEGER NOT NULL, manifest TEXT NOT NULL, deprecated TEXT NOT NULL, archive BLOB NOT NULL, PRIMARY KEY (package, version), FOREIGN KEY (package) REFERENCES packages) STRICT",
+        &[],
+    )?;
+    tx.execute(
+        "CREATE TABLE spent (package TEXT NOT NULL, version TEXT NOT NULL, published INTEGER NOT NULL, withdrawn INTEGER NOT NULL, PRIMARY KEY (package, version), FOREIGN KEY (package) REFERENCES packages) STRICT",
+        &[],
+    )?;
+    tx.execute(
+        "CREATE TABLE tags (package TEXT NOT NULL, tag TEXT NOT NULL, version TEXT NOT NULL, PRIMARY KEY (package, tag), FOREIGN KEY (package, version) REFERENCES versions) STRICT",
+        &[],
+    )?;
+    Ok(())
+}
+
+fn create_needs<S: Alter>(tx: &mut Transaction<'_, S>) -> Result<(), Error>
+    ensures same_reference { tx.new.conn.ghost_name ≡ tx.old.conn.ghost_name }
+{
+    tx.execute(
+        "CREATE TABLE needs (package TEXT NOT NULL, version TEXT NOT NULL, target TEXT NOT NULL, PRIMARY KEY (package, version, target), FOREIGN KEY (package, version) REFERENCES versions ON DELETE CASCADE) STRICT",
+        &[],
+    )?;
+    tx.execute(
+        "CREATE TABLE meta (name TEXT NOT NULL, value INTEGER NOT NULL, PRIMARY KEY (name)) STRICT",
+        &[],
+    )?;
+    Ok(())
+}
