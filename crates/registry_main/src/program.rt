@@ -6,8 +6,8 @@ use registry_names::{
 };
 use registry_publish::PublishForm;
 use registry_rules::{Action, Credential, Reply, Request};
+use sqlite::Alter;
 use std::alloc::{AllocError, Global};
-use std::rt::Runtime;
 
 /// One byte more than a body may have: enough to see that it is too large.
 const MOST_READ: usize = 4_194_305;
@@ -74,7 +74,7 @@ impl From<ReadStop> for Ending {
 /// nothing is printed on the output, and on the errors stands one line: `refused: ` and the
 /// refusal, status 1; how the program is called, where there are words, status 2; or `fault: `
 /// and what failed, status 3.
-pub fn program<R: Runtime, I: ByteIn, O: ByteOut, E: ByteOut>(
+pub fn program<R, I: ByteIn, O: ByteOut, E: ByteOut>(
     _rt: &R,
     alloc: Global,
     words: &[Text],
@@ -131,8 +131,16 @@ fn print_packument<I: ByteIn, O: ByteOut>(
 // The packument of the one package of an empty registry to which the body is published.
 fn packument_of(alloc: Global, body: &[u8]) -> Result<Text, Ending> {
     let form = PublishForm::read(alloc, body)?;
-    let name = Name::parse(alloc, form.name().text())?;
     let mut registry = Registry::in_memory(alloc)?;
+    publish_and_ask(alloc, &mut registry, form)
+}
+
+fn publish_and_ask<S: Alter>(
+    alloc: Global,
+    registry: &mut Registry<S>,
+    form: PublishForm,
+) -> Result<Text, Ending> {
+    let name = Name::parse(alloc, form.name().text())?;
     let publish = at_first(Action::Publish { form });
     if let Reply::Refused(refusal) = registry.apply(alloc, &publish)? {
         return Err(Ending::Refused(refusal));

@@ -1,3 +1,2 @@
 pub mod DocumentFacts
-pub mod FloatFacts
 pub mod PackFacts

@@ -8,12 +8,19 @@ use Rattle.serde_json.specs.Written.{comma_if, compact_text}
 use Rattle.serde_json.specs.Written as written
 use Rattle.registry_names.specs.declared.stop.Fault.{Fault}
 use Rattle.registry_names.specs.declared.stop.Fault.TheVariants.{Memory, Database}
-use Rattle.registry_packument.specs.ObjectTexts.{Pair, member_text, members_text, object_text, AreTextsOf}
+use Rattle.registry_packument.specs.ObjectTexts.{Pair, member_text, members_text, object_text}
 use Rattle.registry_packument.specs.Packuments.{tag_pair, version_pair, version_pairs, pack_pairs, pack_text, tag_members, pack_value, AreDocumentsOf}
 use Rattle.registry_packument.specs.Writing.{Writes, IsFaultOf}
 use Rattle.registry_packument.specs.declared.head.PackHead.{PackHead}
 use Rattle.registry_names.specs.declared.dist_tag.DistTag.{DistTag}
 use Rattle.registry_packument.specs.declared.packument.VersionRow.{VersionRow}
+
+-- each key is the member's beside it, and each text the compact one of its value
+abbrev AreTextsOf : List Pair → Members → Type 0
+AreTextsOf [] no_members = Unit {0}
+AreTextsOf [] (member k d ms) = ⊥
+AreTextsOf (p ∷ ps) no_members = ⊥
+AreTextsOf (p ∷ ps) (member k d ms) = (p.0 ≡ k) × ((p.1 ≡ compact_text d) × AreTextsOf ps ms)
 
 -- a member and what follows it, as serde_json writes them
 member_text-append : (c k t more : List ℕ) → (c ++ (k ++ 58 ∷ t)) ++ more ≡ c ++ (k ++ 58 ∷ (t ++ more))

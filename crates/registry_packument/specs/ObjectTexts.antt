@@ -1,8 +1,7 @@
 -- The compact text of an object, of the texts of its members.
-use Rattle.std.specs.Prelude.{◌≡◌, ℕ, Bool, true, false, List, [], ◌∷◌, ◌++◌}
+use Rattle.std.specs.Prelude.{ℕ, Bool, true, false, List, [], ◌∷◌, ◌++◌}
 use Rattle.json.specs.Print.{quoted}
-use Rattle.serde_json.specs.Data.{Members, no_members, member}
-use Rattle.serde_json.specs.Written.{comma_if, compact_text}
+use Rattle.serde_json.specs.Written.{comma_if}
 
 -- a member's key, and the text of its value
 abbrev pub Pair : Type 0
@@ -19,10 +18,3 @@ members_text later (p ∷ ps) = member_text later p ++ members_text true ps
 
 abbrev pub object_text : List Pair → List ℕ
 object_text ps = 123 ∷ members_text false ps
-
--- each key is the member's beside it, and each text the compact one of its value
-abbrev pub AreTextsOf : List Pair → Members → Type 0
-AreTextsOf [] no_members = Unit {0}
-AreTextsOf [] (member k d ms) = ⊥
-AreTextsOf (p ∷ ps) no_members = ⊥
-AreTextsOf (p ∷ ps) (member k d ms) = (p.0 ≡ k) × ((p.1 ≡ compact_text d) × AreTextsOf ps ms)

@@ -8,8 +8,8 @@ ghost use Rattle.serde_json.specs.Written.{has_float};
 ghost use Rattle.registry_packument.specs.Documents.{manifest_members, document_text, deprecated_text};
 ghost use Rattle.registry_packument.specs.Writing.{Writes, IsFaultOf};
 
-use crate::floats::has_float;
 use registry_names::{Fault, Text};
+use registry_publish::has_float;
 use serde_json::{Map, Value};
 use std::alloc::Global;
 

@@ -9,7 +9,7 @@ use serde_json::Value;
 use std::alloc::{AllocError, Global};
 
 /// A text in JSON's quotes, with what has to be escaped escaped.
-pub fn push_quoted(alloc: Global, out: &mut String, text: &str) -> Result<(), AllocError>
+pub(crate) fn push_quoted(alloc: Global, out: &mut String, text: &str) -> Result<(), AllocError>
     ensures { OnOk result (string_bytes out.new ≡ string_bytes out.old ++ quoted text.now) }
 {
     let quoted = Value::try_from_str(alloc, text)?.to_string(alloc)?;
@@ -17,7 +17,12 @@ pub fn push_quoted(alloc: Global, out: &mut String, text: &str) -> Result<(), Al
 }
 
 /// The key of a member and its colon, with the comma before it where a member came earlier.
-pub fn push_key(alloc: Global, out: &mut String, later: bool, key: &str) -> Result<(), AllocError>
+pub(crate) fn push_key(
+    alloc: Global,
+    out: &mut String,
+    later: bool,
+    key: &str,
+) -> Result<(), AllocError>
     ensures { OnOk result (string_bytes out.new
         ≡ string_bytes out.old ++ (comma_if later ++ (quoted key.now ++ 58 ∷ []))) }
 {
@@ -29,7 +34,7 @@ pub fn push_key(alloc: Global, out: &mut String, later: bool, key: &str) -> Resu
 }
 
 /// A member whose value is a text.
-pub fn push_text_member(
+pub(crate) fn push_text_member(
     alloc: Global,
     out: &mut String,
     later: bool,

@@ -9,7 +9,6 @@
 #![tactic(auto)]
 
 mod document;
-mod floats;
 mod head;
 mod json_text;
 mod packument;

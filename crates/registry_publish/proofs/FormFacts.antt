@@ -18,12 +18,12 @@ use Rattle.registry_publish.proofs.DepthFacts.{manifest_depth}
 pub stops_name : (b : List ℕ) (p : BodyParts) (z : List ℕ) → length b ≤ most_bytes → IsBodyOf b p z
     → (e : Stop) → (e ≡ Faulted Memory) ⊎ ((e ≡ Refused BadName) × (¬ (IsName p.name))) → StopsForm b e
 stops_name b p z short h e (inl m) = rw m short
-stops_name b p z short h e (inr r) = rw r.0 (short, (p, (z, (h, r.1))))
+stops_name b p z short h e (inr r) = rw r.0 (p, z, short, h, r.1)
 
 pub stops_version : (b : List ℕ) (p : BodyParts) (z : List ℕ) → length b ≤ most_bytes → IsBodyOf b p z → IsName p.name
     → (e : Stop) → (e ≡ Faulted Memory) ⊎ ((e ≡ Refused BadVersion) × (¬ (IsVersion p.version))) → StopsForm b e
 stops_version b p z short h n e (inl m) = rw m short
-stops_version b p z short h n e (inr r) = rw r.0 (short, (p, (z, (h, (n, r.1)))))
+stops_version b p z short h n e (inr r) = rw r.0 (p, z, short, h, (n, r.1))
 
 -- the form that is made of what was read
 pub form_of : (b : List ℕ) (p : BodyParts) (f : FormParts) → length b ≤ most_bytes → (h : IsBodyOf b p f.archive) → depth h.0 ≤ max_depth

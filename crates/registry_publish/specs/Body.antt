@@ -8,6 +8,7 @@ use Rattle.serde_json.specs.Read.{read}
 use Rattle.serde_json.specs.Written.{has_float}
 use Rattle.registry_publish.specs.Members.{has_text, sole_at, text_at}
 
+-- what f makes of the value, if there is one
 infixl 10 ◌>>=◌
 abbrev ◌>>=◌ : {A B : Type 0} → Option A → (A → Option B) → Option B
 o >>= f = option_and_then f o
@@ -29,6 +30,7 @@ pub record BodyParts : Type 0 where
   pub manifest : Data
   pub coded : List ℕ
 
+-- the members of a body in form; None for another value
 unfoldable pub body_parts : Data → Option BodyParts
 body_parts d =
     text_at (codes "name") d >>= λ n.

@@ -22,6 +22,7 @@ pub record FormParts : Type 0 where
   pub manifest : List ℕ
   pub archive : List ℕ
 
+-- 4 MiB
 abbrev pub most_bytes : ℕ
 most_bytes = 4194304
 
@@ -37,11 +38,11 @@ IsTextOf m text = (text ≡ compact_text m) × (read text ≡ Some m)
 abbrev pub IsManifestText : List ℕ → VersionParts → List ℕ → Type 0
 IsManifestText name version text = (m : Data) × (is_manifest name (text_of_version version) m ≡ true) × IsTextOf m text
 
--- the body isn't too large, and it has parts that are so
+-- the body isn't too large, and P holds of its parts
 abbrev pub HasBody : List ℕ → (BodyParts → Type 0) → Type 0
-HasBody b P = (length b ≤ most_bytes) × ((p : BodyParts) × ((z : List ℕ) × (IsBodyOf b p z × P p)))
+HasBody b P = (p : BodyParts) × (z : List ℕ) × (length b ≤ most_bytes) × IsBodyOf b p z × P p
 
--- the body has this form
+-- the body has this form: the one that its parts spell, with the manifest written as a text
 abbrev pub IsFormOf : List ℕ → FormParts → Type 0
 IsFormOf b f = (p : BodyParts) × (length b ≤ most_bytes) × IsBodyOf b p f.archive
     × (f.name ≡ p.name) × IsName p.name × IsVersionOf p.version f.version

@@ -12,6 +12,7 @@ text_at k d = option_and_then as_str (get k d)
 abbrev pub has_text : List ℕ → List ℕ → Data → Bool
 has_text k t d = unwrap_or (option_map (λ s. bytes_eq s t) (text_at k d)) false
 
+-- the name and the value of the one member
 abbrev pub sole_member : Members → Option (List ℕ × Data)
 sole_member no_members = None
 sole_member (member k d no_members) = Some (k, d)

@@ -6,9 +6,10 @@ ghost use Rattle.serde_json.specs.Written.{has_float, items_have_float, members_
 
 use serde_json::{Map, Value};
 
-// Whether a number of the value, at any depth, is held as neither u64 nor i64.
+/// Whether a number of the value, at any depth, is held as neither u64 nor i64. No manifest that is
+/// stored has one.
 #[cycle(has_float)]
-pub(crate) fn has_float(value: &Value) -> bool
+pub fn has_float(value: &Value) -> bool
     ensures { result ≡ has_float (view value.now) }
 {
     match value {

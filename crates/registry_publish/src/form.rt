@@ -56,8 +56,9 @@ impl PublishForm {
     ///
     /// The manifest is an object whose `name` and `version` are the body's name and the version,
     /// with no member `deprecated`, in which each number, at any depth, is an integer that a u64
-    /// or an i64 holds. Its other members are kept, and those of the body aren't read. Of equal
-    /// keys the last one counts. Values nest at most 127 deep, the body's own object among them.
+    /// or an i64 holds, and is written as one: `1.0`, `1e3` and `-0` aren't. Its other members are
+    /// kept, and those of the body aren't read. Of equal keys the last one counts. Values nest at
+    /// most 127 deep, the body's own object among them.
     ///
     /// The first of these that holds is answered:
     ///

@@ -13,5 +13,6 @@ mod members;
 #[cfg(test)]
 mod tests;
 
+pub use crate::floats::has_float;
 pub use crate::form::PublishForm;
 pub use crate::integrity::integrity_of;
