@@ -4,8 +4,9 @@ use Rattle.std.specs.Prelude.{◌≡◌, ◌≤◌, ℕ, true, List, [], length}
 use Rattle.std.specs.Ordering.{nat_cmp, ordering_then}
 use Rattle.std.specs.declared.cmp.Ordering.{Ordering}
 use Rattle.semver.specs.Grammar.{is_pre_release}
-use Rattle.semver.specs.Identifiers.{parts_text}
+use Rattle.semver.specs.Identifiers.{parts_text, pre_text}
 use Rattle.semver.specs.Order.{pre_cmp}
+use Rattle.semver.specs.declared.Version.{Version}
 
 -- the three numbers, and the prerelease, which is empty for a release
 pub record VersionParts : Type 0 where
@@ -13,6 +14,10 @@ pub record VersionParts : Type 0 where
   pub minor : ℕ
   pub patch : ℕ
   pub pre : List ℕ
+
+-- the parts of a version as the crate `semver` holds it, its build metadata left out
+abbrev pub version_parts : Version → VersionParts
+version_parts v = record { major = v.major; minor = v.minor; patch = v.patch; pre = pre_text v.pre }
 
 -- 2^53 - 1, the greatest number that every JavaScript client reads as it is
 abbrev pub greatest_number : ℕ

@@ -4,7 +4,7 @@ ghost use Rattle.std.specs.Prelude.{◌≡◌, ◌≢◌, ◌⊎◌, IfOk, IfErr
 ghost use Rattle.semver.specs.Identifiers.{parts_of};
 ghost use Rattle.semver.specs.Parse.{memory_error};
 ghost use Rattle.registry_names.specs.VersionReading as spec;
-ghost use Rattle.registry_names.specs.Versions.{IsVersion, IsVersionOf, precedence, text_of_version};
+ghost use Rattle.registry_names.specs.Versions.{IsVersion, IsVersionOf, precedence, text_of_version, version_parts};
 
 use crate::refusal::Refusal;
 use crate::stop::{Fault, Stop};
@@ -93,6 +93,13 @@ impl Ver {
         ensures form { IsVersionOf result.now self.now }
     {
         self.text.as_str()
+    }
+
+    /// The version as the crate `semver` holds it.
+    pub fn as_semver(&self) -> &Version
+        ensures { version_parts result.now ≡ self.now }
+    {
+        &self.version
     }
 
     /// The order by precedence (SemVer 2.0.0, item 11).

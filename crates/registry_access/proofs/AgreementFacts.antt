@@ -1,0 +1,73 @@
+-- States that agree on what an ask concerns allow the same, and a standing that stands for a state says what the state says.
+use Rattle.std.proofs.Common.{◌≡◌, Some, None, Option, is_some, refl, ap, ap₂, ◌∙◌}
+use Rattle.registry_names.specs.Texts.{Text}
+use Rattle.registry_access.specs.Access.{Access}
+use Rattle.registry_access.specs.Agreement.{SameOrganisation, SamePackage, SameFor}
+use Rattle.registry_access.specs.Callers.{is_maintainer, granted}
+use Rattle.registry_access.specs.Policy.{may_manage_members, may_manage_teams, may_see_organisation, may_read, may_write, may_manage_maintainers, may_publish, allowed_at, allowed_in}
+use Rattle.registry_access.specs.Positions.{has_scope, scope_role, position_in}
+use Rattle.registry_access.specs.RowsFor.{StandsFor, asked_package}
+use Rattle.registry_access.specs.Scopes.{scope_of}
+use Rattle.registry_access.specs.Standings.{is_listed, position_of}
+use Rattle.registry_access.specs.declared.role.Role.{Role}
+use Rattle.registry_access.specs.declared.caller.Caller.{Caller}
+use Rattle.registry_access.specs.declared.caller.Caller.TheVariants.{Operator, User, Anonymous}
+use Rattle.registry_access.specs.declared.ask.Ask.{Ask}
+use Rattle.registry_access.specs.declared.ask.Ask.TheVariants.{Operate, OrgMembers, OrgTeams, Publish, Write, Owners, Read, OrgRead}
+use Rattle.registry_access.specs.declared.standing.Standing.{Standing}
+use Rattle.registry_access.proofs.GrantFacts.{granted_alike}
+use Rattle.registry_access.proofs.LevelFacts.{greatest_alike}
+
+scope_alike : (S T : Access) (caller : Caller) (s : Option Text) → ((o : Text) → s ≡ Some o → SameOrganisation S T caller o)
+    → (has_scope S s ≡ has_scope T s) × (scope_role S caller s ≡ scope_role T caller s)
+scope_alike S T caller None h = (refl, refl)
+scope_alike S T caller (Some o) h = let same = h o refl in (same.organisation, same.role)
+
+pub position_alike : (S T : Access) (caller : Caller) (p : Text) → SamePackage S T caller p → position_in S caller p ≡ position_in T caller p
+position_alike S T caller p same =
+    let scope = scope_alike S T caller (scope_of p) same.scope in
+    let grant = greatest_alike (granted S caller p) (granted T caller p) (granted_alike S T caller p same.grants) in
+    λ i. record { organisation = scope.0 i; role = scope.1 i; status = same.status i; maintainer = same.maintainer i; grant = grant i }
+
+pub allowed_alike : (S T : Access) (caller : Caller) (ask : Ask) → SameFor S T caller ask → allowed_in S caller ask ≡ allowed_in T caller ask
+allowed_alike S T caller Operate same = refl
+allowed_alike S T caller (OrgMembers o) same = ap₂ (may_manage_members caller) same.organisation same.role
+allowed_alike S T caller (OrgTeams o) same = ap₂ (may_manage_teams caller) same.organisation same.role
+allowed_alike S T caller (Publish p) same = ap (may_publish caller (is_some (scope_of p.now))) (position_alike S T caller p.now same)
+allowed_alike S T caller (Write p) same = ap (may_write caller) (position_alike S T caller p.now same)
+allowed_alike S T caller (Owners p) same = ap (may_manage_maintainers caller) (position_alike S T caller p.now same)
+allowed_alike S T caller (Read p) same = ap may_read (position_alike S T caller p.now same)
+allowed_alike S T caller (OrgRead o) same = ap₂ (may_see_organisation caller) same.organisation same.role
+
+-- who is no user has no role
+operator_role : (S : Access) (s : Option Text) → ◌≡◌ {A = Option Role} None (scope_role S Operator s)
+operator_role S None = refl
+operator_role S (Some o) = refl
+
+anonymous_role : (S : Access) (s : Option Text) → ◌≡◌ {A = Option Role} None (scope_role S Anonymous s)
+anonymous_role S None = refl
+anonymous_role S (Some o) = refl
+
+pub standing_position : (s : Standing) (S : Access) (caller : Caller) (p : Text) → StandsFor s S caller p → position_of s caller ≡ position_in S caller p
+standing_position s S Operator p h =
+    λ i. record { organisation = h.organisation i; role = operator_role S (scope_of p) i; status = h.status i; maintainer = is_maintainer S Operator p; grant = (position_in S Operator p).grant }
+standing_position s S (User u) p h =
+    let grant = greatest_alike (is_listed s.grants.items) (granted S (User u) p) h.grants in
+    λ i. record { organisation = h.organisation i; role = h.role i; status = h.status i; maintainer = h.maintainer i; grant = grant i }
+standing_position s S Anonymous p h =
+    λ i. record { organisation = h.organisation i; role = anonymous_role S (scope_of p) i; status = h.status i; maintainer = is_maintainer S Anonymous p; grant = (position_in S Anonymous p).grant }
+
+-- an ask about a package is decided by how the caller stands to it
+pub asked_at : (S : Access) (caller : Caller) (ask : Ask) (p : Text) → asked_package ask ≡ Some p → allowed_at caller ask (position_in S caller p) ≡ allowed_in S caller ask
+asked_at S caller Operate p e = cc
+asked_at S caller (OrgMembers o) p e = cc
+asked_at S caller (OrgTeams o) p e = cc
+asked_at S caller (Publish q) p e = let same : p ≡ q.now = cc in ap (λ r. may_publish caller (is_some (scope_of q.now)) (position_in S caller r)) same
+asked_at S caller (Write q) p e = let same : p ≡ q.now = cc in ap (λ r. may_write caller (position_in S caller r)) same
+asked_at S caller (Owners q) p e = let same : p ≡ q.now = cc in ap (λ r. may_manage_maintainers caller (position_in S caller r)) same
+asked_at S caller (Read q) p e = let same : p ≡ q.now = cc in ap (λ r. may_read (position_in S caller r)) same
+asked_at S caller (OrgRead o) p e = cc
+
+pub standing_allowed : (s : Standing) (S : Access) (caller : Caller) (ask : Ask) (p : Text) → asked_package ask ≡ Some p → StandsFor s S caller p
+    → allowed_at caller ask (position_of s caller) ≡ allowed_in S caller ask
+standing_allowed s S caller ask p e h = ap (allowed_at caller ask) (standing_position s S caller p h) ∙ asked_at S caller ask p e

@@ -1,0 +1,8 @@
+pub mod AgreementFacts
+pub mod GrantFacts
+pub mod HidingFacts
+pub mod LawFacts
+pub mod LevelFacts
+pub mod RowFacts
+pub mod ScopeFacts
+pub mod WholeFacts

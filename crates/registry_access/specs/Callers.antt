@@ -1,0 +1,63 @@
+-- What a caller is in organisations, teams and packages. The operator and the anonymous caller are in none.
+use Rattle.std.specs.Prelude.{Bool, true, false, ◌&&◌, is_some, Option, Some, None, if◌then◌else◌}
+use Rattle.std.specs.List.{list_any}
+use Rattle.registry_names.specs.Texts.{Text, is}
+use Rattle.registry_names.specs.Maps.{at, entries, keys}
+use Rattle.registry_access.specs.Access.{Access}
+use Rattle.registry_access.specs.Levels.{is_level}
+use Rattle.registry_access.specs.declared.role.Role.{Role}
+use Rattle.registry_access.specs.declared.levels.Level.{Level}
+use Rattle.registry_access.specs.declared.caller.Caller.{Caller}
+use Rattle.registry_access.specs.declared.caller.Caller.TheVariants.{Operator, User, Anonymous}
+
+abbrev pub is_operator : Caller → Bool
+is_operator Operator = true
+is_operator (User u) = false
+is_operator Anonymous = false
+
+abbrev pub is_user : Caller → Bool
+is_user Operator = false
+is_user (User u) = true
+is_user Anonymous = false
+
+abbrev pub is_anonymous : Caller → Bool
+is_anonymous Operator = false
+is_anonymous (User u) = false
+is_anonymous Anonymous = true
+
+-- his role in an organisation, if he is a member
+abbrev pub role_of : Access → Caller → Text → Option Role
+role_of S Operator o = None
+role_of S (User u) o = at S.roles (o, u)
+role_of S Anonymous o = None
+
+-- whether he is a maintainer of a package
+abbrev pub is_maintainer : Access → Caller → Text → Bool
+is_maintainer S Operator p = false
+is_maintainer S (User u) p = is_some (at S.maintainers (p, u))
+is_maintainer S Anonymous p = false
+
+-- whether he is in a team of an organisation
+abbrev pub in_team : Access → Caller → Text → Text → Bool
+in_team S Operator o t = false
+in_team S (User u) o t = is_some (at S.team_members (o, (t, u)))
+in_team S Anonymous o t = false
+
+-- what a team grants him on a package, if he is in it
+abbrev pub team_grant : Access → Caller → Text → Text → Text → Option Level
+team_grant S caller o t p = if in_team S caller o t then at S.grants (o, (t, p)) else None
+
+-- whether the level is what was granted, if anything was
+abbrev pub grants : Option Level → Level → Bool
+grants None l = false
+grants (Some g) l = is_level g l
+
+-- whether a team that the user is in is granted this level on the package
+abbrev pub team_granted : Access → Text → Text → Level → Bool
+team_granted S u p l = list_any (λ k. is k.1.1 u && grants (at S.grants (k.0, (k.1.0, p))) l) (keys (entries S.team_members))
+
+-- whether a team of his is granted this level on the package
+abbrev pub granted : Access → Caller → Text → Level → Bool
+granted S Operator p l = false
+granted S (User u) p l = team_granted S u p l
+granted S Anonymous p l = false

@@ -1,0 +1,44 @@
+-- Laws of the policy.
+use Rattle.std.specs.Prelude.{◌≡◌, ◌⊎◌, Bool, Some, Ok}
+use Rattle.registry_names.specs.Texts.{Text}
+use Rattle.registry_names.specs.declared.refusal.Rule.{Rule}
+use Rattle.registry_names.specs.declared.refusal.Rule.TheVariants.{A6, A8}
+use Rattle.registry_access.specs.Access.{Access}
+use Rattle.registry_access.specs.Agreement.{SameFor}
+use Rattle.registry_access.specs.Callers.{team_grant}
+use Rattle.registry_access.specs.Levels.{larger}
+use Rattle.registry_access.specs.Policy.{allowed_in, may_read, may_write, may_manage_maintainers, may_publish}
+use Rattle.registry_access.specs.Positions.{position_in}
+use Rattle.registry_access.specs.RowsFor.{StandFor, StandForAll}
+use Rattle.registry_access.specs.declared.levels.Level.{Level}
+use Rattle.registry_access.specs.declared.levels.Level.TheVariants.{Nothing}
+use Rattle.registry_access.specs.declared.caller.Caller.{Caller}
+use Rattle.registry_access.specs.declared.ask.Ask.{Ask}
+use Rattle.registry_access.specs.declared.position.Position.{Position}
+use Rattle.registry_access.specs.declared.rows.AccessRows.{AccessRows}
+
+-- no team grants the caller more than this level, and a team grants it, unless it is nothing
+pub record IsGreatestGrant (S : Access) (caller : Caller) (p : Text) (greatest : Level) : Type 0 where
+  pub above : (o t : Text) (l : Level) → team_grant S caller o t p ≡ Some l → larger greatest l ≡ greatest
+  pub given : (greatest ≡ Nothing) ⊎ ((o : Text) × ((t : Text) × (team_grant S caller o t p ≡ Some greatest)))
+
+-- the grant that counts is the greatest, in whatever order the teams stand
+abbrev pub GreatestGrantCounts : Type 0
+GreatestGrantCounts = (S : Access) (caller : Caller) (p : Text) → IsGreatestGrant S caller p (position_in S caller p).grant
+
+-- who may do more with a package may read it
+pub record IsReadable (caller : Caller) (scoped : Bool) (at : Position) : Type 0 where
+  pub writer : (rule : Rule) → may_write caller at ≡ Ok rule → may_read at ≡ Ok A8
+  pub maintainer : (rule : Rule) → may_manage_maintainers caller at ≡ Ok rule → may_read at ≡ Ok A8
+  pub publisher : may_publish caller scoped at ≡ Ok A6 → may_read at ≡ Ok A8
+
+abbrev pub WritersRead : Type 0
+WritersRead = (caller : Caller) (scoped : Bool) (at : Position) → IsReadable caller scoped at
+
+-- states that agree on what the caller asks allow him the same
+abbrev pub AgreeingAllow : Type 0
+AgreeingAllow = (S T : Access) (caller : Caller) (ask : Ask) → SameFor S T caller ask → allowed_in S caller ask ≡ allowed_in T caller ask
+
+-- rows that say all that a state says stand for it, whoever asks for whatever
+abbrev pub WholeRowsStand : Type 0
+WholeRowsStand = (rows : AccessRows) (S : Access) → StandForAll rows S → (caller : Caller) (ask : Ask) → StandFor rows S caller ask

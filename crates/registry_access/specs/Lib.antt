@@ -1,0 +1,12 @@
+pub mod Access
+pub mod Agreement
+pub mod Callers
+pub mod Hiding
+pub mod Laws
+pub mod Levels
+pub mod Policy
+pub mod Positions
+pub mod RowMaps
+pub mod RowsFor
+pub mod Scopes
+pub mod Standings

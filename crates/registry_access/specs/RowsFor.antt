@@ -1,0 +1,58 @@
+-- Rows, and standings, that stand for a state.
+use Rattle.std.specs.Prelude.{◌≡◌, Option, Some, None}
+use Rattle.registry_names.specs.Texts.{Text}
+use Rattle.registry_names.specs.Maps.{at}
+use Rattle.registry_access.specs.Access.{Access}
+use Rattle.registry_access.specs.Agreement.{SamePackage, SameFor}
+use Rattle.registry_access.specs.Callers.{is_maintainer, granted}
+use Rattle.registry_access.specs.Positions.{has_scope, scope_role}
+use Rattle.registry_access.specs.RowMaps.{state_of}
+use Rattle.registry_access.specs.Scopes.{scope_of}
+use Rattle.registry_access.specs.Standings.{is_listed}
+use Rattle.registry_access.specs.declared.levels.Level.{Level}
+use Rattle.registry_access.specs.declared.caller.Caller.{Caller}
+use Rattle.registry_access.specs.declared.ask.Ask.{Ask}
+use Rattle.registry_access.specs.declared.ask.Ask.TheVariants.{Operate, OrgMembers, OrgTeams, Publish, Write, Owners, Read, OrgRead}
+use Rattle.registry_access.specs.declared.rows.AccessRows.{AccessRows}
+use Rattle.registry_access.specs.declared.standing.Standing.{Standing}
+
+-- Rows stand for a state, at what a caller asks, where they say the same of it. For an ask about an organisation these
+-- rows are enough: the organisation's, and the caller's membership in it. For one about a package: those of the
+-- organisation of its scope, the package's, the caller's among its maintainers, and of each team that the caller is in
+-- and that is granted something on the package, the caller's row in the team and the grant. More rows of the state do
+-- no harm.
+abbrev pub StandFor : AccessRows → Access → Caller → Ask → Type 0
+StandFor rows S caller ask = SameFor (state_of rows) S caller ask
+
+-- the same for the level on a package
+abbrev pub StandForPackage : AccessRows → Access → Caller → Text → Type 0
+StandForPackage rows S caller p = SamePackage (state_of rows) S caller p
+
+-- A standing stands for a state at a caller and a package. In `grants` neither the order counts nor how often a level stands there.
+pub record StandsFor (standing : Standing) (S : Access) (caller : Caller) (p : Text) : Type 0 where
+  pub organisation : standing.org ≡ has_scope S (scope_of p)
+  pub role : standing.role ≡ scope_role S caller (scope_of p)
+  pub status : standing.status ≡ at S.statuses p
+  pub maintainer : standing.maintainer ≡ is_maintainer S caller p
+  pub grants : (l : Level) → is_listed standing.grants.items l ≡ granted S caller p l
+
+-- the package that is asked about
+abbrev pub asked_package : Ask → Option Text
+asked_package Operate = None
+asked_package (OrgMembers o) = None
+asked_package (OrgTeams o) = None
+asked_package (Publish p) = Some p.now
+asked_package (Write p) = Some p.now
+asked_package (Owners p) = Some p.now
+asked_package (Read p) = Some p.now
+asked_package (OrgRead o) = None
+
+-- rows that say all that the state says of its organisations and packages
+pub record StandForAll (rows : AccessRows) (S : Access) : Type 0 where
+  pub organisations : (state_of rows).organisations ≡ S.organisations
+  pub roles : (state_of rows).roles ≡ S.roles
+  pub teams : (state_of rows).teams ≡ S.teams
+  pub team_members : (state_of rows).team_members ≡ S.team_members
+  pub grants : (state_of rows).grants ≡ S.grants
+  pub statuses : (state_of rows).statuses ≡ S.statuses
+  pub maintainers : (state_of rows).maintainers ≡ S.maintainers

@@ -1,0 +1,35 @@
+//! Laws of the policy. Each stands as the contract of a function that does nothing.
+
+ghost use Rattle.registry_access.specs.Hiding.{UnreadAreHidden};
+ghost use Rattle.registry_access.specs.Laws.{AgreeingAllow, GreatestGrantCounts, WholeRowsStand, WritersRead};
+
+/// A package that a caller may not read is hidden from him: where every package without a scope is
+/// public, whatever he asks, but to publish it as a member of its scope, he gets what he would get
+/// were it never published.
+pub fn unread_are_hidden()
+    ensures { UnreadAreHidden }
+{}
+
+/// Of what a caller's teams are granted on a package the greatest counts, in whatever order the
+/// teams stand.
+pub fn greatest_grant_counts()
+    ensures { GreatestGrantCounts }
+{}
+
+/// Reading is never refused where writing is allowed, nor managing the maintainers, nor publishing
+/// a further version.
+pub fn writers_read()
+    ensures { WritersRead }
+{}
+
+/// A caller is allowed by nothing but what his ask concerns: of an organisation, whether it is
+/// there and his role in it; of a package, besides, its status, whether he is a maintainer of it,
+/// and what his teams are granted on it.
+pub fn agreeing_states_allow_the_same()
+    ensures { AgreeingAllow }
+{}
+
+/// Whoever loads all rows may put any ask to them.
+pub fn whole_rows_stand()
+    ensures { WholeRowsStand }
+{}

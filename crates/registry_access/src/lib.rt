@@ -1,0 +1,32 @@
+//! Who may do what: roles, levels, and the policy.
+//!
+//! A caller has a level on each package, nothing, read or write, and is allowed what he asks by
+//! one of the rules A1 to A9, or is refused. Both follow from the rows that say who is in which
+//! organisation and team and what is granted to whom, and take no memory. Contracts say so of the
+//! registry's whole state: what a caller isn't shown, he can't tell from what isn't there.
+#![tactic(auto)]
+
+mod access;
+mod ask;
+mod caller;
+pub mod laws;
+mod levels;
+mod lookup;
+mod policy;
+mod position;
+mod role;
+mod rows;
+mod search;
+mod standing;
+#[cfg(test)]
+mod tests;
+
+pub use crate::access::{allowed, allowed_by, level, level_of};
+pub use crate::ask::Ask;
+pub use crate::caller::Caller;
+pub use crate::levels::Level;
+pub use crate::role::Role;
+pub use crate::rows::{
+    AccessRows, GrantRow, MaintainerRow, MemberRow, PackageRow, TeamMemberRow, TeamRow,
+};
+pub use crate::standing::Standing;

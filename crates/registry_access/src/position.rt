@@ -1,0 +1,121 @@
+//! How a caller stands to a package, and the level that follows from it.
+
+ghost use Rattle.std.specs.Prelude.{◌≡◌, option_map};
+ghost use Rattle.registry_access.specs.Levels as levels;
+ghost use Rattle.registry_access.specs.Levels.{greatest};
+ghost use Rattle.registry_access.specs.Positions.{level_at, position_in};
+ghost use Rattle.registry_access.specs.RowMaps.{state_of};
+ghost use Rattle.registry_access.specs.Scopes as scopes;
+ghost use Rattle.registry_access.specs.Standings.{is_listed, position_of};
+
+use crate::caller::Caller;
+use crate::levels::Level;
+use crate::role::Role;
+use crate::rows::AccessRows;
+use crate::standing::Standing;
+use registry_names::{Name, Status};
+
+/// All that decides about one caller and one package.
+#[derive(Clone, Copy)]
+pub(crate) struct Position {
+    /// Whether the organisation of the package's scope is there.
+    pub organisation: bool,
+    /// The caller's role in that organisation.
+    pub role: Option<Role>,
+    pub status: Option<Status>,
+    pub maintainer: bool,
+    /// The greatest of what the caller's teams are granted.
+    pub grant: Level,
+}
+
+pub(crate) fn is_owner_or_admin(role: Option<Role>) -> bool
+    ensures { result ≡ levels.is_owner_or_admin role }
+{
+    matches!(role, Some(Role::Owner | Role::Admin))
+}
+
+// The granted level, or the one that the status opens to everybody where that is greater.
+fn opened(status: Status, grant: Level) -> Level
+    ensures { result ≡ levels.larger (levels.open_level status) grant }
+{
+    match (status, grant) {
+        (Status::Public, Level::Nothing) => Level::Read,
+        _ => grant,
+    }
+}
+
+/// The scope of a name, which is an organisation's name.
+pub(crate) fn scope_of(name: &Name) -> Option<&str>
+    ensures { option_map (λ s. s.now) result ≡ scopes.scope_of name.now }
+{
+    name.scope()
+}
+
+fn is_listed(grants: &[Level], level: Level) -> bool
+    ensures { result ≡ is_listed grants.now level }
+{
+    grants.contains(&level)
+}
+
+fn greatest_listed(grants: &[Level]) -> Level
+    ensures { result ≡ greatest (is_listed grants.now) }
+{
+    if is_listed(grants, Level::Write) {
+        Level::Write
+    } else if is_listed(grants, Level::Read) {
+        Level::Read
+    } else {
+        Level::Nothing
+    }
+}
+
+impl Position {
+    /// What the rows say of a caller and a package.
+    pub(crate) fn in_rows(rows: &AccessRows, caller: &Caller, name: &Name) -> Position
+        ensures { result ≡ position_in (state_of rows.now) caller.now name.now }
+    {
+        let text = name.text();
+        let scope = scope_of(name);
+        Position {
+            organisation: scope.is_some_and(|scope| rows.has_organisation(scope)),
+            role: scope.and_then(|scope| rows.role_of(caller, scope)),
+            status: rows.status(text),
+            maintainer: rows.is_maintainer(caller, text),
+            grant: rows.greatest_grant(caller, text),
+        }
+    }
+
+    /// What a standing says, which is of a user more than what everybody has.
+    pub(crate) fn in_standing(standing: &Standing, caller: &Caller) -> Position
+        ensures { result ≡ position_of standing.now caller.now }
+    {
+        let (organisation, status) = (standing.org, standing.status);
+        match caller {
+            Caller::User(_) => Position {
+                organisation,
+                role: standing.role,
+                status,
+                maintainer: standing.maintainer,
+                grant: greatest_listed(&standing.grants),
+            },
+            Caller::Operator | Caller::Anonymous => Position {
+                organisation,
+                role: None,
+                status,
+                maintainer: false,
+                grant: Level::Nothing,
+            },
+        }
+    }
+
+    /// The caller's level on the package.
+    pub(crate) fn level(self) -> Level
+        ensures { result ≡ level_at self }
+    {
+        match self.status {
+            None => Level::Nothing,
+            Some(_) if is_owner_or_admin(self.role) || self.maintainer => Level::Write,
+            Some(status) => opened(status, self.grant),
+        }
+    }
+}

@@ -1,0 +1,20 @@
+//! How one caller stands to one package.
+
+use crate::levels::Level;
+use crate::role::Role;
+use registry_names::Status;
+
+/// How one caller stands to one package.
+#[derive(Debug, Drop)]
+pub struct Standing {
+    /// Whether the organisation of the package's scope is there. False for a package without one.
+    pub org: bool,
+    /// The caller's role in that organisation, if he is a member of it.
+    pub role: Option<Role>,
+    /// The package's status. None where it was never published.
+    pub status: Option<Status>,
+    /// Whether the caller is a maintainer of the package.
+    pub maintainer: bool,
+    /// What the caller's teams are granted on the package, in any order.
+    pub grants: Vec<Level>,
+}

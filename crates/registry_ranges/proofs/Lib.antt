@@ -1,0 +1,9 @@
+pub mod PartialFacts
+pub mod SimpleFacts
+pub mod StepFacts
+pub mod ReadingFacts
+pub mod RangeTextFacts
+pub mod BoundFacts
+pub mod ComparatorFacts
+pub mod RangeFacts
+pub mod SelectorFacts

@@ -1,0 +1,29 @@
+use Rattle.std.proofs.Common.{ap}
+use Rattle.std.specs.Prelude.{map}
+use Rattle.registry_ranges.specs.Bounds.{comparator_view}
+use Rattle.registry_ranges.proofs.RangeFacts.{keeps-part, keeps-or, keeps-end, keeps-wrong}
+use Rattle.registry_ranges.proofs.RangeTextFacts.{part-shorter, fresh-shorter, part-valid}
+use Rattle.registry_ranges.proofs.range.Range.read.Goals as goal
+
+pub push_part-requires : goal.push_part-requires
+push_part-requires c = part-valid _ _ _ _ _ c.in-Part.ensures
+
+pub steps-smaller-in-Part : goal.steps-smaller-in-Part
+steps-smaller-in-Part c = part-shorter _ _ _ _ _ c.in-Part.ensures
+
+pub steps-preserved-in-Part : goal.steps-preserved-in-Part
+steps-preserved-in-Part c = keeps-part _ _ _ _ _ _ _ _ _ c.steps.invariant c.in-Part.ensures c.in_ok-push_part-in-Part.ensures.ok
+
+pub steps-smaller : goal.steps-smaller
+steps-smaller c = fresh-shorter _ _ _ _ _ c.in-Or.ensures c.new-reader-in-Or.ensures.place c.new-reader-in-Or.ensures.rest
+
+pub steps-preserved : goal.steps-preserved
+steps-preserved c =
+    keeps-or _ _ _ _ _ _ _ _ _ _ c.steps.invariant c.in-Or.ensures c.in_ok-push_range-in-Or.ensures.ok (ap (map comparator_view) c.new-range-in-Or.ensures.items)
+    c.new-reader-in-Or.ensures.place c.new-reader-in-Or.ensures.rest
+
+pub returns-in-End-clause-ok : goal.returns-in-End-clause-ok
+returns-in-End-clause-ok c = keeps-end _ _ _ _ _ _ c.steps.invariant c.in-End.ensures c.in_ok-push_range-in-End.ensures.ok
+
+pub unreachable-requires : goal.unreachable-requires
+unreachable-requires c = keeps-wrong _ _ _ _ _ c.steps.invariant c.in-Wrong.ensures c.requires

@@ -1,0 +1,11 @@
+pub mod Grammar
+pub mod Values
+pub mod Reading
+pub mod Steps
+pub mod Prefixes
+pub mod Comparators
+pub mod Bounds
+pub mod RangeViews
+pub mod Tags
+pub mod Selectors
+pub mod SelectorViews

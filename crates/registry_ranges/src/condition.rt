@@ -1,0 +1,137 @@
+//! What each form of a selector asks of a version.
+
+ghost use Rattle.std.specs.Prelude.{◌≡◌, true, IfOk, IfErr};
+ghost use Rattle.registry_names.specs.Versions.{version_parts};
+ghost use Rattle.registry_ranges.specs.Prefixes.{prefix_view};
+ghost use Rattle.registry_ranges.specs.SelectorViews.{asked_view, asks_pre, condition_view, question_view};
+ghost use Rattle.registry_ranges.specs.Selectors as spec;
+ghost use Rattle.registry_ranges.specs.Steps.{part_view};
+
+use crate::bound::Bound;
+use crate::comparator::Comparator;
+use crate::prefix::Prefix;
+use crate::reader::Part;
+use crate::relation::Relation;
+use crate::simple::Operator;
+use registry_names::Fault;
+use semver::Version;
+use std::alloc::Global;
+
+/// What is asked of a version, with a prerelease that is in the text.
+#[derive(Clone, Copy, Debug, Drop)]
+pub enum Question<'a> {
+    /// Nothing.
+    All,
+    /// This major number.
+    Major(u64),
+    /// These major and minor numbers.
+    Minor(u64, u64),
+    /// A relation to a version.
+    Compared(Bound<'a>),
+}
+
+/// What is asked of a version, kept.
+#[derive(Debug, Drop)]
+pub enum Condition {
+    /// Nothing.
+    All,
+    /// This major number.
+    Major(u64),
+    /// These major and minor numbers.
+    Minor(u64, u64),
+    /// A relation to a version.
+    Compared(Comparator),
+}
+
+// A prefix with no operator.
+fn agreement(prefix: Prefix<'_>) -> Question<'_>
+    ensures { question_view result ≡ spec.agreement (prefix_view prefix.entry) }
+{
+    match prefix {
+        Prefix::Any => Question::All,
+        Prefix::Major(major) => Question::Major(major),
+        Prefix::Minor(major, minor) => Question::Minor(major, minor),
+        Prefix::Full(major, minor, patch, pre) => {
+            Question::Compared(Bound {
+                relation: Relation::Equal,
+                major,
+                minor,
+                patch,
+                pre,
+            })
+        }
+    }
+}
+
+// A relation, which stands before three numbers alone.
+fn comparison(relation: Relation, prefix: Prefix<'_>) -> Option<Question<'_>>
+    ensures { asked_view result ≡ spec.comparison relation (prefix_view prefix.entry) }
+{
+    match prefix {
+        Prefix::Full(major, minor, patch, pre) => {
+            Some(Question::Compared(Bound {
+                relation,
+                major,
+                minor,
+                patch,
+                pre,
+            }))
+        }
+        Prefix::Any => None,
+        Prefix::Major(_) => None,
+        Prefix::Minor(_, _) => None,
+    }
+}
+
+fn simple_question(operator: Operator, prefix: Prefix<'_>) -> Option<Question<'_>>
+    ensures { asked_view result ≡ spec.condition_of_simple operator (prefix_view prefix.entry) }
+{
+    match operator {
+        Operator::Bare => Some(agreement(prefix)),
+        Operator::Less => comparison(Relation::Less, prefix),
+        Operator::Greater => comparison(Relation::Greater, prefix),
+        Operator::LessEq => comparison(Relation::LessEq, prefix),
+        Operator::GreaterEq => comparison(Relation::GreaterEq, prefix),
+        Operator::Equal => comparison(Relation::Equal, prefix),
+        Operator::Tilde | Operator::TildeGreater | Operator::Caret => None,
+    }
+}
+
+/// What a part of a selector asks of a version: `None` for a part that no selector has.
+pub fn question_of(part: Part<'_>) -> Option<Question<'_>>
+    ensures { asked_view result ≡ spec.condition_of (part_view part.entry) }
+{
+    match part {
+        Part::Empty => Some(Question::All),
+        Part::Hyphen(_, _) => None,
+        Part::Simple(simple) => simple_question(simple.operator, simple.prefix),
+    }
+}
+
+impl Condition {
+    /// Keeps what is asked.
+    pub fn new(alloc: Global, question: Question<'_>) -> Result<Condition, Fault>
+        requires { asks_pre (question_view question) ≡ true }
+        ensures ok { IfOk result (λ c. condition_view c ≡ question_view question.entry) }
+        ensures err { IfErr result (λ e. e ≡ Fault.Memory) }
+    {
+        match question {
+            Question::All => Ok(Condition::All),
+            Question::Major(major) => Ok(Condition::Major(major)),
+            Question::Minor(major, minor) => Ok(Condition::Minor(major, minor)),
+            Question::Compared(bound) => Ok(Condition::Compared(Comparator::new(alloc, bound)?)),
+        }
+    }
+
+    /// Whether a version meets it.
+    pub fn is_met(&self, version: &Version) -> bool
+        ensures { result ≡ spec.meets_condition (version_parts version.now) (condition_view self.now) }
+    {
+        match self {
+            Condition::All => true,
+            Condition::Major(major) => version.major == *major,
+            Condition::Minor(major, minor) => version.major == *major && version.minor == *minor,
+            Condition::Compared(comparator) => comparator.holds(version),
+        }
+    }
+}
