@@ -23,7 +23,8 @@ use registry_names::{Ident, Name, Refusal, Rule};
 
 /// The caller's level on a package.
 ///
-/// It is what the rows say as they stand, and so what each state says that they stand for.
+/// It is what the rows say as they stand, and so what each state says that they stand for: each
+/// that has the same of this caller and this package. More rows than are needed do no harm.
 pub fn level(rows: &AccessRows, caller: &Caller, name: &Name) -> Level
     ensures of_rows { result ≡ level_in (state_of rows.now) caller.now name.now }
     ensures of_state { (S : Access) → StandForPackage rows.now S caller.now name.now
@@ -32,7 +33,7 @@ pub fn level(rows: &AccessRows, caller: &Caller, name: &Name) -> Level
     Position::in_rows(rows, caller, name).level()
 }
 
-/// The caller's level on the package of a standing.
+/// The caller's level on the package of a standing, the same as [`level`] gives.
 pub fn level_of(standing: &Standing, caller: &Caller) -> Level
     ensures of_standing { result ≡ level_at (position_of standing.now caller.now) }
     ensures of_state { (S : Access) (p : Text) → StandsFor standing.now S caller.now p
@@ -41,8 +42,12 @@ pub fn level_of(standing: &Standing, caller: &Caller) -> Level
     Position::in_standing(standing, caller).level()
 }
 
-/// The rule that allows the caller what he asks, or why he is refused: the first of `NoCaller`,
-/// `NotFound` and `Denied`.
+/// The rule that allows the caller what he asks, or the first of these refusals.
+///
+/// - `NoCaller`: an anonymous caller asks for anything but to see a package.
+/// - `NotFound`: an organisation that is named, or that the scope of a publish names, isn't there;
+///   or the caller has level nothing on a package that he asks about, but to publish it.
+/// - `Denied`: the rule that would allow it doesn't.
 pub fn allowed(rows: &AccessRows, caller: &Caller, ask: &Ask) -> Result<Rule, Refusal>
     ensures of_rows { result ≡ allowed_in (state_of rows.now) caller.now ask.now }
     ensures of_state { (S : Access) → StandFor rows.now S caller.now ask.now
@@ -51,7 +56,7 @@ pub fn allowed(rows: &AccessRows, caller: &Caller, ask: &Ask) -> Result<Rule, Re
     by_rows(rows, caller, ask)
 }
 
-/// The same of an ask about the package of a standing.
+/// The same of an ask about the package of a standing, as [`allowed`] answers it.
 pub fn allowed_by(standing: &Standing, caller: &Caller, ask: &Ask) -> Result<Rule, Refusal>
     requires { IsSome (asked_package ask.now) }
     ensures of_standing { result ≡ allowed_at caller.now ask.now (position_of standing.now caller.now) }

@@ -4,61 +4,84 @@ use crate::levels::Level;
 use crate::role::Role;
 use registry_names::{Status, Text};
 
-/// A user is a member of an organisation, in a role.
+/// A user is a member of an organisation. Its key is organisation and user.
 #[derive(Debug, Drop)]
 pub struct MemberRow {
+    /// The organisation's name.
     pub organisation: Text,
+    /// The member's name.
     pub user: Text,
+    /// What he is in it.
     pub role: Role,
 }
 
-/// An organisation has a team.
+/// An organisation has a team. All of it is key.
 #[derive(Debug, Drop)]
 pub struct TeamRow {
+    /// The organisation's name.
     pub organisation: Text,
+    /// The team's name, which other organisations may have too.
     pub team: Text,
 }
 
-/// A user is in a team of an organisation.
+/// A user is in a team of an organisation. All of it is key.
 #[derive(Debug, Drop)]
 pub struct TeamMemberRow {
+    /// The organisation's name.
     pub organisation: Text,
+    /// The team's name.
     pub team: Text,
+    /// The name of the user in it.
     pub user: Text,
 }
 
-/// A team of an organisation is granted a level on a package.
+/// A team of an organisation is granted a level on a package. Its key is all but the level.
 #[derive(Debug, Drop)]
 pub struct GrantRow {
+    /// The organisation's name.
     pub organisation: Text,
+    /// The team's name.
     pub team: Text,
+    /// The package's name.
     pub package: Text,
+    /// What the team is granted.
     pub level: Level,
 }
 
-/// A package was published, and has a status.
+/// A package was published, now or once. Its key is the package.
 #[derive(Debug, Drop)]
 pub struct PackageRow {
+    /// The package's name.
     pub package: Text,
+    /// Who may read it.
     pub status: Status,
 }
 
-/// A user is a maintainer of a package.
+/// A user is a maintainer of a package. All of it is key.
 #[derive(Debug, Drop)]
 pub struct MaintainerRow {
+    /// The package's name.
     pub package: Text,
+    /// The maintainer's name.
     pub user: Text,
 }
 
-/// Rows that say who is what and has what. Where a key stands twice in a list, its first row
-/// counts.
+/// Rows of the registry's tables, all of them or those that an ask concerns. Where a key stands
+/// twice in a list, its first row counts.
 #[derive(Debug, Drop)]
 pub struct AccessRows {
+    /// The names of the organisations.
     pub organisations: Vec<Text>,
+    /// The members of organisations.
     pub members: Vec<MemberRow>,
+    /// The teams of organisations.
     pub teams: Vec<TeamRow>,
+    /// Who is in which team.
     pub team_members: Vec<TeamMemberRow>,
+    /// What teams are granted on packages.
     pub grants: Vec<GrantRow>,
+    /// The packages that were ever published.
     pub packages: Vec<PackageRow>,
+    /// The maintainers of packages.
     pub maintainers: Vec<MaintainerRow>,
 }
