@@ -1,0 +1,6 @@
+pub mod Changes
+pub mod Operations
+pub mod Refusals
+pub mod Standing
+pub mod State
+pub mod Steps

@@ -1,0 +1,35 @@
+-- What the registry holds: finite maps under names, and nothing of how they are kept.
+use Rattle.std.specs.Prelude.{ℕ, List}
+use Rattle.registry_names.specs.Texts.{Text}
+use Rattle.registry_names.specs.Maps.{PairMap, empty}
+use Rattle.registry_access.specs.Access.{Access}
+
+-- a version that was published and not withdrawn
+pub record Release : Type 0 where
+  -- when it was published, in seconds
+  pub at : ℕ
+  pub manifest : Text
+  pub archive : List ℕ
+  -- of its deprecation; empty where it isn't deprecated
+  pub message : Text
+
+-- a version that was withdrawn: when it was published, and when withdrawn, in seconds
+pub record Withdrawal : Type 0 where
+  pub published : ℕ
+  pub withdrawn : ℕ
+
+pub record State : Type 0 where
+  pub access : Access
+  -- under package and version
+  pub live : PairMap Release
+  -- under package and version
+  pub spent : PairMap Withdrawal
+  -- the version that a tag names, under package and tag
+  pub tags : PairMap Text
+
+abbrev pub no_access : Access
+no_access = record { users = empty; tokens = empty; organisations = empty; roles = empty; teams = empty; team_members = empty; grants = empty; statuses = empty; maintainers = empty }
+
+-- a registry of which nothing was asked yet
+abbrev pub nothing : State
+nothing = record { access = no_access; live = empty; spent = empty; tags = empty }
