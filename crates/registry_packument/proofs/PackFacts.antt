@@ -49,11 +49,11 @@ documents_texts (r ∷ rs) (member k d ms) h =
     ((r.version, compact_text d) ∷ rest.0, (rw (h.1.0, rest.1.0) refl, (h.0, (refl, rest.1.1))))
 
 pack_pairs-members : (head : PackHead) (ps : List Pair) (documents : Members) → AreTextsOf ps documents
-    → object_text (pack_pairs head ps) ≡ compact_text (pack_value head documents)
+    → object_text (pack_pairs head.name head.tags.items ps) ≡ compact_text (pack_value head documents)
 pack_pairs-members head ps documents h =
     let tags = object_text-object (map tag_pair head.tags.items) (tag_members head.tags.items) (tags_text head.tags.items) in
     let versions = object_text-object ps documents h in
-    object_text-object (pack_pairs head ps)
+    object_text-object (pack_pairs head.name head.tags.items ps)
     (member (codes "_id") (string head.name) (member (codes "dist-tags") (object (tag_members head.tags.items)) (member (codes "name") (string head.name)
     (member (codes "versions") (object documents) no_members))))
     (refl, (refl, (refl, (tags, (refl, (refl, (refl, (versions, tt))))))))

@@ -23,17 +23,21 @@ version_pairs [] = Some []
 version_pairs (r ∷ rs) = option_and_then (λ p. option_map (λ ps. p ∷ ps) (version_pairs rs)) (version_pair r)
 
 -- the members of a packument, with those of `versions` as texts
-abbrev pub pack_pairs : PackHead → List Pair → List Pair
-pack_pairs head versions =
-    (codes "_id", quoted head.name)
-    ∷ (codes "dist-tags", object_text (map tag_pair head.tags.items))
-    ∷ (codes "name", quoted head.name)
+abbrev pub pack_pairs : List ℕ → List DistTag → List Pair → List Pair
+pack_pairs name tags versions =
+    (codes "_id", quoted name)
+    ∷ (codes "dist-tags", object_text (map tag_pair tags))
+    ∷ (codes "name", quoted name)
     ∷ (codes "versions", object_text versions)
     ∷ []
 
--- the packument of a package's head and its versions, unless one of these has no document
+-- the packument of the package of this name, with these tags and versions, unless a version has no document
+abbrev pub packument_of : List ℕ → List DistTag → List VersionRow → Option (List ℕ)
+packument_of name tags versions = option_map (λ ps. object_text (pack_pairs name tags ps)) (version_pairs versions)
+
+-- the packument of a package's head and its versions
 abbrev pub pack_text : PackHead → List VersionRow → Option (List ℕ)
-pack_text head versions = option_map (λ ps. object_text (pack_pairs head ps)) (version_pairs versions)
+pack_text head versions = packument_of head.name head.tags.items versions
 
 -- ---- the same as a value
 

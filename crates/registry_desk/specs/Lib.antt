@@ -1,0 +1,4 @@
+pub mod Answers
+pub mod History
+pub mod Readings
+pub mod Runs
