@@ -1,3 +1,5 @@
 pub mod Contents
 pub mod Effects
+pub mod Faults
+pub mod Fresh
 pub mod Schema

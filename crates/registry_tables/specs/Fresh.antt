@@ -1,0 +1,31 @@
+-- The tables as they are made, and what they hold then.
+use Rattle.std.specs.Prelude.{ℕ, [], map, take, codes}
+use Rattle.sqlite_schema.specs.declared.schema.Schema.{Schema}
+use Rattle.registry_names.specs.Texts.{Text}
+use Rattle.registry_names.specs.Maps.{empty, put}
+use Rattle.registry_rules.specs.State.{nothing}
+use Rattle.registry_rows.specs.Tables.{key_index}
+use Rattle.registry_tables.specs.Schema.{tables}
+use Rattle.registry_tables.specs.Contents.{Contents}
+
+-- a schema of the first so many of the tables
+abbrev pub first_tables : ℕ → Schema
+first_tables n = record { tables = take n tables; indexes = map key_index (take n tables); views = [] }
+
+-- where the number of the schema stands, and which one it is
+abbrev pub schema_key : Text
+schema_key = codes "schema"
+
+abbrev pub schema_number : ℕ
+schema_number = 1
+
+abbrev pub with_number : Contents → ℕ → Contents
+with_number c n = record c { meta = put c.meta schema_key n }
+
+-- what no rows say
+abbrev pub no_contents : Contents
+no_contents = record { registry = nothing; needs = empty; meta = empty }
+
+-- a registry of which nothing was asked yet
+abbrev pub fresh : Contents
+fresh = with_number no_contents schema_number
