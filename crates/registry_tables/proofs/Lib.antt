@@ -1,1 +1,5 @@
+pub mod ContentsFacts
+pub mod CreationFacts
+pub mod MetaFacts
+pub mod QuietFacts
 pub mod SchemaFacts

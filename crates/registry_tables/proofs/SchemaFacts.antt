@@ -1,12 +1,14 @@
 -- What the CREATE texts mean: each adds the next table of the schema.
 use Rattle.std.specs.Prelude.{◌≡◌, ℕ, suc, List, codes}
-use Rattle.std.proofs.Common.{refl}
+use Rattle.std.proofs.Common.{Err, refl}
 use Rattle.sqlite.specs.Listing.{understood}
 use Rattle.sqlite_catalog.specs.Change.{created}
 use Rattle.sqlite_schema.specs.declared.schema.Table.{Table}
+use Rattle.sqlite_resolve.specs.declared.error.CompileError.TheVariants.{Exists}
 use Rattle.sqlite_tied.specs.Compute.{everything}
 use Rattle.registry_rows.specs.Statements.{MeansTable}
 use Rattle.registry_tables.specs.Schema as table
+use Rattle.registry_tables.specs.Schema.{schema}
 use Rattle.registry_tables.specs.Fresh.{first_tables}
 
 -- where the first so many tables are there, the text adds the next
@@ -70,3 +72,8 @@ adds_needs = record { table = record table.needs { tree = 0 }; means = record { 
 pub adds_meta : AddsTable 13 (codes "CREATE TABLE meta (name TEXT NOT NULL, value INTEGER NOT NULL, PRIMARY KEY (name)) STRICT")
 unfolding understood everything
 adds_meta = record { table = record table.meta { tree = 0 }; means = record { command = (refl, (refl, refl)); text = refl; defined = refl; bare = refl }; next = refl }
+
+-- where all tables are there, the first text can't be run
+pub users_exists : understood schema (codes "CREATE TABLE users (name TEXT NOT NULL, PRIMARY KEY (name)) STRICT") ≡ Err Exists
+unfolding understood everything
+users_exists = refl

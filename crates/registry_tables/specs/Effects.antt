@@ -5,6 +5,7 @@ use Rattle.sqlite.specs.State.{State as Shown, HasCleanDisk, KeepsCommit, Surviv
 use Rattle.sqlite_trees.specs.declared.store.Store.{Ghosts}
 use Rattle.registry_rules.specs.State.{State}
 use Rattle.registry_rows.specs.Ready.{Ready, Leaves, Reads}
+use Rattle.registry_rows.specs.Tables.{no_tables}
 use Rattle.registry_tables.specs.Schema.{schema}
 use Rattle.registry_tables.specs.Contents.{Contents, contents, on_registry}
 
@@ -20,6 +21,10 @@ module _ {S : Type 0} (store : Ghosts S) where
   -- the tables are in form: the schema is ours, the database obeys it, and rowids rise. That is so as long as the disk is clean and the connection open
   abbrev pub InForm : Held S → Type 0
   InForm h = Ready schema (state store h)
+
+  -- the database has no table yet, as long as the disk is clean and the connection open
+  abbrev pub HasNoTables : Held S → Type 0
+  HasNoTables h = Ready no_tables (state store h)
 
   module _ {R E : Type 0} (old new : Held S) (result : Result R E) where
     -- the registry's state is changed by f, and no other row; the tables are in form, and the transaction goes on

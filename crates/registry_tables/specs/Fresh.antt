@@ -1,10 +1,14 @@
 -- The tables as they are made, and what they hold then.
 use Rattle.std.specs.Prelude.{ℕ, [], map, take, codes}
 use Rattle.sqlite_schema.specs.declared.schema.Schema.{Schema}
+use Rattle.sqlite_trees.specs.declared.store.Store.{Ghosts}
+use Rattle.sqlite.specs.Held.{Held, state}
+use Rattle.sqlite.specs.State.{HasCleanDisk}
 use Rattle.registry_names.specs.Texts.{Text}
 use Rattle.registry_names.specs.Maps.{empty, put}
 use Rattle.registry_rules.specs.State.{nothing}
 use Rattle.registry_rows.specs.Tables.{key_index}
+use Rattle.registry_rows.specs.Ready.{Blank}
 use Rattle.registry_tables.specs.Schema.{tables}
 use Rattle.registry_tables.specs.Contents.{Contents}
 
@@ -29,3 +33,7 @@ no_contents = record { registry = nothing; needs = empty; meta = empty }
 -- a registry of which nothing was asked yet
 abbrev pub fresh : Contents
 fresh = with_number no_contents schema_number
+
+-- the first so many tables are there and empty, and the transaction goes on, as long as the disk is clean
+abbrev pub HasMade : {S : Type 0} → Ghosts S → ℕ → Held S → Type 0
+HasMade store n h = HasCleanDisk (state store h) → Blank (first_tables n) (state store h)

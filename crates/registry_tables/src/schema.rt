@@ -5,7 +5,14 @@
 //! row goes with the one that it names. Tables are made in this order, and later ones are added
 //! behind them.
 
-ghost use Rattle.std.specs.Prelude.{◌≡◌};
+ghost use Rattle.std.specs.Prelude.{◌≡◌, IsErr, OnOk};
+ghost use Rattle.sqlite.specs.Held.{state};
+ghost use Rattle.sqlite.specs.State.{HasCleanDisk};
+ghost use Rattle.registry_rows.specs.Ready.{Leaves};
+ghost use Rattle.registry_tables.specs.Schema.{schema};
+ghost use Rattle.registry_tables.specs.Contents.{contents};
+ghost use Rattle.registry_tables.specs.Effects.{AddsNoCrash, HasNoTables, InForm, KeepsCommitted};
+ghost use Rattle.registry_tables.specs.Fresh.{HasMade, fresh};
 
 use crate::error::fault_of;
 use crate::meta::put_schema;
@@ -16,12 +23,20 @@ use sqlite::{Alter, Error, Transaction};
 /// schema.
 pub fn create<S: Alter>(tx: &mut Transaction<'_, S>) -> Result<(), Fault>
     ensures same_reference { tx.new.conn.ghost_name ≡ tx.old.conn.ghost_name }
+    ensures made { HasNoTables S.Store tx.old.conn.now → HasCleanDisk (state S.Store tx.new.conn.now) → OnOk result (Leaves schema contents fresh (state S.Store tx.new.conn.now)) }
+    ensures refused { InForm S.Store tx.old.conn.now → HasCleanDisk (state S.Store tx.new.conn.now) → IsErr result }
+    ensures committed { KeepsCommitted S.Store tx.old.conn.now tx.new.conn.now }
+    ensures survives { AddsNoCrash S.Store tx.old.conn.now tx.new.conn.now }
 {
     create_all(tx).map_err(fault_of)
 }
 
 fn create_all<S: Alter>(tx: &mut Transaction<'_, S>) -> Result<(), Error>
     ensures same_reference { tx.new.conn.ghost_name ≡ tx.old.conn.ghost_name }
+    ensures made { HasNoTables S.Store tx.old.conn.now → HasCleanDisk (state S.Store tx.new.conn.now) → OnOk result (Leaves schema contents fresh (state S.Store tx.new.conn.now)) }
+    ensures refused { InForm S.Store tx.old.conn.now → HasCleanDisk (state S.Store tx.new.conn.now) → IsErr result }
+    ensures committed { KeepsCommitted S.Store tx.old.conn.now tx.new.conn.now }
+    ensures survives { AddsNoCrash S.Store tx.old.conn.now tx.new.conn.now }
 {
     create_members(tx)?;
     create_grants(tx)?;
@@ -32,6 +47,10 @@ fn create_all<S: Alter>(tx: &mut Transaction<'_, S>) -> Result<(), Error>
 
 fn create_members<S: Alter>(tx: &mut Transaction<'_, S>) -> Result<(), Error>
     ensures same_reference { tx.new.conn.ghost_name ≡ tx.old.conn.ghost_name }
+    ensures made { HasNoTables S.Store tx.old.conn.now → OnOk result (HasMade S.Store 4 tx.new.conn.now) }
+    ensures refused { InForm S.Store tx.old.conn.now → HasCleanDisk (state S.Store tx.new.conn.now) → IsErr result }
+    ensures committed { KeepsCommitted S.Store tx.old.conn.now tx.new.conn.now }
+    ensures survives { AddsNoCrash S.Store tx.old.conn.now tx.new.conn.now }
 {
     tx.execute(
         "CREATE TABLE users (name TEXT NOT NULL, PRIMARY KEY (name)) STRICT",
@@ -54,6 +73,9 @@ fn create_members<S: Alter>(tx: &mut Transaction<'_, S>) -> Result<(), Error>
 
 fn create_grants<S: Alter>(tx: &mut Transaction<'_, S>) -> Result<(), Error>
     ensures same_reference { tx.new.conn.ghost_name ≡ tx.old.conn.ghost_name }
+    ensures made { HasMade S.Store 4 tx.old.conn.now → OnOk result (HasMade S.Store 8 tx.new.conn.now) }
+    ensures committed { KeepsCommitted S.Store tx.old.conn.now tx.new.conn.now }
+    ensures survives { AddsNoCrash S.Store tx.old.conn.now tx.new.conn.now }
 {
     tx.execute(
         "CREATE TABLE teams (org TEXT NOT NULL, team TEXT NOT NULL, PRIMARY KEY (org, team), FOREIGN KEY (org) REFERENCES orgs) STRICT",
@@ -76,6 +98,9 @@ fn create_grants<S: Alter>(tx: &mut Transaction<'_, S>) -> Result<(), Error>
 
 fn create_versions<S: Alter>(tx: &mut Transaction<'_, S>) -> Result<(), Error>
     ensures same_reference { tx.new.conn.ghost_name ≡ tx.old.conn.ghost_name }
+    ensures made { HasMade S.Store 8 tx.old.conn.now → OnOk result (HasMade S.Store 12 tx.new.conn.now) }
+    ensures committed { KeepsCommitted S.Store tx.old.conn.now tx.new.conn.now }
+    ensures survives { AddsNoCrash S.Store tx.old.conn.now tx.new.conn.now }
 {
     tx.execute(
         "CREATE TABLE owners (package TEXT NOT NULL, user TEXT NOT NULL, PRIMARY KEY (package, user), FOREIGN KEY (package) REFERENCES packages, FOREIGN KEY (user) REFERENCES users) STRICT",
@@ -98,6 +123,9 @@ fn create_versions<S: Alter>(tx: &mut Transaction<'_, S>) -> Result<(), Error>
 
 fn create_needs<S: Alter>(tx: &mut Transaction<'_, S>) -> Result<(), Error>
     ensures same_reference { tx.new.conn.ghost_name ≡ tx.old.conn.ghost_name }
+    ensures made { HasMade S.Store 12 tx.old.conn.now → OnOk result (HasMade S.Store 14 tx.new.conn.now) }
+    ensures committed { KeepsCommitted S.Store tx.old.conn.now tx.new.conn.now }
+    ensures survives { AddsNoCrash S.Store tx.old.conn.now tx.new.conn.now }
 {
     tx.execute(
         "CREATE TABLE needs (package TEXT NOT NULL, version TEXT NOT NULL, target TEXT NOT NULL, PRIMARY KEY (package, version, target), FOREIGN KEY (package, version) REFERENCES versions ON DELETE CASCADE) STRICT",

@@ -1,0 +1,42 @@
+-- The tables made one after another, each of them empty.
+use Rattle.std.proofs.Common.{◌≡◌, ℕ, suc, List, [], Result, OnOk, Ok, Err, arith, sym, ap, subst, ◌∙◌}
+use Rattle.sqlite_trees.specs.declared.store.Store.{Ghosts}
+use Rattle.sqlite.specs.Held.{Held, state}
+use Rattle.sqlite.specs.State.{State, HasCleanDisk, ExecutesIn}
+use Rattle.sqlite.specs.Listing.{understood}
+use Rattle.sqlite_resolve.specs.declared.error.CompileError.{CompileError}
+use Rattle.sqlite_schema.specs.declared.schema.Schema.{Schema}
+use Rattle.registry_rows.specs.Tables.{no_tables}
+use Rattle.registry_rows.specs.Ready.{Ready, Blank, Leaves, Executed}
+use Rattle.registry_rows.proofs.ReadyFacts.{inside}
+use Rattle.registry_rows.proofs.CreateFacts.{create_adds, creates_ready, blank_holds}
+use Rattle.registry_tables.specs.Schema.{schema}
+use Rattle.registry_tables.specs.Contents.{contents}
+use Rattle.registry_tables.specs.Effects.{AddsNoCrash, InForm, stored}
+use Rattle.registry_tables.specs.Fresh.{HasMade, first_tables, fresh, no_contents, schema_number, with_number}
+use Rattle.registry_tables.proofs.ContentsFacts.{contents_depend, no_rows}
+use Rattle.registry_tables.proofs.SchemaFacts.{AddsTable}
+
+pub add_first : (sql : List ℕ) → AddsTable 0 sql → (old new : State) (count : ℕ) → Ready no_tables old → Executed sql [] old new (Ok count) → HasCleanDisk new → Blank (first_tables 1) new
+add_first sql it old new count form call clean = inside (Blank (first_tables 1) new) no_tables sql [] old new (Ok count) form call clean (λ n ready ran on.
+    let made = creates_ready no_tables sql it.table old new it.means ready n ran in
+    subst (λ s. Blank s new) it.next (record { ready = made.0; empty = (made.2, tt); mode = on }))
+
+pub add_table : (n : ℕ) (sql : List ℕ) → AddsTable n sql → (old new : State) (count : ℕ) → (HasCleanDisk old → Blank (first_tables n) old) → Executed sql [] old new (Ok count) → HasCleanDisk new → Blank (first_tables (suc n)) new
+add_table n sql it old new count made call clean = subst (λ s. Blank s new) it.next (create_adds (first_tables n) sql it.table it.means old new (Ok count) made call clean)
+
+-- a text that isn't understood isn't run
+pub never_run : (schema : Schema) (sql : List ℕ) (e : CompileError) → understood schema sql ≡ Err e → (old new : State) (count : ℕ) → Ready schema old → Executed sql [] old new (Ok count) → ¬ HasCleanDisk new
+unfolding ExecutesIn
+never_run schema sql e refused old new count form call clean = inside ⊥ schema sql [] old new (Ok count) form call clean (λ n ready ran on.
+    absurd (let both = sym (ap (λ s. understood s sql) ready.schema_is ∙ refused) ∙ ran.1.is in cc))
+
+module _ {S : Type 0} (store : Ghosts S) where
+  -- the number of the schema is put when all tables are there
+  pub numbered : {E : Type 0} (old new : Held S) (r : Result (Unit {0}) E) → HasMade store 14 old
+      → (InForm store old → HasCleanDisk (state store new) → OnOk r (Leaves schema contents (with_number (stored (state store old)) schema_number) (state store new))) → AddsNoCrash store old new
+      → HasCleanDisk (state store new) → OnOk r (Leaves schema contents fresh (state store new))
+  numbered old new r made put quiet clean =
+      let blank : Blank schema (state store old) = made (omega (arith, quiet.clean, clean)) in
+      let none : stored (state store old) ≡ no_contents = blank_holds schema contents (state store old) contents_depend blank ∙ no_rows in
+      subst (λ c. OnOk r (Leaves schema contents (with_number c schema_number) (state store new))) none (put (λ _ _. blank.ready) clean)
