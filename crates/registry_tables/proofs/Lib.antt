@@ -1,3 +1,4 @@
+pub mod CatalogFacts
 pub mod ContentsFacts
 pub mod CreationFacts
 pub mod MetaFacts

@@ -15,6 +15,7 @@ mod tags;
 mod versions;
 
 pub use crate::error::fault_of;
+pub use crate::meta::opened;
 pub use crate::package::load_package;
 pub use crate::packages::{AccessChange, change_access};
 pub use crate::schema::create;

@@ -1,7 +1,7 @@
 use Rattle.std.proofs.Common.{arith}
 use Rattle.sqlite.specs.Held.{state}
 use Rattle.registry_tables.specs.Schema.{schema}
-use Rattle.registry_tables.proofs.QuietFacts.{then_quiet, executed_quiet}
+use Rattle.registry_tables.proofs.QuietFacts.{quiet_then, executed_quiet}
 use Rattle.registry_tables.proofs.SchemaFacts.{adds_users, adds_tokens, adds_orgs, adds_members, users_exists}
 use Rattle.registry_tables.proofs.CreationFacts.{add_first, add_table, never_run}
 use Rattle.registry_tables.proofs.schema.create_members.Goals as goal
@@ -15,11 +15,11 @@ returns-clause-made g c before =
 
 pub returns-in_err-execute-3-clause-committed : goal.returns-in_err-execute-3-clause-committed
 returns-in_err-execute-3-clause-committed g c =
-    (then_quiet g.S.Store c.args.tx.now.conn.now c.execute-2.new.self.conn.now c.execute-3.new.self.conn.now (then_quiet g.S.Store c.args.tx.now.conn.now c.execute.new.self.conn.now c.execute-2.new.self.conn.now (executed_quiet g.S.Store _ _ c.args.tx.now.conn.now c.execute.new.self.conn.now _ _ c.execute.ensures.ended c.execute.ensures.runs c.execute.ensures.survives) (executed_quiet g.S.Store _ _ c.execute.new.self.conn.now c.execute-2.new.self.conn.now _ _ c.execute-2.ensures.ended c.execute-2.ensures.runs c.execute-2.ensures.survives)) (executed_quiet g.S.Store _ _ c.execute-2.new.self.conn.now c.execute-3.new.self.conn.now _ _ c.execute-3.ensures.ended c.execute-3.ensures.runs c.execute-3.ensures.survives)).committed
+    (quiet_then g.S.Store c.args.tx.now.conn.now c.execute-2.new.self.conn.now c.execute-3.new.self.conn.now (quiet_then g.S.Store c.args.tx.now.conn.now c.execute.new.self.conn.now c.execute-2.new.self.conn.now (executed_quiet g.S.Store _ _ c.args.tx.now.conn.now c.execute.new.self.conn.now _ _ c.execute.ensures.ended c.execute.ensures.runs c.execute.ensures.survives) (executed_quiet g.S.Store _ _ c.execute.new.self.conn.now c.execute-2.new.self.conn.now _ _ c.execute-2.ensures.ended c.execute-2.ensures.runs c.execute-2.ensures.survives)) (executed_quiet g.S.Store _ _ c.execute-2.new.self.conn.now c.execute-3.new.self.conn.now _ _ c.execute-3.ensures.ended c.execute-3.ensures.runs c.execute-3.ensures.survives)).committed
 
 pub returns-in_err-execute-4-clause-committed : goal.returns-in_err-execute-4-clause-committed
 returns-in_err-execute-4-clause-committed g c =
-    (then_quiet g.S.Store c.args.tx.now.conn.now c.execute-3.new.self.conn.now c.execute-4.new.self.conn.now (then_quiet g.S.Store c.args.tx.now.conn.now c.execute-2.new.self.conn.now c.execute-3.new.self.conn.now (then_quiet g.S.Store c.args.tx.now.conn.now c.execute.new.self.conn.now c.execute-2.new.self.conn.now (executed_quiet g.S.Store _ _ c.args.tx.now.conn.now c.execute.new.self.conn.now _ _ c.execute.ensures.ended c.execute.ensures.runs c.execute.ensures.survives) (executed_quiet g.S.Store _ _ c.execute.new.self.conn.now c.execute-2.new.self.conn.now _ _ c.execute-2.ensures.ended c.execute-2.ensures.runs c.execute-2.ensures.survives)) (executed_quiet g.S.Store _ _ c.execute-2.new.self.conn.now c.execute-3.new.self.conn.now _ _ c.execute-3.ensures.ended c.execute-3.ensures.runs c.execute-3.ensures.survives)) (executed_quiet g.S.Store _ _ c.execute-3.new.self.conn.now c.execute-4.new.self.conn.now _ _ c.execute-4.ensures.ended c.execute-4.ensures.runs c.execute-4.ensures.survives)).committed
+    (quiet_then g.S.Store c.args.tx.now.conn.now c.execute-3.new.self.conn.now c.execute-4.new.self.conn.now (quiet_then g.S.Store c.args.tx.now.conn.now c.execute-2.new.self.conn.now c.execute-3.new.self.conn.now (quiet_then g.S.Store c.args.tx.now.conn.now c.execute.new.self.conn.now c.execute-2.new.self.conn.now (executed_quiet g.S.Store _ _ c.args.tx.now.conn.now c.execute.new.self.conn.now _ _ c.execute.ensures.ended c.execute.ensures.runs c.execute.ensures.survives) (executed_quiet g.S.Store _ _ c.execute.new.self.conn.now c.execute-2.new.self.conn.now _ _ c.execute-2.ensures.ended c.execute-2.ensures.runs c.execute-2.ensures.survives)) (executed_quiet g.S.Store _ _ c.execute-2.new.self.conn.now c.execute-3.new.self.conn.now _ _ c.execute-3.ensures.ended c.execute-3.ensures.runs c.execute-3.ensures.survives)) (executed_quiet g.S.Store _ _ c.execute-3.new.self.conn.now c.execute-4.new.self.conn.now _ _ c.execute-4.ensures.ended c.execute-4.ensures.runs c.execute-4.ensures.survives)).committed
 
 pub returns-clause-refused : goal.returns-clause-refused
 returns-clause-refused g c form clean =

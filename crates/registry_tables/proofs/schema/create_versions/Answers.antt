@@ -1,5 +1,5 @@
 use Rattle.sqlite.specs.Held.{state}
-use Rattle.registry_tables.proofs.QuietFacts.{then_quiet, executed_quiet}
+use Rattle.registry_tables.proofs.QuietFacts.{quiet_then, executed_quiet}
 use Rattle.registry_tables.proofs.SchemaFacts.{adds_owners, adds_versions, adds_spent, adds_tags}
 use Rattle.registry_tables.proofs.CreationFacts.{add_table}
 use Rattle.registry_tables.proofs.schema.create_versions.Goals as goal
@@ -13,8 +13,8 @@ returns-clause-made g c before =
 
 pub returns-in_err-execute-3-clause-committed : goal.returns-in_err-execute-3-clause-committed
 returns-in_err-execute-3-clause-committed g c =
-    (then_quiet g.S.Store c.args.tx.now.conn.now c.execute-2.new.self.conn.now c.execute-3.new.self.conn.now (then_quiet g.S.Store c.args.tx.now.conn.now c.execute.new.self.conn.now c.execute-2.new.self.conn.now (executed_quiet g.S.Store _ _ c.args.tx.now.conn.now c.execute.new.self.conn.now _ _ c.execute.ensures.ended c.execute.ensures.runs c.execute.ensures.survives) (executed_quiet g.S.Store _ _ c.execute.new.self.conn.now c.execute-2.new.self.conn.now _ _ c.execute-2.ensures.ended c.execute-2.ensures.runs c.execute-2.ensures.survives)) (executed_quiet g.S.Store _ _ c.execute-2.new.self.conn.now c.execute-3.new.self.conn.now _ _ c.execute-3.ensures.ended c.execute-3.ensures.runs c.execute-3.ensures.survives)).committed
+    (quiet_then g.S.Store c.args.tx.now.conn.now c.execute-2.new.self.conn.now c.execute-3.new.self.conn.now (quiet_then g.S.Store c.args.tx.now.conn.now c.execute.new.self.conn.now c.execute-2.new.self.conn.now (executed_quiet g.S.Store _ _ c.args.tx.now.conn.now c.execute.new.self.conn.now _ _ c.execute.ensures.ended c.execute.ensures.runs c.execute.ensures.survives) (executed_quiet g.S.Store _ _ c.execute.new.self.conn.now c.execute-2.new.self.conn.now _ _ c.execute-2.ensures.ended c.execute-2.ensures.runs c.execute-2.ensures.survives)) (executed_quiet g.S.Store _ _ c.execute-2.new.self.conn.now c.execute-3.new.self.conn.now _ _ c.execute-3.ensures.ended c.execute-3.ensures.runs c.execute-3.ensures.survives)).committed
 
 pub returns-in_err-execute-4-clause-committed : goal.returns-in_err-execute-4-clause-committed
 returns-in_err-execute-4-clause-committed g c =
-    (then_quiet g.S.Store c.args.tx.now.conn.now c.execute-3.new.self.conn.now c.execute-4.new.self.conn.now (then_quiet g.S.Store c.args.tx.now.conn.now c.execute-2.new.self.conn.now c.execute-3.new.self.conn.now (then_quiet g.S.Store c.args.tx.now.conn.now c.execute.new.self.conn.now c.execute-2.new.self.conn.now (executed_quiet g.S.Store _ _ c.args.tx.now.conn.now c.execute.new.self.conn.now _ _ c.execute.ensures.ended c.execute.ensures.runs c.execute.ensures.survives) (executed_quiet g.S.Store _ _ c.execute.new.self.conn.now c.execute-2.new.self.conn.now _ _ c.execute-2.ensures.ended c.execute-2.ensures.runs c.execute-2.ensures.survives)) (executed_quiet g.S.Store _ _ c.execute-2.new.self.conn.now c.execute-3.new.self.conn.now _ _ c.execute-3.ensures.ended c.execute-3.ensures.runs c.execute-3.ensures.survives)) (executed_quiet g.S.Store _ _ c.execute-3.new.self.conn.now c.execute-4.new.self.conn.now _ _ c.execute-4.ensures.ended c.execute-4.ensures.runs c.execute-4.ensures.survives)).committed
+    (quiet_then g.S.Store c.args.tx.now.conn.now c.execute-3.new.self.conn.now c.execute-4.new.self.conn.now (quiet_then g.S.Store c.args.tx.now.conn.now c.execute-2.new.self.conn.now c.execute-3.new.self.conn.now (quiet_then g.S.Store c.args.tx.now.conn.now c.execute.new.self.conn.now c.execute-2.new.self.conn.now (executed_quiet g.S.Store _ _ c.args.tx.now.conn.now c.execute.new.self.conn.now _ _ c.execute.ensures.ended c.execute.ensures.runs c.execute.ensures.survives) (executed_quiet g.S.Store _ _ c.execute.new.self.conn.now c.execute-2.new.self.conn.now _ _ c.execute-2.ensures.ended c.execute-2.ensures.runs c.execute-2.ensures.survives)) (executed_quiet g.S.Store _ _ c.execute-2.new.self.conn.now c.execute-3.new.self.conn.now _ _ c.execute-3.ensures.ended c.execute-3.ensures.runs c.execute-3.ensures.survives)) (executed_quiet g.S.Store _ _ c.execute-3.new.self.conn.now c.execute-4.new.self.conn.now _ _ c.execute-4.ensures.ended c.execute-4.ensures.runs c.execute-4.ensures.survives)).committed
