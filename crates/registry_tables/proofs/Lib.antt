@@ -1,6 +1,11 @@
+pub mod CallFacts
 pub mod CatalogFacts
 pub mod ContentsFacts
 pub mod CreationFacts
+pub mod MappedFacts
 pub mod MetaFacts
+pub mod PackageFacts
 pub mod QuietFacts
 pub mod SchemaFacts
+pub mod TagFacts
+pub mod VersionFacts

@@ -1,5 +1,7 @@
+pub mod Changes
 pub mod Contents
 pub mod Effects
 pub mod Faults
 pub mod Fresh
 pub mod Schema
+pub mod Spelled

@@ -7,6 +7,7 @@
 #![tactic(auto)]
 
 mod error;
+pub mod laws;
 mod meta;
 mod package;
 mod packages;
@@ -20,4 +21,4 @@ pub use crate::package::load_package;
 pub use crate::packages::{AccessChange, change_access};
 pub use crate::schema::create;
 pub use crate::tags::{TagChange, set_tags};
-pub use crate::versions::{load_manifest, put_version};
+pub use crate::versions::{load_archive, load_manifest, put_version};

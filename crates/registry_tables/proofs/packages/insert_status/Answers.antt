@@ -1,0 +1,19 @@
+use Rattle.std.proofs.Common.{Ok, SFits, w64, rules}
+use Rattle.std.proofs.lemmas.Int.{to_z-of_z}
+use Rattle.sqlite.specs.Held.{state}
+use Rattle.registry_tables.proofs.CallFacts.{failed_keeps}
+use Rattle.registry_tables.proofs.PackageFacts.{status_put}
+use Rattle.registry_tables.proofs.packages.insert_status.Goals as goal
+
+pub returns-clause-makes : goal.returns-clause-makes
+returns-clause-makes g c clean =
+    let fits : SFits w64 c.number_of.result = search rules in
+    status_put c.args.name.now c.args.status (state g.S.Store c.args.tx.now.conn.now) (state g.S.Store c.execute.new.self.conn.now) (Ok _) c.requires.in_form (record {
+      ended = λ off. (_, (c.in_ok-execute.ensures.ended off).0);
+      runs = rw (c.params-to_sql.ensures, c.params-to_sql-2.ensures, to_z-of_z w64 c.number_of.result fits, c.number_of.ensures) at c.in_ok-execute.ensures.runs;
+      survives = c.in_ok-execute.ensures.survives;
+    }) clean
+
+pub returns-in_err-execute-clause-committed : goal.returns-in_err-execute-clause-committed
+returns-in_err-execute-clause-committed g c clean =
+    failed_keeps g.S.Store c.args.tx.now.conn.now c.execute.new.self.conn.now _ _ _ (λ off. (c.in_err-execute.ensures.ended off).1) (c.in_err-execute.ensures.runs clean)

@@ -1,0 +1,33 @@
+-- What values are kept as, and what the rows of answers spell, column by column.
+use Rattle.std.specs.Prelude.{ℕ, List}
+use Rattle.sqlite_value.specs.Order.{Row, column}
+use Rattle.registry_names.specs.Texts.{Text}
+use Rattle.registry_names.specs.declared.status.Status.{Status}
+use Rattle.registry_names.specs.declared.status.Status.TheVariants.{Public, Restricted}
+use Rattle.registry_rows.specs.Columns.{text_in, number_in, blob_in}
+use Rattle.registry_tables.specs.Contents.{status_of}
+
+-- a text alone
+abbrev pub text_spelled : Row → Text
+text_spelled r = text_in (column r 0)
+
+-- bytes alone
+abbrev pub bytes_spelled : Row → List ℕ
+bytes_spelled r = blob_in (column r 0)
+
+-- the number that a status is kept as
+abbrev pub status_number : Status → ℕ
+status_number Restricted = 0
+status_number Public = 1
+
+-- a status alone
+abbrev pub status_spelled : Row → Status
+status_spelled r = status_of (number_in (column r 0))
+
+-- a tag and its version
+abbrev pub tag_spelled : Row → Text × Text
+tag_spelled r = (text_in (column r 0), text_in (column r 1))
+
+-- a version, its moment and its message
+abbrev pub live_spelled : Row → Text × (ℕ × Text)
+live_spelled r = (text_in (column r 0), (number_in (column r 1), text_in (column r 2)))
