@@ -1,5 +1,5 @@
 -- What an accepted request makes of what the registry holds.
-use Rattle.std.specs.Prelude.{ℕ, Bool, true, false, List, [], ◌∷◌, is_some, is_none, Option, Some, None, if◌then◌else◌, codes}
+use Rattle.std.specs.Prelude.{ℕ, [], is_some, is_none, Option, Some, None, if◌then◌else◌, codes}
 use Rattle.registry_names.specs.Texts.{Text}
 use Rattle.registry_names.specs.Maps.{at}
 use Rattle.registry_names.specs.declared.status.Status.{Status}

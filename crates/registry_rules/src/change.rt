@@ -1,5 +1,8 @@
 //! What a decision changes.
 
+ghost use Rattle.std.specs.Prelude.{◌≡◌};
+ghost use Rattle.registry_rules.specs.Changes.{tag_of};
+
 use registry_names::Status;
 use registry_publish::PublishForm;
 
@@ -33,7 +36,9 @@ pub enum SetTag {
 
 impl SetTag {
     /// The text of the tag, where the request publishes this form.
-    pub fn text(self, form: &PublishForm) -> &str {
+    pub fn text(self, form: &PublishForm) -> &str
+        ensures { result.now ≡ tag_of self form.now }
+    {
         match self {
             SetTag::Latest => LATEST,
             SetTag::Named => form.tag().text(),

@@ -1,30 +1,64 @@
 //! The decision on a request.
 
+ghost use Rattle.std.specs.Prelude.{◌≡◌, ◌↔◌, IfOk, IfErr, Ok, Err, Some, None};
+ghost use Rattle.registry_rules.specs.Changes.{changed};
+ghost use Rattle.registry_rules.specs.Refusals.{permitted, refusal};
+ghost use Rattle.registry_rules.specs.Rows as from_rows;
+ghost use Rattle.registry_rules.specs.Standing.{StandsFor};
+ghost use Rattle.registry_rules.specs.State.{State};
+ghost use Rattle.registry_rules.specs.Steps.{step};
+
 use crate::change::Changes;
-use crate::facts::Facts;
+use crate::facts::{Facts, PackageRows};
 use crate::publish::{publish_changes, publish_refusal};
 use crate::request::{Action, Request};
-use registry_names::{Refusal, Stop};
-use std::alloc::Global;
+use registry_names::{Fault, Refusal, Stop};
+use std::alloc::{AllocError, Global};
 
-/// Decides a command: the changes that make its step, or why it is turned away. A query changes
-/// nothing.
-///
-/// `Memory` comes where no memory is left, and no other fault.
-pub fn decide(alloc: Global, facts: &Facts, request: &Request) -> Result<Changes, Stop> {
-    match &request.what {
-        Action::Publish { form } => match publish_refusal(&facts.rows, form) {
-            Some(refusal) => Err(Stop::Refused(refusal)),
-            None => Ok(publish_changes(alloc, &facts.rows, form)?),
-        },
-        Action::Packument { .. } => Ok(Vec::new(alloc)),
+/// Whether a request may be asked, or why it is turned away. It takes no memory.
+pub fn may_ask(facts: &Facts, request: &Request) -> Result<(), Refusal>
+    ensures { (S : State) → StandsFor facts.now S request.now → result ≡ permitted (refusal S request.now) }
+{
+    match refusal(&facts.rows, &request.what) {
+        Some(refusal) => Err(refusal),
+        None => Ok(()),
     }
 }
 
-/// Decides a query: whether it may be asked, or why it is turned away. It takes no memory.
-pub fn may_ask(facts: &Facts, request: &Request) -> Result<(), Refusal> {
-    match &request.what {
-        Action::Packument { .. } if facts.rows.live.is_empty() => Err(Refusal::NotFound),
-        _ => Ok(()),
+/// The changes that make the step of a request, none for a query; or why it is turned away, as
+/// [`may_ask`] says.
+///
+/// `Memory` comes where no memory is left for the changes of a request that isn't turned away, and
+/// no other fault comes.
+pub fn decide(alloc: Global, facts: &Facts, request: &Request) -> Result<Changes, Stop>
+    ensures makes { IfOk result (λ changes. (S : State) → StandsFor facts.now S request.now
+        → (refusal S request.now ≡ None) × (changed S request.now changes.items ≡ step S request.now)) }
+    ensures refused { (S : State) → StandsFor facts.now S request.now
+        → (r : Refusal) → (refusal S request.now ≡ Some r) ↔ (result ≡ Err (Stop.Refused r)) }
+    ensures fault { IfErr result (λ stop. (fault : Fault) → stop ≡ Stop.Fault fault → fault ≡ Fault.Memory) }
+{
+    if let Err(refusal) = may_ask(facts, request) {
+        return Err(Stop::Refused(refusal));
+    }
+    Ok(changes(alloc, &facts.rows, &request.what)?)
+}
+
+fn refusal(rows: &PackageRows, action: &Action) -> Option<Refusal>
+    ensures { result ≡ from_rows.refusal rows.now action.now }
+{
+    match action {
+        Action::Publish { form } => publish_refusal(rows, form),
+        Action::Packument { .. } if rows.live.is_empty() => Some(Refusal::NotFound),
+        Action::Packument { .. } => None,
+    }
+}
+
+// What a request that isn't turned away changes.
+fn changes(alloc: Global, rows: &PackageRows, action: &Action) -> Result<Changes, AllocError>
+    ensures { IfOk result (λ changes. changes.items ≡ from_rows.changes rows.now action.now) }
+{
+    match action {
+        Action::Publish { form } => publish_changes(alloc, rows, form),
+        Action::Packument { .. } => Ok(Vec::new(alloc)),
     }
 }

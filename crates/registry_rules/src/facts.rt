@@ -1,5 +1,8 @@
 //! The facts that a decision rests on.
 
+ghost use Rattle.std.specs.Prelude.{◌≡◌};
+ghost use Rattle.registry_rules.specs.Rows as from_rows;
+
 use crate::request::Caller;
 use registry_names::{DistTag, Moment, Status, Text};
 
@@ -36,14 +39,20 @@ pub struct LiveVersion {
 
 impl PackageRows {
     /// Whether the version lives.
-    pub fn has_version(&self, version: &str) -> bool {
+    #[tactic(auto, unfolding(registry_names::specs::Texts::is))]
+    pub fn has_version(&self, version: &str) -> bool
+        ensures { result ≡ from_rows.has_version self.now version.now }
+    {
         self.live
             .iter()
             .any(|live| live.version.as_str() == version)
     }
 
     /// Whether the tag stands.
-    pub fn has_tag(&self, tag: &str) -> bool {
+    #[tactic(auto, unfolding(registry_names::specs::Texts::is))]
+    pub fn has_tag(&self, tag: &str) -> bool
+        ensures { result ≡ from_rows.has_tag self.now tag.now }
+    {
         self.tags.iter().any(|named| named.tag.as_str() == tag)
     }
 }

@@ -1,5 +1,8 @@
 //! What can be asked of the registry.
 
+ghost use Rattle.std.specs.Prelude.{◌≡◌};
+ghost use Rattle.registry_rules.specs.Standing.{name_of};
+
 use registry_names::{Moment, Name};
 use registry_publish::PublishForm;
 
@@ -46,7 +49,9 @@ pub enum Action {
 
 impl Action {
     /// The package that it is about.
-    pub fn name(&self) -> &Name {
+    pub fn name(&self) -> &Name
+        ensures { result.now ≡ name_of self.now }
+    {
         match self {
             Action::Publish { form } => form.name(),
             Action::Packument { name } => name,
