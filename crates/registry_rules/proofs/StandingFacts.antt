@@ -1,6 +1,6 @@
 -- What the rows of a package decide is what every state decides that they stand for.
 use Rattle.std.proofs.Common.{◌≡◌, ℕ, Bool, true, false, ◌&&◌, is_some, is_none, Option, Some, None, refl, sym, ap, ◌∙◌, true≢false, if◌then◌else◌}
-use Rattle.std.specs.Prelude.{Ok}
+use Rattle.std.specs.Prelude.{is_ok}
 use Rattle.registry_names.specs.Texts.{Text}
 use Rattle.registry_names.specs.Maps.{at}
 use Rattle.registry_names.specs.declared.refusal.Refusal.{Refusal}
@@ -60,6 +60,6 @@ changes_stand rows S now (Publish f) stand = publish_stands rows S f now stand
 changes_stand rows S now (Packument p) stand = refl
 
 -- a request that may be asked isn't turned away
-pub not_refused : (r : Option Refusal) → Ok tt ≡ permitted r → r ≡ None
-not_refused None e = refl
-not_refused (Some r) e = cc
+pub not_refused : (r : Option Refusal) → is_ok (permitted r) ≡ true → r ≡ None
+not_refused None h = refl
+not_refused (Some r) h = absurd (true≢false (sym h))

@@ -37,9 +37,7 @@ pub fn decide(alloc: Global, facts: &Facts, request: &Request) -> Result<Changes
         → (r : Refusal) → (refusal S request.now ≡ Some r) ↔ (result ≡ Err (Stop.Refused r)) }
     ensures fault { IfErr result (λ stop. (fault : Fault) → stop ≡ Stop.Fault fault → fault ≡ Fault.Memory) }
 {
-    if let Err(refusal) = may_ask(facts, request) {
-        return Err(Stop::Refused(refusal));
-    }
+    may_ask(facts, request).map_err(Stop::Refused)?;
     Ok(changes(alloc, &facts.rows, &request.what)?)
 }
 
