@@ -1,2 +1,4 @@
+pub mod KeptFacts
+pub mod PutFacts
 pub mod RowFacts
 pub mod StandingFacts

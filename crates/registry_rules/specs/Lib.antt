@@ -1,6 +1,8 @@
 pub mod Changes
+pub mod Kept
 pub mod Operations
 pub mod Refusals
+pub mod Requests
 pub mod Rows
 pub mod Standing
 pub mod State

@@ -8,6 +8,7 @@
 mod change;
 mod decision;
 mod facts;
+pub mod laws;
 mod publish;
 mod reply;
 mod request;

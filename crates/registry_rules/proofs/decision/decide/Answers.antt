@@ -6,6 +6,6 @@ use Rattle.registry_rules.proofs.decision.decide.Goals as goal
 
 pub returns-clause-makes : goal.returns-clause-makes
 returns-clause-makes c = λ S stand. (
-    not_refused _ (sym (c.in_ok-map_err.ensures.variant ∙ ap is_ok (c.may_ask.ensures S stand))),
-    ap (changed S c.args.request.now) c.in_ok-changes.ensures ∙ changes_stand c.args.facts.now.rows S c.args.request.now.at c.args.request.now.what stand,
-  )
+  not_refused _ (sym (c.in_ok-map_err.ensures.variant ∙ ap is_ok (c.may_ask.ensures S stand))),
+  ap (changed S c.args.request.now) c.in_ok-changes.ensures ∙ changes_stand c.args.facts.now.rows S c.args.request.now.at c.args.request.now.what stand,
+)

@@ -1,0 +1,191 @@
+-- A request in form that nothing refuses keeps what holds of all that the registry holds.
+use Rattle.std.proofs.Common.{◌≡◌, ◌≢◌, ℕ, ◌≤◌, Bool, true, false, cond, ◌&&◌, is_none, is_some, Option, Some, None, refl, sym, ap, ◌∙◌, subst, true≢false, if◌then◌else◌}
+use Rattle.std.specs.Prelude.{IsSome, IsTrue}
+use Rattle.registry_names.specs.Keys.{Pair}
+use Rattle.registry_names.specs.Maps.{TextMap, PairMap, at, put}
+use Rattle.registry_names.specs.Moments.{last_second}
+use Rattle.registry_names.specs.Tags.{is_tag}
+use Rattle.registry_names.specs.Texts.{Text}
+use Rattle.registry_names.specs.declared.refusal.Refusal.TheVariants.{Published, AlwaysPublic}
+use Rattle.registry_names.specs.declared.status.Status.{Status}
+use Rattle.registry_names.specs.declared.status.Status.TheVariants.{Public, Restricted}
+use Rattle.registry_names.proofs.KeyFacts.{text_key, pair_key}
+use Rattle.registry_names.proofs.MapFacts.{at-empty}
+use Rattle.registry_access.specs.Scopes.{scope_of}
+use Rattle.registry_publish.specs.Form.{FormParts}
+use Rattle.registry_rules.specs.Kept.{IsReleaseOf, IsTagOf, IsKept}
+use Rattle.registry_rules.specs.Operations.{with_version, with_tag}
+use Rattle.registry_rules.specs.Refusals.{is_restricted, is_live, publish_refusal, refusal, refusal_of, refuse, version_of}
+use Rattle.registry_rules.specs.Requests.{IsFormInForm, IsInForm, IsActionInForm}
+use Rattle.registry_rules.specs.State.{State, Release, nothing}
+use Rattle.registry_rules.specs.Steps.{latest, new_status, with_new_status, with_latest, release_of, published, step, step_of}
+use Rattle.registry_rules.specs.declared.request.Action.{Action}
+use Rattle.registry_rules.specs.declared.request.Action.TheVariants.{Publish, Packument}
+use Rattle.registry_rules.specs.declared.request.Request.{Request}
+use Rattle.registry_rules.proofs.PutFacts.{each_put, some_before, put_there, still_there}
+
+-- ---- nothing
+
+none_there : {X : Type 0} (o : Option X) → o ≡ None → IsSome o → ⊥
+none_there o e h = true≢false (sym h ∙ ap is_some e)
+
+pub nothing_kept : IsKept nothing
+nothing_kept = record {
+  live = λ p v release h. absurd (none_there _ (at-empty pair_key (p, v)) (ap is_some h));
+  tags = λ p t v h. absurd (none_there _ (at-empty pair_key (p, t)) (ap is_some h));
+  status = λ p v h. absurd (none_there _ (at-empty pair_key (p, v)) h);
+  latest = λ p v h. absurd (none_there _ (at-empty pair_key (p, v)) h);
+  unscoped = λ p u h. none_there _ (at-empty text_key p) (ap is_some h);
+}
+
+-- ---- what a publish leaves, each map apart
+
+abbrev statuses_after : TextMap Status → Text → Option Status → TextMap Status
+statuses_after m p None = m
+statuses_after m p (Some status) = put m p status
+
+abbrev tags_before : PairMap Text → Text → Text → Bool → PairMap Text
+tags_before m p v first = cond first (put m (p, latest) v) m
+
+abbrev after_publish : State → Text → Text → Text → Release → Option Status → Bool → State
+after_publish S p v t release status first = record S {
+  access = record S.access { statuses = statuses_after S.access.statuses p status };
+  live = put S.live (p, v) release;
+  tags = put (tags_before S.tags p v first) (p, t) v;
+}
+
+published_is : (S : State) (p v t : Text) (release : Release) (status : Option Status)
+    → with_tag (with_latest (with_version (with_new_status S p status) p v release) p v) p t v ≡ after_publish S p v t release status (is_none (at S.tags (p, latest)))
+published_is S p v t release None = tagged (is_none (at S.tags (p, latest)))
+  where
+    W : State
+    W = with_version S p v release
+
+    tagged : (first : Bool) → with_tag (if first then with_tag W p latest v else W) p t v ≡ after_publish S p v t release None first
+    tagged true = refl
+    tagged false = refl
+published_is S p v t release (Some status) = tagged (is_none (at S.tags (p, latest)))
+  where
+    W : State
+    W = with_version (with_new_status S p (Some status)) p v release
+
+    tagged : (first : Bool) → with_tag (if first then with_tag W p latest v else W) p t v ≡ after_publish S p v t release (Some status) first
+    tagged true = refl
+    tagged false = refl
+
+-- ---- a publish keeps what holds
+
+-- what is known of a publish in form that nothing refuses
+record IsAllowed (S : State) (p v t : Text) (release : Release) (status : Option Status) (first : Bool) : Type 0 where
+  pub is_first : first ≡ is_none (at S.tags (p, latest))
+  pub is_release : IsReleaseOf p v release
+  pub is_tagged : IsTrue (is_tag t)
+  pub has_status : IsSome (at (statuses_after S.access.statuses p status) p)
+  pub is_public : scope_of p ≡ None → status ≢ Some Restricted
+
+module _ (S : State) (p v t : Text) (release : Release) (status : Option Status) (first : Bool) (allowed : IsAllowed S p v t release status first) (kept : IsKept S) where
+  abbrev T : State
+  T = after_publish S p v t release status first
+
+  live_then : (q w : Text) → IsTrue (is_live S q w) → IsTrue (is_live T q w)
+  live_then q w h = still_there pair_key S.live (p, v) release (q, w) h
+
+  abbrev IsTagThen : Pair → Text → Type 0
+  IsTagThen k w = IsTagOf T k.0 k.1 w
+
+  tag_then : (u : Text) → IsTrue (is_tag u) → IsTagThen (p, u) v
+  tag_then u h = record { name = allowed.is_release.name; tag = h; live = put_there pair_key S.live (p, v) release }
+
+  tag_stays : (k : Pair) (w : Text) → at S.tags k ≡ Some w → IsTagThen k w
+  tag_stays k w h = let tag = kept.tags k.0 k.1 w h in record { name = tag.name; tag = tag.tag; live = live_then k.0 w tag.live }
+
+  tags_before_are : (b : Bool) (k : Pair) (w : Text) → at (tags_before S.tags p v b) k ≡ Some w → IsTagThen k w
+  tags_before_are true = each_put pair_key S.tags (p, latest) v IsTagThen tag_stays (tag_then latest refl)
+  tags_before_are false = tag_stays
+
+  tags_are : (k : Pair) (w : Text) → at T.tags k ≡ Some w → IsTagThen k w
+  tags_are = each_put pair_key (tags_before S.tags p v first) (p, t) v IsTagThen (tags_before_are first) (tag_then t allowed.is_tagged)
+
+  live_are : (k : Pair) (r : Release) → at T.live k ≡ Some r → IsReleaseOf k.0 k.1 r
+  live_are = each_put pair_key S.live (p, v) release (λ k r. IsReleaseOf k.0 k.1 r) (λ k r. kept.live k.0 k.1 r) allowed.is_release
+
+  status_stays : (o : Option Status) (q : Text) → IsSome (at S.access.statuses q) → IsSome (at (statuses_after S.access.statuses p o) q)
+  status_stays None q h = h
+  status_stays (Some s) q h = still_there text_key S.access.statuses p s q h
+
+  have_status : (k : Pair) → IsSome (at T.live k) → IsSome (at T.access.statuses k.0)
+  have_status = some_before pair_key S.live (p, v) release (λ k. IsSome (at T.access.statuses k.0)) (λ k h. status_stays status k.0 (kept.status k.0 k.1 h)) allowed.has_status
+
+  latest_stays : (b : Bool) (q : Text) → IsSome (at S.tags (q, latest)) → IsSome (at (tags_before S.tags p v b) (q, latest))
+  latest_stays true q h = still_there pair_key S.tags (p, latest) v (q, latest) h
+  latest_stays false q h = h
+
+  latest_here : (b : Bool) (o : Option Text) → at S.tags (p, latest) ≡ o → b ≡ is_none o → IsSome (at (tags_before S.tags p v b) (p, latest))
+  latest_here true o e f = put_there pair_key S.tags (p, latest) v
+  latest_here false None e f = absurd (true≢false (sym f))
+  latest_here false (Some w) e f = ap is_some e
+
+  have_latest : (k : Pair) → IsSome (at T.live k) → IsSome (at T.tags (k.0, latest))
+  have_latest k h =
+      still_there pair_key (tags_before S.tags p v first) (p, t) v (k.0, latest)
+      (some_before pair_key S.live (p, v) release (λ k. IsSome (at (tags_before S.tags p v first) (k.0, latest)))
+      (λ k h. latest_stays first k.0 (kept.latest k.0 k.1 h)) (latest_here first _ refl allowed.is_first) k h)
+
+  statuses_are : (o : Option Status) → (scope_of p ≡ None → o ≢ Some Restricted) → (q : Text) (s : Status) → at (statuses_after S.access.statuses p o) q ≡ Some s → scope_of q ≡ None → s ≢ Restricted
+  statuses_are None may = λ q s e u f. kept.unscoped q u (e ∙ ap (λ (x : Status). Some x) f)
+  statuses_are (Some status) may =
+      each_put text_key S.access.statuses p status (λ q s. scope_of q ≡ None → s ≢ Restricted)
+      (λ q s e u f. kept.unscoped q u (e ∙ ap (λ (x : Status). Some x) f)) (λ u f. may u (ap (λ (x : Status). Some x) f))
+
+  all_kept : IsKept T
+  all_kept = record {
+    live = λ q w r h. live_are (q, w) r h;
+    tags = λ q u w h. tags_are (q, u) w h;
+    status = λ q w h. have_status (q, w) h;
+    latest = λ q w h. have_latest (q, w) h;
+    unscoped = λ q u h. statuses_are status allowed.is_public q Restricted h u refl;
+  }
+
+-- ---- what is known of a publish in form that nothing refuses
+
+has_new_status : (m : TextMap Status) (p : Text) (asked old : Option Status) → at m p ≡ old → IsSome (at (statuses_after m p (new_status asked old p)) p)
+has_new_status m p (Some s) old e = put_there text_key m p s
+has_new_status m p None (Some s) e = ap is_some e
+has_new_status m p None None e = put_there text_key m p _
+
+not_restricted : (b c : Bool) → refuse b Published (refuse c AlwaysPublic None) ≡ None → c ≡ false
+not_restricted true c h = cc
+not_restricted false true h = cc
+not_restricted false false h = refl
+
+new_is_public : (p : Text) (asked old : Option Status) → (is_restricted asked && is_none (scope_of p)) ≡ false → scope_of p ≡ None → new_status asked old p ≢ Some Restricted
+new_is_public p (Some Restricted) old may u e = true≢false (sym (ap is_none u) ∙ may)
+new_is_public p (Some Public) old may u e = cc
+new_is_public p None (Some s) may u e = cc
+new_is_public p None None may u e = public (scope_of p) u e
+  where
+    public : (o : Option Text) → o ≡ None → Some (if is_some o then Restricted else Public) ≢ Some Restricted
+    public None h e = cc
+    public (Some s) h e = cc
+
+publish_kept : (S : State) (f : FormParts) (now : ℕ) → IsFormInForm f → now ≤ last_second → publish_refusal S f ≡ None → IsKept S → IsKept (published S f now)
+publish_kept S f now form at_moment may kept =
+    let p = f.name in
+    let v = version_of f in
+    let release = release_of f now in
+    let status = new_status f.access (at S.access.statuses p) p in
+    let allowed : IsAllowed S p v f.tag release status (is_none (at S.tags (p, latest))) = record {
+      is_first = refl;
+      is_release = record { name = form.name; version = f.version; is_version = form.version; manifest = form.manifest; at = at_moment; message = refl };
+      is_tagged = form.tag;
+      has_status = has_new_status S.access.statuses p f.access _ refl;
+      is_public = new_is_public p f.access _ (not_restricted _ _ may);
+    } in
+    subst IsKept (sym (published_is S p v f.tag release status)) (all_kept S p v f.tag release status _ allowed kept)
+
+pub step_kept : (S : State) (r : Request) → IsInForm r → refusal S r ≡ None → IsKept S → IsKept (step S r)
+step_kept S r form may kept = by_action r.what form.what may
+  where
+    by_action : (what : Action) → IsActionInForm what → refusal_of S what ≡ None → IsKept (step_of S r.at what)
+    by_action (Publish f) h may = publish_kept S f r.at h form.at may kept
+    by_action (Packument p) h may = kept
