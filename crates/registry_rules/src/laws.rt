@@ -1,13 +1,16 @@
 //! Laws of the words that contracts cite. Each function does nothing: what it ensures holds of
-//! the definitions themselves, and its proof is the law's.
+//! the definitions themselves, or of every value of a type.
 
 ghost use Rattle.std.specs.Prelude.{◌≡◌, None};
 ghost use Rattle.registry_rules.specs.Kept.{IsKept};
 ghost use Rattle.registry_rules.specs.Refusals.{refusal};
-ghost use Rattle.registry_rules.specs.Requests.{IsInForm};
+ghost use Rattle.registry_rules.specs.Requests.{IsFormInForm, IsInForm};
 ghost use Rattle.registry_rules.specs.State.{State, nothing};
 ghost use Rattle.registry_rules.specs.Steps.{step};
 ghost use Rattle.registry_rules.specs.declared.request.Request.{Request};
+
+use crate::request::{Action, Request};
+use registry_publish::PublishForm;
 
 /// What the registry holds is kept in form: nothing is, and each request in form that isn't turned
 /// away keeps it so.
@@ -15,3 +18,25 @@ pub fn requests_keep_the_form()
     ensures nothing { IsKept nothing }
     ensures step { (S : State) (r : Request) → IsInForm r → refusal S r ≡ None → IsKept S → IsKept (step S r) }
 {}
+
+/// Each request is in form, as its parts say.
+pub fn requests_are_in_form(request: &Request)
+    ensures { IsInForm request.now }
+{
+    request.at.seconds();
+    match &request.what {
+        Action::Publish { form } => forms_are_in_form(form),
+        Action::Packument { name } => {
+            name.text();
+        }
+    }
+}
+
+fn forms_are_in_form(form: &PublishForm)
+    ensures { IsFormInForm form.now }
+{
+    form.name();
+    form.version();
+    form.tag();
+    form.manifest_text();
+}
