@@ -1,6 +1,7 @@
 //! The decision on a request.
 
-ghost use Rattle.std.specs.Prelude.{◌≡◌, ◌↔◌, IfOk, IfErr, Ok, Err, Some, None};
+ghost use Rattle.std.specs.Prelude.{◌≡◌, ◌↔◌, IfOk, IfErr, Ok, Err, Some, None, []};
+ghost use Rattle.registry_names.specs.Texts.{Text};
 ghost use Rattle.registry_rules.specs.Changes.{changed};
 ghost use Rattle.registry_rules.specs.Refusals.{permitted, refusal};
 ghost use Rattle.registry_rules.specs.Rows as from_rows;
@@ -33,6 +34,7 @@ pub fn may_ask(facts: &Facts, request: &Request) -> Result<(), Refusal>
 pub fn decide(alloc: Global, facts: &Facts, request: &Request) -> Result<Changes, Stop>
     ensures makes { IfOk result (λ changes. (S : State) → StandsFor facts.now S request.now
         → (refusal S request.now ≡ None) × (changed S request.now changes.items ≡ step S request.now)) }
+    ensures query { (name : Text) → request.now.what ≡ Action.Packument name → IfOk result (λ changes. changes.items ≡ []) }
     ensures refused { (S : State) → StandsFor facts.now S request.now
         → (r : Refusal) → (refusal S request.now ≡ Some r) ↔ (result ≡ Err (Stop.Refused r)) }
     ensures fault { IfErr result (λ stop. (fault : Fault) → stop ≡ Stop.Fault fault → fault ≡ Fault.Memory) }

@@ -1,8 +1,9 @@
 //! The rules of the registry, apart from where its packages are kept: what can be asked, what is
 //! answered, and the decision on a request from the facts that it rests on.
 //!
-//! A decision changes nothing itself. It answers a refusal, or the list of changes that make the
-//! request's step. [`decide`] decides commands, and [`may_ask`] queries.
+//! A decision changes nothing itself. [`may_ask`] answers whether a request is turned away, and
+//! [`decide`] what one that isn't changes: the list of changes that make its step, which is empty
+//! for a query.
 #![tactic(auto)]
 
 mod change;
