@@ -13,6 +13,8 @@ pub mod laws;
 mod publish;
 mod reply;
 mod request;
+#[cfg(test)]
+mod tests;
 
 pub use crate::change::{Change, Changes, SetTag};
 pub use crate::decision::{decide, may_ask};
