@@ -1,28 +1,28 @@
 -- A request in form that nothing refuses keeps what holds of all that the registry holds.
-use Rattle.std.proofs.Common.{◌≡◌, ◌≢◌, ℕ, ◌≤◌, Bool, true, false, cond, ◌&&◌, is_none, is_some, Option, Some, None, refl, sym, ap, ◌∙◌, subst, true≢false, if◌then◌else◌}
+use Rattle.std.proofs.Common.{◌≡◌, ◌≢◌, ℕ, ◌≤◌, Bool, true, false, is_none, is_some, Option, Some, None, refl, sym, ap, ◌∙◌, subst, true≢false}
 use Rattle.std.specs.Prelude.{IsSome, IsTrue}
 use Rattle.registry_names.specs.Keys.{Pair}
-use Rattle.registry_names.specs.Maps.{TextMap, PairMap, at, put}
+use Rattle.registry_names.specs.Maps.{at}
 use Rattle.registry_names.specs.Moments.{last_second}
 use Rattle.registry_names.specs.Tags.{is_tag}
 use Rattle.registry_names.specs.Texts.{Text}
-use Rattle.registry_names.specs.declared.refusal.Refusal.TheVariants.{Published, AlwaysPublic}
 use Rattle.registry_names.specs.declared.status.Status.{Status}
-use Rattle.registry_names.specs.declared.status.Status.TheVariants.{Public, Restricted}
+use Rattle.registry_names.specs.declared.status.Status.TheVariants.{Restricted}
 use Rattle.registry_names.proofs.KeyFacts.{text_key, pair_key}
 use Rattle.registry_names.proofs.MapFacts.{at-empty}
 use Rattle.registry_access.specs.Scopes.{scope_of}
 use Rattle.registry_publish.specs.Form.{FormParts}
 use Rattle.registry_rules.specs.Kept.{IsReleaseOf, IsTagOf, IsKept}
-use Rattle.registry_rules.specs.Operations.{with_version, with_tag}
-use Rattle.registry_rules.specs.Refusals.{is_restricted, is_live, publish_refusal, refusal, refusal_of, refuse, version_of}
-use Rattle.registry_rules.specs.Requests.{IsFormInForm, IsInForm, IsActionInForm}
+use Rattle.registry_rules.specs.Refusals.{is_live, publish_refusal, refusal, refusal_of, version_of}
+use Rattle.registry_rules.specs.Requests.{ArePartsInForm, IsInForm, IsActionInForm}
 use Rattle.registry_rules.specs.State.{State, Release, nothing}
-use Rattle.registry_rules.specs.Steps.{latest, new_status, with_new_status, with_latest, release_of, published, step, step_of}
+use Rattle.registry_rules.specs.Steps.{latest, new_status, release_of, published, step, step_of}
 use Rattle.registry_rules.specs.declared.request.Action.{Action}
 use Rattle.registry_rules.specs.declared.request.Action.TheVariants.{Publish, Packument}
 use Rattle.registry_rules.specs.declared.request.Request.{Request}
 use Rattle.registry_rules.proofs.PutFacts.{each_put, some_before, put_there, still_there}
+use Rattle.registry_rules.proofs.PublishedFacts.{statuses_after, tags_before, after_publish, published_is}
+use Rattle.registry_rules.proofs.AllowedFacts.{IsAllowed, allowed_publish}
 
 -- ---- nothing
 
@@ -38,50 +38,7 @@ nothing_kept = record {
   unscoped = λ p u h. none_there _ (at-empty text_key p) (ap is_some h);
 }
 
--- ---- what a publish leaves, each map apart
-
-abbrev statuses_after : TextMap Status → Text → Option Status → TextMap Status
-statuses_after m p None = m
-statuses_after m p (Some status) = put m p status
-
-abbrev tags_before : PairMap Text → Text → Text → Bool → PairMap Text
-tags_before m p v first = cond first (put m (p, latest) v) m
-
-abbrev after_publish : State → Text → Text → Text → Release → Option Status → Bool → State
-after_publish S p v t release status first = record S {
-  access = record S.access { statuses = statuses_after S.access.statuses p status };
-  live = put S.live (p, v) release;
-  tags = put (tags_before S.tags p v first) (p, t) v;
-}
-
-published_is : (S : State) (p v t : Text) (release : Release) (status : Option Status)
-    → with_tag (with_latest (with_version (with_new_status S p status) p v release) p v) p t v ≡ after_publish S p v t release status (is_none (at S.tags (p, latest)))
-published_is S p v t release None = tagged (is_none (at S.tags (p, latest)))
-  where
-    W : State
-    W = with_version S p v release
-
-    tagged : (first : Bool) → with_tag (if first then with_tag W p latest v else W) p t v ≡ after_publish S p v t release None first
-    tagged true = refl
-    tagged false = refl
-published_is S p v t release (Some status) = tagged (is_none (at S.tags (p, latest)))
-  where
-    W : State
-    W = with_version (with_new_status S p (Some status)) p v release
-
-    tagged : (first : Bool) → with_tag (if first then with_tag W p latest v else W) p t v ≡ after_publish S p v t release (Some status) first
-    tagged true = refl
-    tagged false = refl
-
--- ---- a publish keeps what holds
-
--- what is known of a publish in form that nothing refuses
-record IsAllowed (S : State) (p v t : Text) (release : Release) (status : Option Status) (first : Bool) : Type 0 where
-  pub is_first : first ≡ is_none (at S.tags (p, latest))
-  pub is_release : IsReleaseOf p v release
-  pub is_tagged : IsTrue (is_tag t)
-  pub has_status : IsSome (at (statuses_after S.access.statuses p status) p)
-  pub is_public : scope_of p ≡ None → status ≢ Some Restricted
+-- ---- a publish
 
 module _ (S : State) (p v t : Text) (release : Release) (status : Option Status) (first : Bool) (allowed : IsAllowed S p v t release status first) (kept : IsKept S) where
   abbrev T : State
@@ -146,42 +103,11 @@ module _ (S : State) (p v t : Text) (release : Release) (status : Option Status)
     unscoped = λ q u h. statuses_are status allowed.is_public q Restricted h u refl;
   }
 
--- ---- what is known of a publish in form that nothing refuses
-
-has_new_status : (m : TextMap Status) (p : Text) (asked old : Option Status) → at m p ≡ old → IsSome (at (statuses_after m p (new_status asked old p)) p)
-has_new_status m p (Some s) old e = put_there text_key m p s
-has_new_status m p None (Some s) e = ap is_some e
-has_new_status m p None None e = put_there text_key m p _
-
-not_restricted : (b c : Bool) → refuse b Published (refuse c AlwaysPublic None) ≡ None → c ≡ false
-not_restricted true c h = cc
-not_restricted false true h = cc
-not_restricted false false h = refl
-
-new_is_public : (p : Text) (asked old : Option Status) → (is_restricted asked && is_none (scope_of p)) ≡ false → scope_of p ≡ None → new_status asked old p ≢ Some Restricted
-new_is_public p (Some Restricted) old may u e = true≢false (sym (ap is_none u) ∙ may)
-new_is_public p (Some Public) old may u e = cc
-new_is_public p None (Some s) may u e = cc
-new_is_public p None None may u e = public (scope_of p) u e
-  where
-    public : (o : Option Text) → o ≡ None → Some (if is_some o then Restricted else Public) ≢ Some Restricted
-    public None h e = cc
-    public (Some s) h e = cc
-
-publish_kept : (S : State) (f : FormParts) (now : ℕ) → IsFormInForm f → now ≤ last_second → publish_refusal S f ≡ None → IsKept S → IsKept (published S f now)
-publish_kept S f now form at_moment may kept =
-    let p = f.name in
-    let v = version_of f in
-    let release = release_of f now in
-    let status = new_status f.access (at S.access.statuses p) p in
-    let allowed : IsAllowed S p v f.tag release status (is_none (at S.tags (p, latest))) = record {
-      is_first = refl;
-      is_release = record { name = form.name; version = f.version; is_version = form.version; manifest = form.manifest; at = at_moment; message = refl };
-      is_tagged = form.tag;
-      has_status = has_new_status S.access.statuses p f.access _ refl;
-      is_public = new_is_public p f.access _ (not_restricted _ _ may);
-    } in
-    subst IsKept (sym (published_is S p v f.tag release status)) (all_kept S p v f.tag release status _ allowed kept)
+publish_kept : (S : State) (f : FormParts) (now : ℕ) → ArePartsInForm f → now ≤ last_second → publish_refusal S f ≡ None → IsKept S → IsKept (published S f now)
+publish_kept S f now form moment may kept =
+    let status = new_status f.access (at S.access.statuses f.name) f.name in
+    subst IsKept (sym (published_is S f.name (version_of f) f.tag (release_of f now) status))
+    (all_kept S f.name (version_of f) f.tag (release_of f now) status _ (allowed_publish S f now form moment may) kept)
 
 pub step_kept : (S : State) (r : Request) → IsInForm r → refusal S r ≡ None → IsKept S → IsKept (step S r)
 step_kept S r form may kept = by_action r.what form.what may

@@ -9,14 +9,14 @@ use Rattle.registry_rules.specs.declared.request.Action.{Action}
 use Rattle.registry_rules.specs.declared.request.Action.TheVariants.{Publish, Packument}
 use Rattle.registry_rules.specs.declared.request.Request.{Request}
 
-pub record IsFormInForm (f : FormParts) : Type 0 where
+pub record ArePartsInForm (f : FormParts) : Type 0 where
   pub name : IsName f.name
   pub version : IsVersionOf (text_of_version f.version) f.version
   pub tag : IsTrue (is_tag f.tag)
   pub manifest : IsManifestText f.name f.version f.manifest
 
 abbrev pub IsActionInForm : Action → Type 0
-IsActionInForm (Publish f) = IsFormInForm f
+IsActionInForm (Publish f) = ArePartsInForm f
 IsActionInForm (Packument p) = IsName p
 
 -- it is asked at a moment, and its texts are in form

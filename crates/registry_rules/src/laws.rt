@@ -4,7 +4,7 @@
 ghost use Rattle.std.specs.Prelude.{◌≡◌, None};
 ghost use Rattle.registry_rules.specs.Kept.{IsKept};
 ghost use Rattle.registry_rules.specs.Refusals.{refusal};
-ghost use Rattle.registry_rules.specs.Requests.{IsFormInForm, IsInForm};
+ghost use Rattle.registry_rules.specs.Requests.{ArePartsInForm, IsInForm};
 ghost use Rattle.registry_rules.specs.State.{State, nothing};
 ghost use Rattle.registry_rules.specs.Steps.{step};
 ghost use Rattle.registry_rules.specs.declared.request.Request.{Request};
@@ -25,15 +25,15 @@ pub fn requests_are_in_form(request: &Request)
 {
     request.at.seconds();
     match &request.what {
-        Action::Publish { form } => forms_are_in_form(form),
+        Action::Publish { form } => parts_are_in_form(form),
         Action::Packument { name } => {
             name.text();
         }
     }
 }
 
-fn forms_are_in_form(form: &PublishForm)
-    ensures { IsFormInForm form.now }
+fn parts_are_in_form(form: &PublishForm)
+    ensures { ArePartsInForm form.now }
 {
     form.name();
     form.version();
