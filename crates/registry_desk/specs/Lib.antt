@@ -1,4 +1,6 @@
 pub mod Answers
+pub mod Headline
 pub mod History
 pub mod Readings
+pub mod Resting
 pub mod Runs

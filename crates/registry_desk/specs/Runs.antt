@@ -1,5 +1,5 @@
 -- Runs of requests, of which any may be answered by a fault in place of the reply.
-use Rattle.std.specs.Prelude.{◌≡◌, Bool, true, false, ◌&&◌, List, [], ◌∷◌, Result, Ok, Err, if◌then◌else◌}
+use Rattle.std.specs.Prelude.{◌≡◌, Bool, true, false, ◌&&◌, List, [], ◌∷◌, Result, Ok, Err, if◌then◌else◌, IsTrue}
 use Rattle.registry_names.specs.declared.stop.Fault.{Fault}
 use Rattle.registry_rules.specs.State.{State}
 use Rattle.registry_rules.specs.Steps.{step}
@@ -11,7 +11,6 @@ use Rattle.registry_rules.specs.declared.request.Caller.{Caller}
 use Rattle.registry_rules.specs.declared.request.Caller.TheVariants as caller
 use Rattle.registry_rules.specs.declared.request.Request.{Request}
 use Rattle.registry_desk.specs.History.{Entry, is_command}
-use Rattle.registry_desk.specs.Readings.{Stands}
 use Rattle.registry_desk.specs.Answers.{answer}
 
 -- what a request is answered
@@ -65,7 +64,7 @@ abbrev pub history : List Entry → List Request → List Outcome → List Entry
 history h (r ∷ rs) (o ∷ os) = history (grown h r o) rs os
 history h _ _ = h
 
--- From S the requests have these outcomes and leave T.
-pub record Ran (S : State) (rs : List Request) (os : List Outcome) (T : State) : Type 0 where
+-- From S the requests have these outcomes, and leave T where the registry is still open. A fault of the disk may have shut it.
+pub record Ran (S : State) (rs : List Request) (os : List Outcome) (opened : Bool) (T : State) : Type 0 where
   pub answers : Answers S rs os
-  pub left : T ≡ end_of S rs os
+  pub left : IsTrue opened → T ≡ end_of S rs os

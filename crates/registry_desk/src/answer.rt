@@ -1,6 +1,13 @@
 //! The answer to one request, inside a transaction.
 
-ghost use Rattle.std.specs.Prelude.{◌≡◌};
+ghost use Rattle.std.specs.Prelude.{◌≡◌, OnOk, IfOk, IsTrue, true, map};
+ghost use Rattle.sqlite.specs.Held.{state};
+ghost use Rattle.sqlite.specs.State.{HasCleanDisk};
+ghost use Rattle.registry_rules.specs.Standing.{AreRowsOf, StandsFor};
+ghost use Rattle.registry_rules.specs.Changes.{made, all_made};
+ghost use Rattle.registry_tables.specs.Effects.{InForm, Makes, Tells, LeavesAll, KeepsCommitted, AddsNoCrash, registry_in};
+ghost use Rattle.registry_desk.specs.Answers.{answer, packument_in, row_of};
+ghost use Rattle.registry_desk.specs.Resting.{IsBegun, settled_by};
 
 use registry_names::{Fault, Moment, Name, Stop, Text};
 use registry_packument::{PackHead, VersionRow, packument_text};
@@ -20,7 +27,14 @@ pub(crate) fn answered_inside<S: Alter>(
     tx: &mut Transaction<'_, S>,
     request: &Request,
 ) -> Result<Reply, Fault>
+    requires in_form { InForm S.Store tx.old.conn.now }
+    requires begun { (state S.Store tx.old.conn.now).in_transaction ≡ true }
     ensures same_reference { tx.new.conn.ghost_name ≡ tx.old.conn.ghost_name }
+    ensures answers { Tells S.Store tx.old.conn.now tx.new.conn.now result (λ reply c. reply ≡ answer c.registry request.now) }
+    ensures settles { Makes S.Store tx.old.conn.now tx.new.conn.now result (settled_by request.now) }
+    ensures served { HasCleanDisk (state S.Store tx.new.conn.now) → OnOk result (IsTrue (state S.Store tx.old.conn.now).is_open) }
+    ensures committed { KeepsCommitted S.Store tx.old.conn.now tx.new.conn.now }
+    ensures survives { AddsNoCrash S.Store tx.old.conn.now tx.new.conn.now }
 {
     let facts = Facts {
         caller: Caller::Anonymous,
@@ -39,7 +53,14 @@ fn publish<S: Alter>(
     request: &Request,
     form: &PublishForm,
 ) -> Result<Reply, Fault>
+    requires begun { HasCleanDisk (state S.Store tx.old.conn.now) → IsBegun (state S.Store tx.old.conn.now) }
+    requires stand { HasCleanDisk (state S.Store tx.old.conn.now) → StandsFor facts.now (registry_in (state S.Store tx.old.conn.now)) request.now }
+    requires what { request.now.what ≡ Action.Publish form.now }
     ensures same_reference { tx.new.conn.ghost_name ≡ tx.old.conn.ghost_name }
+    ensures answers { Tells S.Store tx.old.conn.now tx.new.conn.now result (λ reply c. reply ≡ answer c.registry request.now) }
+    ensures settles { Makes S.Store tx.old.conn.now tx.new.conn.now result (settled_by request.now) }
+    ensures committed { KeepsCommitted S.Store tx.old.conn.now tx.new.conn.now }
+    ensures survives { AddsNoCrash S.Store tx.old.conn.now tx.new.conn.now }
 {
     match decide(alloc, facts, request) {
         Ok(changes) => {
@@ -58,10 +79,14 @@ fn make<S: Alter>(
     form: &PublishForm,
     changes: &[Change],
 ) -> Result<(), Fault>
+    requires begun { HasCleanDisk (state S.Store tx.old.conn.now) → IsBegun (state S.Store tx.old.conn.now) }
     ensures same_reference { tx.new.conn.ghost_name ≡ tx.old.conn.ghost_name }
+    ensures makes { Makes S.Store tx.old.conn.now tx.new.conn.now result (λ s. all_made s form.now at changes.now) }
+    ensures committed { KeepsCommitted S.Store tx.old.conn.now tx.new.conn.now }
+    ensures survives { AddsNoCrash S.Store tx.old.conn.now tx.new.conn.now }
 {
     for change in changes {
-        make_one(tx, at, form, *change)?;
+        make_one(tx, at, form, change)?;
     }
     Ok(())
 }
@@ -70,12 +95,16 @@ fn make_one<S: Alter>(
     tx: &mut Transaction<'_, S>,
     at: Moment,
     form: &PublishForm,
-    change: Change,
+    change: &Change,
 ) -> Result<(), Fault>
+    requires in_form { InForm S.Store tx.old.conn.now }
     ensures same_reference { tx.new.conn.ghost_name ≡ tx.old.conn.ghost_name }
+    ensures makes { Makes S.Store tx.old.conn.now tx.new.conn.now result (λ s. made s form.now at change.now) }
+    ensures committed { KeepsCommitted S.Store tx.old.conn.now tx.new.conn.now }
+    ensures survives { AddsNoCrash S.Store tx.old.conn.now tx.new.conn.now }
 {
     let name = form.name();
-    match change {
+    match *change {
         Change::PutStatus(status) => change_access(tx, &AccessChange::PutStatus { name, status }),
         Change::AddVersion => put_version(tx, form, at),
         Change::PutTag(tag) => {
@@ -93,7 +122,14 @@ fn packument<S: Alter>(
     request: &Request,
     name: &Name,
 ) -> Result<Reply, Fault>
+    requires begun { HasCleanDisk (state S.Store tx.old.conn.now) → IsBegun (state S.Store tx.old.conn.now) }
+    requires stand { HasCleanDisk (state S.Store tx.old.conn.now) → StandsFor facts (registry_in (state S.Store tx.old.conn.now)) request.now }
+    requires what { request.now.what ≡ Action.Packument name.now }
     ensures same_reference { tx.new.conn.ghost_name ≡ tx.old.conn.ghost_name }
+    ensures answers { Tells S.Store tx.old.conn.now tx.new.conn.now result (λ reply c. reply ≡ answer c.registry request.now) }
+    ensures settles { Makes S.Store tx.old.conn.now tx.new.conn.now result (settled_by request.now) }
+    ensures committed { KeepsCommitted S.Store tx.old.conn.now tx.new.conn.now }
+    ensures survives { AddsNoCrash S.Store tx.old.conn.now tx.new.conn.now }
 {
     match may_ask(&facts, request) {
         Ok(()) => packument_of(alloc, tx, name, facts.rows),
@@ -101,13 +137,20 @@ fn packument<S: Alter>(
     }
 }
 
+// The packument of a package, whose rows these are.
 fn packument_of<S: Alter>(
     alloc: Global,
     tx: &mut Transaction<'_, S>,
     name: &Name,
     rows: PackageRows,
 ) -> Result<Reply, Fault>
+    requires begun { HasCleanDisk (state S.Store tx.old.conn.now) → IsBegun (state S.Store tx.old.conn.now) }
+    requires rows { HasCleanDisk (state S.Store tx.old.conn.now) → AreRowsOf rows (registry_in (state S.Store tx.old.conn.now)) name.now }
     ensures same_reference { tx.new.conn.ghost_name ≡ tx.old.conn.ghost_name }
+    ensures tells { Tells S.Store tx.old.conn.now tx.new.conn.now result (λ reply c. reply ≡ Reply.Doc (packument_in c.registry name.now)) }
+    ensures makes { Makes S.Store tx.old.conn.now tx.new.conn.now result (λ s. s) }
+    ensures committed { KeepsCommitted S.Store tx.old.conn.now tx.new.conn.now }
+    ensures survives { AddsNoCrash S.Store tx.old.conn.now tx.new.conn.now }
 {
     let PackageRows {
         status: _,
@@ -126,7 +169,12 @@ fn load_versions<S: Alter>(
     name: &Name,
     live: Vec<LiveVersion>,
 ) -> Result<Vec<VersionRow>, Fault>
+    requires begun { HasCleanDisk (state S.Store tx.old.conn.now) → IsBegun (state S.Store tx.old.conn.now) }
     ensures same_reference { tx.new.conn.ghost_name ≡ tx.old.conn.ghost_name }
+    ensures tells { Tells S.Store tx.old.conn.now tx.new.conn.now result (λ versions c. versions.items ≡ map (row_of c.registry name.now) live.items) }
+    ensures makes { Makes S.Store tx.old.conn.now tx.new.conn.now result (λ s. s) }
+    ensures committed { KeepsCommitted S.Store tx.old.conn.now tx.new.conn.now }
+    ensures survives { AddsNoCrash S.Store tx.old.conn.now tx.new.conn.now }
 {
     let mut versions = Vec::with_capacity(alloc, live.len())?;
     for version in live {
@@ -140,7 +188,12 @@ fn load_version<S: Alter>(
     name: &Name,
     live: LiveVersion,
 ) -> Result<VersionRow, Fault>
+    requires in_form { InForm S.Store tx.old.conn.now }
     ensures same_reference { tx.new.conn.ghost_name ≡ tx.old.conn.ghost_name }
+    ensures tells { Tells S.Store tx.old.conn.now tx.new.conn.now result (λ row c. row ≡ row_of c.registry name.now live) }
+    ensures leaves { LeavesAll S.Store tx.old.conn.now tx.new.conn.now result }
+    ensures committed { KeepsCommitted S.Store tx.old.conn.now tx.new.conn.now }
+    ensures survives { AddsNoCrash S.Store tx.old.conn.now tx.new.conn.now }
 {
     let LiveVersion {
         version,

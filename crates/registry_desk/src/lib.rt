@@ -5,6 +5,7 @@
 #![tactic(auto)]
 
 mod answer;
+pub mod laws;
 mod registry;
 
 pub use crate::registry::Registry;

@@ -1,7 +1,19 @@
 //! A registry over a connection to its tables.
 
-ghost use Rattle.std.specs.Prelude.{◌≡◌, false, IfErr};
+ghost use Rattle.std.specs.Prelude.{◌≡◌, IfErr, IfOk, IsTrue, List, OnErr, OnOk};
 ghost use Rattle.sqlite.specs.Held.{state};
+ghost use Rattle.sqlite.specs.State.{HasCleanDisk, Survives};
+ghost use Rattle.sqlite.specs.Steps.{IsEmpty, over_memory};
+ghost use Rattle.sqlite_trees.specs.Tree.{Trees};
+ghost use Rattle.registry_rules.specs.State.{nothing};
+ghost use Rattle.registry_tables.specs.Contents.{contents, on_registry};
+ghost use Rattle.registry_tables.specs.Effects.{registry_in, stored};
+ghost use Rattle.registry_tables.specs.Fresh.{fresh};
+ghost use Rattle.registry_desk.specs.Headline.{Headline};
+ghost use Rattle.registry_desk.specs.History.{Entry, Legal, after};
+ghost use Rattle.registry_desk.specs.Readings.{Stands};
+ghost use Rattle.registry_desk.specs.Resting.{Rests, settled_by};
+ghost use Rattle.registry_desk.specs.Runs.{IsAnswer, Ran, grown, history, next};
 
 use crate::answer::answered_inside;
 use registry_names::Fault;
@@ -12,14 +24,17 @@ use std::alloc::Global;
 use std::marker::Model;
 
 /// A registry of packages, over any store that keeps its tables. Contracts see the connection.
+///
+/// Between requests it has no transaction, its tables are in form, and all that it sees was
+/// committed. A fault of the disk may shut it for good: then every request is answered by a fault.
 #[derive(Drop)]
 pub struct Registry<S: Alter> {
     conn: Connection<S>,
 }
 
 impl<S: Alter> Model for Registry<S> {
-    ghost use Rattle.std.specs.Prelude.{◌≡◌, false};
     ghost use Rattle.sqlite.specs.Held.{Held, held_code, state};
+    ghost use Rattle.registry_desk.specs.Resting.{Rests};
 
     ghost Value = { Held S };
 
@@ -27,12 +42,15 @@ impl<S: Alter> Model for Registry<S> {
 
     ghost view = { λ r. r.conn };
 
-    ghost invariant = { λ r. (state S.Store r.conn).in_transaction ≡ false };
+    ghost invariant = { λ r. Rests (state S.Store r.conn) };
 }
 
 impl Registry<MemStore> {
-    /// An empty registry in memory.
-    pub fn in_memory(alloc: Global) -> Result<Registry<MemStore>, Fault> {
+    /// An empty registry in memory, or a fault.
+    pub fn in_memory(alloc: Global) -> Result<Registry<MemStore>, Fault>
+        ensures empty { IfOk result (λ r. registry_in (state over_memory r) ≡ nothing) }
+        ensures served { IfOk result (λ r. IsTrue (state over_memory r).is_open) }
+    {
         let Ok(mut conn) = Connection::open_in_memory(alloc) else {
             return Err(Fault::Memory);
         };
@@ -44,7 +62,19 @@ impl Registry<MemStore> {
 impl<S: Alter> Registry<S> {
     /// Answers one request: the reply, and the request's step is made; or a fault, and nothing
     /// has changed.
-    pub fn apply(&mut self, alloc: Global, request: &Request) -> Result<Reply, Fault> {
+    ///
+    /// What is said here holds as long as the disk returns what was written to it, which memory
+    /// always does. A crash leaves what it could have left before, or, once the commit was
+    /// reached, what the request makes; after a reply that alone.
+    pub fn apply(&mut self, alloc: Global, request: &Request) -> Result<Reply, Fault>
+        ensures answer { HasCleanDisk (state S.Store self.new) → IsAnswer (registry_in (state S.Store self.old)) request.now result }
+        ensures served { HasCleanDisk (state S.Store self.new) → OnOk result (IsTrue (state S.Store self.old).is_open) }
+        ensures opened { HasCleanDisk (state S.Store self.new) → IsTrue (state S.Store self.new).is_open → IsTrue (state S.Store self.old).is_open }
+        ensures step { HasCleanDisk (state S.Store self.new) → IsTrue (state S.Store self.new).is_open → stored (state S.Store self.new) ≡ on_registry (λ s. next s request.now result) (stored (state S.Store self.old)) }
+        ensures history { HasCleanDisk (state S.Store self.new) → IsTrue (state S.Store self.new).is_open → (h : List Entry) → Legal h → registry_in (state S.Store self.old) ≡ after h → Stands (grown h request.now result) (registry_in (state S.Store self.new)) }
+        ensures survives { Survives (state S.Store self.old) (state S.Store self.new) (λ db. contents db ≡ on_registry (settled_by request.now) (stored (state S.Store self.old))) }
+        ensures stays { HasCleanDisk (state S.Store self.new) → OnOk result ((db : Trees) → (state S.Store self.new).may_leave db → contents db ≡ stored (state S.Store self.new)) }
+    {
         answered(alloc, &mut self.conn, request)
     }
 
@@ -55,7 +85,25 @@ impl<S: Alter> Registry<S> {
         alloc: Global,
         requests: &[Request],
     ) -> Result<Vec<Result<Reply, Fault>>, Fault>
-        ensures { IfErr result (λ fault. fault ≡ Fault.Memory) }
+        ensures headline { HasCleanDisk (state S.Store self.new) → IsTrue (state S.Store self.new).is_open → registry_in (state S.Store self.old) ≡ nothing → IfOk result (λ outcomes. Headline requests.now outcomes.items (registry_in (state S.Store self.new))) }
+        ensures history { HasCleanDisk (state S.Store self.new) → IsTrue (state S.Store self.new).is_open → (h : List Entry) → Legal h → registry_in (state S.Store self.old) ≡ after h → IfOk result (λ outcomes. Stands (history h requests.now outcomes.items) (registry_in (state S.Store self.new))) }
+        ensures ran { HasCleanDisk (state S.Store self.new) → IfOk result (λ outcomes. Ran (registry_in (state S.Store self.old)) requests.now outcomes.items (state S.Store self.new).is_open (registry_in (state S.Store self.new))) }
+        ensures not_run { OnErr result (self.new ≡ self.old) }
+        ensures memory { IfErr result (λ fault. fault ≡ Fault.Memory) }
+        ensures survives { Survives (state S.Store self.old) (state S.Store self.new) (λ _. Unit {0}) }
+    {
+        self.all_applied(alloc, requests)
+    }
+
+    fn all_applied(
+        &mut self,
+        alloc: Global,
+        requests: &[Request],
+    ) -> Result<Vec<Result<Reply, Fault>>, Fault>
+        ensures ran { HasCleanDisk (state S.Store self.new) → IfOk result (λ outcomes. Ran (registry_in (state S.Store self.old)) requests.now outcomes.items (state S.Store self.new).is_open (registry_in (state S.Store self.new))) }
+        ensures not_run { OnErr result (self.new ≡ self.old) }
+        ensures memory { IfErr result (λ fault. fault ≡ Fault.Memory) }
+        ensures survives { Survives (state S.Store self.old) (state S.Store self.new) (λ _. Unit {0}) }
     {
         let mut outcomes = Vec::with_capacity(alloc, requests.len())?;
         for request in requests {
@@ -71,12 +119,18 @@ impl<S: Alter> Registry<S> {
 
 // Makes the tables of an empty database, in one transaction.
 fn create_tables<S: Alter>(conn: &mut Connection<S>) -> Result<(), Fault>
-    requires idle { (state S.Store conn.old).in_transaction ≡ false }
-    ensures idle { (state S.Store conn.new).in_transaction ≡ false }
+    requires empty { IsEmpty (state S.Store conn.old) }
+    ensures rests { HasCleanDisk (state S.Store conn.new) → OnOk result (Rests (state S.Store conn.new)) }
+    ensures made { HasCleanDisk (state S.Store conn.new) → OnOk result (stored (state S.Store conn.new) ≡ fresh) }
+    ensures served { HasCleanDisk (state S.Store conn.new) → OnOk result (IsTrue (state S.Store conn.new).is_open) }
+    ensures survives { Survives (state S.Store conn.old) (state S.Store conn.new) (λ db. contents db ≡ fresh) }
 {
     let mut tx = conn.transaction();
     create(&mut tx)?;
-    tx.commit().map_err(fault_of)
+    match tx.commit() {
+        Ok(()) => Ok(()),
+        Err(error) => Err(fault_of(error)),
+    }
 }
 
 // One transaction, which rolls back where `?` drops it.
@@ -85,11 +139,19 @@ fn answered<S: Alter>(
     conn: &mut Connection<S>,
     request: &Request,
 ) -> Result<Reply, Fault>
-    requires idle { (state S.Store conn.old).in_transaction ≡ false }
-    ensures idle { (state S.Store conn.new).in_transaction ≡ false }
+    requires rests { Rests (state S.Store conn.old) }
+    ensures rests { Rests (state S.Store conn.new) }
+    ensures answer { HasCleanDisk (state S.Store conn.new) → IsAnswer (registry_in (state S.Store conn.old)) request.now result }
+    ensures served { HasCleanDisk (state S.Store conn.new) → OnOk result (IsTrue (state S.Store conn.old).is_open) }
+    ensures opened { HasCleanDisk (state S.Store conn.new) → IsTrue (state S.Store conn.new).is_open → IsTrue (state S.Store conn.old).is_open }
+    ensures step { HasCleanDisk (state S.Store conn.new) → IsTrue (state S.Store conn.new).is_open → stored (state S.Store conn.new) ≡ on_registry (λ s. next s request.now result) (stored (state S.Store conn.old)) }
+    ensures survives { Survives (state S.Store conn.old) (state S.Store conn.new) (λ db. contents db ≡ on_registry (settled_by request.now) (stored (state S.Store conn.old))) }
+    ensures stays { HasCleanDisk (state S.Store conn.new) → OnOk result ((db : Trees) → (state S.Store conn.new).may_leave db → contents db ≡ stored (state S.Store conn.new)) }
 {
     let mut tx = conn.transaction();
     let reply = answered_inside(alloc, &mut tx, request)?;
-    tx.commit().map_err(fault_of)?;
-    Ok(reply)
+    match tx.commit() {
+        Ok(()) => Ok(reply),
+        Err(error) => Err(fault_of(error)),
+    }
 }

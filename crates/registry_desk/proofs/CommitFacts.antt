@@ -1,0 +1,32 @@
+-- The first tables, and what a commit leaves.
+use Rattle.std.proofs.Common.{◌≡◌, ◌∙◌, true, false, sym, ap, subst}
+use Rattle.std.specs.List.{AllByRecursion}
+use Rattle.sqlite.specs.Effect.{Database, IsDatabase}
+use Rattle.sqlite.specs.Held.{Held, state}
+use Rattle.sqlite.specs.State.{State as Shown, Shows}
+use Rattle.sqlite.specs.Steps.{IsEmpty}
+use Rattle.sqlite_trees.specs.declared.store.Store.{Ghosts}
+use Rattle.registry_rows.specs.Ready.{IsReady, Leaves}
+use Rattle.registry_rows.specs.Rows.{HasRowids}
+use Rattle.registry_tables.specs.Contents.{Contents, contents}
+use Rattle.registry_tables.specs.Effects.{HasNoTables}
+use Rattle.registry_tables.specs.Schema.{schema}
+use Rattle.registry_desk.specs.Resting.{Rests}
+
+-- an empty database has no tables, also once a transaction is begun
+pub empty_begun : {S : Type 0} (store : Ghosts S) (h : Held S) → IsEmpty (state store h) → HasNoTables store (record h { in_transaction = true })
+empty_begun store h empty clean on = record { schema_is = empty.2; sound = (empty.1 on).0; rowids = tt }
+
+ready_again : (mid new : Shown) → new.now ≡ mid.now → IsReady schema mid → IsReady schema new
+ready_again mid new same ready = record {
+  schema_is = ap (λ (d : Database). d.schema) same ∙ ready.schema_is;
+  sound = subst IsDatabase (sym same) ready.sound;
+  rowids = subst (λ (d : Database). AllByRecursion (λ t. HasRowids (d.trees t.tree)) schema.tables) (sym same) ready.rowids;
+}
+
+pub committed_rests : (left : Contents) (mid new : Shown) → Leaves schema contents left mid → Shows mid new mid.now mid.now false → Rests new
+committed_rests left mid new leaves shows = record {
+  idle = shows.mode;
+  in_form = λ _ _. ready_again mid new shows.now_is leaves.ready;
+  settled = λ _ _. shows.now_is ∙ sym shows.committed_is;
+}

@@ -1,0 +1,11 @@
+mod CommitFacts
+mod EffectFacts
+mod MakingFacts
+mod SettlingFacts
+pub mod AnswerFacts
+pub mod PartFacts
+pub mod PublishFacts
+pub mod RunFacts
+pub mod StatusFacts
+pub mod TagFacts
+pub mod VersionFacts

@@ -1,0 +1,10 @@
+use Rattle.std.proofs.Common.{ap}
+use Rattle.sqlite.proofs.Callers.{memory_is_clean}
+use Rattle.registry_tables.specs.Contents.{Contents}
+use Rattle.registry_desk.proofs.registry.Registry+MemStore.in_memory.Goals as goal
+
+pub invariant_of-result : goal.invariant_of-result
+invariant_of-result c = c.in_ok-create_tables.ensures.rests (memory_is_clean c.create_tables.new.conn)
+
+pub returns-clause-empty : goal.returns-clause-empty
+returns-clause-empty c = ap (λ (made : Contents). made.registry) (c.in_ok-create_tables.ensures.made (memory_is_clean c.create_tables.new.conn))
