@@ -158,3 +158,31 @@ fn packuments(rt: HostRuntime) -> Result<(), Fail> {
     assert_eq!(rt; decide(alloc, &facts, &request)?.is_empty(), true);
     Ok(())
 }
+
+#[test]
+fn the_status_that_is_asked_for(rt: HostRuntime) -> Result<(), Fail> {
+    let alloc = rt.alloc();
+    let first = changes_of(alloc, &unpublished(alloc), "@lab/kit", r#""public""#)?;
+    let of_lab = [PUT_PUBLIC, Change::AddVersion, PUT_LATEST, PUT_TAG];
+    assert_eq!(rt; first.as_slice(), of_lab.as_slice());
+    let facts = published(alloc, Status::Public, "0.9.0", "latest")?;
+    let later = changes_of(alloc, &facts, "@lab/kit", r#""restricted""#)?;
+    assert_eq!(rt;
+        later.as_slice(),
+        [PUT_RESTRICTED, Change::AddVersion, PUT_TAG].as_slice()
+    );
+    Ok(())
+}
+
+#[test]
+fn a_package_of_nobody_is_always_public(rt: HostRuntime) -> Result<(), Fail> {
+    let alloc = rt.alloc();
+    let request = publish(alloc, "kit", r#""restricted""#)?;
+    let facts = published(alloc, Status::Public, "1.0.0", "latest")?;
+    assert_eq!(rt;
+        may_ask(&unpublished(alloc), &request),
+        Err(Refusal::AlwaysPublic)
+    );
+    assert_eq!(rt; may_ask(&facts, &request), Err(Refusal::Published));
+    Ok(())
+}
