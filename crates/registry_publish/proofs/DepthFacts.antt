@@ -4,9 +4,9 @@ use Rattle.std.specs.Ordering.{nat_cmp, match_ordering}
 use Rattle.std.specs.Cmp.Lexicographic.{slice_cmp}
 use Rattle.serde_json.specs.Data.{Data, Members, null, boolean, number, string, array, object, no_members, member, depth, members_depth}
 use Rattle.serde_json.specs.Find.{get, get_member}
-use Rattle.registry_publish.specs.Body.{BodyParts, body_parts}
-use Rattle.registry_publish.specs.Members.{sole}
-use Rattle.registry_publish.proofs.BodyFacts.{manifest_of}
+use Rattle.std.proofs.lemmas.Option.{option_and_then_some}
+use Rattle.registry_publish.specs.Body.{BodyParts, IsBody}
+use Rattle.registry_publish.specs.Members.{sole, sole_at}
 
 found : (o : Ordering) (a b : Option Data) (d : Data) (n m : ℕ) → match_ordering o a b a ≡ Some d
     → (a ≡ Some d → depth d ≤ m) → (b ≡ Some d → depth d ≤ n) → depth d ≤ max n m
@@ -38,9 +38,8 @@ sole_depth (object no_members) r h = cc
 sole_depth (object (member k d no_members)) r h = let same : (k, d) ≡ r = cc in rw (← same) (omega arith)
 sole_depth (object (member k d (member l e ms))) r h = cc
 
-pub manifest_depth : (d : Data) (p : BodyParts) → body_parts d ≡ Some p → depth p.manifest ≤ depth d
-manifest_depth d p h =
-    let (is, (x, (k, (versions, one)))) = manifest_of d p h in
-    let low = get_depth (codes "versions") d x versions in
-    let high = sole_depth x (k, p.manifest) one in
-    omega (arith, low, high)
+sole_at_depth : (k : List ℕ) (v : Data) (r : List ℕ × Data) → sole_at k v ≡ Some r → depth r.1 ≤ depth v
+sole_at_depth k v r h = option_and_then_some sole (get k v) r h (λ x is one. let low = get_depth k v x is in let high = sole_depth x r one in omega (arith, low, high))
+
+pub manifest_depth : (d : Data) (p : BodyParts) → IsBody d p → depth p.manifest ≤ depth d
+manifest_depth d p h = sole_at_depth (codes "versions") d (p.version, p.manifest) h.version

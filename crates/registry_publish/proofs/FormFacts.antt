@@ -1,6 +1,6 @@
 -- What stops a body that was read, and the form that is made of it.
-use Rattle.std.proofs.Common.{◌≡◌, ◌≤◌, ◌⊎◌, inl, inr, ℕ, true, false, List, length, Some, None, refl, sym, le_trans}
-use Rattle.serde_json.specs.Data.{depth}
+use Rattle.std.proofs.Common.{◌≡◌, ◌≤◌, ◌⊎◌, inl, inr, ℕ, true, false, List, length, Some, refl, sym, le_trans, IsUtf8}
+use Rattle.serde_json.specs.Data.{Data, depth}
 use Rattle.serde_json.specs.Read.{read, max_depth}
 use Rattle.serde_json.specs.Written.{has_float, compact_text}
 use Rattle.registry_names.specs.Names.{IsName}
@@ -8,33 +8,46 @@ use Rattle.registry_names.specs.Tags.{is_tag}
 use Rattle.registry_names.specs.Versions.{VersionParts, IsVersion, IsVersionOf, text_of_version}
 use Rattle.registry_names.specs.declared.stop.Stop.{Stop}
 use Rattle.registry_names.specs.declared.stop.Stop.TheVariants.{Refused, Fault as Faulted}
-use Rattle.registry_names.specs.declared.stop.Fault.TheVariants.{Memory}
+use Rattle.registry_names.specs.declared.stop.Fault.TheVariants.{Memory, Database}
 use Rattle.registry_names.specs.declared.refusal.Refusal.TheVariants.{BadName, BadVersion}
-use Rattle.registry_publish.specs.Body.{BodyParts, IsBodyOf, is_manifest}
-use Rattle.registry_publish.specs.Form.{FormParts, IsFormOf, IsManifestText, IsTextOf, StopsForm, latest, most_bytes}
-use Rattle.registry_publish.proofs.BodyFacts.{manifest_of, no_float}
+use Rattle.registry_publish.specs.Body.{BodyParts, IsBody, IsBodyOf, is_manifest}
+use Rattle.registry_publish.specs.Form.{FormParts, IsFormOf, IsManifestText, StopsForm, latest, most_bytes}
+use Rattle.registry_publish.specs.Stops.{StopsReading}
+use Rattle.registry_publish.proofs.BodyFacts.{no_body_of, no_float}
 use Rattle.registry_publish.proofs.DepthFacts.{manifest_depth}
 
-pub stops_name : (b : List ℕ) (p : BodyParts) (z : List ℕ) → length b ≤ most_bytes → IsBodyOf b p z
-    → (e : Stop) → (e ≡ Faulted Memory) ⊎ ((e ≡ Refused BadName) × (¬ (IsName p.name))) → StopsForm b e
-stops_name b p z short h e (inl m) = rw m short
-stops_name b p z short h e (inr r) = rw r.0 (p, z, short, h, r.1)
+pub stops_body : (b : List ℕ) (d : Data) → length b ≤ most_bytes → read b ≡ Some d
+    → (e : Stop) → StopsReading ((p : BodyParts) → ¬ (IsBody d p)) e → StopsForm b e
+stops_body b d short is (Refused r) h = rw h.0 (short, no_body_of b d is h.1)
+stops_body b d short is (Faulted Memory) h = short
+stops_body b d short is (Faulted Database) h = h
 
-pub stops_version : (b : List ℕ) (p : BodyParts) (z : List ℕ) → length b ≤ most_bytes → IsBodyOf b p z → IsName p.name
+pub stops_name : (b : List ℕ) (p : BodyParts) → length b ≤ most_bytes → IsBodyOf b p
+    → (e : Stop) → (e ≡ Faulted Memory) ⊎ ((e ≡ Refused BadName) × (¬ (IsName p.name))) → StopsForm b e
+stops_name b p short h e (inl m) = rw m short
+stops_name b p short h e (inr r) = rw r.0 (p, short, h, r.1)
+
+pub stops_version : (b : List ℕ) (p : BodyParts) → length b ≤ most_bytes → IsBodyOf b p → IsName p.name
     → (e : Stop) → (e ≡ Faulted Memory) ⊎ ((e ≡ Refused BadVersion) × (¬ (IsVersion p.version))) → StopsForm b e
-stops_version b p z short h n e (inl m) = rw m short
-stops_version b p z short h n e (inr r) = rw r.0 (p, z, short, h, (n, r.1))
+stops_version b p short h n e (inl m) = rw m short
+stops_version b p short h n e (inr r) = rw r.0 (p, short, h, (n, r.1))
 
 -- the form that is made of what was read
-pub form_of : (b : List ℕ) (p : BodyParts) (f : FormParts) → length b ≤ most_bytes → (h : IsBodyOf b p f.archive) → depth h.0 ≤ max_depth
-    → f.name ≡ p.name → IsName p.name → IsVersionOf p.version f.version → f.tag ≡ latest → f.access ≡ None
+pub form_of : (b : List ℕ) (d : Data) (p : BodyParts) (f : FormParts) → length b ≤ most_bytes → IsUtf8 b × (read b ≡ Some d) → depth d ≤ max_depth → IsBody d p
+    → (f.name ≡ p.name) × IsName p.name → IsVersionOf p.version f.version → f.tag ≡ latest → f.access ≡ p.access → f.archive ≡ p.archive
     → (has_float p.manifest ≡ false → f.manifest ≡ compact_text p.manifest)
     → (depth p.manifest ≤ max_depth → read f.manifest ≡ Some p.manifest) → IsFormOf b f
-form_of b p f short h low name is version tag access text reads =
-    let m = manifest_of h.0 p h.3 in
-    let written : IsTextOf p.manifest f.manifest =
-    (text (no_float _ _ p.manifest m.0), reads (le_trans (manifest_depth h.0 p h.3) low)) in
-    (p, short, h, name, is, version, tag, access, written)
+form_of b d p f short is low body name version tag access archive text reads = record {
+  parts = p;
+  short = short;
+  body = (d, is.0, is.1, body);
+  name = name;
+  version = version;
+  tag = tag;
+  access = access;
+  manifest = (text (no_float _ _ p.manifest body.manifest), reads (le_trans (manifest_depth d p body) low));
+  archive = archive;
+}
 
 own_text : (t : List ℕ) (v : VersionParts) → IsVersionOf t v → IsVersionOf (text_of_version v) v
 own_text t v i = (refl, rw (sym i.0) i.1, i.2, i.3, i.4, i.5)
@@ -42,6 +55,6 @@ own_text t v i = (refl, rw (sym i.0) i.1, i.2, i.3, i.4, i.5)
 -- the parts of a form are in form
 pub in_form : (b : List ℕ) (f : FormParts) → IsFormOf b f
     → IsName f.name × IsVersionOf (text_of_version f.version) f.version × (is_tag f.tag ≡ true) × IsManifestText f.name f.version f.manifest
-in_form b f (p, short, h, name, is, version, tag, access, text) =
-    let m : is_manifest f.name (text_of_version f.version) p.manifest ≡ true = rw (name, sym version.0) (manifest_of h.0 p h.3).0 in
-    (rw name is, own_text p.version f.version version, rw tag refl, (p.manifest, m, text))
+in_form b f i =
+    let m : is_manifest f.name (text_of_version f.version) i.parts.manifest ≡ true = rw (i.name.0, sym i.version.0) i.body.3.manifest in
+    (rw i.name.0 i.name.1, own_text i.parts.version f.version i.version, rw i.tag refl, (i.parts.manifest, m, i.manifest))

@@ -3,3 +3,5 @@ pub mod DepthFacts
 pub mod FloatFacts
 pub mod FormFacts
 pub mod MemberFacts
+pub mod NeedFacts
+pub mod TagFacts

@@ -1,5 +1,5 @@
 -- The form of a publish body, and why a body has none.
-use Rattle.std.specs.Prelude.{◌≡◌, ◌≤◌, ◌<◌, ℕ, true, List, length, codes, Option, Some, None}
+use Rattle.std.specs.Prelude.{◌≡◌, ◌≤◌, ◌<◌, ℕ, true, List, length, codes, Option, Some}
 use Rattle.serde_json.specs.Data.{Data}
 use Rattle.serde_json.specs.Read.{read}
 use Rattle.serde_json.specs.Written.{compact_text}
@@ -40,18 +40,24 @@ IsManifestText name version text = (m : Data) × (is_manifest name (text_of_vers
 
 -- the body isn't too large, and P holds of its parts
 abbrev pub HasBody : List ℕ → (BodyParts → Type 0) → Type 0
-HasBody b P = (p : BodyParts) × (z : List ℕ) × (length b ≤ most_bytes) × IsBodyOf b p z × P p
+HasBody b P = (p : BodyParts) × (length b ≤ most_bytes) × IsBodyOf b p × P p
 
--- the body has this form: the one that its parts spell, with the manifest written as a text
-abbrev pub IsFormOf : List ℕ → FormParts → Type 0
-IsFormOf b f = (p : BodyParts) × (length b ≤ most_bytes) × IsBodyOf b p f.archive
-    × (f.name ≡ p.name) × IsName p.name × IsVersionOf p.version f.version
-    × (f.tag ≡ latest) × (f.access ≡ None) × IsTextOf p.manifest f.manifest
+-- the body has this form: what it says, with the manifest written as a text
+pub record IsFormOf (b : List ℕ) (f : FormParts) : Type 0 where
+  pub parts : BodyParts
+  pub short : length b ≤ most_bytes
+  pub body : IsBodyOf b parts
+  pub name : (f.name ≡ parts.name) × IsName parts.name
+  pub version : IsVersionOf parts.version f.version
+  pub tag : f.tag ≡ latest
+  pub access : f.access ≡ parts.access
+  pub manifest : IsTextOf parts.manifest f.manifest
+  pub archive : f.archive ≡ parts.archive
 
 -- the body is refused so: of the reasons that hold, this is the first
 abbrev pub IsRefusedBody : List ℕ → Refusal → Type 0
 IsRefusedBody b TooLarge = most_bytes < length b
-IsRefusedBody b BadBody = (length b ≤ most_bytes) × ((p : BodyParts) (z : List ℕ) → ¬ (IsBodyOf b p z))
+IsRefusedBody b BadBody = (length b ≤ most_bytes) × ((p : BodyParts) → ¬ (IsBodyOf b p))
 IsRefusedBody b BadName = HasBody b (λ p. ¬ (IsName p.name))
 IsRefusedBody b BadVersion = HasBody b (λ p. IsName p.name × (¬ (IsVersion p.version)))
 IsRefusedBody b _ = ⊥

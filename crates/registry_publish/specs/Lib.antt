@@ -1,7 +1,11 @@
+pub mod Access
+pub mod Attachments
 pub mod Body
+pub mod DistTags
 pub mod Form
 pub mod Integrity
 pub mod Members
+pub mod Needs
 pub mod Stops
 pub mod Views
 pub use Rattle.registry_names.specs.Names

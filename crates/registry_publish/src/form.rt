@@ -6,7 +6,7 @@ ghost use Rattle.registry_names.specs.Tags.{is_tag};
 ghost use Rattle.registry_names.specs.Versions.{IsVersionOf, text_of_version};
 ghost use Rattle.registry_publish.specs.Form.{FormParts, IsFormOf, IsManifestText, StopsForm};
 
-use crate::body::{archive_of, body_of, document};
+use crate::body::{body_of, document};
 use registry_names::{Name, Refusal, Status, Stop, TagText, Ver};
 use std::alloc::Global;
 use std::marker::Model;
@@ -52,13 +52,16 @@ impl PublishForm {
     /// |---|---|
     /// | `name` | the name of the package |
     /// | `versions` | an object of one member: its key is the version, its value the manifest |
-    /// | `_attachments` | an object of one member: an object, whose `data` is the archive in standard padded base64 (RFC 4648) |
+    /// | `dist-tags` | absent, an empty object, or an object of one member: its key is the tag, its value the version |
+    /// | `access` | absent, null, `public` or `restricted` |
+    /// | `_attachments` | an object of one member: an object, whose `data` is the archive in standard padded base64 (RFC 4648), and whose `length`, where present, is the number of its bytes |
     ///
     /// The manifest is an object whose `name` and `version` are the body's name and the version,
     /// with no member `deprecated`, in which each number, at any depth, is an integer that a u64
-    /// or an i64 holds, and is written as one: `1.0`, `1e3` and `-0` aren't. Its other members are
-    /// kept, and those of the body aren't read. Of equal keys the last one counts. Values nest at
-    /// most 127 deep, the body's own object among them.
+    /// or an i64 holds, and is written as one: `1.0`, `1e3` and `-0` aren't. Its members
+    /// `dependencies`, `optionalDependencies` and `peerDependencies` are each absent or an object
+    /// of texts. All its other members are kept, and the body's other ones aren't read. Of equal
+    /// keys the last one counts. Values nest at most 127 deep, the body's own object among them.
     ///
     /// The first of these that holds is answered:
     ///
@@ -77,10 +80,7 @@ impl PublishForm {
             return Err(Stop::Refused(Refusal::TooLarge));
         }
         let value = document(alloc, body)?;
-        let Some(body) = body_of(&value) else {
-            return Err(Stop::Refused(Refusal::BadBody));
-        };
-        let archive = archive_of(alloc, body.coded)?;
+        let body = body_of(alloc, &value)?;
         let name = Name::parse(alloc, body.name)?;
         let version = Ver::parse(alloc, body.version)?;
         let tag = TagText::shape(alloc, LATEST)?;
@@ -89,9 +89,9 @@ impl PublishForm {
             name,
             version,
             tag,
-            access: None,
+            access: body.access,
             manifest,
-            archive,
+            archive: body.archive,
         })
     }
 

@@ -5,14 +5,20 @@
 //! other body is refused, each with the first reason that holds for it.
 #![tactic(auto)]
 
+mod access;
+mod attachment;
 mod body;
+mod dist_tags;
 mod floats;
 mod form;
 mod integrity;
 mod members;
+mod need;
+mod needs;
 #[cfg(test)]
 mod tests;
 
 pub use crate::floats::has_float;
 pub use crate::form::PublishForm;
 pub use crate::integrity::integrity_of;
+pub use crate::need::Need;

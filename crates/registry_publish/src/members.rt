@@ -7,6 +7,15 @@ ghost use Rattle.registry_publish.specs.Members as spec;
 
 use serde_json::Value;
 
+pub(crate) fn is_text(value: &Value, text: &str) -> bool
+    ensures { result ≡ spec.is_text text.now (view value.now) }
+{
+    match value.as_str() {
+        Some(found) => found == text,
+        None => false,
+    }
+}
+
 pub(crate) fn has_member(value: &Value, key: &str) -> bool
     ensures { result ≡ is_some (get key.now (view value.now)) }
 {

@@ -134,7 +134,7 @@ fn versions_of_bodies(rt: HostRuntime) -> Result<(), Fail> {
 
 #[test]
 fn an_empty_archive(rt: HostRuntime) -> Result<(), Fail> {
-    let form = read_with(rt.alloc(), "YWJj", "")?;
+    let form = read_with(rt.alloc(), "\"YWJj\",\"length\":3", "\"\",\"length\":0")?;
     assert_eq!(rt; form.archive(), b"".as_slice());
     Ok(())
 }

@@ -1,56 +1,39 @@
-use Rattle.std.proofs.Common.{None, string_bytes, sym, refl, arith}
+use Rattle.std.proofs.Common.{string_bytes, refl, arith}
 use Rattle.std.proofs.lemmas.Result.{err_from_is_err_and}
 use Rattle.serde_json.specs.View.{view}
-use Rattle.registry_publish.specs.Body.{BodyParts, IsBodyOf}
 use Rattle.registry_publish.specs.Form.{FormParts}
 use Rattle.registry_publish.specs.Views.{body_view}
-use Rattle.registry_publish.proofs.FormFacts.{stops_name, stops_version, form_of, in_form}
+use Rattle.registry_publish.proofs.FormFacts.{form_of, in_form, stops_name, stops_version}
 use Rattle.registry_publish.proofs.form.PublishForm.read.Goals as goal
 
 pub returns-in_err-name : goal.returns-in_err-name
 returns-in_err-name c =
-    let p : BodyParts = body_view c.in-Some.body in
-    let h : IsBodyOf c.args.body.now p c.in_ok-archive.archive.items =
-    (view c.in_ok-value.value, c.in_ok-value.ensures.ok.0, c.in_ok-value.ensures.ok.1, sym c.in-Some.ensures, c.in_ok-archive.ensures.ok) in
     let q = err_from_is_err_and c.from_residual-in_err-name.result c.from_residual-in_err-name.ensures.1 in
-    rw (q.1, q.2) (stops_name c.args.body.now p c.in_ok-archive.archive.items (omega arith) h _ c.in_err-name.ensures.err)
+    rw (q.1, q.2) (stops_name c.args.body.now (body_view c.in_ok-body.body) (omega arith)
+    (view c.in_ok-value.value, c.in_ok-value.ensures.ok.0, c.in_ok-value.ensures.ok.1, c.in_ok-body.ensures) _ c.in_err-name.ensures.err)
 
 pub returns-in_err-version : goal.returns-in_err-version
 returns-in_err-version c =
-    let p : BodyParts = body_view c.in-Some.body in
-    let h : IsBodyOf c.args.body.now p c.in_ok-archive.archive.items =
-    (view c.in_ok-value.value, c.in_ok-value.ensures.ok.0, c.in_ok-value.ensures.ok.1, sym c.in-Some.ensures, c.in_ok-archive.ensures.ok) in
     let q = err_from_is_err_and c.from_residual-in_err-version.result c.from_residual-in_err-version.ensures.1 in
-    rw (q.1, q.2) (stops_version c.args.body.now p c.in_ok-archive.archive.items (omega arith) h c.in_ok-name.ensures.ok.1 _ c.in_err-version.ensures.err)
+    rw (q.1, q.2) (stops_version c.args.body.now (body_view c.in_ok-body.body) (omega arith)
+    (view c.in_ok-value.value, c.in_ok-value.ensures.ok.0, c.in_ok-value.ensures.ok.1, c.in_ok-body.ensures) c.in_ok-name.ensures.ok.1 _ c.in_err-version.ensures.err)
 
 pub invariant_of-result : goal.invariant_of-result
 invariant_of-result c =
-    let p : BodyParts = body_view c.in-Some.body in
-    let h : IsBodyOf c.args.body.now p c.in_ok-archive.archive.items =
-    (view c.in_ok-value.value, c.in_ok-value.ensures.ok.0, c.in_ok-value.ensures.ok.1, sym c.in-Some.ensures, c.in_ok-archive.ensures.ok) in
     let f : FormParts = record {
       name = c.in_ok-name.name;
       version = c.in_ok-version.version;
       tag = c.in_ok-tag.tag;
-      access = None;
+      access = c.in_ok-body.body.access;
       manifest = string_bytes c.in_ok-manifest.manifest;
-      archive = c.in_ok-archive.archive.items;
+      archive = c.in_ok-body.body.archive.items;
     } in
-    in_form c.args.body.now f (form_of c.args.body.now p f (omega arith) h c.in_ok-value.ensures.nests c.in_ok-name.ensures.ok.0 c.in_ok-name.ensures.ok.1
-    c.in_ok-version.ensures.ok c.in_ok-tag.ensures.ok.0 refl c.in_ok-manifest.ensures.text c.in_ok-manifest.ensures.reads_back)
+    in_form c.args.body.now f (form_of c.args.body.now (view c.in_ok-value.value) (body_view c.in_ok-body.body) f (omega arith)
+    c.in_ok-value.ensures.ok c.in_ok-value.ensures.nests c.in_ok-body.ensures c.in_ok-name.ensures.ok c.in_ok-version.ensures.ok c.in_ok-tag.ensures.ok.0
+    refl refl c.in_ok-manifest.ensures.text c.in_ok-manifest.ensures.reads_back)
 
 pub returns : goal.returns
 returns c =
-    let p : BodyParts = body_view c.in-Some.body in
-    let h : IsBodyOf c.args.body.now p c.in_ok-archive.archive.items =
-    (view c.in_ok-value.value, c.in_ok-value.ensures.ok.0, c.in_ok-value.ensures.ok.1, sym c.in-Some.ensures, c.in_ok-archive.ensures.ok) in
-    let f : FormParts = record {
-      name = c.in_ok-name.name;
-      version = c.in_ok-version.version;
-      tag = c.in_ok-tag.tag;
-      access = None;
-      manifest = string_bytes c.in_ok-manifest.manifest;
-      archive = c.in_ok-archive.archive.items;
-    } in
-    form_of c.args.body.now p f (omega arith) h c.in_ok-value.ensures.nests c.in_ok-name.ensures.ok.0 c.in_ok-name.ensures.ok.1
-    c.in_ok-version.ensures.ok c.in_ok-tag.ensures.ok.0 refl c.in_ok-manifest.ensures.text c.in_ok-manifest.ensures.reads_back
+    form_of c.args.body.now (view c.in_ok-value.value) (body_view c.in_ok-body.body) _ (omega arith)
+    c.in_ok-value.ensures.ok c.in_ok-value.ensures.nests c.in_ok-body.ensures c.in_ok-name.ensures.ok c.in_ok-version.ensures.ok c.in_ok-tag.ensures.ok.0
+    refl refl c.in_ok-manifest.ensures.text c.in_ok-manifest.ensures.reads_back
