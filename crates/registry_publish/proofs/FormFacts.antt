@@ -1,5 +1,5 @@
 -- What stops a body that was read, and the form that is made of it.
-use Rattle.std.proofs.Common.{◌≡◌, ◌≤◌, ◌⊎◌, inl, inr, ℕ, true, false, List, length, Some, refl, sym, le_trans, IsUtf8}
+use Rattle.std.proofs.Common.{◌≡◌, ◌∙◌, ◌≤◌, ◌⊎◌, inl, inr, ℕ, true, false, List, length, Some, refl, sym, le_trans, IsUtf8}
 use Rattle.serde_json.specs.Data.{Data, depth}
 use Rattle.serde_json.specs.Read.{read, max_depth}
 use Rattle.serde_json.specs.Written.{has_float, compact_text}
@@ -9,12 +9,17 @@ use Rattle.registry_names.specs.Versions.{VersionParts, IsVersion, IsVersionOf, 
 use Rattle.registry_names.specs.declared.stop.Stop.{Stop}
 use Rattle.registry_names.specs.declared.stop.Stop.TheVariants.{Refused, Fault as Faulted}
 use Rattle.registry_names.specs.declared.stop.Fault.TheVariants.{Memory, Database}
-use Rattle.registry_names.specs.declared.refusal.Refusal.TheVariants.{BadName, BadVersion}
-use Rattle.registry_publish.specs.Body.{BodyParts, IsBody, IsBodyOf, is_manifest}
-use Rattle.registry_publish.specs.Form.{FormParts, IsFormOf, IsManifestText, StopsForm, latest, most_bytes}
+use Rattle.registry_names.specs.declared.refusal.Refusal.TheVariants.{BadName, BadVersion, RangeTag, BadTag, BadIntegrity}
+use Rattle.registry_publish.specs.Body.{BodyParts, IsBody, IsBodyOf, is_manifest, tag_of}
+use Rattle.registry_publish.specs.Form.{FormParts, IsFormOf, IsManifestText, StopsForm, most_bytes}
+use Rattle.registry_ranges.specs.Grammar.{IsRangeText}
+use Rattle.registry_ranges.specs.Tags.{IsTag}
+use Rattle.registry_publish.specs.Integrity.{has_integrity, integrity_text}
+use Rattle.registry_publish.specs.Needs.{needs_of}
 use Rattle.registry_publish.specs.Stops.{StopsReading}
 use Rattle.registry_publish.proofs.BodyFacts.{no_body_of, no_float}
 use Rattle.registry_publish.proofs.DepthFacts.{manifest_depth}
+use Rattle.registry_publish.proofs.NeedFacts.{needs_of_text}
 
 pub stops_body : (b : List ℕ) (d : Data) → length b ≤ most_bytes → read b ≡ Some d
     → (e : Stop) → StopsReading ((p : BodyParts) → ¬ (IsBody d p)) e → StopsForm b e
@@ -32,12 +37,25 @@ pub stops_version : (b : List ℕ) (p : BodyParts) → length b ≤ most_bytes �
 stops_version b p short h n e (inl m) = rw m short
 stops_version b p short h n e (inr r) = rw r.0 (p, short, h, (n, r.1))
 
+pub stops_tag : (b : List ℕ) (p : BodyParts) → length b ≤ most_bytes → IsBodyOf b p → IsName p.name → IsVersion p.version → (e : Stop)
+    → (e ≡ Refused RangeTag → IsRangeText (tag_of p)) → (e ≡ Refused BadTag → (is_tag (tag_of p) ≡ false) × ¬ (IsRangeText (tag_of p)))
+    → (e ≡ Faulted Memory) ⊎ ((e ≡ Refused RangeTag) ⊎ (e ≡ Refused BadTag)) → StopsForm b e
+stops_tag b p short h name version e range bad (inl m) = rw m short
+stops_tag b p short h name version e range bad (inr (inl r)) = rw r (p, short, h, (name, version, range r))
+stops_tag b p short h name version e range bad (inr (inr r)) = rw r (p, short, h, (name, version, (bad r).0, (bad r).1))
+
+pub stops_integrity : (b : List ℕ) (p : BodyParts) → length b ≤ most_bytes → IsBodyOf b p → IsName p.name → IsVersion p.version → IsTag (tag_of p)
+    → (i : List ℕ) → i ≡ integrity_text p.archive → has_integrity i p.manifest ≡ false → StopsForm b (Refused BadIntegrity)
+stops_integrity b p short h name version tag i is other = (p, short, h, (name, version, tag, rw is at other))
+
 -- the form that is made of what was read
 pub form_of : (b : List ℕ) (d : Data) (p : BodyParts) (f : FormParts) → length b ≤ most_bytes → IsUtf8 b × (read b ≡ Some d) → depth d ≤ max_depth → IsBody d p
-    → (f.name ≡ p.name) × IsName p.name → IsVersionOf p.version f.version → f.tag ≡ latest → f.access ≡ p.access → f.archive ≡ p.archive
+    → (f.name ≡ p.name) × IsName p.name → IsVersionOf p.version f.version → (f.tag ≡ tag_of p) × IsTag (tag_of p)
+    → f.access ≡ p.access → f.archive ≡ p.archive → f.needs ≡ p.needs
+    → f.integrity ≡ integrity_text p.archive → has_integrity f.integrity p.manifest ≡ true
     → (has_float p.manifest ≡ false → f.manifest ≡ compact_text p.manifest)
     → (depth p.manifest ≤ max_depth → read f.manifest ≡ Some p.manifest) → IsFormOf b f
-form_of b d p f short is low body name version tag access archive text reads = record {
+form_of b d p f short is low body name version tag access archive needs integrity agrees text reads = record {
   parts = p;
   short = short;
   body = (d, is.0, is.1, body);
@@ -47,6 +65,8 @@ form_of b d p f short is low body name version tag access archive text reads = r
   access = access;
   manifest = (text (no_float _ _ p.manifest body.manifest), reads (le_trans (manifest_depth d p body) low));
   archive = archive;
+  needs = needs;
+  integrity = (integrity, agrees);
 }
 
 own_text : (t : List ℕ) (v : VersionParts) → IsVersionOf t v → IsVersionOf (text_of_version v) v
@@ -55,6 +75,14 @@ own_text t v i = (refl, rw (sym i.0) i.1, i.2, i.3, i.4, i.5)
 -- the parts of a form are in form
 pub in_form : (b : List ℕ) (f : FormParts) → IsFormOf b f
     → IsName f.name × IsVersionOf (text_of_version f.version) f.version × (is_tag f.tag ≡ true) × IsManifestText f.name f.version f.manifest
+    × (needs_of f.manifest ≡ Some f.needs) × (f.integrity ≡ integrity_text f.archive)
 in_form b f i =
-    let m : is_manifest f.name (text_of_version f.version) i.parts.manifest ≡ true = rw (i.name.0, sym i.version.0) i.body.3.manifest in
-    (rw i.name.0 i.name.1, own_text i.parts.version f.version i.version, rw i.tag refl, (i.parts.manifest, m, i.manifest))
+    let body = i.body.3 in
+    let m : is_manifest f.name (text_of_version f.version) i.parts.manifest ≡ true = rw (i.name.0, sym i.version.0) body.manifest in (
+      rw i.name.0 i.name.1,
+      own_text i.parts.version f.version i.version,
+      rw i.tag.0 i.tag.1.0,
+      (i.parts.manifest, m, i.manifest),
+      rw i.needs (needs_of_text f.manifest i.parts.manifest i.manifest.1 ∙ body.needs),
+      rw i.archive i.integrity.0,
+    )

@@ -4,4 +4,5 @@ pub mod FloatFacts
 pub mod FormFacts
 pub mod MemberFacts
 pub mod NeedFacts
+pub mod StopFacts
 pub mod TagFacts

@@ -1,14 +1,11 @@
 -- The needs of an object's members, and of a manifest's three.
-use Rattle.std.proofs.Common.{◌≡◌, ◌∙◌, ℕ, List, [], ◌∷◌, ◌++◌, Option, Some, None, option_map, refl, ap, sym, append_assoc, string_bytes, codes}
+use Rattle.std.proofs.Common.{◌≡◌, ◌∙◌, ℕ, List, [], ◌∷◌, ◌++◌, Option, Some, None, option_map, refl, ap, sym, append_assoc, string_bytes, codes, Bool, true, false, is_some, if◌then◌else◌}
 use Rattle.serde_json.specs.Data.{Data}
-use Rattle.serde_json.specs.Find.{as_str}
+use Rattle.serde_json.specs.Find.{as_object, as_str}
+use Rattle.serde_json.specs.Read.{read}
 use Rattle.serde_json.specs.View.{view, members_view}
 use Rattle.serde_json.proofs.Views.{Entry}
-use Rattle.registry_names.specs.declared.stop.Stop.{Stop}
-use Rattle.registry_names.specs.declared.stop.Stop.TheVariants.{Refused, Fault as Faulted}
-use Rattle.registry_names.specs.declared.stop.Fault.TheVariants.{Memory, Database}
-use Rattle.registry_publish.specs.Needs.{AddsNeeds, joined, need, needs_at, needs_in, needs_of_members}
-use Rattle.registry_publish.specs.Stops.{StopsReading}
+use Rattle.registry_publish.specs.Needs.{AddsNeeds, joined, need, needs_at, needs_in, needs_of, needs_of_members, needs_of_three}
 use Rattle.registry_publish.specs.declared.need.Need.{Need}
 
 shift : (done : List Need) (n : Need) (o : Option (List Need))
@@ -22,31 +19,42 @@ pub need_step : (done : List Need) (all : Option (List Need)) (es rest : List En
 need_step done all es rest e t h split is = h ∙ rw (split, is) (shift done (need (string_bytes e.0) t) (needs_of_members (members_view rest)))
 
 -- the needs of the three members, added in turn to none
-pub needs_added : (m : Data) (none a b c : List Need) → none ≡ []
+pub needs_added : (m : Data) (none a b c : List Need) → is_some (as_object m) ≡ true → none ≡ []
     → AddsNeeds (needs_at (codes "dependencies") m) none a → AddsNeeds (needs_at (codes "optionalDependencies") m) a b
     → AddsNeeds (needs_at (codes "peerDependencies") m) b c → needs_in m ≡ Some c
 unfolding needs_in
-needs_added m none a b c empty (xs, in_dependencies, is_a) (ys, in_optional, is_b) (zs, in_peers, is_c) =
-    rw (in_dependencies, in_optional, in_peers, is_c, is_b, is_a, empty) (simp append_assoc)
+needs_added m none a b c is empty (xs, in_dependencies, is_a) (ys, in_optional, is_b) (zs, in_peers, is_c) =
+    rw (is, in_dependencies, in_optional, in_peers, is_c, is_b, is_a, empty) (simp append_assoc)
+
+pub needs_of_no_object : (m : Data) → is_some (as_object m) ≡ false → needs_in m ≡ None
+unfolding needs_in
+needs_of_no_object m h = rw h refl
 
 joined_none : (a b : Option (List Need)) → b ≡ None → joined a b ≡ None
 joined_none None b h = refl
 joined_none (Some ns) b h = rw h refl
 
-pub no_dependencies : (m : Data) → needs_at (codes "dependencies") m ≡ None → needs_in m ≡ None
+guarded_none : (b : Bool) (o : Option (List Need)) → o ≡ None → (if b then o else None) ≡ None
+guarded_none true o h = h
+guarded_none false o h = refl
+
+three_none : (m : Data) → needs_of_three m ≡ None → needs_in m ≡ None
 unfolding needs_in
-no_dependencies m h = rw h refl
+three_none m h = guarded_none (is_some (as_object m)) (needs_of_three m) h
+
+pub no_dependencies : (m : Data) → needs_at (codes "dependencies") m ≡ None → needs_in m ≡ None
+no_dependencies m h = three_none m (rw h refl)
 
 pub no_optional : (m : Data) → needs_at (codes "optionalDependencies") m ≡ None → needs_in m ≡ None
-unfolding needs_in
-no_optional m h = joined_none (needs_at (codes "dependencies") m) _ (rw h refl)
+no_optional m h = three_none m (joined_none (needs_at (codes "dependencies") m) _ (rw h refl))
 
 pub no_peers : (m : Data) → needs_at (codes "peerDependencies") m ≡ None → needs_in m ≡ None
-unfolding needs_in
-no_peers m h = joined_none (needs_at (codes "dependencies") m) _ (joined_none (needs_at (codes "optionalDependencies") m) _ h)
+no_peers m h = three_none m (joined_none (needs_at (codes "dependencies") m) _ (joined_none (needs_at (codes "optionalDependencies") m) _ h))
 
--- what was stopped for want of something else was stopped for want of this
-pub stops_too : (P Q : Type 0) → (P → Q) → (e : Stop) → StopsReading P e → StopsReading Q e
-stops_too P Q f (Refused r) h = (h.0, f h.1)
-stops_too P Q f (Faulted Memory) h = h
-stops_too P Q f (Faulted Database) h = h
+pub needs_of_text : (text : List ℕ) (m : Data) → read text ≡ Some m → needs_of text ≡ needs_in m
+unfolding needs_of
+needs_of_text text m is = rw is refl
+
+pub needs_of_no_text : (text : List ℕ) → read text ≡ None → needs_of text ≡ None
+unfolding needs_of
+needs_of_no_text text h = rw h refl

@@ -1,5 +1,5 @@
 -- What a publish body says, member by member.
-use Rattle.std.specs.Prelude.{◌≡◌, ℕ, Bool, true, ◌&&◌, not, is_some, List, codes, Option, Some, IsUtf8}
+use Rattle.std.specs.Prelude.{◌≡◌, ℕ, Bool, true, ◌&&◌, not, is_some, List, codes, Option, Some, unwrap_or, IsUtf8}
 use Rattle.serde_json.specs.Data.{Data}
 use Rattle.serde_json.specs.Find.{get}
 use Rattle.serde_json.specs.Read.{read}
@@ -27,6 +27,13 @@ pub record BodyParts : Type 0 where
   pub tag : Option (List ℕ)
   pub access : Option Status
   pub archive : List ℕ
+
+abbrev pub latest : List ℕ
+latest = codes "latest"
+
+-- the tag that a body asks for, which is `latest` where it names none
+abbrev pub tag_of : BodyParts → List ℕ
+tag_of p = unwrap_or p.tag latest
 
 -- the value is a body that says this
 pub record IsBody (d : Data) (p : BodyParts) : Type 0 where

@@ -1,17 +1,22 @@
 -- The form of a publish body, and why a body has none.
-use Rattle.std.specs.Prelude.{◌≡◌, ◌≤◌, ◌<◌, ℕ, true, List, length, codes, Option, Some}
+use Rattle.std.specs.Prelude.{◌≡◌, ◌≤◌, ◌<◌, ℕ, true, false, List, length, Option, Some}
 use Rattle.serde_json.specs.Data.{Data}
 use Rattle.serde_json.specs.Read.{read}
 use Rattle.serde_json.specs.Written.{compact_text}
 use Rattle.registry_names.specs.Names.{IsName}
+use Rattle.registry_names.specs.Tags.{is_tag}
 use Rattle.registry_names.specs.Versions.{VersionParts, IsVersion, IsVersionOf, text_of_version}
 use Rattle.registry_names.specs.declared.refusal.Refusal.{Refusal}
-use Rattle.registry_names.specs.declared.refusal.Refusal.TheVariants.{BadName, BadVersion, BadBody, TooLarge}
+use Rattle.registry_names.specs.declared.refusal.Refusal.TheVariants.{BadName, BadVersion, RangeTag, BadTag, BadBody, BadIntegrity, TooLarge}
 use Rattle.registry_names.specs.declared.status.Status.{Status}
 use Rattle.registry_names.specs.declared.stop.Stop.{Stop}
 use Rattle.registry_names.specs.declared.stop.Stop.TheVariants.{Refused, Fault as Faulted}
 use Rattle.registry_names.specs.declared.stop.Fault.TheVariants.{Memory, Database}
-use Rattle.registry_publish.specs.Body.{BodyParts, IsBodyOf, is_manifest}
+use Rattle.registry_ranges.specs.Grammar.{IsRangeText}
+use Rattle.registry_ranges.specs.Tags.{IsTag}
+use Rattle.registry_publish.specs.Body.{BodyParts, IsBodyOf, is_manifest, tag_of}
+use Rattle.registry_publish.specs.Integrity.{has_integrity, integrity_text}
+use Rattle.registry_publish.specs.declared.need.Need.{Need}
 
 -- what a form holds
 pub record FormParts : Type 0 where
@@ -21,14 +26,12 @@ pub record FormParts : Type 0 where
   pub access : Option Status
   pub manifest : List ℕ
   pub archive : List ℕ
+  pub needs : List Need
+  pub integrity : List ℕ
 
 -- 4 MiB
 abbrev pub most_bytes : ℕ
 most_bytes = 4194304
-
--- the tag of a form that asks for none
-abbrev pub latest : List ℕ
-latest = codes "latest"
 
 -- the text is the compact JSON of this value, and reads back to it
 abbrev pub IsTextOf : Data → List ℕ → Type 0
@@ -49,10 +52,12 @@ pub record IsFormOf (b : List ℕ) (f : FormParts) : Type 0 where
   pub body : IsBodyOf b parts
   pub name : (f.name ≡ parts.name) × IsName parts.name
   pub version : IsVersionOf parts.version f.version
-  pub tag : f.tag ≡ latest
+  pub tag : (f.tag ≡ tag_of parts) × IsTag (tag_of parts)
   pub access : f.access ≡ parts.access
   pub manifest : IsTextOf parts.manifest f.manifest
   pub archive : f.archive ≡ parts.archive
+  pub needs : f.needs ≡ parts.needs
+  pub integrity : (f.integrity ≡ integrity_text parts.archive) × (has_integrity f.integrity parts.manifest ≡ true)
 
 -- the body is refused so: of the reasons that hold, this is the first
 abbrev pub IsRefusedBody : List ℕ → Refusal → Type 0
@@ -60,6 +65,10 @@ IsRefusedBody b TooLarge = most_bytes < length b
 IsRefusedBody b BadBody = (length b ≤ most_bytes) × ((p : BodyParts) → ¬ (IsBodyOf b p))
 IsRefusedBody b BadName = HasBody b (λ p. ¬ (IsName p.name))
 IsRefusedBody b BadVersion = HasBody b (λ p. IsName p.name × (¬ (IsVersion p.version)))
+IsRefusedBody b RangeTag = HasBody b (λ p. IsName p.name × IsVersion p.version × IsRangeText (tag_of p))
+IsRefusedBody b BadTag = HasBody b (λ p. IsName p.name × IsVersion p.version × (is_tag (tag_of p) ≡ false) × (¬ (IsRangeText (tag_of p))))
+IsRefusedBody b BadIntegrity = HasBody b (λ p. IsName p.name × IsVersion p.version × IsTag (tag_of p)
+    × (has_integrity (integrity_text p.archive) p.manifest ≡ false))
 IsRefusedBody b _ = ⊥
 
 -- why no form is read; a body that is too large takes no memory

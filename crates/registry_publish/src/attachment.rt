@@ -8,7 +8,7 @@ ghost use Rattle.registry_publish.specs.Attachments as spec;
 ghost use Rattle.registry_publish.specs.Attachments.{IsAttached};
 ghost use Rattle.registry_publish.specs.Stops.{StopsReading};
 
-use crate::body::BAD_BODY;
+use crate::json::BAD_BODY;
 use crate::members::{sole_at, text_at};
 use base64::DecodeAllocError;
 use base64::engine::general_purpose::STANDARD;

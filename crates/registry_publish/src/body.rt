@@ -1,11 +1,9 @@
 //! What a publish body says, before its texts are read.
 
-ghost use Rattle.std.specs.Prelude.{◌≡◌, ◌≤◌, Some, None, IfOk, IfErr, IsUtf8, MatchResult};
-ghost use Rattle.serde_json.specs.Data.{depth};
-ghost use Rattle.serde_json.specs.Read.{read, max_depth};
+ghost use Rattle.std.specs.Prelude.{◌≡◌, MatchResult};
 ghost use Rattle.serde_json.specs.View.{view};
 ghost use Rattle.registry_publish.specs.Body as spec;
-ghost use Rattle.registry_publish.specs.Body.{BodyParts, IsBody};
+ghost use Rattle.registry_publish.specs.Body.{BodyParts, IsBody, tag_of};
 ghost use Rattle.registry_publish.specs.Stops.{StopsReading};
 ghost use Rattle.registry_publish.specs.Views.{body_view};
 
@@ -13,14 +11,13 @@ use crate::access::access_at;
 use crate::attachment::archive_of;
 use crate::dist_tags::tag_at;
 use crate::floats::has_float;
+use crate::json::BAD_BODY;
 use crate::members::{has_member, has_text, sole_at, text_at};
 use crate::need::Need;
 use crate::needs::needs_in;
-use registry_names::{Fault, Refusal, Status, Stop};
+use registry_names::{Status, Stop};
 use serde_json::Value;
 use std::alloc::Global;
-
-pub(crate) const BAD_BODY: Stop = Stop::Refused(Refusal::BadBody);
 
 // What a body says: its name, its version and its manifest, with what the manifest depends on; the
 // tag and the status, where it asks for some; and its archive.
@@ -33,6 +30,15 @@ pub(crate) struct Body<'v> {
     pub(crate) tag: Option<&'v str>,
     pub(crate) access: Option<Status>,
     pub(crate) archive: Vec<u8>,
+}
+
+impl<'v> Body<'v> {
+    // The tag that is asked for, which is `latest` where none is named.
+    pub(crate) fn tag(&self) -> &'v str
+        ensures { result.now ≡ tag_of (body_view self.now) }
+    {
+        self.tag.unwrap_or("latest")
+    }
 }
 
 #[tactic(auto, unfolding(crate::specs::Body::is_manifest))]
@@ -68,19 +74,4 @@ pub(crate) fn body_of(alloc: Global, value: &Value) -> Result<Body<'_>, Stop>
         access,
         archive,
     })
-}
-
-pub(crate) fn document(alloc: Global, bytes: &[u8]) -> Result<Value, Stop>
-    ensures ok { IfOk result (λ v. IsUtf8 bytes.now × (read bytes.now ≡ Some (view v))) }
-    ensures nests { IfOk result (λ v. depth (view v) ≤ max_depth) }
-    ensures err { IfErr result (StopsReading (IsUtf8 bytes.now → read bytes.now ≡ None)) }
-{
-    match Value::from_slice(alloc, bytes) {
-        Ok(value) => Ok(value),
-        Err(error) => if error.is_memory() {
-            Err(Stop::Fault(Fault::Memory))
-        } else {
-            Err(BAD_BODY)
-        },
-    }
 }

@@ -1,23 +1,26 @@
 //! The form of a publication.
 
-ghost use Rattle.std.specs.Prelude.{◌≡◌, true, MatchResult};
+ghost use Rattle.std.specs.Prelude.{◌≡◌, true, Some, MatchResult};
 ghost use Rattle.registry_names.specs.Names.{IsName};
 ghost use Rattle.registry_names.specs.Tags.{is_tag};
 ghost use Rattle.registry_names.specs.Versions.{IsVersionOf, text_of_version};
 ghost use Rattle.registry_publish.specs.Form.{FormParts, IsFormOf, IsManifestText, StopsForm};
+ghost use Rattle.registry_publish.specs.Integrity.{integrity_text};
+ghost use Rattle.registry_publish.specs.Needs.{needs_of};
 
-use crate::body::{body_of, document};
-use registry_names::{Name, Refusal, Status, Stop, TagText, Ver};
+use crate::body::body_of;
+use crate::integrity::{has_integrity, integrity_of};
+use crate::json::document;
+use crate::need::Need;
+use registry_names::{Name, Refusal, Status, Stop, TagText, Text, Ver};
 use std::alloc::Global;
 use std::marker::Model;
 
 const MOST_BYTES: usize = 4_194_304;
 
-const LATEST: &str = "latest";
-
 /// What a publication asks for: the package's name and the version, the tag that is to name the
-/// version, the status that is to be set, and the version's manifest and archive. Contracts see
-/// these six parts.
+/// version, the status that is to be set, and the version's manifest and archive, with what the
+/// manifest says it depends on and the archive's integrity. Contracts see these eight parts.
 #[derive(Debug, Drop)]
 pub struct PublishForm {
     name: Name,
@@ -26,21 +29,26 @@ pub struct PublishForm {
     access: Option<Status>,
     manifest: String,
     archive: Vec<u8>,
+    needs: Vec<Need>,
+    integrity: Text,
 }
 
 impl Model for PublishForm {
-    ghost use Rattle.std.specs.Prelude.{◌≡◌, string_bytes, true};
+    ghost use Rattle.std.specs.Prelude.{◌≡◌, string_bytes, true, Some};
     ghost use Rattle.registry_names.specs.Names.{IsName};
     ghost use Rattle.registry_names.specs.Tags.{is_tag};
     ghost use Rattle.registry_names.specs.Versions.{IsVersionOf, text_of_version};
     ghost use Rattle.registry_publish.specs.Form.{FormParts, IsManifestText};
+    ghost use Rattle.registry_publish.specs.Integrity.{integrity_text};
+    ghost use Rattle.registry_publish.specs.Needs.{needs_of};
 
     ghost Value = { FormParts };
 
-    ghost view = { λ f. record { name = f.name; version = f.version; tag = f.tag; access = f.access; manifest = string_bytes f.manifest; archive = f.archive.items } };
+    ghost view = { λ f. record { name = f.name; version = f.version; tag = f.tag; access = f.access; manifest = string_bytes f.manifest; archive = f.archive.items; needs = f.needs.items; integrity = f.integrity } };
 
     ghost invariant = { λ f. IsName f.name × IsVersionOf (text_of_version f.version) f.version
-        × (is_tag f.tag ≡ true) × IsManifestText f.name f.version (string_bytes f.manifest) };
+        × (is_tag f.tag ≡ true) × IsManifestText f.name f.version (string_bytes f.manifest)
+        × (needs_of (string_bytes f.manifest) ≡ Some f.needs.items) × (f.integrity ≡ integrity_text f.archive.items) };
 }
 
 impl PublishForm {
@@ -70,6 +78,10 @@ impl PublishForm {
     /// 3. `BadName`: its name is no name of a package ([`Name`]).
     /// 4. `BadVersion`: its version is no version ([`Ver`]), as one of
     ///    [SemVer 2.0.0](https://semver.org/spec/v2.0.0.html) with build metadata is none.
+    /// 5. `RangeTag`: its tag, which is `latest` where there is none, is a range of versions.
+    /// 6. `BadTag`: its tag is none otherwise ([`tag`](registry_ranges::tag)).
+    /// 7. `BadIntegrity`: `dist` of the manifest is an object with a member `integrity` that isn't
+    ///    the text of the archive's integrity ([`integrity_of`](crate::integrity_of)).
     ///
     /// `Memory` comes where no memory is left to read a body that isn't too large, and no other
     /// fault comes.
@@ -83,7 +95,11 @@ impl PublishForm {
         let body = body_of(alloc, &value)?;
         let name = Name::parse(alloc, body.name)?;
         let version = Ver::parse(alloc, body.version)?;
-        let tag = TagText::shape(alloc, LATEST)?;
+        let tag = registry_ranges::tag(alloc, body.tag())?;
+        let integrity = integrity_of(alloc, body.archive.as_slice())?;
+        if !has_integrity(body.manifest, integrity.as_str()) {
+            return Err(Stop::Refused(Refusal::BadIntegrity));
+        }
         let manifest = body.manifest.to_string(alloc)?;
         Ok(PublishForm {
             name,
@@ -92,6 +108,8 @@ impl PublishForm {
             access: body.access,
             manifest,
             archive: body.archive,
+            needs: body.needs,
+            integrity,
         })
     }
 
@@ -111,7 +129,7 @@ impl PublishForm {
         &self.version
     }
 
-    /// The tag that is to name the version: `latest`.
+    /// The tag that is to name the version, which is `latest` where the body asks for none.
     pub fn tag(&self) -> &TagText
         ensures value { result.now ≡ self.now.tag }
         ensures form { is_tag self.now.tag ≡ true }
@@ -140,5 +158,24 @@ impl PublishForm {
         ensures { result.now ≡ self.now.archive }
     {
         self.archive.as_slice()
+    }
+
+    /// What the version depends on: the keys and values of the manifest's members `dependencies`,
+    /// `optionalDependencies` and `peerDependencies`, in this order, those of each in byte order
+    /// of the keys.
+    pub fn needs(&self) -> &[Need]
+        ensures value { result.now ≡ self.now.needs }
+        ensures form { needs_of self.now.manifest ≡ Some self.now.needs }
+    {
+        self.needs.as_slice()
+    }
+
+    /// The integrity of the archive ([`integrity_of`](crate::integrity_of)), whether the manifest
+    /// says it or not.
+    pub fn integrity(&self) -> &str
+        ensures value { result.now ≡ self.now.integrity }
+        ensures form { self.now.integrity ≡ integrity_text self.now.archive }
+    {
+        self.integrity.as_str()
     }
 }

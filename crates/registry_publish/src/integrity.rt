@@ -1,10 +1,14 @@
 //! The integrity of an archive.
 
-ghost use Rattle.std.specs.Prelude.{◌≡◌, IfOk, IfErr};
+ghost use Rattle.std.specs.Prelude.{◌≡◌, option_map, IfOk, IfErr};
+ghost use Rattle.serde_json.specs.View.{view};
+ghost use Rattle.registry_publish.specs.Integrity as spec;
 ghost use Rattle.registry_publish.specs.Integrity.{integrity_text};
 
+use crate::members::is_text;
 use base64::engine::general_purpose::STANDARD;
 use registry_names::{Fault, Text};
+use serde_json::Value;
 use sha2::{Digest, Sha512};
 use std::alloc::Global;
 
@@ -20,4 +24,20 @@ pub fn integrity_of(alloc: Global, bytes: &[u8]) -> Result<Text, Fault>
     let mut text = String::from_str(alloc, "sha512-")?;
     STANDARD.encode_string(&digest, &mut text)?;
     Ok(Text::from(text))
+}
+
+// Whether the manifest says no other integrity of its archive.
+pub(crate) fn has_integrity(manifest: &Value, integrity: &str) -> bool
+    ensures { result ≡ spec.has_integrity integrity.now (view manifest.now) }
+{
+    match stated_integrity(manifest) {
+        Some(stated) => is_text(stated, integrity),
+        None => true,
+    }
+}
+
+fn stated_integrity(manifest: &Value) -> Option<&Value>
+    ensures { option_map (λ stated. view stated.now) result ≡ spec.stated_integrity (view manifest.now) }
+{
+    manifest.get("dist")?.get("integrity")
 }

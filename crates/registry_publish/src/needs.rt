@@ -1,14 +1,14 @@
 //! The dependencies of a manifest.
 
-ghost use Rattle.std.specs.Prelude.{◌≡◌, ◌++◌, ◌∷◌, [], None, Some, IfErr, OnOk, MatchResult};
+ghost use Rattle.std.specs.Prelude.{◌≡◌, ◌⊎◌, ◌++◌, ◌∷◌, [], None, Some, IfOk, IfErr, OnOk, MatchResult};
 ghost use Rattle.serde_json.specs.View.{view, members_view};
 ghost use Rattle.registry_publish.specs.Needs as spec;
 ghost use Rattle.registry_publish.specs.Needs.{AddsNeeds, need, needs_at, needs_of_members};
 ghost use Rattle.registry_publish.specs.Stops.{StopsReading};
 
-use crate::body::BAD_BODY;
+use crate::json::{BAD_BODY, document};
 use crate::need::Need;
-use registry_names::{Stop, Text};
+use registry_names::{Fault, Refusal, Stop, Text};
 use serde_json::{Map, Value};
 use std::alloc::{AllocError, Global};
 
@@ -63,15 +63,34 @@ fn push_needs_at(
     }
 }
 
-// The dependencies that the manifest's three members name.
+// What the manifest depends on, by its three members.
 pub(crate) fn needs_in(alloc: Global, manifest: &Value) -> Result<Vec<Need>, Stop>
     ensures { MatchResult result
         (λ needs. spec.needs_in (view manifest.now) ≡ Some needs.items)
         (StopsReading (spec.needs_in (view manifest.now) ≡ None)) }
 {
+    if !manifest.is_object() {
+        return Err(BAD_BODY);
+    }
     let mut needs = Vec::new(alloc);
     push_needs_at(alloc, &mut needs, manifest, "dependencies")?;
     push_needs_at(alloc, &mut needs, manifest, "optionalDependencies")?;
     push_needs_at(alloc, &mut needs, manifest, "peerDependencies")?;
     Ok(needs)
+}
+
+/// Reads what a version depends on from the text of its manifest: the keys and values of its
+/// members `dependencies`, `optionalDependencies` and `peerDependencies`, in this order, those of
+/// each in byte order of the keys.
+///
+/// `BadBody` comes for no other text than one that isn't JSON of an object in which each of the
+/// three is absent or an object of texts, and `Memory` where no memory is left. Nothing else is
+/// asked of the manifest, and no other fault comes.
+pub fn needs_of(alloc: Global, manifest: &str) -> Result<Vec<Need>, Stop>
+    ensures ok { IfOk result (λ needs. spec.needs_of manifest.now ≡ Some needs.items) }
+    ensures err { IfErr result (λ e. (e ≡ Stop.Fault Fault.Memory)
+        ⊎ ((e ≡ Stop.Refused Refusal.BadBody) × (spec.needs_of manifest.now ≡ None))) }
+{
+    let value = document(alloc, manifest.as_bytes())?;
+    needs_in(alloc, &value)
 }
