@@ -7,6 +7,7 @@ pub mod Integrity
 pub mod Members
 pub mod Needs
 pub mod Stops
+pub mod Tokens
 pub mod Views
 pub use Rattle.registry_names.specs.Names
 pub use Rattle.registry_names.specs.Tags

@@ -18,9 +18,11 @@ mod need;
 mod needs;
 #[cfg(test)]
 mod tests;
+mod token;
 
 pub use crate::floats::has_float;
 pub use crate::form::PublishForm;
 pub use crate::integrity::integrity_of;
 pub use crate::need::Need;
 pub use crate::needs::needs_of;
+pub use crate::token::TokenDigest;
