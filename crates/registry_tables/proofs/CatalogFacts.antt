@@ -1,14 +1,15 @@
 -- The listing of the schema shows whether there is a table.
 use Rattle.std.specs.Prelude.{codes}
 use Rattle.std.specs.List.{AllZip}
+use Rattle.std.specs.Ordering.{match_ordering}
 use Rattle.std.specs.declared.cmp.Ordering.TheVariants.{Less, Equal, Greater}
 use Rattle.std.proofs.Common.{◌≡◌, inl, ℕ, Bool, true, false, not, ◌||◌, cond, List, [], ◌∷◌, map, filter, Option, None, Some, IsTrue, refl, sym, ap, subst, subst₂, ◌∙◌, ◌==◌, length, ne_eqb, arith}
 use Rattle.sqlite_value.specs.Order.{Row, value_cmp}
-use Rattle.std.specs.Ordering.{match_ordering}
 use Rattle.sqlite_trees.specs.Tree.{rowid, put_row}
 use Rattle.sqlite_trees.specs.Objects.{catalog_tree}
 use Rattle.sqlite_sql.specs.Term.{col}
 use Rattle.sqlite_rules.specs.Edit.{put_all}
+use Rattle.sqlite_rules.specs.Lists.{Has}
 use Rattle.sqlite_schema.specs.declared.schema.Schema.{Schema}
 use Rattle.sqlite_schema.specs.declared.command.Command.{Command}
 use Rattle.sqlite_schema.specs.declared.command.Returning.{Returning}
@@ -22,7 +23,6 @@ use Rattle.sqlite.proofs.Callers.{IsPlain, command_of}
 use Rattle.sqlite_tied.specs.Compute.{everything}
 use Rattle.registry_rows.specs.Tables.{no_tables}
 use Rattle.registry_rows.specs.Statements.{Means, Finds, scan}
-use Rattle.sqlite_rules.specs.Lists.{Has}
 use Rattle.registry_rows.specs.Ready.{IsReady, Ready, Reads, Queried}
 use Rattle.registry_rows.proofs.SelectFacts.{selects, finds}
 use Rattle.registry_rows.proofs.QueryFacts.{ready_same}
@@ -84,7 +84,10 @@ none_shown now db (x ∷ rows) source answer none =
 
 some_shown : (now db : Database) → IsSourceOf true now db → Answers lists_names db [] [] → (objects : List Row) → now.trees catalog_tree ≡ objects → objects ≡ []
 some_shown now db source answer [] is = refl
-some_shown now db source answer (r ∷ objects) is = absurd (all_some (put_row (shown r) []) (map shown objects) (put_some (shown r) []) (sym (source.1 ∙ ap (λ l. put_all [] (map shown l)) is) ∙ empty (db.trees 0) (finds [] (col 1 2 ∷ []) [] [] (db.trees 0) [] (selects 0 [] (col 1 2 ∷ []) [] [] db.trees [] answer.answer))))
+some_shown now db source answer (r ∷ objects) is =
+    let found = finds [] (col 1 2 ∷ []) [] [] (db.trees 0) [] (selects 0 [] (col 1 2 ∷ []) [] [] db.trees [] answer.answer) in
+    let filled = source.1 ∙ ap (λ l. put_all [] (map shown l)) is in
+    absurd (all_some (put_row (shown r) []) (map shown objects) (put_some (shown r) []) (sym filled ∙ empty (db.trees 0) found))
   where
     empty : (table : List Row) → Finds [] (col 1 2 ∷ []) [] table [] → table ≡ []
     empty [] found = refl
@@ -124,14 +127,13 @@ none_found old new rows form call clean =
     let ready = form (omega (arith, call.survives.clean, clean)) in
     let it = listing_shown no_tables none_read old new rows (λ up. (ready up).schema_is) (call.shown clean) in
     let was = ready it.0.0.was_open in
-    (unchanged_reads no_tables old new was it.0, ap (λ (l : List Row). length l == 0) (none_shown old.now it.1.0 rows it.1.1 it.1.2 (none_listed _ (subst (λ s. AreListed (old.now.trees catalog_tree) s) was.schema_is was.sound.lists.listed))))
+    let none = none_listed _ (subst (AreListed (old.now.trees catalog_tree)) was.schema_is was.sound.lists.listed) in
+    (unchanged_reads no_tables old new was it.0, ap (λ (l : List Row). length l == 0) (none_shown old.now it.1.0 rows it.1.1 it.1.2 none))
 
 pub ours_found : (old new : State) (rows : List Row) → Ready schema old → Queried listing_text [] old new rows → HasCleanDisk new → Reads schema old new × ((length rows == 0) ≡ false)
 ours_found old new rows form call clean =
     let ready = form (omega (arith, call.survives.clean, clean)) in
     let it = listing_shown schema ours_read old new rows (λ up. (ready up).schema_is) (call.shown clean) in
-    let was = ready it.0.0.was_open in (
-      unchanged_reads schema old new was it.0,
-      counts_some rows (λ none. ours_listed _ (subst (λ s. AreListed (old.now.trees catalog_tree) s) was.schema_is was.sound.lists.listed)
-          (some_shown old.now it.1.0 it.1.1 (subst (λ l. Answers lists_names it.1.0 [] l) none it.1.2) _ refl)),
-    )
+    let was = ready it.0.0.was_open in
+    let some = ours_listed _ (subst (AreListed (old.now.trees catalog_tree)) was.schema_is was.sound.lists.listed) in
+    (unchanged_reads schema old new was it.0, counts_some rows (λ none. some (some_shown old.now it.1.0 it.1.1 (subst (Answers lists_names it.1.0 []) none it.1.2) _ refl)))

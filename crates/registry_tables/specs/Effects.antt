@@ -1,5 +1,5 @@
 -- What a call inside a transaction finds and leaves. `old` and `new` are the connection at its entry and at its exit.
-use Rattle.std.specs.Prelude.{Result, IfOk, OnOk}
+use Rattle.std.specs.Prelude.{Result, IfOk, IsTrue, OnOk}
 use Rattle.sqlite.specs.Held.{Held, state}
 use Rattle.sqlite.specs.State.{State as Shown, HasCleanDisk, KeepsCommit, Survives}
 use Rattle.sqlite_trees.specs.declared.store.Store.{Ghosts}
@@ -26,6 +26,10 @@ module _ {S : Type 0} (store : Ghosts S) where
   abbrev pub HasNoTables : Held S → Type 0
   HasNoTables h = Ready no_tables (state store h)
 
+  -- the transaction wasn't ended
+  abbrev pub GoesOn : Held S → Type 0
+  GoesOn h = IsTrue (state store h).in_transaction
+
   module _ {R E : Type 0} (old new : Held S) (result : Result R E) where
     -- the registry's state is changed by f, and no other row; the tables are in form, and the transaction goes on
     abbrev pub Makes : (State → State) → Type 0
@@ -38,6 +42,10 @@ module _ {S : Type 0} (store : Ghosts S) where
     -- an answer leaves everything as it was
     abbrev pub LeavesAll : Type 0
     LeavesAll = HasCleanDisk (state store new) → OnOk result (Reads schema (state store old) (state store new))
+
+    -- an answer leaves a database without tables as it was
+    abbrev pub LeavesNone : Type 0
+    LeavesNone = HasCleanDisk (state store new) → OnOk result (Reads no_tables (state store old) (state store new))
 
   -- whatever the answer, what was committed stays so
   abbrev pub KeepsCommitted : Held S → Held S → Type 0

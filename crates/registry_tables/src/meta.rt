@@ -1,16 +1,15 @@
 //! The table `meta`: what the tables are.
 
-ghost use Rattle.std.specs.Prelude.{◌≡◌, IfOk, IsSome, IsTrue, None, OnOk, Some, false, option_map, slice_get, true};
+ghost use Rattle.std.specs.Prelude.{◌≡◌, IfOk, IsSome, None, OnOk, Some, false, option_map, slice_get, true};
 ghost use Rattle.sqlite_value.specs.Order.{column};
 ghost use Rattle.sqlite.specs.Held.{state};
 ghost use Rattle.sqlite.specs.State.{HasCleanDisk};
 ghost use Rattle.registry_names.specs.Maps.{at};
 ghost use Rattle.registry_rows.specs.Columns.{number_in};
-ghost use Rattle.registry_rows.specs.Ready.{Leaves, Reads};
-ghost use Rattle.registry_rows.specs.Tables.{no_tables};
+ghost use Rattle.registry_rows.specs.Ready.{Leaves};
 ghost use Rattle.registry_tables.specs.Schema.{schema};
 ghost use Rattle.registry_tables.specs.Contents.{contents};
-ghost use Rattle.registry_tables.specs.Effects.{AddsNoCrash, HasNoTables, InForm, KeepsCommitted, LeavesAll, Tells, stored};
+ghost use Rattle.registry_tables.specs.Effects.{AddsNoCrash, GoesOn, HasNoTables, InForm, KeepsCommitted, LeavesAll, LeavesNone, Tells, stored};
 ghost use Rattle.registry_tables.specs.Fresh.{schema_key, schema_number, with_number};
 
 use crate::error::fault_of;
@@ -20,15 +19,15 @@ use sqlite::{Alter, Error, Row, Transaction, params};
 /// The number of the schema, which a change of the tables raises.
 const SCHEMA: i64 = 1;
 
-/// The number of the schema of the tables that are there. None where the database has no table.
-/// Tables without a number are a fault.
+/// The number of the schema of the tables that are there, or none where the database has no
+/// table. Tables without a number of a schema are answered by `Database`.
 pub fn opened<S: Alter>(tx: &mut Transaction<'_, S>) -> Result<Option<u32>, Fault>
     ensures same_reference { tx.new.conn.ghost_name ≡ tx.old.conn.ghost_name }
     ensures ours { InForm S.Store tx.old.conn.now → Tells S.Store tx.old.conn.now tx.new.conn.now result (λ number c. IsSome number × (number ≡ at c.meta schema_key)) }
     ensures none { HasNoTables S.Store tx.old.conn.now → Tells S.Store tx.old.conn.now tx.new.conn.now result (λ number c. number ≡ None) }
     ensures leaves_ours { InForm S.Store tx.old.conn.now → LeavesAll S.Store tx.old.conn.now tx.new.conn.now result }
-    ensures leaves_none { HasNoTables S.Store tx.old.conn.now → HasCleanDisk (state S.Store tx.new.conn.now) → OnOk result (Reads no_tables (state S.Store tx.old.conn.now) (state S.Store tx.new.conn.now)) }
-    ensures committed { IsTrue (state S.Store tx.old.conn.now).in_transaction → KeepsCommitted S.Store tx.old.conn.now tx.new.conn.now }
+    ensures leaves_none { HasNoTables S.Store tx.old.conn.now → LeavesNone S.Store tx.old.conn.now tx.new.conn.now result }
+    ensures committed { GoesOn S.Store tx.old.conn.now → KeepsCommitted S.Store tx.old.conn.now tx.new.conn.now }
     ensures survives { AddsNoCrash S.Store tx.old.conn.now tx.new.conn.now }
 {
     find_schema(tx).map_err(fault_of)
@@ -39,8 +38,8 @@ fn find_schema<S: Alter>(tx: &mut Transaction<'_, S>) -> Result<Option<u32>, Err
     ensures ours { InForm S.Store tx.old.conn.now → Tells S.Store tx.old.conn.now tx.new.conn.now result (λ number c. IsSome number × (number ≡ at c.meta schema_key)) }
     ensures none { HasNoTables S.Store tx.old.conn.now → Tells S.Store tx.old.conn.now tx.new.conn.now result (λ number c. number ≡ None) }
     ensures leaves_ours { InForm S.Store tx.old.conn.now → LeavesAll S.Store tx.old.conn.now tx.new.conn.now result }
-    ensures leaves_none { HasNoTables S.Store tx.old.conn.now → HasCleanDisk (state S.Store tx.new.conn.now) → OnOk result (Reads no_tables (state S.Store tx.old.conn.now) (state S.Store tx.new.conn.now)) }
-    ensures committed { IsTrue (state S.Store tx.old.conn.now).in_transaction → KeepsCommitted S.Store tx.old.conn.now tx.new.conn.now }
+    ensures leaves_none { HasNoTables S.Store tx.old.conn.now → LeavesNone S.Store tx.old.conn.now tx.new.conn.now result }
+    ensures committed { GoesOn S.Store tx.old.conn.now → KeepsCommitted S.Store tx.old.conn.now tx.new.conn.now }
     ensures survives { AddsNoCrash S.Store tx.old.conn.now tx.new.conn.now }
 {
     if lacks_tables(tx)? {
@@ -54,9 +53,9 @@ fn lacks_tables<S: Alter>(tx: &mut Transaction<'_, S>) -> Result<bool, Error>
     ensures ours { InForm S.Store tx.old.conn.now → Tells S.Store tx.old.conn.now tx.new.conn.now result (λ lacks c. lacks ≡ false) }
     ensures none { HasNoTables S.Store tx.old.conn.now → Tells S.Store tx.old.conn.now tx.new.conn.now result (λ lacks c. lacks ≡ true) }
     ensures leaves_ours { InForm S.Store tx.old.conn.now → LeavesAll S.Store tx.old.conn.now tx.new.conn.now result }
-    ensures leaves_none { HasNoTables S.Store tx.old.conn.now → HasCleanDisk (state S.Store tx.new.conn.now) → OnOk result (Reads no_tables (state S.Store tx.old.conn.now) (state S.Store tx.new.conn.now)) }
-    ensures committed { IsTrue (state S.Store tx.old.conn.now).in_transaction → KeepsCommitted S.Store tx.old.conn.now tx.new.conn.now }
-    ensures going { IsTrue (state S.Store tx.old.conn.now).in_transaction → HasCleanDisk (state S.Store tx.new.conn.now) → OnOk result (IsTrue (state S.Store tx.new.conn.now).in_transaction) }
+    ensures leaves_none { HasNoTables S.Store tx.old.conn.now → LeavesNone S.Store tx.old.conn.now tx.new.conn.now result }
+    ensures committed { GoesOn S.Store tx.old.conn.now → KeepsCommitted S.Store tx.old.conn.now tx.new.conn.now }
+    ensures going { GoesOn S.Store tx.old.conn.now → HasCleanDisk (state S.Store tx.new.conn.now) → OnOk result (GoesOn S.Store tx.new.conn.now) }
     ensures survives { AddsNoCrash S.Store tx.old.conn.now tx.new.conn.now }
 {
     let objects = tx.query_all("SELECT name FROM sqlite_schema", &[])?;
@@ -67,7 +66,7 @@ fn load_schema<S: Alter>(tx: &mut Transaction<'_, S>) -> Result<u32, Error>
     ensures same_reference { tx.new.conn.ghost_name ≡ tx.old.conn.ghost_name }
     ensures ours { InForm S.Store tx.old.conn.now → Tells S.Store tx.old.conn.now tx.new.conn.now result (λ number c. at c.meta schema_key ≡ Some number) }
     ensures leaves_ours { InForm S.Store tx.old.conn.now → LeavesAll S.Store tx.old.conn.now tx.new.conn.now result }
-    ensures committed { IsTrue (state S.Store tx.old.conn.now).in_transaction → KeepsCommitted S.Store tx.old.conn.now tx.new.conn.now }
+    ensures committed { GoesOn S.Store tx.old.conn.now → KeepsCommitted S.Store tx.old.conn.now tx.new.conn.now }
     ensures survives { AddsNoCrash S.Store tx.old.conn.now tx.new.conn.now }
 {
     let rows = tx.query_all("SELECT value FROM meta WHERE name = ?1", params!["schema"])?;

@@ -23,7 +23,7 @@ use sqlite::{Alter, Error, Transaction};
 mod tests;
 
 /// Makes the tables in a database that has none: all of them empty, but for the number of the
-/// schema.
+/// schema. Where they are there already, the answer is `Database`.
 pub fn create<S: Alter>(tx: &mut Transaction<'_, S>) -> Result<(), Fault>
     ensures same_reference { tx.new.conn.ghost_name ≡ tx.old.conn.ghost_name }
     ensures made { HasNoTables S.Store tx.old.conn.now → HasCleanDisk (state S.Store tx.new.conn.now) → OnOk result (Leaves schema contents fresh (state S.Store tx.new.conn.now)) }
