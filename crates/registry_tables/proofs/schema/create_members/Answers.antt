@@ -15,11 +15,18 @@ returns-clause-made g c before =
 
 pub returns-in_err-execute-3-clause-committed : goal.returns-in_err-execute-3-clause-committed
 returns-in_err-execute-3-clause-committed g c =
-    (quiet_then g.S.Store c.args.tx.now.conn.now c.execute-2.new.self.conn.now c.execute-3.new.self.conn.now (quiet_then g.S.Store c.args.tx.now.conn.now c.execute.new.self.conn.now c.execute-2.new.self.conn.now (executed_quiet g.S.Store _ _ c.args.tx.now.conn.now c.execute.new.self.conn.now _ _ c.execute.ensures.ended c.execute.ensures.runs c.execute.ensures.survives) (executed_quiet g.S.Store _ _ c.execute.new.self.conn.now c.execute-2.new.self.conn.now _ _ c.execute-2.ensures.ended c.execute-2.ensures.runs c.execute-2.ensures.survives)) (executed_quiet g.S.Store _ _ c.execute-2.new.self.conn.now c.execute-3.new.self.conn.now _ _ c.execute-3.ensures.ended c.execute-3.ensures.runs c.execute-3.ensures.survives)).committed
+    let one = executed_quiet g.S.Store _ _ c.args.tx.now.conn.now c.execute.new.self.conn.now _ _ c.execute.ensures.ended c.execute.ensures.runs c.execute.ensures.survives in
+    let two = quiet_then g.S.Store c.args.tx.now.conn.now c.execute.new.self.conn.now c.execute-2.new.self.conn.now one (executed_quiet g.S.Store _ _ c.execute.new.self.conn.now c.execute-2.new.self.conn.now _ _ c.execute-2.ensures.ended c.execute-2.ensures.runs c.execute-2.ensures.survives) in
+    let three = quiet_then g.S.Store c.args.tx.now.conn.now c.execute-2.new.self.conn.now c.execute-3.new.self.conn.now two (executed_quiet g.S.Store _ _ c.execute-2.new.self.conn.now c.execute-3.new.self.conn.now _ _ c.execute-3.ensures.ended c.execute-3.ensures.runs c.execute-3.ensures.survives) in
+    three.committed
 
 pub returns-in_err-execute-4-clause-committed : goal.returns-in_err-execute-4-clause-committed
 returns-in_err-execute-4-clause-committed g c =
-    (quiet_then g.S.Store c.args.tx.now.conn.now c.execute-3.new.self.conn.now c.execute-4.new.self.conn.now (quiet_then g.S.Store c.args.tx.now.conn.now c.execute-2.new.self.conn.now c.execute-3.new.self.conn.now (quiet_then g.S.Store c.args.tx.now.conn.now c.execute.new.self.conn.now c.execute-2.new.self.conn.now (executed_quiet g.S.Store _ _ c.args.tx.now.conn.now c.execute.new.self.conn.now _ _ c.execute.ensures.ended c.execute.ensures.runs c.execute.ensures.survives) (executed_quiet g.S.Store _ _ c.execute.new.self.conn.now c.execute-2.new.self.conn.now _ _ c.execute-2.ensures.ended c.execute-2.ensures.runs c.execute-2.ensures.survives)) (executed_quiet g.S.Store _ _ c.execute-2.new.self.conn.now c.execute-3.new.self.conn.now _ _ c.execute-3.ensures.ended c.execute-3.ensures.runs c.execute-3.ensures.survives)) (executed_quiet g.S.Store _ _ c.execute-3.new.self.conn.now c.execute-4.new.self.conn.now _ _ c.execute-4.ensures.ended c.execute-4.ensures.runs c.execute-4.ensures.survives)).committed
+    let one = executed_quiet g.S.Store _ _ c.args.tx.now.conn.now c.execute.new.self.conn.now _ _ c.execute.ensures.ended c.execute.ensures.runs c.execute.ensures.survives in
+    let two = quiet_then g.S.Store c.args.tx.now.conn.now c.execute.new.self.conn.now c.execute-2.new.self.conn.now one (executed_quiet g.S.Store _ _ c.execute.new.self.conn.now c.execute-2.new.self.conn.now _ _ c.execute-2.ensures.ended c.execute-2.ensures.runs c.execute-2.ensures.survives) in
+    let three = quiet_then g.S.Store c.args.tx.now.conn.now c.execute-2.new.self.conn.now c.execute-3.new.self.conn.now two (executed_quiet g.S.Store _ _ c.execute-2.new.self.conn.now c.execute-3.new.self.conn.now _ _ c.execute-3.ensures.ended c.execute-3.ensures.runs c.execute-3.ensures.survives) in
+    let four = quiet_then g.S.Store c.args.tx.now.conn.now c.execute-3.new.self.conn.now c.execute-4.new.self.conn.now three (executed_quiet g.S.Store _ _ c.execute-3.new.self.conn.now c.execute-4.new.self.conn.now _ _ c.execute-4.ensures.ended c.execute-4.ensures.runs c.execute-4.ensures.survives) in
+    four.committed
 
 pub returns-clause-refused : goal.returns-clause-refused
 returns-clause-refused g c form clean =
