@@ -40,6 +40,10 @@ tags_text (r ∷ rs) = (refl, (refl, tags_text rs))
 object_text-object : (ps : List Pair) (ms : Members) → AreTextsOf ps ms → object_text ps ≡ compact_text (object ms)
 object_text-object ps ms h = ap (λ xs. 123 ∷ xs) (members_text-members false ps ms h)
 
+-- the tags as the text of their object
+pub tags_written : (rs : List DistTag) → compact_text (object (tag_members rs)) ≡ object_text (map tag_pair rs)
+tags_written rs = sym (object_text-object (map tag_pair rs) (tag_members rs) (tags_text rs))
+
 documents_texts : (rs : List VersionRow) (ms : Members) → AreDocumentsOf rs ms → (ps : List Pair) × ((version_pairs rs ≡ Some ps) × AreTextsOf ps ms)
 documents_texts [] no_members h = ([], (refl, tt))
 documents_texts [] (member k d ms) h = absurd h

@@ -1,4 +1,6 @@
 pub mod Documents
+pub mod Lists
 pub mod ObjectTexts
 pub mod Packuments
+pub mod TextValues
 pub mod Writing

@@ -4,7 +4,9 @@ use Rattle.json.specs.Print.{quoted}
 use Rattle.serde_json.specs.Data.{Data, string, object, Members, no_members, member}
 use Rattle.serde_json.specs.Written.{compact_text}
 use Rattle.registry_packument.specs.Documents.{document_text}
+use Rattle.registry_packument.specs.Lists.{tag_texts}
 use Rattle.registry_packument.specs.ObjectTexts.{Pair, object_text}
+use Rattle.registry_packument.specs.TextValues.{text_members}
 use Rattle.registry_packument.specs.declared.head.PackHead.{PackHead}
 use Rattle.registry_names.specs.declared.dist_tag.DistTag.{DistTag}
 use Rattle.registry_packument.specs.declared.packument.VersionRow.{VersionRow}
@@ -43,8 +45,7 @@ pack_text head versions = packument_of head.name head.tags.items versions
 
 -- each tag, with the version that it names
 abbrev pub tag_members : List DistTag → Members
-tag_members [] = no_members
-tag_members (r ∷ rs) = member r.tag (string r.version) (tag_members rs)
+tag_members rs = text_members tag_texts rs
 
 -- each document's text is the compact one of its value
 abbrev pub AreDocumentsOf : List VersionRow → Members → Type 0

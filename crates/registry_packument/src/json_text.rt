@@ -1,12 +1,27 @@
 //! Pieces of compact JSON, written behind what a text has already.
 
-ghost use Rattle.std.specs.Prelude.{◌≡◌, ◌++◌, ◌∷◌, [], string_bytes, OnOk};
+ghost use Rattle.std.specs.Prelude.{◌≡◌, ◌++◌, ◌∷◌, [], List, ℕ, string_bytes, OnOk};
 ghost use Rattle.json.specs.Print.{quoted};
-ghost use Rattle.serde_json.specs.Written.{comma_if};
+ghost use Rattle.serde_json.specs.Data.{array, object};
+ghost use Rattle.serde_json.specs.Written.{comma_if, compact_text};
 ghost use Rattle.registry_packument.specs.ObjectTexts.{member_text};
+ghost use Rattle.registry_packument.specs.TextValues.{text_items, text_members};
 
+use registry_names::Text;
 use serde_json::Value;
 use std::alloc::{AllocError, Global};
+
+/// A row that is a member of an object, with a text as its value.
+pub(crate) trait TextMember {
+    // The key, and the text that is its value.
+    ghost pair: { Self → List ℕ × List ℕ };
+
+    fn key(&self) -> &str
+        ensures { result.now ≡ (pair self.now).0 };
+
+    fn text(&self) -> &str
+        ensures { result.now ≡ (pair self.now).1 };
+}
 
 /// A text in JSON's quotes, with what has to be escaped escaped.
 pub(crate) fn push_quoted(alloc: Global, out: &mut String, text: &str) -> Result<(), AllocError>
@@ -14,6 +29,13 @@ pub(crate) fn push_quoted(alloc: Global, out: &mut String, text: &str) -> Result
 {
     let quoted = Value::try_from_str(alloc, text)?.to_string(alloc)?;
     out.push_str(quoted.as_str())
+}
+
+// A comma, where something came earlier.
+fn push_comma(out: &mut String, later: bool) -> Result<(), AllocError>
+    ensures { OnOk result (string_bytes out.new ≡ string_bytes out.old ++ comma_if later) }
+{
+    if later { out.push_str(",") } else { Ok(()) }
 }
 
 /// The key of a member and its colon, with the comma before it where a member came earlier.
@@ -26,9 +48,7 @@ pub(crate) fn push_key(
     ensures { OnOk result (string_bytes out.new
         ≡ string_bytes out.old ++ (comma_if later ++ (quoted key.now ++ 58 ∷ []))) }
 {
-    if later {
-        out.push_str(",")?;
-    }
+    push_comma(out, later)?;
     push_quoted(alloc, out, key)?;
     out.push_str(":")
 }
@@ -46,4 +66,37 @@ pub(crate) fn push_text_member(
 {
     push_key(alloc, out, later, key)?;
     push_quoted(alloc, out, text)
+}
+
+/// An object with a member for each row, in their order.
+pub(crate) fn push_object<T: TextMember>(
+    alloc: Global,
+    out: &mut String,
+    rows: &[T],
+) -> Result<(), AllocError>
+    ensures { OnOk result (string_bytes out.new
+        ≡ string_bytes out.old ++ compact_text (object (text_members T.pair rows.now))) }
+{
+    out.push_str("{")?;
+    let mut later = false;
+    for row in rows {
+        push_text_member(alloc, out, later, row.key(), row.text())?;
+        later = true;
+    }
+    out.push_str("}")
+}
+
+/// An array of the texts, in their order.
+pub(crate) fn push_array(alloc: Global, out: &mut String, texts: &[Text]) -> Result<(), AllocError>
+    ensures { OnOk result (string_bytes out.new
+        ≡ string_bytes out.old ++ compact_text (array (text_items texts.now))) }
+{
+    out.push_str("[")?;
+    let mut later = false;
+    for text in texts {
+        push_comma(out, later)?;
+        push_quoted(alloc, out, text.as_str())?;
+        later = true;
+    }
+    out.push_str("]")
 }

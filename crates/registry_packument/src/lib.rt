@@ -11,10 +11,12 @@
 mod document;
 mod head;
 mod json_text;
+mod list;
 mod packument;
 #[cfg(test)]
 mod tests;
 
 pub use crate::document::version_text;
 pub use crate::head::PackHead;
+pub use crate::list::{Grant, GrantLevel, List, Member, MemberRole, list_text};
 pub use crate::packument::{VersionRow, packument_text};

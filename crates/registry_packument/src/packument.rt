@@ -1,17 +1,17 @@
 //! Packuments.
 
-ghost use Rattle.std.specs.Prelude.{◌≡◌, ◌++◌, Some, map, string_bytes, OnOk, IfOk, IfErr};
+ghost use Rattle.std.specs.Prelude.{◌≡◌, Some, string_bytes, OnOk, IfOk, IfErr};
 ghost use Rattle.serde_json.specs.Data.{Members};
 ghost use Rattle.serde_json.specs.Written.{compact_text};
 ghost use Rattle.registry_packument.specs.ObjectTexts.{member_text, object_text};
-ghost use Rattle.registry_packument.specs.Packuments.{tag_pair, version_pair, version_pairs, pack_text, pack_value, AreDocumentsOf};
+ghost use Rattle.registry_packument.specs.Packuments.{version_pair, version_pairs, pack_text, pack_value, AreDocumentsOf};
 ghost use Rattle.registry_packument.specs.Writing.{Writes, IsFaultOf};
 
 use crate::document::push_document;
 use crate::head::PackHead;
-use crate::json_text::{push_key, push_text_member};
-use registry_names::{DistTag, Fault, Text};
-use std::alloc::{AllocError, Global};
+use crate::json_text::{push_key, push_object, push_text_member};
+use registry_names::{Fault, Text};
+use std::alloc::Global;
 
 /// A version of a package, with its document.
 #[derive(Debug, Drop)]
@@ -22,19 +22,6 @@ pub struct VersionRow {
     pub manifest: Text,
     /// The message of its deprecation, or the empty text where it isn't deprecated.
     pub message: Text,
-}
-
-fn push_tags(alloc: Global, out: &mut String, tags: &[DistTag]) -> Result<(), AllocError>
-    ensures { OnOk result (string_bytes out.new
-        ≡ string_bytes out.old ++ object_text (map tag_pair tags.now)) }
-{
-    out.push_str("{")?;
-    let mut later = false;
-    for row in tags {
-        push_text_member(alloc, out, later, row.tag.as_str(), row.version.as_str())?;
-        later = true;
-    }
-    out.push_str("}")
 }
 
 // The member of one version.
@@ -86,7 +73,7 @@ pub fn packument_text(
     out.push_str("{")?;
     push_text_member(alloc, &mut out, false, "_id", name)?;
     push_key(alloc, &mut out, true, "dist-tags")?;
-    push_tags(alloc, &mut out, &head.tags)?;
+    push_object(alloc, &mut out, &head.tags)?;
     push_text_member(alloc, &mut out, true, "name", name)?;
     push_key(alloc, &mut out, true, "versions")?;
     push_versions(alloc, &mut out, versions)?;

@@ -1,0 +1,41 @@
+-- The lists that the registry answers with, as values.
+use Rattle.std.specs.Prelude.{ℕ, List, codes}
+use Rattle.serde_json.specs.Data.{Data, array, object}
+use Rattle.registry_packument.specs.TextValues.{text_items, text_members}
+use Rattle.registry_packument.specs.declared.list.MemberRole.{MemberRole}
+use Rattle.registry_packument.specs.declared.list.MemberRole.TheVariants.{Developer, Admin, Owner}
+use Rattle.registry_packument.specs.declared.list.Member.{Member}
+use Rattle.registry_packument.specs.declared.list.GrantLevel.{GrantLevel}
+use Rattle.registry_packument.specs.declared.list.GrantLevel.TheVariants.{ReadOnly, ReadWrite}
+use Rattle.registry_packument.specs.declared.list.Grant.{Grant}
+use Rattle.registry_packument.specs.declared.list.List.{List as Answered}
+use Rattle.registry_packument.specs.declared.list.List.TheVariants.{Tags, Members, Names, Grants}
+use Rattle.registry_names.specs.declared.dist_tag.DistTag.{DistTag}
+
+abbrev pub role_text : MemberRole → List ℕ
+role_text Developer = codes "developer"
+role_text Admin = codes "admin"
+role_text Owner = codes "owner"
+
+abbrev pub level_text : GrantLevel → List ℕ
+level_text ReadOnly = codes "read-only"
+level_text ReadWrite = codes "read-write"
+
+-- a tag, and the version that it names
+abbrev pub tag_texts : DistTag → List ℕ × List ℕ
+tag_texts r = (r.tag, r.version)
+
+-- a user, and what he is
+abbrev pub member_texts : Member → List ℕ × List ℕ
+member_texts r = (r.user, role_text r.role)
+
+-- a package, and what is granted on it
+abbrev pub grant_texts : Grant → List ℕ × List ℕ
+grant_texts r = (r.name, level_text r.level)
+
+-- tags to versions, users to roles, packages to grants, or an array of names
+abbrev pub list_value : Answered → Data
+list_value (Tags rows) = object (text_members tag_texts rows.items)
+list_value (Members rows) = object (text_members member_texts rows.items)
+list_value (Names names) = array (text_items names.items)
+list_value (Grants rows) = object (text_members grant_texts rows.items)

@@ -1,0 +1,13 @@
+-- Values of JSON that are made of texts.
+use Rattle.std.specs.Prelude.{ℕ, List, [], ◌∷◌}
+use Rattle.serde_json.specs.Data.{string, Items, no_items, item, Members, no_members, member}
+
+-- the items of an array, each a text
+abbrev pub text_items : List (List ℕ) → Items
+text_items [] = no_items
+text_items (t ∷ ts) = item (string t) (text_items ts)
+
+-- the members of an object: of each row its key, and the text that is its value
+abbrev pub text_members : {A : Type 0} → (A → List ℕ × List ℕ) → List A → Members
+text_members pair [] = no_members
+text_members pair (r ∷ rs) = member (pair r).0 (string (pair r).1) (text_members pair rs)

@@ -1,0 +1,139 @@
+//! Lists: what the registry answers of tags, members, names and grants.
+
+ghost use Rattle.std.specs.Prelude.{◌≡◌, IfOk, IfErr};
+ghost use Rattle.serde_json.specs.Written.{compact_text};
+ghost use Rattle.registry_packument.specs.Lists.{role_text, level_text, tag_texts, member_texts, grant_texts, list_value};
+
+use crate::json_text::{TextMember, push_array, push_object};
+use registry_names::{DistTag, Fault, Text};
+use std::alloc::Global;
+
+/// What a member is in an organisation.
+#[derive(Clone, Copy, Debug, PartialEq, Eq, Hash)]
+pub enum MemberRole {
+    /// Printed as `developer`.
+    Developer,
+    /// Printed as `admin`.
+    Admin,
+    /// Printed as `owner`.
+    Owner,
+}
+
+impl MemberRole {
+    fn text(self) -> &'static str
+        ensures { result.now ≡ role_text self }
+    {
+        match self {
+            MemberRole::Developer => "developer",
+            MemberRole::Admin => "admin",
+            MemberRole::Owner => "owner",
+        }
+    }
+}
+
+/// A member of an organisation.
+#[derive(Debug, PartialEq, Eq, Drop)]
+pub struct Member {
+    /// The user's name.
+    pub user: Text,
+    /// What he is in it.
+    pub role: MemberRole,
+}
+
+/// What a team is granted on a package.
+#[derive(Clone, Copy, Debug, PartialEq, Eq, Hash)]
+pub enum GrantLevel {
+    /// Printed as `read-only`.
+    ReadOnly,
+    /// Printed as `read-write`.
+    ReadWrite,
+}
+
+impl GrantLevel {
+    fn text(self) -> &'static str
+        ensures { result.now ≡ level_text self }
+    {
+        match self {
+            GrantLevel::ReadOnly => "read-only",
+            GrantLevel::ReadWrite => "read-write",
+        }
+    }
+}
+
+/// A grant to a team.
+#[derive(Debug, PartialEq, Eq, Drop)]
+pub struct Grant {
+    /// The package's name.
+    pub name: Text,
+    /// What is granted on it.
+    pub level: GrantLevel,
+}
+
+/// A list that the registry answers with. Its rows stand in byte order of their first text, each
+/// text once.
+#[derive(Debug, PartialEq, Eq, Drop)]
+pub enum List {
+    /// The dist-tags of a package.
+    Tags(Vec<DistTag>),
+    /// The members of an organisation.
+    Members(Vec<Member>),
+    /// The names of an organisation's teams, or of a team's members.
+    Names(Vec<Text>),
+    /// The grants to a team.
+    Grants(Vec<Grant>),
+}
+
+impl TextMember for DistTag {
+    ghost pair = { tag_texts };
+
+    fn key(&self) -> &str {
+        self.tag.as_str()
+    }
+
+    fn text(&self) -> &str {
+        self.version.as_str()
+    }
+}
+
+impl TextMember for Member {
+    ghost pair = { member_texts };
+
+    fn key(&self) -> &str {
+        self.user.as_str()
+    }
+
+    fn text(&self) -> &str {
+        self.role.text()
+    }
+}
+
+impl TextMember for Grant {
+    ghost pair = { grant_texts };
+
+    fn key(&self) -> &str {
+        self.name.as_str()
+    }
+
+    fn text(&self) -> &str {
+        self.level.text()
+    }
+}
+
+/// A list in compact JSON: an object of tags to versions, of users to `developer`, `admin` or
+/// `owner`, or of packages to `read-only` or `read-write`; or an array of names.
+///
+/// The rows are written as they come, in byte order and each once. `Memory` comes where no memory
+/// is left, and no other fault comes.
+pub fn list_text(alloc: Global, list: &List) -> Result<Text, Fault>
+    ensures ok { IfOk result (λ text. text ≡ compact_text (list_value list.now)) }
+    ensures err { IfErr result (λ fault. fault ≡ Fault.Memory) }
+{
+    let mut out = String::new(alloc);
+    match list {
+        List::Tags(rows) => push_object(alloc, &mut out, rows)?,
+        List::Members(rows) => push_object(alloc, &mut out, rows)?,
+        List::Names(names) => push_array(alloc, &mut out, names)?,
+        List::Grants(rows) => push_object(alloc, &mut out, rows)?,
+    }
+    Ok(Text::from(out))
+}
