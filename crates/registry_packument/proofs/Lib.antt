@@ -1,2 +1,3 @@
 pub mod DocumentFacts
+pub mod LenFacts
 pub mod PackFacts

@@ -9,7 +9,7 @@ use Rattle.serde_json.specs.Written as written
 use Rattle.registry_names.specs.declared.stop.Fault.{Fault}
 use Rattle.registry_names.specs.declared.stop.Fault.TheVariants.{Memory, Database}
 use Rattle.registry_packument.specs.ObjectTexts.{Pair, member_text, members_text, object_text}
-use Rattle.registry_packument.specs.Packuments.{tag_pair, version_pair, version_pairs, pack_pairs, pack_text, tag_members, pack_value, AreDocumentsOf}
+use Rattle.registry_packument.specs.Packuments.{tag_pair, version_pair, version_pairs, pack_pairs, opening_text, versions_text, pack_text, tag_members, pack_value, AreDocumentsOf}
 use Rattle.registry_packument.specs.Writing.{Writes, IsFaultOf}
 use Rattle.registry_packument.specs.declared.head.PackHead.{PackHead}
 use Rattle.registry_names.specs.declared.dist_tag.DistTag.{DistTag}
@@ -71,27 +71,40 @@ pack_text-json head versions documents h =
 pub some_same : (s t : List ℕ) → Some s ≡ Some t → s ≡ t
 some_same s t h = ap (λ o. unwrap_or o s) h
 
--- what is written before a piece, then the piece and the rest
-before : (whole now old piece rest : List ℕ) → now ≡ old ++ piece → whole ≡ now ++ rest → whole ≡ old ++ (piece ++ rest)
-before whole now old piece rest e w = rw (w, e) (simp append_assoc)
+-- ---- the packument in parts
 
--- the same where the piece is a later key and then its value's text
-before_keyed : (whole now mid old key text rest : List ℕ) → mid ≡ old ++ 44 ∷ (key ++ 58 ∷ []) → now ≡ mid ++ text → whole ≡ now ++ rest
-    → whole ≡ old ++ 44 ∷ ((key ++ 58 ∷ text) ++ rest)
-before_keyed whole now mid old key text rest key_is text_is w = rw (w, text_is, key_is) (simp append_assoc)
+-- a member as its key and its value
+keyed : (key value : List ℕ) → key ++ 58 ∷ value ≡ (key ++ 58 ∷ []) ++ value
+keyed key value = sym (append_assoc key (58 ∷ []) value)
 
--- the pieces in turn, with the texts of the keys, the name, the tags and the versions as variables
-pub assembled : (b0 b1 b2 b3 b4 b5 b6 b7 b8 k1 k2 k3 k4 q t v : List ℕ) → b0 ≡ [] → b1 ≡ b0 ++ 123 ∷ [] → b2 ≡ b1 ++ (k1 ++ 58 ∷ q)
+pieces : (b0 b1 b2 b3 b4 b5 b6 b7 o i k t n l e : List ℕ) → b0 ≡ [] → b1 ≡ b0 ++ o → b2 ≡ b1 ++ i → b3 ≡ b2 ++ k → b4 ≡ b3 ++ t → b5 ≡ b4 ++ n → b6 ≡ b5 ++ l
+    → b7 ≡ b6 ++ e → b7 ≡ o ++ (i ++ ((k ++ t) ++ (n ++ (l ++ e))))
+pieces b0 b1 b2 b3 b4 b5 b6 b7 o i k t n l e e0 e1 e2 e3 e4 e5 e6 e7 = rw (e7, e6, e5, e4, e3, e2, e1, e0) (simp append_assoc)
+
+-- the pieces in turn that stand before the versions, with the texts of the keys, the name and the tags as variables
+pub assembled : (b0 b1 b2 b3 b4 b5 b6 b7 k1 k2 k3 k4 q t : List ℕ) → b0 ≡ [] → b1 ≡ b0 ++ 123 ∷ [] → b2 ≡ b1 ++ (k1 ++ 58 ∷ q)
     → b3 ≡ b2 ++ 44 ∷ (k2 ++ 58 ∷ []) → b4 ≡ b3 ++ t → b5 ≡ b4 ++ 44 ∷ (k3 ++ 58 ∷ q)
-    → b6 ≡ b5 ++ 44 ∷ (k4 ++ 58 ∷ []) → b7 ≡ b6 ++ v → b8 ≡ b7 ++ 125 ∷ []
-    → b8 ≡ 123 ∷ ((k1 ++ 58 ∷ q) ++ 44 ∷ ((k2 ++ 58 ∷ t) ++ 44 ∷ ((k3 ++ 58 ∷ q) ++ 44 ∷ ((k4 ++ 58 ∷ v) ++ 125 ∷ []))))
-assembled b0 b1 b2 b3 b4 b5 b6 b7 b8 k1 k2 k3 k4 q t v e0 e1 e2 e3 e4 e5 e6 e7 e8 =
-    let w5 = before_keyed b8 b7 b6 b5 k4 v (125 ∷ []) e6 e7 e8 in
-    let w4 = before b8 b5 b4 (44 ∷ (k3 ++ 58 ∷ q)) _ e5 w5 in
-    let w2 = before_keyed b8 b4 b3 b2 k2 t _ e3 e4 w4 in
-    let w1 = before b8 b2 b1 (k1 ++ 58 ∷ q) _ e2 w2 in
-    let w0 = before b8 b1 b0 (123 ∷ []) _ e1 w1 in
-    rw e0 at w0
+    → b6 ≡ b5 ++ 44 ∷ (k4 ++ 58 ∷ []) → b7 ≡ b6 ++ 123 ∷ []
+    → b7 ≡ 123 ∷ ((k1 ++ 58 ∷ q) ++ (44 ∷ (k2 ++ 58 ∷ t) ++ (44 ∷ (k3 ++ 58 ∷ q) ++ 44 ∷ (k4 ++ 58 ∷ 123 ∷ []))))
+assembled b0 b1 b2 b3 b4 b5 b6 b7 k1 k2 k3 k4 q t e0 e1 e2 e3 e4 e5 e6 e7 =
+    rw (keyed k2 t, keyed k4 (123 ∷ []))
+    (pieces b0 b1 b2 b3 b4 b5 b6 b7 (123 ∷ []) (k1 ++ 58 ∷ q) (44 ∷ (k2 ++ 58 ∷ [])) t (44 ∷ (k3 ++ 58 ∷ q)) (44 ∷ (k4 ++ 58 ∷ [])) (123 ∷ [])
+    e0 e1 e2 e3 e4 e5 e6 e7)
+
+spread : (o a b c d m e : List ℕ) → o ++ (a ++ (b ++ (c ++ ((d ++ m) ++ e)))) ≡ (o ++ (a ++ (b ++ (c ++ d)))) ++ (m ++ e)
+spread o a b c d m e = simp append_assoc
+
+parted : (a b c key m : List ℕ)
+    → 123 ∷ (a ++ (b ++ (c ++ ((44 ∷ (key ++ 58 ∷ 123 ∷ m)) ++ 125 ∷ [])))) ≡ (123 ∷ (a ++ (b ++ (c ++ 44 ∷ (key ++ 58 ∷ 123 ∷ []))))) ++ (m ++ 125 ∷ [])
+parted a b c key m =
+    let d : key ++ 58 ∷ 123 ∷ m ≡ (key ++ 58 ∷ 123 ∷ []) ++ m = sym (append_assoc key (58 ∷ 123 ∷ []) m) in
+    rw d (spread (123 ∷ []) a b c (44 ∷ (key ++ 58 ∷ 123 ∷ [])) m (125 ∷ []))
+
+-- what stands before the versions, and these with the end
+pub pack_pairs-parts : (head : PackHead) (ps : List Pair) → object_text (pack_pairs head ps) ≡ opening_text head ++ versions_text false ps
+pack_pairs-parts head ps =
+    parted (member_text false (codes "_id", quoted head.name)) (member_text true (codes "dist-tags", object_text (map tag_pair head.tags.items)))
+    (member_text true (codes "name", quoted head.name)) (quoted (codes "versions")) (members_text false ps)
 
 -- ---- the loop over the versions
 
@@ -100,43 +113,35 @@ pub member_written : (old mid new key : List ℕ) (later : Bool) (document : Opt
     → Writes (λ d. d) document mid new → Writes (member_text later) (option_map (λ d. (key, d)) document) old new
 member_written old mid new key later document e (d, (is, w)) = ((key, d), (rw is refl, rw (w, e) (simp append_assoc)))
 
--- what is written, and then the rows that are left, if each has a document
+-- what is written, and then the rows that are left and the end, if each row has a document
 abbrev pub whole_of : List ℕ → Bool → Option (List Pair) → Option (List ℕ)
-whole_of out later left = option_map (λ ps. out ++ members_text later ps) left
+whole_of out later left = option_map (λ ps. out ++ versions_text later ps) left
 
--- the whole object, behind what was there before
-abbrev pub object_of : List ℕ → Option (List Pair) → Option (List ℕ)
-object_of old all = option_map (λ ps. old ++ object_text ps) all
-
-pub whole_of-start : (old out : List ℕ) (all : Option (List Pair)) → out ≡ old ++ 123 ∷ [] → whole_of out false all ≡ object_of old all
-whole_of-start old out None e = refl
-whole_of-start old out (Some ps) e = ap Some (rw e (simp append_assoc))
-
-pub whole_of-step : (out more : List ℕ) (later : Bool) (p : Pair) (left : Option (List Pair)) → more ≡ out ++ member_text later p
+whole_of-step : (out more : List ℕ) (later : Bool) (p : Pair) (left : Option (List Pair)) → more ≡ out ++ member_text later p
     → whole_of more true left ≡ whole_of out later (option_map (λ ps. p ∷ ps) left)
 whole_of-step out more later p None e = refl
-whole_of-step out more later p (Some ps) e = ap Some (rw e (append_assoc out (member_text later p) (members_text true ps)))
+whole_of-step out more later p (Some ps) e = ap Some (rw e (simp append_assoc))
 
-pub whole_of-end : (old out done : List ℕ) (later : Bool) (all : Option (List Pair)) → whole_of out later (Some []) ≡ object_of old all → done ≡ out ++ 125 ∷ []
-    → Writes object_text all old done
+whole_of-end : (old out done : List ℕ) (later : Bool) (all : Option (List Pair)) → whole_of out later (Some []) ≡ whole_of old false all → done ≡ out ++ 125 ∷ 125 ∷ []
+    → Writes (versions_text false) all old done
 whole_of-end old out done later None h e = absurd (none-some _ (sym h))
 whole_of-end old out done later (Some ps) h e = (ps, (refl, e ∙ ap (λ o. unwrap_or o []) h))
 
-pub whole_of-none : (old out : List ℕ) (later : Bool) (all : Option (List Pair)) → whole_of out later None ≡ object_of old all → all ≡ None
+whole_of-none : (old out : List ℕ) (later : Bool) (all : Option (List Pair)) → whole_of out later None ≡ whole_of old false all → all ≡ None
 whole_of-none old out later None h = refl
 whole_of-none old out later (Some ps) h = absurd (none-some _ h)
 
 -- the row that is next is written
 pub rows_step : (old out more : List ℕ) (later : Bool) (rows : List VersionRow) (i : ℕ) (d : VersionRow) → i < length rows
-    → whole_of out later (version_pairs (drop i rows)) ≡ object_of old (version_pairs rows) → Writes (member_text later) (version_pair (get_or rows i d)) out more
-    → whole_of more true (version_pairs (drop (i + 1) rows)) ≡ object_of old (version_pairs rows)
+    → whole_of out later (version_pairs (drop i rows)) ≡ whole_of old false (version_pairs rows) → Writes (member_text later) (version_pair (get_or rows i d)) out more
+    → whole_of more true (version_pairs (drop (i + 1) rows)) ≡ whole_of old false (version_pairs rows)
 rows_step old out more later rows i d lt h (p, (is, w)) =
     let left : version_pairs (drop i rows) ≡ option_map (λ ps. p ∷ ps) (version_pairs (drop (i + 1) rows)) = rw (drop_more rows i d lt, is) refl in
     whole_of-step out more later p (version_pairs (drop (i + 1) rows)) w ∙ ap (whole_of out later) (sym left) ∙ h
 
 -- the row that is next isn't written
 pub rows_stop : (old out : List ℕ) (later : Bool) (rows : List VersionRow) (i : ℕ) (d : VersionRow) (fault : Fault) → i < length rows
-    → whole_of out later (version_pairs (drop i rows)) ≡ object_of old (version_pairs rows) → IsFaultOf (version_pair (get_or rows i d)) fault
+    → whole_of out later (version_pairs (drop i rows)) ≡ whole_of old false (version_pairs rows) → IsFaultOf (version_pair (get_or rows i d)) fault
     → IsFaultOf (version_pairs rows) fault
 rows_stop old out later rows i d Memory lt h is = tt
 rows_stop old out later rows i d Database lt h is =
@@ -145,8 +150,8 @@ rows_stop old out later rows i d Database lt h is =
 
 -- every row is written
 pub rows_end : (old out done : List ℕ) (later : Bool) (rows : List VersionRow) (i : ℕ) → length rows ≤ i
-    → whole_of out later (version_pairs (drop i rows)) ≡ object_of old (version_pairs rows) → done ≡ out ++ 125 ∷ []
-    → Writes object_text (version_pairs rows) old done
+    → whole_of out later (version_pairs (drop i rows)) ≡ whole_of old false (version_pairs rows) → done ≡ out ++ 125 ∷ 125 ∷ []
+    → Writes (versions_text false) (version_pairs rows) old done
 rows_end old out done later rows i le h e =
     let left : version_pairs (drop i rows) ≡ Some [] = rw (drop_all i rows le) refl in
     whole_of-end old out done later (version_pairs rows) (ap (whole_of out later) (sym left) ∙ h) e

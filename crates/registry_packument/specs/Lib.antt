@@ -2,5 +2,6 @@ pub mod Documents
 pub mod Lists
 pub mod ObjectTexts
 pub mod Packuments
+pub mod Sources
 pub mod TextValues
 pub mod Writing

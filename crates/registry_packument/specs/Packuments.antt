@@ -1,11 +1,11 @@
 -- Packuments: as texts, and as the values that these are the texts of.
-use Rattle.std.specs.Prelude.{◌≡◌, ℕ, List, [], ◌∷◌, Option, Some, option_map, option_and_then, map, codes}
+use Rattle.std.specs.Prelude.{◌≡◌, ℕ, ◌^◌, Bool, true, false, nat_lt, if◌then◌else◌, List, [], ◌∷◌, ◌++◌, length, Option, Some, None, option_map, option_and_then, map, codes}
 use Rattle.json.specs.Print.{quoted}
 use Rattle.serde_json.specs.Data.{Data, string, object, Members, no_members, member}
 use Rattle.serde_json.specs.Written.{compact_text}
 use Rattle.registry_packument.specs.Documents.{document_text}
 use Rattle.registry_packument.specs.Lists.{tag_texts}
-use Rattle.registry_packument.specs.ObjectTexts.{Pair, object_text}
+use Rattle.registry_packument.specs.ObjectTexts.{Pair, member_text, members_text, object_text}
 use Rattle.registry_packument.specs.TextValues.{text_members}
 use Rattle.registry_packument.specs.declared.head.PackHead.{PackHead}
 use Rattle.registry_names.specs.declared.dist_tag.DistTag.{DistTag}
@@ -40,6 +40,24 @@ packument_of name tags versions = option_map (λ ps. object_text (pack_pairs nam
 -- the packument of a package's head and its versions
 abbrev pub pack_text : PackHead → List VersionRow → Option (List ℕ)
 pack_text head versions = packument_of head.name head.tags.items versions
+
+-- how many bytes the packument has, where there is one and the number is below 2^64
+abbrev pub pack_len : PackHead → List VersionRow → Option ℕ
+pack_len head versions = option_and_then (λ text. if nat_lt (length text) (2 ^ 64) then Some (length text) else None) (pack_text head versions)
+
+-- ---- the same in parts, as they are written one after the other
+
+-- all that stands before the first version
+abbrev pub opening_text : PackHead → List ℕ
+opening_text head =
+    123 ∷ (member_text false (codes "_id", quoted head.name)
+    ++ (member_text true (codes "dist-tags", object_text (map tag_pair head.tags.items))
+    ++ (member_text true (codes "name", quoted head.name)
+    ++ member_text true (codes "versions", 123 ∷ []))))
+
+-- the versions that are left, and the two braces that end the packument
+abbrev pub versions_text : Bool → List Pair → List ℕ
+versions_text later ps = members_text later ps ++ 125 ∷ []
 
 -- ---- the same as a value
 

@@ -13,6 +13,8 @@ mod head;
 mod json_text;
 mod list;
 mod packument;
+mod source;
+mod stream;
 #[cfg(test)]
 mod tests;
 
@@ -20,3 +22,5 @@ pub use crate::document::version_text;
 pub use crate::head::PackHead;
 pub use crate::list::{Grant, GrantLevel, List, Member, MemberRole, list_text};
 pub use crate::packument::{VersionRow, packument_text};
+pub use crate::source::VersionSource;
+pub use crate::stream::packument_len;

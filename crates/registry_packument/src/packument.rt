@@ -1,17 +1,17 @@
 //! Packuments.
 
-ghost use Rattle.std.specs.Prelude.{◌≡◌, Some, string_bytes, OnOk, IfOk, IfErr};
+ghost use Rattle.std.specs.Prelude.{◌≡◌, Some, false, string_bytes, OnOk, IfOk, IfErr};
 ghost use Rattle.serde_json.specs.Data.{Members};
 ghost use Rattle.serde_json.specs.Written.{compact_text};
-ghost use Rattle.registry_packument.specs.ObjectTexts.{member_text, object_text};
-ghost use Rattle.registry_packument.specs.Packuments.{version_pair, version_pairs, pack_text, pack_value, AreDocumentsOf};
+ghost use Rattle.registry_packument.specs.ObjectTexts.{member_text};
+ghost use Rattle.registry_packument.specs.Packuments.{version_pair, version_pairs, opening_text, versions_text, pack_text, pack_value, AreDocumentsOf};
 ghost use Rattle.registry_packument.specs.Writing.{Writes, IsFaultOf};
 
 use crate::document::push_document;
 use crate::head::PackHead;
 use crate::json_text::{push_key, push_object, push_text_member};
 use registry_names::{Fault, Text};
-use std::alloc::Global;
+use std::alloc::{AllocError, Global};
 
 /// A version of a package, with its document.
 #[derive(Debug, Drop)]
@@ -24,8 +24,32 @@ pub struct VersionRow {
     pub message: Text,
 }
 
-// The member of one version.
-fn push_version(alloc: Global, out: &mut String, later: bool, row: &VersionRow) -> Result<(), Fault>
+/// What ends a packument: the brace of its versions, and its own.
+pub(crate) const CLOSING: &str = "}}";
+
+/// All of a packument that stands before its first version.
+pub(crate) fn opening(alloc: Global, head: &PackHead) -> Result<String, AllocError>
+    ensures { IfOk result (λ text. string_bytes text ≡ opening_text head.now) }
+{
+    let name = head.name.as_str();
+    let mut out = String::new(alloc);
+    out.push_str("{")?;
+    push_text_member(alloc, &mut out, false, "_id", name)?;
+    push_key(alloc, &mut out, true, "dist-tags")?;
+    push_object(alloc, &mut out, &head.tags)?;
+    push_text_member(alloc, &mut out, true, "name", name)?;
+    push_key(alloc, &mut out, true, "versions")?;
+    out.push_str("{")?;
+    Ok(out)
+}
+
+/// The member of one version.
+pub(crate) fn push_version(
+    alloc: Global,
+    out: &mut String,
+    later: bool,
+    row: &VersionRow,
+) -> Result<(), Fault>
     ensures ok { OnOk result (Writes (member_text later) (version_pair row.now)
         (string_bytes out.old) (string_bytes out.new)) }
     ensures err { IfErr result (IsFaultOf (version_pair row.now)) }
@@ -35,18 +59,18 @@ fn push_version(alloc: Global, out: &mut String, later: bool, row: &VersionRow) 
     Ok(())
 }
 
+// The versions, and the packument's end.
 fn push_versions(alloc: Global, out: &mut String, versions: &[VersionRow]) -> Result<(), Fault>
-    ensures ok { OnOk result (Writes object_text (version_pairs versions.now)
+    ensures ok { OnOk result (Writes (versions_text false) (version_pairs versions.now)
         (string_bytes out.old) (string_bytes out.new)) }
     ensures err { IfErr result (IsFaultOf (version_pairs versions.now)) }
 {
-    out.push_str("{")?;
     let mut later = false;
     for row in versions {
         push_version(alloc, out, later, row)?;
         later = true;
     }
-    Ok(out.push_str("}")?)
+    Ok(out.push_str(CLOSING)?)
 }
 
 /// The packument of a package, as npm's registry answers it: an object with `_id` and `name` (the
@@ -68,15 +92,7 @@ pub fn packument_text(
         → text ≡ compact_text (pack_value head.now documents)) }
     ensures err { IfErr result (IsFaultOf (pack_text head.now versions.now)) }
 {
-    let name = head.name.as_str();
-    let mut out = String::new(alloc);
-    out.push_str("{")?;
-    push_text_member(alloc, &mut out, false, "_id", name)?;
-    push_key(alloc, &mut out, true, "dist-tags")?;
-    push_object(alloc, &mut out, &head.tags)?;
-    push_text_member(alloc, &mut out, true, "name", name)?;
-    push_key(alloc, &mut out, true, "versions")?;
+    let mut out = opening(alloc, head)?;
     push_versions(alloc, &mut out, versions)?;
-    out.push_str("}")?;
     Ok(Text::from(out))
 }

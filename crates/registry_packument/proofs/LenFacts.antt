@@ -1,0 +1,69 @@
+-- How many bytes the packument has: those that are counted, and those of the rows that are left.
+use Rattle.std.proofs.Common.{◌≡◌, ℕ, ◌+◌, ◌^◌, ◌≤◌, Bool, true, false, List, [], ◌∷◌, length, Option, Some, None, option_map, option_and_then, unwrap_or, refl, ap, sym, ◌∙◌, arith, append_assoc, length-append}
+use Rattle.std.specs.Prelude.{nat_lt, if◌then◌else◌}
+use Rattle.std.proofs.lemmas.Bool.{le-ltb}
+use Rattle.std.proofs.lemmas.Option.{none-some}
+use Rattle.registry_packument.specs.ObjectTexts.{Pair, member_text, members_text, object_text}
+use Rattle.registry_packument.specs.Packuments.{version_pair, version_pairs, pack_pairs, opening_text, versions_text, pack_text, pack_len}
+use Rattle.registry_packument.specs.Writing.{Writes}
+use Rattle.registry_packument.specs.declared.head.PackHead.{PackHead}
+use Rattle.registry_packument.specs.declared.packument.VersionRow.{VersionRow}
+use Rattle.registry_packument.proofs.PackFacts.{pack_pairs-parts}
+
+-- what is counted, and these members and the end, if each row has a document
+abbrev with_pairs : ℕ → Bool → Option (List Pair) → Option ℕ
+with_pairs count later left = option_map (λ ps. count + length (versions_text later ps)) left
+
+abbrev pub with_left : ℕ → Bool → List VersionRow → Option ℕ
+with_left count later rows = with_pairs count later (version_pairs rows)
+
+-- how many bytes there are, without a bound
+abbrev pub whole_len : PackHead → List VersionRow → Option ℕ
+whole_len head rows = option_map length (pack_text head rows)
+
+start_at : (head : PackHead) (count : ℕ) (all : Option (List Pair)) → count ≡ length (opening_text head)
+    → with_pairs count false all ≡ option_map length (option_map (λ ps. object_text (pack_pairs head ps)) all)
+start_at head count None e = refl
+start_at head count (Some ps) e =
+    ap Some (rw e (sym (length-append (opening_text head) (versions_text false ps)) ∙ sym (ap length (pack_pairs-parts head ps))))
+
+pub with_left-start : (head : PackHead) (rows : List VersionRow) (count : ℕ) → count ≡ length (opening_text head) → with_left count false rows ≡ whole_len head rows
+with_left-start head rows count e = start_at head count (version_pairs rows) e
+
+step_at : (count more : ℕ) (later : Bool) (p : Pair) (left : Option (List Pair)) → more ≡ count + length (member_text later p)
+    → with_pairs more true left ≡ with_pairs count later (option_map (λ ps. p ∷ ps) left)
+step_at count more later p None e = refl
+step_at count more later p (Some ps) e =
+    let parts : length (versions_text later (p ∷ ps)) ≡ length (member_text later p) + length (versions_text true ps) =
+    ap length (append_assoc (member_text later p) (members_text true ps) (125 ∷ [])) ∙ length-append (member_text later p) (versions_text true ps) in
+    ap Some (omega (arith, parts, e))
+
+-- the next row is counted
+pub with_left-step : (whole : Option ℕ) (count more : ℕ) (text : List ℕ) (later : Bool) (row : VersionRow) (old rows : List VersionRow) → old ≡ row ∷ rows
+    → with_left count later old ≡ whole → more ≡ count + length text → Writes (member_text later) (version_pair row) [] text → with_left more true rows ≡ whole
+with_left-step whole count more text later row old rows gives left e (p, (is, w)) =
+    let before : with_left count later (row ∷ rows) ≡ whole = rw gives at left in
+    step_at count more later p (version_pairs rows) (e ∙ ap (λ t. count + length t) w) ∙ (rw is at before)
+
+-- ---- no length
+
+no_text : (all : Option (List ℕ)) → None ≡ option_map length all → option_and_then (λ text. if nat_lt (length text) (2 ^ 64) then Some (length text) else None) all ≡ None
+no_text None h = refl
+no_text (Some text) h = absurd (none-some _ h)
+
+too_long : (all : Option (List ℕ)) (n : ℕ) → Some n ≡ option_map length all → 2 ^ 64 ≤ n
+    → option_and_then (λ text. if nat_lt (length text) (2 ^ 64) then Some (length text) else None) all ≡ None
+too_long None n h le = absurd (none-some _ (sym h))
+too_long (Some text) n h le =
+    let most : 2 ^ 64 ≤ length text = omega (arith, ap (λ o. unwrap_or o 0) h) in
+    rw (le-ltb (length text) (2 ^ 64) most) refl
+
+too_many_at : (count : ℕ) (later : Bool) (left : Option (List Pair)) (all : Option (List ℕ)) → with_pairs count later left ≡ option_map length all → 2 ^ 64 ≤ count
+    → option_and_then (λ text. if nat_lt (length text) (2 ^ 64) then Some (length text) else None) all ≡ None
+too_many_at count later None all h le = no_text all h
+too_many_at count later (Some ps) all h le = too_long all (count + length (versions_text later ps)) h (omega arith)
+
+-- too much is counted already
+pub no_len-count : (head : PackHead) (all rows : List VersionRow) (count : ℕ) (later : Bool)
+    → with_left count later rows ≡ whole_len head all → 2 ^ 64 ≤ count → pack_len head all ≡ None
+no_len-count head all rows count later h le = too_many_at count later (version_pairs rows) (pack_text head all) h le
