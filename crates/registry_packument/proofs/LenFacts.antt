@@ -5,7 +5,7 @@ use Rattle.std.proofs.lemmas.Bool.{le-ltb}
 use Rattle.std.proofs.lemmas.Option.{none-some}
 use Rattle.registry_packument.specs.ObjectTexts.{Pair, member_text, members_text, object_text}
 use Rattle.registry_packument.specs.Packuments.{version_pair, version_pairs, pack_pairs, opening_text, versions_text, pack_text, pack_len}
-use Rattle.registry_packument.specs.Writing.{Writes}
+use Rattle.registry_packument.specs.Writing.{Adds}
 use Rattle.registry_packument.specs.declared.head.PackHead.{PackHead}
 use Rattle.registry_packument.specs.declared.packument.VersionRow.{VersionRow}
 use Rattle.registry_packument.proofs.PackFacts.{pack_pairs-parts}
@@ -40,7 +40,7 @@ step_at count more later p (Some ps) e =
 
 -- the next row is counted
 pub with_left-step : (whole : Option ℕ) (count more : ℕ) (text : List ℕ) (later : Bool) (row : VersionRow) (old rows : List VersionRow) → old ≡ row ∷ rows
-    → with_left count later old ≡ whole → more ≡ count + length text → Writes (member_text later) (version_pair row) [] text → with_left more true rows ≡ whole
+    → with_left count later old ≡ whole → more ≡ count + length text → Adds (member_text later) (version_pair row) [] text → with_left more true rows ≡ whole
 with_left-step whole count more text later row old rows gives left e (p, (is, w)) =
     let before : with_left count later (row ∷ rows) ≡ whole = rw gives at left in
     step_at count more later p (version_pairs rows) (e ∙ ap (λ t. count + length t) w) ∙ (rw is at before)

@@ -1,3 +1,4 @@
 pub mod DocumentFacts
 pub mod LenFacts
 pub mod PackFacts
+pub mod StreamFacts

@@ -10,7 +10,7 @@ use Rattle.registry_names.specs.declared.stop.Fault.{Fault}
 use Rattle.registry_names.specs.declared.stop.Fault.TheVariants.{Memory, Database}
 use Rattle.registry_packument.specs.ObjectTexts.{Pair, member_text, members_text, object_text}
 use Rattle.registry_packument.specs.Packuments.{tag_pair, version_pair, version_pairs, pack_pairs, opening_text, versions_text, pack_text, tag_members, pack_value, AreDocumentsOf}
-use Rattle.registry_packument.specs.Writing.{Writes, IsFaultOf}
+use Rattle.registry_packument.specs.Writing.{Adds, IsFaultOf}
 use Rattle.registry_packument.specs.declared.head.PackHead.{PackHead}
 use Rattle.registry_names.specs.declared.dist_tag.DistTag.{DistTag}
 use Rattle.registry_packument.specs.declared.packument.VersionRow.{VersionRow}
@@ -110,7 +110,7 @@ pack_pairs-parts head ps =
 
 -- a version's key, and then its document
 pub member_written : (old mid new key : List ℕ) (later : Bool) (document : Option (List ℕ)) → mid ≡ old ++ (comma_if later ++ (quoted key ++ 58 ∷ []))
-    → Writes (λ d. d) document mid new → Writes (member_text later) (option_map (λ d. (key, d)) document) old new
+    → Adds (λ d. d) document mid new → Adds (member_text later) (option_map (λ d. (key, d)) document) old new
 member_written old mid new key later document e (d, (is, w)) = ((key, d), (rw is refl, rw (w, e) (simp append_assoc)))
 
 -- what is written, and then the rows that are left and the end, if each row has a document
@@ -123,7 +123,7 @@ whole_of-step out more later p None e = refl
 whole_of-step out more later p (Some ps) e = ap Some (rw e (simp append_assoc))
 
 whole_of-end : (old out done : List ℕ) (later : Bool) (all : Option (List Pair)) → whole_of out later (Some []) ≡ whole_of old false all → done ≡ out ++ 125 ∷ 125 ∷ []
-    → Writes (versions_text false) all old done
+    → Adds (versions_text false) all old done
 whole_of-end old out done later None h e = absurd (none-some _ (sym h))
 whole_of-end old out done later (Some ps) h e = (ps, (refl, e ∙ ap (λ o. unwrap_or o []) h))
 
@@ -133,7 +133,7 @@ whole_of-none old out later (Some ps) h = absurd (none-some _ h)
 
 -- the row that is next is written
 pub rows_step : (old out more : List ℕ) (later : Bool) (rows : List VersionRow) (i : ℕ) (d : VersionRow) → i < length rows
-    → whole_of out later (version_pairs (drop i rows)) ≡ whole_of old false (version_pairs rows) → Writes (member_text later) (version_pair (get_or rows i d)) out more
+    → whole_of out later (version_pairs (drop i rows)) ≡ whole_of old false (version_pairs rows) → Adds (member_text later) (version_pair (get_or rows i d)) out more
     → whole_of more true (version_pairs (drop (i + 1) rows)) ≡ whole_of old false (version_pairs rows)
 rows_step old out more later rows i d lt h (p, (is, w)) =
     let left : version_pairs (drop i rows) ≡ option_map (λ ps. p ∷ ps) (version_pairs (drop (i + 1) rows)) = rw (drop_more rows i d lt, is) refl in
@@ -151,7 +151,7 @@ rows_stop old out later rows i d Database lt h is =
 -- every row is written
 pub rows_end : (old out done : List ℕ) (later : Bool) (rows : List VersionRow) (i : ℕ) → length rows ≤ i
     → whole_of out later (version_pairs (drop i rows)) ≡ whole_of old false (version_pairs rows) → done ≡ out ++ 125 ∷ 125 ∷ []
-    → Writes (versions_text false) (version_pairs rows) old done
+    → Adds (versions_text false) (version_pairs rows) old done
 rows_end old out done later rows i le h e =
     let left : version_pairs (drop i rows) ≡ Some [] = rw (drop_all i rows le) refl in
     whole_of-end old out done later (version_pairs rows) (ap (whole_of out later) (sym left) ∙ h) e

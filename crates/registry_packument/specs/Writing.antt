@@ -4,8 +4,8 @@ use Rattle.registry_names.specs.declared.stop.Fault.{Fault}
 use Rattle.registry_names.specs.declared.stop.Fault.TheVariants.{Memory, Database}
 
 -- there is a value, and its text stands behind what was written before
-abbrev pub Writes : {A : Type 0} → (A → List ℕ) → Option A → List ℕ → List ℕ → Type 0
-Writes {A} text value old new = (a : A) × ((value ≡ Some a) × (new ≡ old ++ text a))
+abbrev pub Adds : {A : Type 0} → (A → List ℕ) → Option A → List ℕ → List ℕ → Type 0
+Adds {A} text value old new = (a : A) × ((value ≡ Some a) × (new ≡ old ++ text a))
 
 -- memory may run out in any case; the database is at fault only where there is no value
 abbrev pub IsFaultOf : {A : Type 0} → Option A → Fault → Type 0

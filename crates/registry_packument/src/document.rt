@@ -6,7 +6,7 @@ ghost use Rattle.serde_json.specs.Find.{as_object};
 ghost use Rattle.serde_json.specs.Read.{read};
 ghost use Rattle.serde_json.specs.Written.{has_float};
 ghost use Rattle.registry_packument.specs.Documents.{manifest_members, document_text, deprecated_text};
-ghost use Rattle.registry_packument.specs.Writing.{Writes, IsFaultOf};
+ghost use Rattle.registry_packument.specs.Writing.{Adds, IsFaultOf};
 
 use registry_names::{Fault, Text};
 use registry_publish::has_float;
@@ -67,7 +67,7 @@ pub(crate) fn push_document(
     manifest: &str,
     message: &str,
 ) -> Result<(), Fault>
-    ensures ok { OnOk result (Writes (λ document. document) (document_text manifest.now message.now)
+    ensures ok { OnOk result (Adds (λ document. document) (document_text manifest.now message.now)
         (string_bytes out.old) (string_bytes out.new)) }
     ensures err { IfErr result (IsFaultOf (document_text manifest.now message.now)) }
 {

@@ -23,4 +23,4 @@ pub use crate::head::PackHead;
 pub use crate::list::{Grant, GrantLevel, List, Member, MemberRole, list_text};
 pub use crate::packument::{VersionRow, packument_text};
 pub use crate::source::VersionSource;
-pub use crate::stream::packument_len;
+pub use crate::stream::{PackFault, packument_len, write_packument};

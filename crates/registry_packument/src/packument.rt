@@ -5,7 +5,7 @@ ghost use Rattle.serde_json.specs.Data.{Members};
 ghost use Rattle.serde_json.specs.Written.{compact_text};
 ghost use Rattle.registry_packument.specs.ObjectTexts.{member_text};
 ghost use Rattle.registry_packument.specs.Packuments.{version_pair, version_pairs, opening_text, versions_text, pack_text, pack_value, AreDocumentsOf};
-ghost use Rattle.registry_packument.specs.Writing.{Writes, IsFaultOf};
+ghost use Rattle.registry_packument.specs.Writing.{Adds, IsFaultOf};
 
 use crate::document::push_document;
 use crate::head::PackHead;
@@ -50,7 +50,7 @@ pub(crate) fn push_version(
     later: bool,
     row: &VersionRow,
 ) -> Result<(), Fault>
-    ensures ok { OnOk result (Writes (member_text later) (version_pair row.now)
+    ensures ok { OnOk result (Adds (member_text later) (version_pair row.now)
         (string_bytes out.old) (string_bytes out.new)) }
     ensures err { IfErr result (IsFaultOf (version_pair row.now)) }
 {
@@ -61,7 +61,7 @@ pub(crate) fn push_version(
 
 // The versions, and the packument's end.
 fn push_versions(alloc: Global, out: &mut String, versions: &[VersionRow]) -> Result<(), Fault>
-    ensures ok { OnOk result (Writes (versions_text false) (version_pairs versions.now)
+    ensures ok { OnOk result (Adds (versions_text false) (version_pairs versions.now)
         (string_bytes out.old) (string_bytes out.new)) }
     ensures err { IfErr result (IsFaultOf (version_pairs versions.now)) }
 {

@@ -1,20 +1,57 @@
 //! Packuments version by version, in memory that doesn't grow with the versions.
 
-ghost use Rattle.std.specs.Prelude.{◌≡◌, ◌+◌, ◌≤◌, ◌<◌, ◌^◌, [], Some, length, string_bytes, OnOk, IfOk, IfErr, MatchResult};
+ghost use Rattle.std.specs.Prelude.{◌≡◌, ◌≢◌, ◌+◌, ◌≤◌, ◌<◌, ◌^◌, true, false, [], Some, None, length, string_bytes, OnOk, OnErr, IfOk, IfErr, IsErr, IsSome, IsSomeAnd};
+ghost use Rattle.registry_names.specs.Ends.{Writes, WritesFront, full_count};
 ghost use Rattle.registry_packument.specs.ObjectTexts.{member_text};
-ghost use Rattle.registry_packument.specs.Packuments.{version_pair, pack_len};
+ghost use Rattle.registry_packument.specs.Packuments.{version_pair, version_pairs, pack_text, pack_len};
 ghost use Rattle.registry_packument.specs.Sources.{IsFaultFrom};
-ghost use Rattle.registry_packument.specs.Writing.{Writes, IsFaultOf};
+ghost use Rattle.registry_packument.specs.Streams.{row_front, versions_front, pack_front, IsPackFault, failures_after};
+ghost use Rattle.registry_packument.specs.Writing.{Adds, IsFaultOf};
+ghost use Rattle.registry_names.specs.declared.stop.Fault.TheVariants.{Memory};
+ghost use Rattle.registry_packument.specs.declared.stream.PackFault.TheVariants.{Write, Source};
 
 use crate::head::PackHead;
 use crate::packument::{CLOSING, VersionRow, opening, push_version};
 use crate::source::VersionSource;
-use registry_names::Fault;
-use std::alloc::Global;
+use registry_names::{ByteOut, Fault, WriteFailed, write_whole};
+use std::alloc::{AllocError, Global};
+
+/// Why a packument wasn't written whole.
+#[derive(Clone, Copy, Debug, PartialEq, Eq, Hash)]
+pub enum PackFault {
+    /// A write failed.
+    Write,
+    /// The source's fault, or that of a version without a document, or want of memory.
+    Source(Fault),
+}
+
+impl From<WriteFailed> for PackFault {
+    ghost from_gives = { λ _ fault. fault ≡ Write };
+
+    fn from(_error: WriteFailed) -> PackFault {
+        PackFault::Write
+    }
+}
+
+impl From<Fault> for PackFault {
+    ghost from_gives = { λ fault stop. stop ≡ Source fault };
+
+    fn from(fault: Fault) -> PackFault {
+        PackFault::Source(fault)
+    }
+}
+
+impl From<AllocError> for PackFault {
+    ghost from_gives = { λ _ fault. fault ≡ Source Memory };
+
+    fn from(_error: AllocError) -> PackFault {
+        PackFault::Source(Fault::Memory)
+    }
+}
 
 // The member of one version.
 fn version_member(alloc: Global, later: bool, row: &VersionRow) -> Result<String, Fault>
-    ensures ok { IfOk result (λ text. Writes (member_text later) (version_pair row.now)
+    ensures ok { IfOk result (λ text. Adds (member_text later) (version_pair row.now)
         [] (string_bytes text)) }
     ensures err { IfErr result (IsFaultOf (version_pair row.now)) }
 {
@@ -54,4 +91,84 @@ pub fn packument_len<S: VersionSource>(
         later = true;
     }
     counted(count, CLOSING)
+}
+
+// Writes the member of one version.
+fn write_version<W: ByteOut>(
+    alloc: Global,
+    later: bool,
+    row: &VersionRow,
+    writer: &mut W,
+) -> Result<(), PackFault>
+    ensures ok { OnOk result (Writes (W.bytes writer.old) (W.bytes writer.new)
+        (W.is_silent writer.new) (row_front later row.now)) }
+    ensures whole { OnOk result (IsSome (version_pair row.now)) }
+    ensures err { OnErr result (WritesFront (W.bytes writer.old) (W.bytes writer.new)
+        (W.is_silent writer.new) (row_front later row.now)) }
+    ensures fault { IfErr result (IsPackFault None (version_pair row.now)) }
+
+    ensures counted { W.failures writer.new ≡ failures_after result (W.failures writer.old) }
+    ensures told { result ≢ Err Write → W.is_silent writer.new ≡ W.is_silent writer.old }
+    ensures silent { W.is_silent writer.old ≡ true → W.is_silent writer.new ≡ true }
+{
+    write_whole(writer, version_member(alloc, later, row)?.as_bytes())?;
+    Ok(())
+}
+
+// Writes the members of the versions, and the packument's end.
+fn write_versions<W: ByteOut, S: VersionSource>(
+    alloc: Global,
+    source: &mut S,
+    writer: &mut W,
+) -> Result<(), PackFault>
+    ensures ok { OnOk result (Writes (W.bytes writer.old) (W.bytes writer.new)
+        (W.is_silent writer.new) (versions_front false (S.rows source.old))) }
+    ensures whole { OnOk result (IsSome (version_pairs (S.rows source.old))) }
+    ensures err { OnErr result (WritesFront (W.bytes writer.old) (W.bytes writer.new)
+        (W.is_silent writer.new) (versions_front false (S.rows source.old))) }
+    ensures fault { IfErr result (IsPackFault (S.stopped source.new) (version_pairs (S.rows source.old))) }
+    ensures taken { OnOk result (S.rows source.new ≡ []) }
+
+    ensures counted { W.failures writer.new ≡ failures_after result (W.failures writer.old) }
+    ensures told { result ≢ Err Write → W.is_silent writer.new ≡ W.is_silent writer.old }
+    ensures silent { W.is_silent writer.old ≡ true → W.is_silent writer.new ≡ true }
+{
+    let mut later = false;
+    'versions: while let Some(row) = source.next(alloc)? {
+        write_version(alloc, later, &row, writer)?;
+        later = true;
+    }
+    write_whole(writer, CLOSING.as_bytes())?;
+    Ok(())
+}
+
+/// Writes the packument of the rows that the source gives: the bytes of
+/// [`packument_text`](crate::packument_text).
+///
+/// `Write` comes only where a write failed. `Source` has the source's own fault, or `Database`
+/// where a version has no document, or `Memory` where no memory is left. After a fault a front of
+/// the packument was written, and not all of it; it ends before the document that is missing, if
+/// one is.
+pub fn write_packument<W: ByteOut, S: VersionSource>(
+    alloc: Global,
+    head: &PackHead,
+    source: &mut S,
+    writer: &mut W,
+) -> Result<(), PackFault>
+    ensures ok { OnOk result (IsSomeAnd (pack_text head.now (S.rows source.old)) (λ text.
+        Writes (W.bytes writer.old) (W.bytes writer.new) (W.is_silent writer.new) text)) }
+    ensures err { OnErr result (WritesFront (W.bytes writer.old) (W.bytes writer.new)
+        (W.is_silent writer.new) (pack_front head.now (S.rows source.old))) }
+    ensures fault { IfErr result (IsPackFault (S.stopped source.new)
+        (pack_text head.now (S.rows source.old))) }
+    ensures taken { OnOk result (S.rows source.new ≡ []) }
+
+    // Only a failed write is counted, and only it makes the end silent, for good.
+    ensures counted { W.failures writer.new ≡ failures_after result (W.failures writer.old) }
+    ensures full { W.failures writer.old ≡ full_count → IsErr result }
+    ensures told { result ≢ Err Write → W.is_silent writer.new ≡ W.is_silent writer.old }
+    ensures silent { W.is_silent writer.old ≡ true → W.is_silent writer.new ≡ true }
+{
+    write_whole(writer, opening(alloc, head)?.as_bytes())?;
+    write_versions(alloc, source, writer)
 }

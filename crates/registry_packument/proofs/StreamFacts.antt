@@ -1,0 +1,147 @@
+-- What is written of a text piece by piece, and the pieces of a packument.
+use Rattle.std.proofs.Common.{◌≡◌, ℕ, ◌<◌, Bool, true, false, List, [], ◌∷◌, ◌++◌, length, Option, Some, None, option_map, option_and_then, unwrap_or, is_some, refl, ap, sym, ◌∙◌, arith, lit<, true≢false, append_assoc, append-nil, length-append}
+use Rattle.std.specs.Prelude.{IsSomeAnd, OnOk, Result, Ok, Err}
+use Rattle.std.proofs.lemmas.Option.{none-some}
+use Rattle.json.specs.Print.{quoted}
+use Rattle.serde_json.specs.Written.{comma_if}
+use Rattle.registry_names.specs.Ends.{Writes, WritesFront}
+use Rattle.registry_names.proofs.EndFacts.{Writes-nothing, Writes-append, WritesFront-append, WritesFront-longer, WritesFront-stopped}
+use Rattle.registry_packument.specs.Documents.{document_text}
+use Rattle.registry_packument.specs.ObjectTexts.{Pair, member_text, members_text, object_text}
+use Rattle.registry_packument.specs.Packuments.{version_pair, version_pairs, pack_pairs, opening_text, versions_text, pack_text}
+use Rattle.registry_packument.specs.Streams.{row_front, versions_front, pack_front}
+use Rattle.registry_packument.specs.declared.head.PackHead.{PackHead}
+use Rattle.registry_packument.specs.declared.packument.VersionRow.{VersionRow}
+use Rattle.registry_packument.proofs.PackFacts.{pack_pairs-parts}
+
+-- a front of a text was written, and the rest is left
+pub record HasLeft (old new : Option (List ℕ)) (silent : Bool) (text rest : List ℕ) : Type 0 where
+  pub done : List ℕ
+  pub is : text ≡ done ++ rest
+  pub wrote : Writes old new silent done
+
+pub HasLeft-all : (a : Option (List ℕ)) (s : Bool) (text : List ℕ) → HasLeft a a s text text
+HasLeft-all a s text = record { done = []; is = refl; wrote = Writes-nothing a s }
+
+-- a piece is written
+pub HasLeft-piece : {a b c : Option (List ℕ)} {s t : Bool} {text rest : List ℕ} (piece more : List ℕ) → HasLeft a b s text rest → rest ≡ piece ++ more → Writes b c t piece
+    → (s ≡ true → t ≡ true) → HasLeft a c t text more
+HasLeft-piece {a} {b} {c} {s} {t} {text} {rest} piece more front e wrote stays = record {
+  done = front.done ++ piece;
+  is = front.is ∙ ap (λ xs. front.done ++ xs) e ∙ sym (append_assoc front.done piece more);
+  wrote = Writes-append front.wrote wrote stays;
+}
+
+-- the write of a piece fails
+pub HasLeft-failed : {a b c : Option (List ℕ)} {s t : Bool} {text rest : List ℕ} (piece more : List ℕ) → HasLeft a b s text rest → rest ≡ piece ++ more → WritesFront b c t piece
+    → (s ≡ true → t ≡ true) → WritesFront a c t text
+HasLeft-failed {a} {b} {c} {s} {t} {text} {rest} piece more front e failed stays =
+    rw (front.is, e, ← append_assoc front.done piece more) (WritesFront-longer more (WritesFront-append front.wrote failed stays))
+
+-- nothing more is written
+pub HasLeft-stopped : {a b : Option (List ℕ)} {s : Bool} {text rest : List ℕ} → HasLeft a b s text rest → 0 < length rest → WritesFront a b s text
+HasLeft-stopped {a} {b} {s} {text} {rest} front more = rw front.is (WritesFront-stopped rest front.wrote more)
+
+-- nothing is left
+pub HasLeft-none : {a b : Option (List ℕ)} {s : Bool} {text : List ℕ} → HasLeft a b s text [] → Writes a b s text
+HasLeft-none {a} {b} {s} {text} front = rw (front.is, append-nil front.done) front.wrote
+
+-- ---- the pieces
+
+pub length-member_text : (later : Bool) (p : Pair) → 0 < length (member_text later p)
+length-member_text later p =
+    omega (arith, length-append (comma_if later) (quoted p.0 ++ 58 ∷ p.1), length-append (quoted p.0) (58 ∷ p.1))
+
+member_text-append : (later : Bool) (key document rest : List ℕ) → member_text later (key, document ++ rest) ≡ member_text later (key, document) ++ rest
+member_text-append later key document rest = simp append_assoc
+
+cut_at : (later : Bool) (key : List ℕ) (document : Option (List ℕ)) (rest : List ℕ)
+    → member_text later (key, unwrap_or (option_map (λ d. d ++ rest) document) []) ≡ member_text later (key, unwrap_or document []) ++ unwrap_or (option_map (λ d. rest) document) []
+cut_at later key None rest = sym (append-nil (member_text later (key, [])))
+cut_at later key (Some d) rest = member_text-append later key d rest
+
+-- what stands behind a version: the others, or nothing where its document is missing
+abbrev pub behind : VersionRow → List VersionRow → List ℕ
+behind row rows = unwrap_or (option_map (λ d. versions_front true rows) (document_text row.manifest row.message)) []
+
+pub versions_front-cut : (later : Bool) (row : VersionRow) (old rows : List VersionRow) → old ≡ row ∷ rows → versions_front later old ≡ row_front later row ++ behind row rows
+versions_front-cut later row old rows gives =
+    ap (versions_front later) gives ∙ cut_at later row.version (document_text row.manifest row.message) (versions_front true rows)
+
+next_at : (later : Bool) (key : List ℕ) (document : Option (List ℕ)) (rest : List ℕ) → is_some {T = Pair} (option_map (λ d. (key, d)) document) ≡ true
+    → member_text later (key, unwrap_or (option_map (λ d. d ++ rest) document) []) ≡ member_text later (key, unwrap_or document []) ++ rest
+next_at later key None rest h = absurd (true≢false (sym h))
+next_at later key (Some d) rest h = member_text-append later key d rest
+
+-- a version with a document, and then the others
+pub versions_front-next : (later : Bool) (row : VersionRow) (old rows : List VersionRow) → old ≡ row ∷ rows → is_some (version_pair row) ≡ true
+    → versions_front later old ≡ row_front later row ++ versions_front true rows
+versions_front-next later row old rows gives h =
+    ap (versions_front later) gives ∙ next_at later row.version (document_text row.manifest row.message) (versions_front true rows) h
+
+pub length-versions_front : (later : Bool) (rows : List VersionRow) → 0 < length (versions_front later rows)
+length-versions_front later [] = lit< tt
+length-versions_front later (row ∷ rows) = length-member_text later _
+
+-- ---- whether each version has a document
+
+is_some-map : {A B : Type 0} (f : A → B) (o : Option A) → is_some (option_map f o) ≡ is_some o
+is_some-map f None = refl
+is_some-map f (Some x) = refl
+
+some_at : (row : VersionRow) (rows : List VersionRow) (pair : Option Pair) → version_pair row ≡ pair → is_some pair ≡ true
+    → is_some (version_pairs (row ∷ rows)) ≡ is_some (version_pairs rows)
+some_at row rows None e h = absurd (true≢false (sym h))
+some_at row rows (Some p) e h =
+    let all : version_pairs (row ∷ rows) ≡ option_map (λ ps. p ∷ ps) (version_pairs rows) = rw e refl in
+    ap is_some all ∙ is_some-map (λ ps. p ∷ ps) (version_pairs rows)
+
+-- where a version has a document, it is up to the others
+pub is_some-next : (row : VersionRow) (old rows : List VersionRow) → old ≡ row ∷ rows → is_some (version_pair row) ≡ true
+    → is_some (version_pairs old) ≡ is_some (version_pairs rows)
+is_some-next row old rows gives h = ap (λ rs. is_some (version_pairs rs)) gives ∙ some_at row rows (version_pair row) refl h
+
+-- ---- the whole
+
+end_at : (later : Bool) (key : List ℕ) (document : Option (List ℕ)) (left : Option (List Pair)) (front : List ℕ) (ps : List Pair)
+    → ((qs : List Pair) → left ≡ Some qs → front ≡ versions_text true qs)
+    → option_and_then (λ p. option_map (λ qs. p ∷ qs) left) (option_map (λ d. (key, d)) document) ≡ Some ps
+    → member_text later (key, unwrap_or (option_map (λ d. d ++ front) document) []) ≡ versions_text later ps
+end_at later key None left front ps more h = absurd (none-some ps h)
+end_at later key (Some d) None front ps more h = absurd (none-some ps h)
+end_at later key (Some d) (Some qs) front ps more h =
+    member_text-append later key d front ∙ ap (λ xs. member_text later (key, d) ++ xs) (more qs refl)
+    ∙ sym (append_assoc (member_text later (key, d)) (members_text true qs) (125 ∷ [])) ∙ ap (λ o. versions_text later (unwrap_or o [])) h
+
+pub versions_front-pairs : (rows : List VersionRow) (later : Bool) (ps : List Pair) → version_pairs rows ≡ Some ps → versions_front later rows ≡ versions_text later ps
+versions_front-pairs [] later ps h = ap (λ o. versions_text later (unwrap_or o [])) h
+versions_front-pairs (row ∷ rows) later ps h =
+    end_at later row.version (document_text row.manifest row.message) (version_pairs rows) (versions_front true rows) ps
+    (λ qs is. versions_front-pairs rows true qs is) h
+
+parts_at : (head : PackHead) (pairs : Option (List Pair)) (front : List ℕ) → ((ps : List Pair) → pairs ≡ Some ps → front ≡ versions_text false ps)
+    → unwrap_or (option_map (λ ps. object_text (pack_pairs head ps)) pairs) (opening_text head ++ front) ≡ opening_text head ++ front
+parts_at head None front is = refl
+parts_at head (Some ps) front is = pack_pairs-parts head ps ∙ ap (λ xs. opening_text head ++ xs) (sym (is ps refl))
+
+-- what stands before the versions, and these
+pub pack_front-parts : (head : PackHead) (rows : List VersionRow) → pack_front head rows ≡ opening_text head ++ versions_front false rows
+pack_front-parts head rows = parts_at head (version_pairs rows) (versions_front false rows) (λ ps is. versions_front-pairs rows false ps is)
+
+whole_at : {a b : Option (List ℕ)} {s : Bool} (head : PackHead) (pairs : Option (List Pair)) (front : List ℕ)
+    → ((ps : List Pair) → pairs ≡ Some ps → front ≡ versions_text false ps) → is_some pairs ≡ true → Writes a b s (opening_text head ++ front)
+    → IsSomeAnd (option_map (λ ps. object_text (pack_pairs head ps)) pairs) (λ text. Writes a b s text)
+whole_at head None front is some wrote = absurd (true≢false (sym some))
+whole_at head (Some ps) front is some wrote = rw (pack_pairs-parts head ps, ← is ps refl) wrote
+
+-- a packument whose versions all have documents is written whole
+pub pack_text-written : {a b : Option (List ℕ)} {s : Bool} (head : PackHead) (rows : List VersionRow) → is_some (version_pairs rows) ≡ true
+    → Writes a b s (opening_text head ++ versions_front false rows) → IsSomeAnd (pack_text head rows) (λ text. Writes a b s text)
+pack_text-written head rows some wrote =
+    whole_at head (version_pairs rows) (versions_front false rows) (λ ps is. versions_front-pairs rows false ps is) some wrote
+
+-- ---- what results say
+
+pub on_ok_both : {T E A B C : Type 0} (r : Result T E) → (A → B → C) → OnOk r A → OnOk r B → OnOk r C
+on_ok_both (Ok x) f a b = f a b
+on_ok_both (Err e) f a b = tt
