@@ -101,7 +101,7 @@ parted a b c key m =
     rw d (spread (123 ∷ []) a b c (44 ∷ (key ++ 58 ∷ 123 ∷ [])) m (125 ∷ []))
 
 -- what stands before the versions, and these with the end
-pub pack_pairs-parts : (head : PackHead) (ps : List Pair) → object_text (pack_pairs head ps) ≡ opening_text head ++ versions_text false ps
+pub pack_pairs-parts : (head : PackHead) (ps : List Pair) → object_text (pack_pairs head.name head.tags.items ps) ≡ opening_text head ++ versions_text false ps
 pack_pairs-parts head ps =
     parted (member_text false (codes "_id", quoted head.name)) (member_text true (codes "dist-tags", object_text (map tag_pair head.tags.items)))
     (member_text true (codes "name", quoted head.name)) (quoted (codes "versions")) (members_text false ps)

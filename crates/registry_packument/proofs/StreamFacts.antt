@@ -120,7 +120,7 @@ versions_front-pairs (row ∷ rows) later ps h =
     (λ qs is. versions_front-pairs rows true qs is) h
 
 parts_at : (head : PackHead) (pairs : Option (List Pair)) (front : List ℕ) → ((ps : List Pair) → pairs ≡ Some ps → front ≡ versions_text false ps)
-    → unwrap_or (option_map (λ ps. object_text (pack_pairs head ps)) pairs) (opening_text head ++ front) ≡ opening_text head ++ front
+    → unwrap_or (option_map (λ ps. object_text (pack_pairs head.name head.tags.items ps)) pairs) (opening_text head ++ front) ≡ opening_text head ++ front
 parts_at head None front is = refl
 parts_at head (Some ps) front is = pack_pairs-parts head ps ∙ ap (λ xs. opening_text head ++ xs) (sym (is ps refl))
 
@@ -130,7 +130,7 @@ pack_front-parts head rows = parts_at head (version_pairs rows) (versions_front 
 
 whole_at : {a b : Option (List ℕ)} {s : Bool} (head : PackHead) (pairs : Option (List Pair)) (front : List ℕ)
     → ((ps : List Pair) → pairs ≡ Some ps → front ≡ versions_text false ps) → is_some pairs ≡ true → Writes a b s (opening_text head ++ front)
-    → IsSomeAnd (option_map (λ ps. object_text (pack_pairs head ps)) pairs) (λ text. Writes a b s text)
+    → IsSomeAnd (option_map (λ ps. object_text (pack_pairs head.name head.tags.items ps)) pairs) (λ text. Writes a b s text)
 whole_at head None front is some wrote = absurd (true≢false (sym some))
 whole_at head (Some ps) front is some wrote = rw (pack_pairs-parts head ps, ← is ps refl) wrote
 
