@@ -1,5 +1,6 @@
 mod CommitFacts
 mod EffectFacts
+mod KeepingFacts
 mod MakingFacts
 mod SettlingFacts
 pub mod AnswerFacts

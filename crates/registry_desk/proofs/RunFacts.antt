@@ -67,7 +67,7 @@ not_refused : (why : Option Refusal) (else_reply reply : Reply) → reply ≡ un
 not_refused None else_reply reply e accepted = refl
 not_refused (Some why) else_reply reply e accepted = absurd (true≢false (sym accepted ∙ ap (λ (r : Reply). accepts (Ok r)) e))
 
-accepted : (S : State) (r : Request) (o : Outcome) → IsAnswer S r o → enters r o ≡ true → refusal S r ≡ None
+pub accepted : (S : State) (r : Request) (o : Outcome) → IsAnswer S r o → enters r o ≡ true → refusal S r ≡ None
 accepted S r (Ok reply) answered e = not_refused _ _ reply answered (and_parts (is_command r.what) _ e).1
 accepted S r (Err fault) answered e = absurd (true≢false (sym (and_parts (is_command r.what) _ e).1))
 

@@ -5,6 +5,7 @@ ghost use Rattle.sqlite.specs.Held.{state};
 ghost use Rattle.sqlite.specs.State.{HasCleanDisk, Survives};
 ghost use Rattle.sqlite.specs.Steps.{IsEmpty, over_memory};
 ghost use Rattle.sqlite_trees.specs.Tree.{Trees};
+ghost use Rattle.registry_rules.specs.Kept.{IsKept};
 ghost use Rattle.registry_rules.specs.State.{nothing};
 ghost use Rattle.registry_tables.specs.Contents.{contents, on_registry};
 ghost use Rattle.registry_tables.specs.Effects.{registry_in, stored};
@@ -17,6 +18,7 @@ ghost use Rattle.registry_desk.specs.Runs.{IsAnswer, Ran, grown, history, next};
 
 use crate::answer::answered_inside;
 use registry_names::Fault;
+use registry_rules::laws::requests_are_in_form;
 use registry_rules::{Reply, Request};
 use registry_tables::{create, fault_of};
 use sqlite::{Alter, Connection, MemStore};
@@ -72,9 +74,11 @@ impl<S: Alter> Registry<S> {
         ensures opened { HasCleanDisk (state S.Store self.new) → IsTrue (state S.Store self.new).is_open → IsTrue (state S.Store self.old).is_open }
         ensures step { HasCleanDisk (state S.Store self.new) → IsTrue (state S.Store self.new).is_open → stored (state S.Store self.new) ≡ on_registry (λ s. next s request.now result) (stored (state S.Store self.old)) }
         ensures history { HasCleanDisk (state S.Store self.new) → IsTrue (state S.Store self.new).is_open → (h : List Entry) → Legal h → registry_in (state S.Store self.old) ≡ after h → Stands (grown h request.now result) (registry_in (state S.Store self.new)) }
+        ensures form { HasCleanDisk (state S.Store self.new) → IsTrue (state S.Store self.new).is_open → IsKept (registry_in (state S.Store self.old)) → IsKept (registry_in (state S.Store self.new)) }
         ensures survives { Survives (state S.Store self.old) (state S.Store self.new) (λ db. contents db ≡ on_registry (settled_by request.now) (stored (state S.Store self.old))) }
         ensures stays { HasCleanDisk (state S.Store self.new) → OnOk result ((db : Trees) → (state S.Store self.new).may_leave db → contents db ≡ stored (state S.Store self.new)) }
     {
+        requests_are_in_form(request);
         answered(alloc, &mut self.conn, request)
     }
 
