@@ -39,11 +39,6 @@ tags_are S p tags e = sym (tags_again tags) ∙ ap (map dist_tag) e
 
 -- ---- the versions
 
--- a row with the manifest that was found
-pub row_is : (S : State) (p : Text) (live : LiveVersion) (manifest : Text) → manifest_of S p live.version ≡ Some manifest
-    → record { version = live.version; manifest = manifest; message = live.message } ≡ row_of S p live
-row_is S p live manifest found = λ i. record { version = live.version; manifest = unwrap_or (sym found i) []; message = live.message }
-
 -- one more row, of one more live version
 pub rows_push : (S : State) (p : Text) (before : List LiveVersion) (live : LiveVersion) (rows new : List VersionRow) (row : VersionRow)
     → rows ≡ map (row_of S p) before → row ≡ row_of S p live → new ≡ rows ++ row ∷ [] → new ≡ map (row_of S p) (before ++ live ∷ [])
