@@ -1,4 +1,7 @@
-use crate::{PackHead, VersionRow, packument_text, version_text};
+use crate::{
+    Grant, GrantLevel, List, Member, MemberRole, PackHead, VersionRow, list_text, packument_text,
+    version_text,
+};
 use registry_names::{DistTag, Fault, Text};
 use std::alloc::{AllocError, Global};
 use std::test::Fail;
@@ -131,5 +134,81 @@ fn a_message_needs_a_manifest(rt: HostRuntime) -> Result<(), Fail> {
             "at {manifest}"
         );
     }
+    Ok(())
+}
+
+fn member(alloc: Global, user: &str, role: MemberRole) -> Result<Member, AllocError> {
+    Ok(Member {
+        user: Text::from_str(alloc, user)?,
+        role,
+    })
+}
+
+fn grant(alloc: Global, name: &str, level: GrantLevel) -> Result<Grant, AllocError> {
+    Ok(Grant {
+        name: Text::from_str(alloc, name)?,
+        level,
+    })
+}
+
+#[test]
+fn empty_lists(rt: HostRuntime) -> Result<(), Fail> {
+    let alloc = rt.alloc();
+    for (list, text) in [
+        (List::Tags(vec![in alloc]?), "{}"),
+        (List::Members(vec![in alloc]?), "{}"),
+        (List::Names(vec![in alloc]?), "[]"),
+        (List::Grants(vec![in alloc]?), "{}"),
+    ] {
+        assert_eq!(rt; list_text(alloc, &list)?.as_str(), text);
+    }
+    Ok(())
+}
+
+#[test]
+fn objects_of_three(rt: HostRuntime) -> Result<(), Fail> {
+    let alloc = rt.alloc();
+    let tags = List::Tags(vec![in alloc;
+        tag(alloc, "beta", "2.0.0-b")?,
+        tag(alloc, "it's", "1.10.0")?,
+        tag(alloc, "latest", "1.9.0")?,
+    ]?);
+    assert_eq!(rt;
+        list_text(alloc, &tags)?.as_str(),
+        r#"{"beta":"2.0.0-b","it's":"1.10.0","latest":"1.9.0"}"#
+    );
+    let members = List::Members(vec![in alloc;
+        member(alloc, "ann", MemberRole::Owner)?,
+        member(alloc, "bob", MemberRole::Developer)?,
+        member(alloc, "eve", MemberRole::Admin)?,
+    ]?);
+    assert_eq!(rt;
+        list_text(alloc, &members)?.as_str(),
+        r#"{"ann":"owner","bob":"developer","eve":"admin"}"#
+    );
+    let grants = List::Grants(vec![in alloc;
+        grant(alloc, "@lab/kit", GrantLevel::ReadWrite)?,
+        grant(alloc, "@lab/pad", GrantLevel::ReadOnly)?,
+        grant(alloc, "@lab/rig", GrantLevel::ReadWrite)?,
+    ]?);
+    assert_eq!(rt;
+        list_text(alloc, &grants)?.as_str(),
+        r#"{"@lab/kit":"read-write","@lab/pad":"read-only","@lab/rig":"read-write"}"#
+    );
+    Ok(())
+}
+
+#[test]
+fn an_array_of_three(rt: HostRuntime) -> Result<(), Fail> {
+    let alloc = rt.alloc();
+    let names = List::Names(vec![in alloc;
+        Text::from_str(alloc, "builders")?,
+        Text::from_str(alloc, "developers")?,
+        Text::from_str(alloc, "say \"hi\"")?,
+    ]?);
+    assert_eq!(rt;
+        list_text(alloc, &names)?.as_str(),
+        r#"["builders","developers","say \"hi\""]"#
+    );
     Ok(())
 }
