@@ -82,9 +82,10 @@ pub(crate) fn push_document(
 /// empty; else the manifest's value with the member `deprecated`, in its place by key, whose value
 /// is the message.
 ///
-/// `Database` comes exactly where the message isn't empty and the manifest is no JSON of an object,
-/// or has a number that is no integer of 64 bits: no such manifest is ever stored. `Memory` comes
-/// where no memory is left.
+/// The manifest is looked at only where it has to be changed: where the message is empty, any text
+/// is handed back as it is. `Database` comes exactly where the message isn't empty and the manifest
+/// is no JSON of an object, or has a number that is no integer of 64 bits: no such manifest is ever
+/// stored. `Memory` comes where no memory is left.
 pub fn version_text(alloc: Global, manifest: &str, message: &str) -> Result<Text, Fault>
     ensures ok { IfOk result (λ text. document_text manifest.now message.now ≡ Some text) }
     ensures err { IfErr result (IsFaultOf (document_text manifest.now message.now)) }

@@ -71,9 +71,9 @@ fn counted(count: u64, text: &str) -> Result<u64, Fault>
 
 /// How many bytes [`packument_text`](crate::packument_text) has of the rows that the source gives.
 ///
-/// `Database` comes where a version has no document, and where the number isn't below 2^64; else
-/// the source's own fault, or `Memory` where no memory is left. The source has given all its rows,
-/// or those up to the fault.
+/// `Database` comes where a version has no document (see [`version_text`](crate::version_text)), and
+/// where the number isn't below 2^64; else the source's own fault, or `Memory` where no memory is
+/// left. The source has given all its rows, or those up to the fault.
 pub fn packument_len<S: VersionSource>(
     alloc: Global,
     head: &PackHead,
@@ -146,9 +146,9 @@ fn write_versions<W: ByteOut, S: VersionSource>(
 /// [`packument_text`](crate::packument_text).
 ///
 /// `Write` comes only where a write failed. `Source` has the source's own fault, or `Database`
-/// where a version has no document, or `Memory` where no memory is left. After a fault a front of
-/// the packument was written, and not all of it; it ends before the document that is missing, if
-/// one is.
+/// where a version has no document (see [`version_text`](crate::version_text)), or `Memory` where
+/// no memory is left. After a fault a front of the packument was written, and not all of it; it
+/// ends before the document that is missing, if one is. No more than one row is held at a time.
 pub fn write_packument<W: ByteOut, S: VersionSource>(
     alloc: Global,
     head: &PackHead,
