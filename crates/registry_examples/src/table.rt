@@ -12,7 +12,7 @@ const KIT_PACKUMENT: &str =
     r#"{"_id":"@lab/kit","dist-tags":{"latest":"1.0.0"},"name":"@lab/kit","versions":{"1.0.0":{"dist":{"integrity":"sha512-3a81oZNherrMQXNJriBBMRLm+k6JqX6iCp7u5ktV05ohkpkqJ0/BqDa6PCOj/uu9RU1EI2Q86A4qmslPpUyknw==","shasum":"a9993e364706816aba3e25717850c26c9cd0d89d","tarball":"http://localhost:8080/@lab/kit/-/@lab/kit-1.0.0.tgz"},"name":"@lab/kit","version":"1.0.0"}}}"#;
 
 /// All examples.
-pub const EXAMPLES: [Example; 4] = [
+pub const EXAMPLES: [Example; 5] = [
     Example {
         shows: "the body of @lab/kit gives its packument byte for byte",
         steps: &[
@@ -94,32 +94,73 @@ pub const EXAMPLES: [Example; 4] = [
                 expected: Expected::Created,
             },
             Step {
+                at: 5,
+                ask: Ask::Packument("kit"),
+                expected: Expected::Doc(
+                    r#"{"_id":"kit","dist-tags":{"latest":"1.10.0"},"name":"kit","versions":{"1.10.0":{"name":"kit","version":"1.10.0"}}}"#,
+                ),
+            },
+            Step {
                 at: 4,
                 ask: Ask::Publish("kit", "1.9.0"),
                 expected: Expected::Created,
             },
             Step {
-                at: 3,
-                ask: Ask::Publish("kid", "1.0.0"),
-                expected: Expected::Created,
+                at: 4,
+                ask: Ask::Packument("kit"),
+                expected: Expected::Doc(
+                    r#"{"_id":"kit","dist-tags":{"latest":"1.9.0"},"name":"kit","versions":{"1.10.0":{"name":"kit","version":"1.10.0"},"1.9.0":{"name":"kit","version":"1.9.0"}}}"#,
+                ),
             },
             Step {
-                at: 2,
+                at: 3,
                 ask: Ask::Publish("kit", "2.0.0-beta"),
                 expected: Expected::Created,
             },
             Step {
-                at: 2,
+                at: 3,
                 ask: Ask::Packument("kit"),
                 expected: Expected::Doc(
                     r#"{"_id":"kit","dist-tags":{"latest":"2.0.0-beta"},"name":"kit","versions":{"1.10.0":{"name":"kit","version":"1.10.0"},"1.9.0":{"name":"kit","version":"1.9.0"},"2.0.0-beta":{"name":"kit","version":"2.0.0-beta"}}}"#,
                 ),
             },
+        ],
+    },
+    Example {
+        shows: "packages between whose publishes others come keep their own versions",
+        steps: &[
+            Step {
+                at: 1,
+                ask: Ask::Publish("kit", "1.0.0"),
+                expected: Expected::Created,
+            },
             Step {
                 at: 2,
+                ask: Ask::Publish("kid", "2.0.0"),
+                expected: Expected::Created,
+            },
+            Step {
+                at: 3,
+                ask: Ask::Publish("kit", "1.0.1"),
+                expected: Expected::Created,
+            },
+            Step {
+                at: 4,
+                ask: Ask::Publish("kid", "1.0.0"),
+                expected: Expected::Created,
+            },
+            Step {
+                at: 5,
+                ask: Ask::Packument("kit"),
+                expected: Expected::Doc(
+                    r#"{"_id":"kit","dist-tags":{"latest":"1.0.1"},"name":"kit","versions":{"1.0.0":{"name":"kit","version":"1.0.0"},"1.0.1":{"name":"kit","version":"1.0.1"}}}"#,
+                ),
+            },
+            Step {
+                at: 5,
                 ask: Ask::Packument("kid"),
                 expected: Expected::Doc(
-                    r#"{"_id":"kid","dist-tags":{"latest":"1.0.0"},"name":"kid","versions":{"1.0.0":{"name":"kid","version":"1.0.0"}}}"#,
+                    r#"{"_id":"kid","dist-tags":{"latest":"1.0.0"},"name":"kid","versions":{"1.0.0":{"name":"kid","version":"1.0.0"},"2.0.0":{"name":"kid","version":"2.0.0"}}}"#,
                 ),
             },
         ],

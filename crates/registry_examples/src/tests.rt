@@ -1,4 +1,6 @@
-//! The runner: each example on an empty registry, by `run` and by `apply` one by one.
+//! The runner: requests on an empty registry, by `run` and by `apply` one by one.
+
+mod rounds;
 
 use crate::example::{Ask, Example, Expected, Step};
 use crate::table::EXAMPLES;
@@ -9,31 +11,32 @@ use registry_rules::{Action, Credential, Reply, Request};
 use std::alloc::{AllocError, Global};
 use std::test::Fail;
 
+type Outcomes = Vec<Result<Reply, Fault>>;
+
 #[test]
-fn all_at_once(rt: HostRuntime) -> Result<(), Fail> {
+fn examples_have_their_replies(rt: HostRuntime) -> Result<(), Fail> {
     for example in &EXAMPLES {
         let requests = requests_of(rt.alloc(), example).or(Err("an ask out of form"))?;
-        let mut registry = Registry::in_memory(rt.alloc()).or(Err("no registry"))?;
-        let outcomes = registry.run(rt.alloc(), &requests).or(Err("no room"))?;
-        assert_eq!(rt; outcomes.len(), example.steps.len());
-        for (outcome, step) in outcomes.iter().zip(example.steps) {
-            assert!(rt; is_expected(outcome, &step.expected), "{}", example.shows);
-        }
+        let outcomes = all_at_once(rt.alloc(), &requests).or(Err("no registry"))?;
+        assert!(rt; are_expected(&outcomes, example.steps), "{}", example.shows);
+        let outcomes = one_by_one(rt.alloc(), &requests).or(Err("no registry"))?;
+        assert!(rt; are_expected(&outcomes, example.steps), "{}", example.shows);
     }
     Ok(())
 }
 
-#[test]
-fn one_by_one(rt: HostRuntime) -> Result<(), Fail> {
-    for example in &EXAMPLES {
-        let mut registry = Registry::in_memory(rt.alloc()).or(Err("no registry"))?;
-        for step in example.steps {
-            let request = request_of(rt.alloc(), step).or(Err("an ask out of form"))?;
-            let outcome = registry.apply(rt.alloc(), &request);
-            assert!(rt; is_expected(&outcome, &step.expected), "{}", example.shows);
-        }
+fn all_at_once(alloc: Global, requests: &[Request]) -> Result<Outcomes, Fault> {
+    let mut registry = Registry::in_memory(alloc)?;
+    registry.run(alloc, requests)
+}
+
+fn one_by_one(alloc: Global, requests: &[Request]) -> Result<Outcomes, Fault> {
+    let mut registry = Registry::in_memory(alloc)?;
+    let mut outcomes = Vec::new(alloc);
+    for request in requests {
+        outcomes.push(registry.apply(alloc, request))?;
     }
-    Ok(())
+    Ok(outcomes)
 }
 
 fn requests_of(alloc: Global, example: &Example) -> Result<Vec<Request>, Stop> {
@@ -45,34 +48,46 @@ fn requests_of(alloc: Global, example: &Example) -> Result<Vec<Request>, Stop> {
 }
 
 fn request_of(alloc: Global, step: &Step) -> Result<Request, Stop> {
-    Ok(Request {
-        at: Moment::clamped(step.at),
+    let what = match step.ask {
+        Ask::Body(body) => publish(alloc, body)?,
+        Ask::Publish(name, version) => publish(alloc, &body_of(alloc, name, version)?)?,
+        Ask::Packument(name) => packument(alloc, name)?,
+    };
+    Ok(request(step.at, what))
+}
+
+fn request(at: i64, what: Action) -> Request {
+    Request {
+        at: Moment::clamped(at),
         who: Credential::Anonymous,
-        what: action_of(alloc, &step.ask)?,
+        what,
+    }
+}
+
+fn publish(alloc: Global, body: &str) -> Result<Action, Stop> {
+    Ok(Action::Publish {
+        form: PublishForm::read(alloc, body.as_bytes())?,
     })
 }
 
-fn action_of(alloc: Global, ask: &Ask) -> Result<Action, Stop> {
-    match *ask {
-        Ask::Body(body) => Ok(Action::Publish {
-            form: PublishForm::read(alloc, body.as_bytes())?,
-        }),
-        Ask::Publish(name, version) => {
-            let body = body_of(alloc, name, version)?;
-            Ok(Action::Publish {
-                form: PublishForm::read(alloc, body.as_bytes())?,
-            })
-        }
-        Ask::Packument(name) => Ok(Action::Packument {
-            name: Name::parse(alloc, name)?,
-        }),
-    }
+fn packument(alloc: Global, name: &str) -> Result<Action, Stop> {
+    Ok(Action::Packument {
+        name: Name::parse(alloc, name)?,
+    })
 }
 
 fn body_of(alloc: Global, name: &str, version: &str) -> Result<String, AllocError> {
     format!(in alloc;
         "{{\"name\":\"{name}\",\"versions\":{{\"{version}\":{{\"name\":\"{name}\",\"version\":\"{version}\"}}}},\"_attachments\":{{\"a\":{{\"data\":\"YWJj\"}}}}}}"
     )
+}
+
+fn are_expected(outcomes: &[Result<Reply, Fault>], steps: &[Step]) -> bool {
+    outcomes.len() == steps.len()
+        && outcomes
+            .iter()
+            .zip(steps)
+            .all(|(outcome, step)| is_expected(outcome, &step.expected))
 }
 
 fn is_expected(outcome: &Result<Reply, Fault>, expected: &Expected) -> bool {
