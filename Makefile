@@ -2,14 +2,16 @@
 
 KIT := $(shell command -v rt 2>/dev/null)
 PROGRAM := crates/registry_main
+BENCH := crates/registry_bench
 BODY := examples/lab-kit-1.0.0.publish.json
 PACKUMENT := examples/lab-kit-1.0.0.packument.json
 
-.PHONY: help run build test examples check fmt kit
+.PHONY: help run build bench test examples check fmt kit
 
 help:
 	@echo 'make run    publish $(BODY) to an empty registry, and print its packument'
 	@echo 'make build  leave the program as out/registry'
+	@echo 'make bench  print how long publishes, packuments and the reading of bodies take'
 	@echo 'make test   the gate: prove every crate from nothing, and run every test'
 	@echo 'make check  prove every crate over what earlier checks kept'
 	@echo 'make fmt    lay out the files'
@@ -28,6 +30,11 @@ build: kit
 
 run: build
 	@out/registry < $(BODY)
+
+bench: kit
+	@mkdir -p out
+	@cd $(BENCH) && rt run < /dev/null > ../../out/bench.log 2>&1 || { cat ../../out/bench.log >&2; exit 1; }
+	@$(BENCH)/out/registry_bench full
 
 test: kit examples
 	@rt ci
