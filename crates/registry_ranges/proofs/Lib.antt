@@ -4,6 +4,7 @@ pub mod StepFacts
 pub mod ReadingFacts
 pub mod RangeTextFacts
 pub mod BoundFacts
+pub mod BelowFacts
 pub mod ComparatorFacts
 pub mod RangeFacts
 pub mod SelectorFacts

@@ -4,7 +4,8 @@ use Rattle.semver.specs.Grammar.{is_pre_release}
 use Rattle.registry_names.specs.Versions.{version_parts}
 use Rattle.registry_ranges.specs.declared.bound.Bound.{Bound}
 use Rattle.registry_ranges.specs.declared.comparator as Code
-use Rattle.registry_ranges.specs.Comparators.{Comparator}
+use Rattle.registry_ranges.specs.declared.comparator.Comparator.TheVariants as kept
+use Rattle.registry_ranges.specs.Comparators.{Comparator, comparator, below}
 use Rattle.registry_ranges.specs.Prefixes.{IsPrefix}
 use Rattle.registry_ranges.specs.Values.{Part, simple, hyphen, nothing}
 
@@ -22,7 +23,9 @@ bounds_view b = bound_view b.0 ∷ second_view b.1
 
 -- a comparator that was kept
 abbrev pub comparator_view : Code.Comparator.Comparator → Comparator
-comparator_view c = record { relation = c.relation; bound = version_parts c.version }
+comparator_view (kept.Below a b c) = below a b c
+comparator_view (kept.Release r a b c) = comparator r a b c []
+comparator_view (kept.Version r v) = record { relation = r; bound = version_parts v.value }
 
 -- its prerelease is one or the empty text
 abbrev pub has_pre : Comparator → Bool

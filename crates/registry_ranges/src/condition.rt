@@ -1,7 +1,6 @@
 //! What each form of a selector asks of a version.
 
 ghost use Rattle.std.specs.Prelude.{◌≡◌, true, IfOk, IfErr};
-ghost use Rattle.registry_names.specs.Versions.{version_parts};
 ghost use Rattle.registry_ranges.specs.Prefixes.{prefix_view};
 ghost use Rattle.registry_ranges.specs.SelectorViews.{asked_view, asks_pre, condition_view, question_view};
 ghost use Rattle.registry_ranges.specs.Selectors as spec;
@@ -13,8 +12,7 @@ use crate::prefix::Prefix;
 use crate::reader::Part;
 use crate::relation::Relation;
 use crate::simple::Operator;
-use registry_names::Fault;
-use semver::Version;
+use registry_names::{Fault, Ver};
 use std::alloc::Global;
 
 /// What is asked of a version, with a prerelease that is in the text.
@@ -124,13 +122,14 @@ impl Condition {
     }
 
     /// Whether a version meets it.
-    pub fn is_met(&self, version: &Version) -> bool
-        ensures { result ≡ spec.meets_condition (version_parts version.now) (condition_view self.now) }
+    pub fn is_met(&self, version: &Ver) -> bool
+        ensures { result ≡ spec.meets_condition version.now (condition_view self.now) }
     {
+        let parts = version.as_semver();
         match self {
             Condition::All => true,
-            Condition::Major(major) => version.major == *major,
-            Condition::Minor(major, minor) => version.major == *major && version.minor == *minor,
+            Condition::Major(major) => parts.major == *major,
+            Condition::Minor(major, minor) => parts.major == *major && parts.minor == *minor,
             Condition::Compared(comparator) => comparator.holds(version),
         }
     }

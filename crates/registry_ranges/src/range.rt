@@ -2,7 +2,6 @@
 
 ghost use Rattle.std.specs.Prelude.{◌≡◌, ◌↔◌, ◌++◌, ◌∷◌, [], Ok, None, IfOk, IfErr, IfSome, is_ok, if◌then◌else◌, true};
 ghost use Rattle.std.specs.List.{list_all, list_any};
-ghost use Rattle.registry_names.specs.Versions.{version_parts};
 ghost use Rattle.registry_ranges.specs.Bounds.{bound_view, bounds_view, comparator_view, has_pre, IsPart};
 ghost use Rattle.registry_ranges.specs.Comparators as spec;
 ghost use Rattle.registry_ranges.specs.Comparators.{HasComparators, Means};
@@ -16,9 +15,11 @@ use crate::comparator::Comparator;
 use crate::range_text::is_range;
 use crate::reader::{Part, Reader, Step};
 use registry_names::{Fault, Ver};
-use semver::Version;
 use std::alloc::Global;
 use std::marker::Model;
+
+// How many comparators most ranges have at most.
+const USUAL: usize = 2;
 
 /// A range of versions, as a dependency states it: which versions it allows. Contracts see its
 /// comparators, one list for each of the ranges that `||` separates.
@@ -71,27 +72,27 @@ fn push_part(alloc: Global, range: &mut Vec<Comparator>, part: Part<'_>) -> Resu
     push_all(alloc, range, bounds)
 }
 
-fn all_hold(range: &Vec<Comparator>, version: &Version) -> bool
-    ensures { result ≡ list_all (λ c. spec.holds (version_parts version.now) (comparator_view c)) range.now.items }
+fn all_hold(range: &Vec<Comparator>, version: &Ver) -> bool
+    ensures { result ≡ list_all (λ c. spec.holds version.now (comparator_view c)) range.now.items }
 {
     range.iter().all(|comparator| comparator.holds(version))
 }
 
-fn any_is_near(range: &Vec<Comparator>, version: &Version) -> bool
-    ensures { result ≡ list_any (λ c. spec.is_near (version_parts version.now) (comparator_view c)) range.now.items }
+fn any_is_near(range: &Vec<Comparator>, version: &Ver) -> bool
+    ensures { result ≡ list_any (λ c. spec.is_near version.now (comparator_view c)) range.now.items }
 {
     range.iter().any(|comparator| comparator.is_near(version))
 }
 
 #[tactic(auto, using(crate::proofs::RangeFacts::tests_of_views))]
-fn range_allows(range: &Vec<Comparator>, version: &Version) -> bool
-    ensures { result ≡ spec.range_allows (version_parts version.now) (range_view range.now) }
+fn range_allows(range: &Vec<Comparator>, version: &Ver) -> bool
+    ensures { result ≡ spec.range_allows version.now (range_view range.now) }
 {
-    all_hold(range, version) && (version.pre.is_empty() || any_is_near(range, version))
+    all_hold(range, version) && (version.as_semver().pre.is_empty() || any_is_near(range, version))
 }
 
-fn set_allows(ranges: &Vec<Vec<Comparator>>, version: &Version) -> bool
-    ensures { result ≡ list_any (λ r. spec.range_allows (version_parts version.now) (range_view r)) ranges.now.items }
+fn set_allows(ranges: &Vec<Vec<Comparator>>, version: &Ver) -> bool
+    ensures { result ≡ list_any (λ r. spec.range_allows version.now (range_view r)) ranges.now.items }
 {
     ranges.iter().any(|range| range_allows(range, version))
 }
@@ -105,14 +106,15 @@ fn push_range(ranges: &mut Vec<Vec<Comparator>>, range: Vec<Comparator>) -> Resu
 }
 
 impl Range {
-    // Reads a text that is a range.
-    fn read(alloc: Global, text: &str) -> Result<Range, Fault>
-        requires { IsRangeText text.now }
-        ensures ok { IfOk result (HasComparators text.now) }
+    // Reads a range: `None` for a text that is none, if the memory lasts so far.
+    fn read(alloc: Global, text: &str) -> Result<Option<Range>, Fault>
+        ensures found { IfOk result (λ r. IfSome r (HasComparators text.now)) }
+        ensures meaning { IfOk result (λ r. IfSome r (Means text.now)) }
+        ensures none { result ≡ Ok None → ¬ IsRangeText text.now }
         ensures err { IfErr result (λ e. e ≡ Fault.Memory) }
     {
         let mut ranges = Vec::new(alloc);
-        let mut range = Vec::new(alloc);
+        let mut range = Vec::with_capacity(alloc, USUAL)?;
         let mut reader = Reader::new(text.as_bytes());
         'steps: loop {
             match reader.step() {
@@ -122,20 +124,20 @@ impl Range {
                 }
                 Step::Or(next) => {
                     push_range(&mut ranges, range)?;
-                    range = Vec::new(alloc);
+                    range = Vec::with_capacity(alloc, USUAL)?;
                     reader = Reader::new(next);
                 }
                 Step::End => {
                     push_range(&mut ranges, range)?;
-                    return Ok(Range { ranges });
+                    return Ok(Some(Range { ranges }));
                 }
-                Step::Wrong => unreachable!(),
+                Step::Wrong => return Ok(None),
             }
         }
     }
 
-    /// Reads a range, after the grammar of node-semver: `None` exactly for a text that is none,
-    /// which takes no memory.
+    /// Reads a range, after the grammar of node-semver: `None` exactly for a text that is none, also
+    /// where no memory is left.
     #[tactic(auto, using(crate::proofs::RangeFacts::parse_facts))]
     pub fn parse(alloc: Global, text: &str) -> Result<Option<Range>, Fault>
         ensures found { IfOk result (λ r. IfSome r (HasComparators text.now)) }
@@ -144,10 +146,11 @@ impl Range {
         ensures err { IfErr result (λ e. e ≡ Fault.Memory) }
         ensures unambiguous { IsUnambiguous text.now }
     {
-        if !is_range(text) {
+        let read = Range::read(alloc, text);
+        if read.is_err() && !is_range(text) {
             return Ok(None);
         }
-        Ok(Some(Range::read(alloc, text)?))
+        read
     }
 
     /// Whether the range allows a version. Takes no memory.
@@ -155,6 +158,6 @@ impl Range {
     pub fn allows(&self, version: &Ver) -> bool
         ensures { result ≡ spec.set_allows version.now self.now }
     {
-        set_allows(&self.ranges, version.as_semver())
+        set_allows(&self.ranges, version)
     }
 }

@@ -2,7 +2,6 @@
 
 ghost use Rattle.std.specs.Prelude.{◌≡◌, ◌↔◌, ◌⊎◌, ◌++◌, ◌∷◌, [], Err, IfOk, IfErr, IsTrue, true};
 ghost use Rattle.std.specs.List.{list_all, list_any};
-ghost use Rattle.registry_names.specs.Versions.{version_parts};
 ghost use Rattle.registry_ranges.specs.SelectorViews.{asks_pre, condition_view, conditions_view, question_view, selector_view};
 ghost use Rattle.registry_ranges.specs.Selectors as spec;
 ghost use Rattle.registry_ranges.specs.Selectors.{HasConditions, IsSelector, SelectsAs};
@@ -10,7 +9,6 @@ ghost use Rattle.registry_ranges.specs.Selectors.{HasConditions, IsSelector, Sel
 use crate::condition::{Condition, Question, question_of};
 use crate::reader::{Reader, Step};
 use registry_names::{Fault, Refusal, Stop, Ver};
-use semver::Version;
 use std::alloc::Global;
 use std::marker::Model;
 
@@ -71,21 +69,21 @@ fn push_range(ranges: &mut Vec<Vec<Condition>>, range: Vec<Condition>) -> Result
     Ok(())
 }
 
-fn all_met(range: &Vec<Condition>, version: &Version) -> bool
-    ensures { result ≡ list_all (λ c. spec.meets_condition (version_parts version.now) (condition_view c)) range.now.items }
+fn all_met(range: &Vec<Condition>, version: &Ver) -> bool
+    ensures { result ≡ list_all (λ c. spec.meets_condition version.now (condition_view c)) range.now.items }
 {
     range.iter().all(|condition| condition.is_met(version))
 }
 
 #[tactic(auto, using(crate::proofs::RangeFacts::tests_of_views))]
-fn range_selects(range: &Vec<Condition>, version: &Version) -> bool
-    ensures { result ≡ list_all (spec.meets_condition (version_parts version.now)) (conditions_view range.now) }
+fn range_selects(range: &Vec<Condition>, version: &Ver) -> bool
+    ensures { result ≡ list_all (spec.meets_condition version.now) (conditions_view range.now) }
 {
     all_met(range, version)
 }
 
-fn set_selects(ranges: &Vec<Vec<Condition>>, version: &Version) -> bool
-    ensures { result ≡ list_any (λ r. list_all (spec.meets_condition (version_parts version.now)) (conditions_view r)) ranges.now.items }
+fn set_selects(ranges: &Vec<Vec<Condition>>, version: &Ver) -> bool
+    ensures { result ≡ list_any (λ r. list_all (spec.meets_condition version.now) (conditions_view r)) ranges.now.items }
 {
     ranges.iter().any(|range| range_selects(range, version))
 }
@@ -145,6 +143,6 @@ impl Selector {
     pub fn selects(&self, version: &Ver) -> bool
         ensures { result ≡ spec.set_selects version.now self.now }
     {
-        set_selects(&self.ranges, version.as_semver())
+        set_selects(&self.ranges, version)
     }
 }

@@ -1,7 +1,7 @@
 use Rattle.std.proofs.Common.{ap}
 use Rattle.std.specs.Prelude.{map}
 use Rattle.registry_ranges.specs.Bounds.{comparator_view}
-use Rattle.registry_ranges.proofs.RangeFacts.{keeps-part, keeps-or, keeps-end, keeps-wrong}
+use Rattle.registry_ranges.proofs.RangeFacts.{comparators-mean, keeps-part, keeps-or, keeps-end, keeps-wrong}
 use Rattle.registry_ranges.proofs.RangeTextFacts.{part-shorter, fresh-shorter, part-valid}
 use Rattle.registry_ranges.proofs.range.Range.read.Goals as goal
 
@@ -19,11 +19,14 @@ steps-smaller c = fresh-shorter _ _ _ _ _ c.in-Or.ensures c.new-reader-in-Or.ens
 
 pub steps-preserved : goal.steps-preserved
 steps-preserved c =
-    keeps-or _ _ _ _ _ _ _ _ _ _ c.steps.invariant c.in-Or.ensures c.in_ok-push_range-in-Or.ensures.ok (ap (map comparator_view) c.new-range-in-Or.ensures.items)
+    keeps-or _ _ _ _ _ _ _ _ _ _ c.steps.invariant c.in-Or.ensures c.in_ok-push_range-in-Or.ensures.ok (ap (map comparator_view) c.in_ok-range-in-Or.ensures.items)
     c.new-reader-in-Or.ensures.place c.new-reader-in-Or.ensures.rest
 
-pub returns-in-End-clause-ok : goal.returns-in-End-clause-ok
-returns-in-End-clause-ok c = keeps-end _ _ _ _ _ _ c.steps.invariant c.in-End.ensures c.in_ok-push_range-in-End.ensures.ok
+pub returns-in-End-clause-found : goal.returns-in-End-clause-found
+returns-in-End-clause-found c = keeps-end _ _ _ _ _ _ c.steps.invariant c.in-End.ensures c.in_ok-push_range-in-End.ensures.ok
 
-pub unreachable-requires : goal.unreachable-requires
-unreachable-requires c = keeps-wrong _ _ _ _ _ c.steps.invariant c.in-Wrong.ensures c.requires
+pub returns-in-End-clause-meaning : goal.returns-in-End-clause-meaning
+returns-in-End-clause-meaning c = comparators-mean _ _ (keeps-end _ _ _ _ _ _ c.steps.invariant c.in-End.ensures c.in_ok-push_range-in-End.ensures.ok)
+
+pub returns-in-Wrong-clause-none : goal.returns-in-Wrong-clause-none
+returns-in-Wrong-clause-none c e t = keeps-wrong _ _ _ _ _ c.steps.invariant c.in-Wrong.ensures t
