@@ -1,6 +1,6 @@
 //! Packuments from sources in memory, to writers that take all, or fail somewhere.
 
-ghost use Rattle.std.specs.Prelude.{◌≡◌, ◌==◌, ℕ, map, Option, Some, None, if◌then◌else◌};
+ghost use Rattle.std.specs.Prelude.{◌≡◌, ◌==◌, map, Option, Some, None, if◌then◌else◌};
 ghost use Rattle.registry_names.specs.Texts.{text_cmp};
 ghost use Rattle.registry_names.specs.Maps.{rises};
 ghost use Rattle.registry_names.specs.declared.stop.Fault.TheVariants.{Database};
