@@ -1,5 +1,8 @@
 //! Bodies that are read and bodies that are refused, from the rules as they are written down.
 
+mod needs;
+mod tokens;
+
 use crate::{PublishForm, integrity_of};
 use registry_names::{Refusal, Stop};
 use std::alloc::{AllocError, Global};
@@ -59,6 +62,8 @@ fn the_body_of_a_first_version(rt: HostRuntime) -> Result<(), Fail> {
     assert_eq!(rt; form.access(), None);
     assert_eq!(rt; form.manifest_text(), KIT_MANIFEST);
     assert_eq!(rt; form.archive(), b"abc".as_slice());
+    assert_eq!(rt; form.needs().len(), 0);
+    assert_eq!(rt; form.integrity().len(), 95);
     Ok(())
 }
 
