@@ -6,5 +6,6 @@ pub mod RangeTextFacts
 pub mod BoundFacts
 pub mod BelowFacts
 pub mod ComparatorFacts
+pub mod PieceFacts
 pub mod RangeFacts
 pub mod SelectorFacts

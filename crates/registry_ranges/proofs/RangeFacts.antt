@@ -1,5 +1,6 @@
 -- What is kept of a range set are the comparators of its value.
-use Rattle.std.proofs.Common.{◌≡◌, ◌++◌, List, [], ◌∷◌, ℕ, Some, None, Option, Bool, true, refl, ap, ◌∙◌, append_assoc, append-nil}
+use Rattle.std.proofs.Common.{◌≡◌, ◌+◌, ◌++◌, List, [], ◌∷◌, ℕ, Some, None, Option, Bool, true, length, drop, refl, ap, ◌∙◌, append_assoc, append-nil, arith}
+use Rattle.std.proofs.lemmas.List.{drop-append-le, drop_all, length-append}
 use Rattle.std.proofs.lemmas.List.Folds.{list_all-map}
 use Rattle.std.specs.List.{list_any}
 use Rattle.std.specs.Prelude.{map, ◌||◌}
@@ -7,8 +8,10 @@ use Rattle.registry_ranges.specs.declared.reader.Place.{Place}
 use Rattle.registry_ranges.specs.declared.reader.Place.TheVariants.{Before}
 use Rattle.registry_ranges.specs.Comparators.{Comparator, comparators_of_part, comparators_of_range, comparators_of_others, HasComparators, Means}
 use Rattle.registry_ranges.specs.Grammar.{IsRangeText}
+use Rattle.registry_ranges.specs.RangeViews.{AreEnds, last_end, pieces}
 use Rattle.registry_ranges.specs.Values.{Part, Ranges}
 use Rattle.registry_ranges.specs.Steps.{part, or, end, wrong, reading, with_part, with_range, step}
+use Rattle.registry_ranges.proofs.PieceFacts.{ends-longer, ends-more, last-bound, last-more, last-piece, pieces-append, pieces-more}
 use Rattle.registry_ranges.proofs.ReadingFacts.{reading-sound, reading-step, unambiguous}
 use Rattle.registry_ranges.proofs.RangeTextFacts.{is_read, range-read}
 
@@ -67,6 +70,43 @@ pub keeps-wrong : (text : List ℕ) (done : List (List Comparator)) (range : Lis
 keeps-wrong text done range place xs k e t =
     let last : kept done range (reading place xs) ≡ None = rw (reading-step place xs, ← e) refl in
     kept-none (reading Before text) (range-read text t) (k ∙ last)
+
+-- ---- the same of one list of comparators and the ends of the ranges in it
+
+abbrev pub Keeps : List ℕ → List ℕ → List Comparator → Place → List ℕ → Type 0
+Keeps text ends cs place rest = AreEnds 0 ends (length cs) × KeepsAll text (pieces 0 ends cs) (drop (last_end 0 ends) cs) place rest
+
+pub piece-part : (text ends : List ℕ) (cs new : List Comparator) (place then : Place) (xs rest : List ℕ) (p : Part)
+    → Keeps text ends cs place xs → part p then rest ≡ step place xs → new ≡ cs ++ comparators_of_part p → Keeps text ends new then rest
+piece-part text ends cs new place then xs rest p k e n =
+    let len : length new ≡ length cs + length (comparators_of_part p) = rw n (length-append cs (comparators_of_part p)) in
+    let same : pieces 0 ends new ≡ pieces 0 ends cs = rw n (pieces-append 0 ends cs (comparators_of_part p) k.0) in
+    let more : drop (last_end 0 ends) new ≡ drop (last_end 0 ends) cs ++ comparators_of_part p =
+    rw n (drop-append-le (last_end 0 ends) cs (comparators_of_part p) (last-bound 0 ends (length cs) k.0)) in (
+      ends-longer 0 ends (length cs) (length new) k.0 (omega arith),
+      rw same (keeps-part text (pieces 0 ends cs) (drop (last_end 0 ends) cs) (drop (last_end 0 ends) new) place then xs rest p k.1 e more),
+    )
+
+piece-ends : (ends more : List ℕ) (cs : List Comparator) → more ≡ ends ++ length cs ∷ [] → pieces 0 more cs ≡ pieces 0 ends cs ++ drop (last_end 0 ends) cs ∷ []
+piece-ends ends more cs m = rw m (pieces-more 0 ends (length cs) cs ∙ ap (λ p. pieces 0 ends cs ++ p ∷ []) (last-piece (last_end 0 ends) cs))
+
+piece-left : (ends more : List ℕ) (cs : List Comparator) → more ≡ ends ++ length cs ∷ [] → drop (last_end 0 more) cs ≡ []
+piece-left ends more cs m = rw (m, last-more 0 ends (length cs)) (drop_all (length cs) cs (omega arith))
+
+pub piece-or : (text ends more : List ℕ) (cs : List Comparator) (place then : Place) (xs rest next : List ℕ)
+    → Keeps text ends cs place xs → or rest ≡ step place xs → more ≡ ends ++ length cs ∷ [] → then ≡ Before → next ≡ rest → Keeps text more cs then next
+piece-or text ends more cs place then xs rest next k e m p r = (
+  rw m (ends-more 0 ends (length cs) k.0),
+  keeps-or text (pieces 0 ends cs) (pieces 0 more cs) (drop (last_end 0 ends) cs) (drop (last_end 0 more) cs) place then xs rest next k.1 e
+      (piece-ends ends more cs m) (piece-left ends more cs m) p r,
+)
+
+pub piece-end : (text ends more : List ℕ) (cs : List Comparator) (place : Place) (xs : List ℕ)
+    → Keeps text ends cs place xs → end ≡ step place xs → more ≡ ends ++ length cs ∷ [] → HasComparators text (pieces 0 more cs)
+piece-end text ends more cs place xs k e m = keeps-end text (pieces 0 ends cs) (pieces 0 more cs) (drop (last_end 0 ends) cs) place xs k.1 e (piece-ends ends more cs m)
+
+pub are-ends : (text ends more : List ℕ) (cs : List Comparator) (place : Place) (xs : List ℕ) → Keeps text ends cs place xs → more ≡ ends ++ length cs ∷ [] → AreEnds 0 more (length cs)
+are-ends text ends more cs place xs k m = rw m (ends-more 0 ends (length cs) k.0)
 
 -- ---- what the comparators mean
 

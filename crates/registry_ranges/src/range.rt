@@ -1,13 +1,13 @@
 //! Ranges of versions.
 
-ghost use Rattle.std.specs.Prelude.{◌≡◌, ◌↔◌, ◌++◌, ◌∷◌, [], Ok, None, IfOk, IfErr, IfSome, is_ok, if◌then◌else◌, true};
+ghost use Rattle.std.specs.Prelude.{◌≡◌, ◌≤◌, ◌↔◌, ◌++◌, ◌∷◌, [], length, slice_range, Ok, None, IfOk, IfErr, IfSome, is_ok, if◌then◌else◌, true};
 ghost use Rattle.std.specs.List.{list_all, list_any};
 ghost use Rattle.registry_ranges.specs.Bounds.{bound_view, bounds_view, comparator_view, has_pre, IsPart};
 ghost use Rattle.registry_ranges.specs.Comparators as spec;
 ghost use Rattle.registry_ranges.specs.Comparators.{HasComparators, Means};
 ghost use Rattle.registry_ranges.specs.Grammar.{IsRangeText};
 ghost use Rattle.registry_ranges.specs.Values.{IsUnambiguous};
-ghost use Rattle.registry_ranges.specs.RangeViews.{range_view, ranges_view};
+ghost use Rattle.registry_ranges.specs.RangeViews.{AreEnds, comparators_view, pieces};
 ghost use Rattle.registry_ranges.specs.Steps.{part_view};
 
 use crate::bound::{Bound, Bounds, bounds_of};
@@ -18,91 +18,117 @@ use registry_names::{Fault, Ver};
 use std::alloc::Global;
 use std::marker::Model;
 
-// How many comparators most ranges have at most.
-const USUAL: usize = 2;
-
 /// A range of versions, as a dependency states it: which versions it allows. Contracts see its
 /// comparators, one list for each of the ranges that `||` separates.
 #[derive(Debug, Drop)]
 pub struct Range {
-    ranges: Vec<Vec<Comparator>>,
+    // The comparators of each range, one range after another.
+    comparators: Vec<Comparator>,
+    // Where each range ends among them.
+    ends: Vec<usize>,
 }
 
 impl Model for Range {
-    ghost use Rattle.std.specs.Prelude.{List};
+    ghost use Rattle.std.specs.Prelude.{List, length};
     ghost use Rattle.registry_ranges.specs.Comparators.{Comparator};
 
     ghost Value = { List (List Comparator) };
 
-    ghost use Rattle.registry_ranges.specs.RangeViews.{ranges_view};
+    ghost use Rattle.registry_ranges.specs.RangeViews.{AreEnds, comparators_view, ranges_view};
 
-    ghost view = { λ r. ranges_view r.ranges };
+    ghost view = { λ r. ranges_view r.ends r.comparators };
+
+    ghost invariant = { λ r. AreEnds 0 r.ends.items (length (comparators_view r.comparators.items)) };
 }
 
-fn push(alloc: Global, range: &mut Vec<Comparator>, bound: Bound<'_>) -> Result<(), Fault>
+fn push(alloc: Global, comparators: &mut Vec<Comparator>, bound: Bound<'_>) -> Result<(), Fault>
     requires { has_pre (bound_view bound) ≡ true }
-    ensures ok { IfOk result (λ _. range_view range.new ≡ range_view range.old ++ bound_view bound.entry ∷ []) }
+    ensures ok { IfOk result (λ _. comparators_view comparators.new.items ≡ comparators_view comparators.old.items ++ bound_view bound.entry ∷ []) }
     ensures err { IfErr result (λ e. e ≡ Fault.Memory) }
 {
     let comparator = Comparator::new(alloc, bound)?;
-    range.push(comparator)?;
+    comparators.push(comparator)?;
     Ok(())
 }
 
-fn push_all(alloc: Global, range: &mut Vec<Comparator>, bounds: Bounds<'_>) -> Result<(), Fault>
+fn push_all(
+    alloc: Global,
+    comparators: &mut Vec<Comparator>,
+    bounds: Bounds<'_>,
+) -> Result<(), Fault>
     requires { list_all has_pre (bounds_view bounds) ≡ true }
-    ensures ok { IfOk result (λ _. range_view range.new ≡ range_view range.old ++ bounds_view bounds.entry) }
+    ensures ok { IfOk result (λ _. comparators_view comparators.new.items ≡ comparators_view comparators.old.items ++ bounds_view bounds.entry) }
     ensures err { IfErr result (λ e. e ≡ Fault.Memory) }
 {
     let (first, second) = bounds;
-    push(alloc, range, first)?;
+    push(alloc, comparators, first)?;
     if let Some(second) = second {
-        push(alloc, range, second)?;
+        push(alloc, comparators, second)?;
     }
     Ok(())
 }
 
 #[tactic(auto, using(crate::proofs::BoundFacts::pre_facts))]
-fn push_part(alloc: Global, range: &mut Vec<Comparator>, part: Part<'_>) -> Result<(), Fault>
+fn push_part(alloc: Global, comparators: &mut Vec<Comparator>, part: Part<'_>) -> Result<(), Fault>
     requires { IsPart (part_view part) }
-    ensures ok { IfOk result (λ _. range_view range.new ≡ range_view range.old ++ spec.comparators_of_part (part_view part.entry)) }
+    ensures ok { IfOk result (λ _. comparators_view comparators.new.items ≡ comparators_view comparators.old.items ++ spec.comparators_of_part (part_view part.entry)) }
     ensures err { IfErr result (λ e. e ≡ Fault.Memory) }
 {
     let bounds = bounds_of(part);
-    push_all(alloc, range, bounds)
+    push_all(alloc, comparators, bounds)
 }
 
-fn all_hold(range: &Vec<Comparator>, version: &Ver) -> bool
-    ensures { result ≡ list_all (λ c. spec.holds version.now (comparator_view c)) range.now.items }
+// A range ends behind all comparators that are kept.
+#[tactic(auto, using(crate::proofs::PieceFacts::view_facts))]
+fn push_end(ends: &mut Vec<usize>, comparators: &Vec<Comparator>) -> Result<(), Fault>
+    ensures ok { IfOk result (λ _. ends.new.items ≡ ends.old.items ++ length (comparators_view comparators.now.items) ∷ []) }
+    ensures err { IfErr result (λ e. e ≡ Fault.Memory) }
+{
+    ends.push(comparators.len())?;
+    Ok(())
+}
+
+fn all_hold(range: &[Comparator], version: &Ver) -> bool
+    ensures { result ≡ list_all (λ c. spec.holds version.now (comparator_view c)) range.now }
 {
     range.iter().all(|comparator| comparator.holds(version))
 }
 
-fn any_is_near(range: &Vec<Comparator>, version: &Ver) -> bool
-    ensures { result ≡ list_any (λ c. spec.is_near version.now (comparator_view c)) range.now.items }
+fn any_is_near(range: &[Comparator], version: &Ver) -> bool
+    ensures { result ≡ list_any (λ c. spec.is_near version.now (comparator_view c)) range.now }
 {
     range.iter().any(|comparator| comparator.is_near(version))
 }
 
 #[tactic(auto, using(crate::proofs::RangeFacts::tests_of_views))]
-fn range_allows(range: &Vec<Comparator>, version: &Ver) -> bool
-    ensures { result ≡ spec.range_allows version.now (range_view range.now) }
+fn range_allows(range: &[Comparator], version: &Ver) -> bool
+    ensures { result ≡ spec.range_allows version.now (comparators_view range.now) }
 {
     all_hold(range, version) && (version.as_semver().pre.is_empty() || any_is_near(range, version))
 }
 
-fn set_allows(ranges: &Vec<Vec<Comparator>>, version: &Ver) -> bool
-    ensures { result ≡ list_any (λ r. spec.range_allows version.now (range_view r)) ranges.now.items }
+// The range between two places.
+#[tactic(auto, using(crate::proofs::PieceFacts::view_facts))]
+fn range_at(comparators: &[Comparator], start: usize, end: usize) -> &[Comparator]
+    requires { (start ≤ end) × (end ≤ length comparators.now) }
+    ensures { comparators_view result.now ≡ slice_range (comparators_view comparators.now) start end }
 {
-    ranges.iter().any(|range| range_allows(range, version))
+    &comparators[start..end]
 }
 
-fn push_range(ranges: &mut Vec<Vec<Comparator>>, range: Vec<Comparator>) -> Result<(), Fault>
-    ensures ok { IfOk result (λ _. ranges_view ranges.new ≡ ranges_view ranges.old ++ range_view range ∷ []) }
-    ensures err { IfErr result (λ e. e ≡ Fault.Memory) }
+fn set_allows(ends: &[usize], comparators: &[Comparator], version: &Ver) -> bool
+    requires { AreEnds 0 ends.now (length (comparators_view comparators.now)) }
+    ensures { result ≡ spec.set_allows version.now (pieces 0 ends.now (comparators_view comparators.now)) }
 {
-    ranges.push(range)?;
-    Ok(())
+    let mut start = 0;
+    'places: for i in 0..ends.len() {
+        let end = ends[i];
+        if range_allows(range_at(comparators, start, end), version) {
+            return true;
+        }
+        start = end;
+    }
+    false
 }
 
 impl Range {
@@ -113,23 +139,22 @@ impl Range {
         ensures none { result ≡ Ok None → ¬ IsRangeText text.now }
         ensures err { IfErr result (λ e. e ≡ Fault.Memory) }
     {
-        let mut ranges = Vec::new(alloc);
-        let mut range = Vec::with_capacity(alloc, USUAL)?;
+        let mut comparators = Vec::new(alloc);
+        let mut ends = Vec::new(alloc);
         let mut reader = Reader::new(text.as_bytes());
         'steps: loop {
             match reader.step() {
                 Step::Part(part, next) => {
-                    push_part(alloc, &mut range, part)?;
+                    push_part(alloc, &mut comparators, part)?;
                     reader = next;
                 }
                 Step::Or(next) => {
-                    push_range(&mut ranges, range)?;
-                    range = Vec::with_capacity(alloc, USUAL)?;
+                    push_end(&mut ends, &comparators)?;
                     reader = Reader::new(next);
                 }
                 Step::End => {
-                    push_range(&mut ranges, range)?;
-                    return Ok(Some(Range { ranges }));
+                    push_end(&mut ends, &comparators)?;
+                    return Ok(Some(Range { comparators, ends }));
                 }
                 Step::Wrong => return Ok(None),
             }
@@ -154,10 +179,9 @@ impl Range {
     }
 
     /// Whether the range allows a version. Takes no memory.
-    #[tactic(auto, using(crate::proofs::RangeFacts::tests_of_views))]
     pub fn allows(&self, version: &Ver) -> bool
         ensures { result ≡ spec.set_allows version.now self.now }
     {
-        set_allows(&self.ranges, version)
+        set_allows(&self.ends, &self.comparators, version)
     }
 }

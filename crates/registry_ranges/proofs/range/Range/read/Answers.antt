@@ -1,7 +1,4 @@
-use Rattle.std.proofs.Common.{ap}
-use Rattle.std.specs.Prelude.{map}
-use Rattle.registry_ranges.specs.Bounds.{comparator_view}
-use Rattle.registry_ranges.proofs.RangeFacts.{comparators-mean, keeps-part, keeps-or, keeps-end, keeps-wrong}
+use Rattle.registry_ranges.proofs.RangeFacts.{are-ends, comparators-mean, keeps-wrong, piece-end, piece-or, piece-part}
 use Rattle.registry_ranges.proofs.RangeTextFacts.{part-shorter, fresh-shorter, part-valid}
 use Rattle.registry_ranges.proofs.range.Range.read.Goals as goal
 
@@ -12,21 +9,23 @@ pub steps-smaller-in-Part : goal.steps-smaller-in-Part
 steps-smaller-in-Part c = part-shorter _ _ _ _ _ c.in-Part.ensures
 
 pub steps-preserved-in-Part : goal.steps-preserved-in-Part
-steps-preserved-in-Part c = keeps-part _ _ _ _ _ _ _ _ _ c.steps.invariant c.in-Part.ensures c.in_ok-push_part-in-Part.ensures.ok
+steps-preserved-in-Part c = piece-part _ _ _ _ _ _ _ _ _ c.steps.invariant c.in-Part.ensures c.in_ok-push_part-in-Part.ensures.ok
 
 pub steps-smaller : goal.steps-smaller
 steps-smaller c = fresh-shorter _ _ _ _ _ c.in-Or.ensures c.new-reader-in-Or.ensures.place c.new-reader-in-Or.ensures.rest
 
 pub steps-preserved : goal.steps-preserved
 steps-preserved c =
-    keeps-or _ _ _ _ _ _ _ _ _ _ c.steps.invariant c.in-Or.ensures c.in_ok-push_range-in-Or.ensures.ok (ap (map comparator_view) c.in_ok-range-in-Or.ensures.items)
-    c.new-reader-in-Or.ensures.place c.new-reader-in-Or.ensures.rest
+    piece-or _ _ _ _ _ _ _ _ _ c.steps.invariant c.in-Or.ensures c.in_ok-push_end-in-Or.ensures.ok c.new-reader-in-Or.ensures.place c.new-reader-in-Or.ensures.rest
+
+pub invariant_of-result : goal.invariant_of-result
+invariant_of-result c = are-ends _ _ _ _ _ _ c.steps.invariant c.in_ok-push_end-in-End.ensures.ok
 
 pub returns-in-End-clause-found : goal.returns-in-End-clause-found
-returns-in-End-clause-found c = keeps-end _ _ _ _ _ _ c.steps.invariant c.in-End.ensures c.in_ok-push_range-in-End.ensures.ok
+returns-in-End-clause-found c = piece-end _ _ _ _ _ _ c.steps.invariant c.in-End.ensures c.in_ok-push_end-in-End.ensures.ok
 
 pub returns-in-End-clause-meaning : goal.returns-in-End-clause-meaning
-returns-in-End-clause-meaning c = comparators-mean _ _ (keeps-end _ _ _ _ _ _ c.steps.invariant c.in-End.ensures c.in_ok-push_range-in-End.ensures.ok)
+returns-in-End-clause-meaning c = comparators-mean _ _ (piece-end _ _ _ _ _ _ c.steps.invariant c.in-End.ensures c.in_ok-push_end-in-End.ensures.ok)
 
 pub returns-in-Wrong-clause-none : goal.returns-in-Wrong-clause-none
-returns-in-Wrong-clause-none c e t = keeps-wrong _ _ _ _ _ c.steps.invariant c.in-Wrong.ensures t
+returns-in-Wrong-clause-none c e t = keeps-wrong _ _ _ _ _ c.steps.invariant.1 c.in-Wrong.ensures t
