@@ -1,18 +1,19 @@
--- What is known of a publish in form that nothing refuses.
-use Rattle.std.proofs.Common.{◌≡◌, ◌≢◌, ℕ, ◌≤◌, Bool, true, false, ◌&&◌, is_none, is_some, Option, Some, None, refl, sym, ap, ◌∙◌, true≢false, if◌then◌else◌}
+-- What is known of a command in form that nothing refuses.
+use Rattle.std.proofs.Common.{◌≡◌, ◌≢◌, ℕ, ◌≤◌, Bool, true, false, ◌&&◌, not, is_none, is_some, Option, Some, None, refl, sym, ap, ◌∙◌, true≢false, if◌then◌else◌}
 use Rattle.std.specs.Prelude.{IsSome, IsTrue}
 use Rattle.registry_names.specs.Maps.{TextMap, at}
 use Rattle.registry_names.specs.Moments.{last_second}
 use Rattle.registry_names.specs.Tags.{is_tag}
 use Rattle.registry_names.specs.Texts.{Text}
-use Rattle.registry_names.specs.declared.refusal.Refusal.TheVariants.{Published, AlwaysPublic}
+use Rattle.registry_names.specs.declared.refusal.Refusal.TheVariants.{NotFound, Published, KeepsLatest, AlwaysPublic}
 use Rattle.registry_names.specs.declared.status.Status.{Status}
 use Rattle.registry_names.specs.declared.status.Status.TheVariants.{Public, Restricted}
 use Rattle.registry_names.proofs.KeyFacts.{text_key}
 use Rattle.registry_access.specs.Scopes.{scope_of}
 use Rattle.registry_publish.specs.Form.{FormParts}
+use Rattle.registry_rules.specs.Actions.{version_of}
 use Rattle.registry_rules.specs.Kept.{IsReleaseOf}
-use Rattle.registry_rules.specs.Refusals.{is_restricted, publish_refusal, refuse, version_of}
+use Rattle.registry_rules.specs.Refusals.{is_restricted, publish_refusal, refuse, unless_there}
 use Rattle.registry_rules.specs.Requests.{ArePartsInForm}
 use Rattle.registry_rules.specs.State.{State, Release}
 use Rattle.registry_rules.specs.Steps.{latest, new_status, release_of}
@@ -55,3 +56,14 @@ allowed_publish S f now form moment may = record {
   has_status = has_new_status S.access.statuses f.name f.access _ refl;
   is_public = new_is_public f.name f.access _ (not_restricted _ _ may);
 }
+
+-- what is asked for is there
+pub is_there : (found : Bool) → unless_there found ≡ None → found ≡ true
+is_there true h = refl
+is_there false h = cc
+
+-- a tag that may go isn't `latest`
+pub isnt_kept : (there latest : Bool) → refuse (not there) NotFound (refuse latest KeepsLatest None) ≡ None → latest ≡ false
+isnt_kept false b h = cc
+isnt_kept true true h = cc
+isnt_kept true false h = refl

@@ -1,28 +1,32 @@
 -- A request in form that nothing refuses keeps what holds of all that the registry holds.
-use Rattle.std.proofs.Common.{◌≡◌, ◌≢◌, ℕ, ◌≤◌, Bool, true, false, is_none, is_some, Option, Some, None, refl, sym, ap, ◌∙◌, subst, true≢false}
+use Rattle.std.proofs.Common.{◌≡◌, ◌≢◌, ℕ, ◌≤◌, Bool, true, false, ◌&&◌, is_none, is_some, Option, Some, None, refl, sym, ap, ◌∙◌, subst, true≢false}
 use Rattle.std.specs.Prelude.{IsSome, IsTrue}
 use Rattle.registry_names.specs.Keys.{Pair}
 use Rattle.registry_names.specs.Maps.{at}
 use Rattle.registry_names.specs.Moments.{last_second}
+use Rattle.registry_names.specs.Names.{IsName}
 use Rattle.registry_names.specs.Tags.{is_tag}
-use Rattle.registry_names.specs.Texts.{Text}
+use Rattle.registry_names.specs.Texts.{Text, is}
+use Rattle.registry_names.specs.Versions.{text_of_version}
 use Rattle.registry_names.specs.declared.status.Status.{Status}
 use Rattle.registry_names.specs.declared.status.Status.TheVariants.{Restricted}
 use Rattle.registry_names.proofs.KeyFacts.{text_key, pair_key}
-use Rattle.registry_names.proofs.MapFacts.{at-empty}
+use Rattle.registry_names.proofs.MapFacts.{at-empty, at-erase_other}
 use Rattle.registry_access.specs.Scopes.{scope_of}
 use Rattle.registry_publish.specs.Form.{FormParts}
+use Rattle.registry_rules.specs.Actions.{version_of}
 use Rattle.registry_rules.specs.Kept.{IsReleaseOf, IsTagOf, IsKept}
-use Rattle.registry_rules.specs.Refusals.{is_live, publish_refusal, refusal, refusal_of, version_of}
+use Rattle.registry_rules.specs.Refusals.{is_live, stands, publish_refusal, refusal, refusal_of}
+use Rattle.registry_rules.specs.Operations.{with_tag, without_tag}
 use Rattle.registry_rules.specs.Requests.{ArePartsInForm, IsInForm, IsActionInForm}
 use Rattle.registry_rules.specs.State.{State, Release, nothing}
 use Rattle.registry_rules.specs.Steps.{latest, new_status, release_of, published, step, step_of}
 use Rattle.registry_rules.specs.declared.request.Action.{Action}
-use Rattle.registry_rules.specs.declared.request.Action.TheVariants.{Publish, Packument}
+use Rattle.registry_rules.specs.declared.request.Action.TheVariants.{Publish, TagSet, TagRemove, Packument, Archive, Tags}
 use Rattle.registry_rules.specs.declared.request.Request.{Request}
-use Rattle.registry_rules.proofs.PutFacts.{each_put, some_before, put_there, still_there}
+use Rattle.registry_rules.proofs.PutFacts.{each_put, each_left, some_before, put_there, still_there}
 use Rattle.registry_rules.proofs.PublishedFacts.{statuses_after, tags_before, after_publish, published_is}
-use Rattle.registry_rules.proofs.AllowedFacts.{IsAllowed, allowed_publish}
+use Rattle.registry_rules.proofs.AllowedFacts.{IsAllowed, allowed_publish, is_there, isnt_kept}
 
 -- ---- nothing
 
@@ -109,9 +113,43 @@ publish_kept S f now form moment may kept =
     subst IsKept (sym (published_is S f.name (version_of f) f.tag (release_of f now) status))
     (all_kept S f.name (version_of f) f.tag (release_of f now) status _ (allowed_publish S f now form moment may) kept)
 
+-- ---- a tag
+
+-- while the same versions live, a tag may stand as before
+still_tag : (S T : State) → T.live ≡ S.live → (p t v : Text) → IsTagOf S p t v → IsTagOf T p t v
+still_tag S T e p t v tag = record { name = tag.name; tag = tag.tag; live = ap (λ live. is_some (at live (p, v))) e ∙ tag.live }
+
+tag_set_kept : (S : State) (p t v : Text) → IsName p → IsTrue (is_tag t) → is_live S p v ≡ true → IsKept S → IsKept (with_tag S p t v)
+tag_set_kept S p t v name tag live kept = record {
+  live = kept.live;
+  tags = λ q u w h.
+      still_tag S (with_tag S p t v) refl q u w
+      (each_put pair_key S.tags (p, t) v (λ k w. IsTagOf S k.0 k.1 w) (λ k w e. kept.tags k.0 k.1 w e) (record { name = name; tag = tag; live = live }) (q, u) w h);
+  status = kept.status;
+  latest = λ q w h. still_there pair_key S.tags (p, t) v (q, latest) (kept.latest q w h);
+  unscoped = kept.unscoped;
+}
+
+never_both : (b c : Bool) → c ≡ false → (b && c) ≡ false
+never_both true c e = e
+never_both false c e = refl
+
+tag_removed_kept : (S : State) (p t : Text) → is t latest ≡ false → IsKept S → IsKept (without_tag S p t)
+tag_removed_kept S p t other kept = record {
+  live = kept.live;
+  tags = λ q u w h. still_tag S (without_tag S p t) refl q u w (kept.tags q u w (each_left pair_key S.tags (p, t) (q, u) w h));
+  status = kept.status;
+  latest = λ q w h. ap is_some (at-erase_other pair_key S.tags (p, t) (q, latest) (never_both (is p q) (is t latest) other)) ∙ kept.latest q w h;
+  unscoped = kept.unscoped;
+}
+
 pub step_kept : (S : State) (r : Request) → IsInForm r → refusal S r ≡ None → IsKept S → IsKept (step S r)
 step_kept S r form may kept = by_action r.what form.what may
   where
     by_action : (what : Action) → IsActionInForm what → refusal_of S what ≡ None → IsKept (step_of S r.at what)
     by_action (Publish f) h may = publish_kept S f r.at h form.at may kept
+    by_action (TagSet p t v) h may = tag_set_kept S p t (text_of_version v) h.0 h.1 (is_there _ may) kept
+    by_action (TagRemove p t) h may = tag_removed_kept S p t (isnt_kept (stands S p t) (is t latest) may) kept
     by_action (Packument p) h may = kept
+    by_action (Archive p v) h may = kept
+    by_action (Tags p) h may = kept

@@ -3,12 +3,11 @@ use Rattle.std.specs.Prelude.{◌≡◌, ℕ, map}
 use Rattle.registry_names.specs.Texts.{Text}
 use Rattle.registry_names.specs.Maps.{at, of, seen}
 use Rattle.registry_names.specs.declared.dist_tag.DistTag.{DistTag}
+use Rattle.registry_rules.specs.Actions.{name_of}
 use Rattle.registry_rules.specs.State.{State, Release}
 use Rattle.registry_rules.specs.declared.facts.Facts.{Facts}
 use Rattle.registry_rules.specs.declared.facts.LiveVersion.{LiveVersion}
 use Rattle.registry_rules.specs.declared.facts.PackageRows.{PackageRows}
-use Rattle.registry_rules.specs.declared.request.Action.{Action}
-use Rattle.registry_rules.specs.declared.request.Action.TheVariants.{Publish, Packument}
 use Rattle.registry_rules.specs.declared.request.Request.{Request}
 
 -- of a live version, its moment and its message
@@ -26,11 +25,6 @@ pub record AreRowsOf (rows : PackageRows) (S : State) (p : Text) : Type 0 where
   pub status : rows.status ≡ at S.access.statuses p
   pub live : map live_entry rows.live.items ≡ map (seen sight) (of S.live p)
   pub tags : map tag_entry rows.tags.items ≡ of S.tags p
-
--- the package that a request is about
-abbrev pub name_of : Action → Text
-name_of (Publish f) = f.name
-name_of (Packument p) = p
 
 -- the facts are what the registry holds for the request
 abbrev pub StandsFor : Facts → State → Request → Type 0

@@ -2,15 +2,16 @@
 use Rattle.std.specs.Prelude.{ℕ, [], is_some, is_none, Option, Some, None, if◌then◌else◌, codes}
 use Rattle.registry_names.specs.Texts.{Text}
 use Rattle.registry_names.specs.Maps.{at}
+use Rattle.registry_names.specs.Versions.{text_of_version}
 use Rattle.registry_names.specs.declared.status.Status.{Status}
 use Rattle.registry_names.specs.declared.status.Status.TheVariants.{Public, Restricted}
 use Rattle.registry_access.specs.Scopes.{scope_of}
 use Rattle.registry_publish.specs.Form.{FormParts}
+use Rattle.registry_rules.specs.Actions.{version_of}
 use Rattle.registry_rules.specs.State.{State, Release}
-use Rattle.registry_rules.specs.Operations.{with_status, with_version, with_tag}
-use Rattle.registry_rules.specs.Refusals.{version_of}
+use Rattle.registry_rules.specs.Operations.{with_status, with_version, with_tag, without_tag}
 use Rattle.registry_rules.specs.declared.request.Action.{Action}
-use Rattle.registry_rules.specs.declared.request.Action.TheVariants.{Publish, Packument}
+use Rattle.registry_rules.specs.declared.request.Action.TheVariants.{Publish, TagSet, TagRemove, Packument, Archive, Tags}
 use Rattle.registry_rules.specs.declared.request.Request.{Request}
 
 abbrev pub latest : Text
@@ -46,7 +47,11 @@ published S f now =
 -- a query changes nothing
 abbrev pub step_of : State → ℕ → Action → State
 step_of S now (Publish f) = published S f now
+step_of S now (TagSet p t v) = with_tag S p t (text_of_version v)
+step_of S now (TagRemove p t) = without_tag S p t
 step_of S now (Packument p) = S
+step_of S now (Archive p v) = S
+step_of S now (Tags p) = S
 
 abbrev pub step : State → Request → State
 step S r = step_of S r.at r.what

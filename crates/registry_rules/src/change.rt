@@ -1,10 +1,10 @@
 //! What a decision changes.
 
-ghost use Rattle.std.specs.Prelude.{◌≡◌};
+ghost use Rattle.std.specs.Prelude.{◌≡◌, option_map};
 ghost use Rattle.registry_rules.specs.Changes.{tag_of};
 
-use registry_names::Status;
-use registry_publish::PublishForm;
+use crate::request::Action;
+use registry_names::{Status, TagText};
 
 /// The tag that stands while a version lives.
 pub(crate) const LATEST: &str = "latest";
@@ -13,7 +13,7 @@ pub(crate) const LATEST: &str = "latest";
 pub type Changes = Vec<Change>;
 
 /// One change to what the registry holds. It repeats nothing of the request that it is made for:
-/// package, version, manifest and archive are the request's.
+/// package, version, tag, manifest and archive are the request's.
 #[derive(Clone, Copy, Debug, PartialEq, Eq, Hash)]
 pub enum Change {
     /// The package has this status.
@@ -23,6 +23,8 @@ pub enum Change {
     AddVersion,
     /// The tag names the version.
     PutTag(SetTag),
+    /// The tag is gone.
+    DropTag,
 }
 
 /// The tag that a change sets.
@@ -35,13 +37,14 @@ pub enum SetTag {
 }
 
 impl SetTag {
-    /// The text of the tag, where the request publishes this form.
-    pub fn text(self, form: &PublishForm) -> &str
-        ensures { result.now ≡ tag_of self form.now }
+    /// The text of the tag, for a request that asks for this. None where it is the tag that the
+    /// request names, and the request names none.
+    pub fn text(self, what: &Action) -> Option<&str>
+        ensures { option_map (λ text. text.now) result ≡ tag_of self what.now }
     {
         match self {
-            SetTag::Latest => LATEST,
-            SetTag::Named => form.tag().text(),
+            SetTag::Latest => Some(LATEST),
+            SetTag::Named => what.tag().map(TagText::text),
         }
     }
 }

@@ -1,18 +1,19 @@
 //! The decision on a request.
 
-ghost use Rattle.std.specs.Prelude.{◌≡◌, ◌↔◌, IfOk, IfErr, Ok, Err, Some, None, []};
-ghost use Rattle.registry_names.specs.Texts.{Text};
-ghost use Rattle.registry_rules.specs.Changes.{changed};
-ghost use Rattle.registry_rules.specs.Refusals.{permitted, refusal};
+ghost use Rattle.std.specs.Prelude.{◌≡◌, ◌↔◌, IfOk, IfErr, Ok, Err, Some, None, [], false};
+ghost use Rattle.registry_rules.specs.Actions.{is_command};
+ghost use Rattle.registry_rules.specs.Changes.{all_add, changed, publishes};
+ghost use Rattle.registry_rules.specs.Refusals.{permitted, refusal, unless_there};
 ghost use Rattle.registry_rules.specs.Rows as from_rows;
 ghost use Rattle.registry_rules.specs.Standing.{StandsFor};
 ghost use Rattle.registry_rules.specs.State.{State};
 ghost use Rattle.registry_rules.specs.Steps.{step};
 
-use crate::change::Changes;
+use crate::change::{Change, Changes, SetTag};
 use crate::facts::{Facts, PackageRows};
 use crate::publish::{publish_changes, publish_refusal};
 use crate::request::{Action, Request};
+use crate::tags::tag_remove_refusal;
 use registry_names::{Fault, Refusal, Stop};
 use std::alloc::{AllocError, Global};
 
@@ -27,14 +28,15 @@ pub fn may_ask(facts: &Facts, request: &Request) -> Result<(), Refusal>
 }
 
 /// The changes that make the step of a request, none for a query; or why it is turned away, as
-/// [`may_ask`] says.
+/// [`may_ask`] says. Those of a publish add one version, and no others add one.
 ///
 /// `Memory` comes where no memory is left for the changes of a request that isn't turned away, and
 /// no other fault comes.
 pub fn decide(alloc: Global, facts: &Facts, request: &Request) -> Result<Changes, Stop>
     ensures makes { IfOk result (λ changes. (S : State) → StandsFor facts.now S request.now
         → (refusal S request.now ≡ None) × (changed S request.now changes.items ≡ step S request.now)) }
-    ensures query { (name : Text) → request.now.what ≡ Action.Packument name → IfOk result (λ changes. changes.items ≡ []) }
+    ensures query { is_command request.now.what ≡ false → IfOk result (λ changes. changes.items ≡ []) }
+    ensures versions { IfOk result (λ changes. all_add changes.items ≡ publishes request.now.what) }
     ensures refused { (S : State) → StandsFor facts.now S request.now
         → (r : Refusal) → (refusal S request.now ≡ Some r) ↔ (result ≡ Err (Stop.Refused r)) }
     ensures fault { IfErr result (λ stop. (fault : Fault) → stop ≡ Stop.Fault fault → fault ≡ Fault.Memory) }
@@ -48,9 +50,18 @@ fn refusal(rows: &PackageRows, action: &Action) -> Option<Refusal>
 {
     match action {
         Action::Publish { form } => publish_refusal(rows, form),
-        Action::Packument { .. } if rows.live.is_empty() => Some(Refusal::NotFound),
-        Action::Packument { .. } => None,
+        Action::TagRemove { tag, .. } => tag_remove_refusal(rows, tag),
+        Action::TagSet { version, .. } | Action::Archive { version, .. } => unless_there(
+            rows.has_version(version.text()),
+        ),
+        Action::Packument { .. } | Action::Tags { .. } => unless_there(!rows.live.is_empty()),
     }
+}
+
+fn unless_there(found: bool) -> Option<Refusal>
+    ensures { result ≡ unless_there found }
+{
+    if found { None } else { Some(Refusal::NotFound) }
 }
 
 // What a request that isn't turned away changes.
@@ -59,6 +70,10 @@ fn changes(alloc: Global, rows: &PackageRows, action: &Action) -> Result<Changes
 {
     match action {
         Action::Publish { form } => publish_changes(alloc, rows, form),
-        Action::Packument { .. } => Ok(Vec::new(alloc)),
+        Action::TagSet { .. } => Ok(vec![in alloc; Change::PutTag(SetTag::Named)]?),
+        Action::TagRemove { .. } => Ok(vec![in alloc; Change::DropTag]?),
+        Action::Packument { .. } | Action::Archive { .. } | Action::Tags { .. } => Ok(Vec::new(
+            alloc,
+        )),
     }
 }

@@ -4,7 +4,7 @@
 ghost use Rattle.std.specs.Prelude.{◌≡◌, None};
 ghost use Rattle.registry_rules.specs.Kept.{IsKept};
 ghost use Rattle.registry_rules.specs.Refusals.{refusal};
-ghost use Rattle.registry_rules.specs.Requests.{ArePartsInForm, IsInForm};
+ghost use Rattle.registry_rules.specs.Requests.{ArePartsInForm, IsActionInForm, IsInForm};
 ghost use Rattle.registry_rules.specs.State.{State, nothing};
 ghost use Rattle.registry_rules.specs.Steps.{step};
 ghost use Rattle.registry_rules.specs.declared.request.Request.{Request};
@@ -24,9 +24,28 @@ pub fn requests_are_in_form(request: &Request)
     ensures { IsInForm request.now }
 {
     request.at.seconds();
-    match &request.what {
+    action_is_in_form(&request.what);
+}
+
+fn action_is_in_form(what: &Action)
+    ensures { IsActionInForm what.now }
+{
+    match what {
         Action::Publish { form } => parts_are_in_form(form),
-        Action::Packument { name } => {
+        Action::TagSet { name, tag, version } => {
+            name.text();
+            tag.text();
+            version.text();
+        }
+        Action::TagRemove { name, tag } => {
+            name.text();
+            tag.text();
+        }
+        Action::Archive { name, version } => {
+            name.text();
+            version.text();
+        }
+        Action::Packument { name } | Action::Tags { name } => {
             name.text();
         }
     }
@@ -39,4 +58,5 @@ fn parts_are_in_form(form: &PublishForm)
     form.version();
     form.tag();
     form.manifest_text();
+    form.needs();
 }

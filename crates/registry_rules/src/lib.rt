@@ -13,6 +13,7 @@ pub mod laws;
 mod publish;
 mod reply;
 mod request;
+mod tags;
 #[cfg(test)]
 mod tests;
 

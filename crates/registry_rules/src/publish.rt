@@ -25,7 +25,9 @@ pub(crate) fn publish_refusal(rows: &PackageRows, form: &PublishForm) -> Option<
     None
 }
 
-/// What a publish that isn't turned away changes.
+/// What a publish that isn't turned away changes. Its tag names the version, and so does `latest`
+/// where none stands.
+#[tactic(auto, unfolding(registry_names::specs::Texts::is))]
 pub(crate) fn publish_changes(
     alloc: Global,
     rows: &PackageRows,
@@ -38,7 +40,7 @@ pub(crate) fn publish_changes(
         changes.push(Change::PutStatus(status))?;
     }
     changes.push(Change::AddVersion)?;
-    if !rows.has_tag(LATEST) {
+    if !rows.has_tag(LATEST) && form.tag().text() != LATEST {
         changes.push(Change::PutTag(SetTag::Latest))?;
     }
     changes.push(Change::PutTag(SetTag::Named))?;

@@ -1,14 +1,18 @@
 //! What the registry answers.
 
-use registry_names::{Refusal, Text};
+use registry_names::{Blob, Refusal, Text};
 
 /// The answer to a request.
 #[derive(Debug, PartialEq, Eq, Drop)]
 pub enum Reply {
     /// The version was published.
     Created,
+    /// The command was done.
+    Done,
     /// A document in JSON (RFC 8259).
     Doc(Text),
+    /// The bytes of an archive.
+    Bytes(Blob),
     /// The request is turned away, and nothing has changed.
     Refused(Refusal),
 }

@@ -1,9 +1,10 @@
 //! What can be asked of the registry.
 
-ghost use Rattle.std.specs.Prelude.{◌≡◌};
-ghost use Rattle.registry_rules.specs.Standing.{name_of};
+ghost use Rattle.std.specs.Prelude.{◌≡◌, option_map};
+ghost use Rattle.registry_names.specs.Versions.{text_of_version};
+ghost use Rattle.registry_rules.specs.Actions.{name_of, tag_named, version_named};
 
-use registry_names::{Moment, Name};
+use registry_names::{Moment, Name, TagText, Ver};
 use registry_publish::PublishForm;
 
 /// One thing that is asked of the registry.
@@ -39,9 +40,37 @@ pub enum Action {
         /// The version, with all that is published of it.
         form: PublishForm,
     },
+    /// The command to let a tag name a live version, whether it names another or isn't there yet.
+    TagSet {
+        /// The package's name.
+        name: Name,
+        /// The tag, which may be `latest`.
+        tag: TagText,
+        /// The version that it is to name.
+        version: Ver,
+    },
+    /// The command to remove a tag other than `latest`.
+    TagRemove {
+        /// The package's name.
+        name: Name,
+        /// The tag.
+        tag: TagText,
+    },
     /// The query for the packument of a package: its tags, and its live versions with their
     /// manifests.
     Packument {
+        /// The package's name.
+        name: Name,
+    },
+    /// The query for the archive of a live version.
+    Archive {
+        /// The package's name.
+        name: Name,
+        /// The version.
+        version: Ver,
+    },
+    /// The query for the tags of a package, each with the version that it names.
+    Tags {
         /// The package's name.
         name: Name,
     },
@@ -54,7 +83,33 @@ impl Action {
     {
         match self {
             Action::Publish { form } => form.name(),
-            Action::Packument { name } => name,
+            Action::TagSet { name, .. }
+            | Action::TagRemove { name, .. }
+            | Action::Packument { name }
+            | Action::Archive { name, .. }
+            | Action::Tags { name } => name,
+        }
+    }
+
+    /// The tag that it names. None for a query.
+    pub fn tag(&self) -> Option<&TagText>
+        ensures { option_map (λ tag. tag.now) result ≡ tag_named self.now }
+    {
+        match self {
+            Action::Publish { form } => Some(form.tag()),
+            Action::TagSet { tag, .. } | Action::TagRemove { tag, .. } => Some(tag),
+            Action::Packument { .. } | Action::Archive { .. } | Action::Tags { .. } => None,
+        }
+    }
+
+    /// The version that it names, if it names one.
+    pub fn version(&self) -> Option<&Ver>
+        ensures { option_map (λ version. text_of_version version.now) result ≡ version_named self.now }
+    {
+        match self {
+            Action::Publish { form } => Some(form.version()),
+            Action::TagSet { version, .. } | Action::Archive { version, .. } => Some(version),
+            Action::TagRemove { .. } | Action::Packument { .. } | Action::Tags { .. } => None,
         }
     }
 }

@@ -7,13 +7,17 @@ use crate::{
     Action, Caller, Change, Changes, Credential, Facts, LiveVersion, PackageRows, Request, SetTag,
     decide, may_ask,
 };
-use registry_names::{DistTag, Moment, Name, Refusal, Status, Stop, Text};
+use registry_names::{DistTag, Moment, Name, Refusal, Status, Stop, TagText, Text, Ver};
 use registry_publish::PublishForm;
 use std::alloc::{AllocError, Global};
 use std::test::Fail;
 
 const BODY: &str =
-    r#"{"name":"NAME","versions":{"1.0.0":{"name":"NAME","version":"1.0.0"}},"access":ACCESS,"_attachments":{"kit.tgz":{"data":"YWJj"}}}"#;
+    r#"{"name":"NAME","versions":{"1.0.0":{"name":"NAME","version":"1.0.0"}},"dist-tags":TAGS,"access":ACCESS,"_attachments":{"kit.tgz":{"data":"YWJj"}}}"#;
+
+const UNDER_LATEST: &str = "{}";
+
+const UNDER_NEXT: &str = r#"{"next":"1.0.0"}"#;
 
 const PUT_PUBLIC: Change = Change::PutStatus(Status::Public);
 
@@ -32,8 +36,13 @@ fn asked(what: Action) -> Request {
 }
 
 fn publish(alloc: Global, name: &str, access: &str) -> Result<Request, Stop> {
+    publish_under(alloc, name, access, UNDER_LATEST)
+}
+
+fn publish_under(alloc: Global, name: &str, access: &str, tags: &str) -> Result<Request, Stop> {
     let body = BODY.replace(alloc, "NAME", name)?;
     let body = body.replace(alloc, "ACCESS", access)?;
+    let body = body.replace(alloc, "TAGS", tags)?;
     let form = PublishForm::read(alloc, body.as_bytes())?;
     Ok(asked(Action::Publish { form }))
 }
@@ -41,6 +50,30 @@ fn publish(alloc: Global, name: &str, access: &str) -> Result<Request, Stop> {
 fn packument(alloc: Global, name: &str) -> Result<Request, Stop> {
     let name = Name::parse(alloc, name)?;
     Ok(asked(Action::Packument { name }))
+}
+
+fn archive(alloc: Global, version: &str) -> Result<Request, Stop> {
+    let name = Name::parse(alloc, "kit")?;
+    let version = Ver::parse(alloc, version)?;
+    Ok(asked(Action::Archive { name, version }))
+}
+
+fn tags(alloc: Global) -> Result<Request, Stop> {
+    let name = Name::parse(alloc, "kit")?;
+    Ok(asked(Action::Tags { name }))
+}
+
+fn tag_set(alloc: Global, tag: &str, version: &str) -> Result<Request, Stop> {
+    let name = Name::parse(alloc, "kit")?;
+    let tag = TagText::shape(alloc, tag)?;
+    let version = Ver::parse(alloc, version)?;
+    Ok(asked(Action::TagSet { name, tag, version }))
+}
+
+fn tag_remove(alloc: Global, tag: &str) -> Result<Request, Stop> {
+    let name = Name::parse(alloc, "kit")?;
+    let tag = TagText::shape(alloc, tag)?;
+    Ok(asked(Action::TagRemove { name, tag }))
 }
 
 // The package was never published.
@@ -93,8 +126,8 @@ fn refusal_of(alloc: Global, facts: &Facts, name: &str, access: &str) -> Option<
 fn first_publications(rt: HostRuntime) -> Result<(), Fail> {
     let alloc = rt.alloc();
     let facts = unpublished(alloc);
-    let of_lab = [PUT_RESTRICTED, Change::AddVersion, PUT_LATEST, PUT_TAG];
-    let of_nobody = [PUT_PUBLIC, Change::AddVersion, PUT_LATEST, PUT_TAG];
+    let of_lab = [PUT_RESTRICTED, Change::AddVersion, PUT_TAG];
+    let of_nobody = [PUT_PUBLIC, Change::AddVersion, PUT_TAG];
     assert_eq!(rt;
         changes_of(alloc, &facts, "@lab/kit", "null")?.as_slice(),
         of_lab.as_slice()
@@ -122,9 +155,15 @@ fn a_later_publish_leaves_the_status(rt: HostRuntime) -> Result<(), Fail> {
 fn latest_is_put_where_none_stands(rt: HostRuntime) -> Result<(), Fail> {
     let alloc = rt.alloc();
     let facts = published(alloc, Status::Restricted, "0.9.0", "beta")?;
-    let changes = changes_of(alloc, &facts, "@lab/kit", "null")?;
+    let under_latest = changes_of(alloc, &facts, "@lab/kit", "null")?;
     assert_eq!(rt;
-        changes.as_slice(),
+        under_latest.as_slice(),
+        [Change::AddVersion, PUT_TAG].as_slice()
+    );
+    let request = publish_under(alloc, "@lab/kit", "null", UNDER_NEXT)?;
+    let under_next = decide(alloc, &facts, &request)?;
+    assert_eq!(rt;
+        under_next.as_slice(),
         [Change::AddVersion, PUT_LATEST, PUT_TAG].as_slice()
     );
     Ok(())
@@ -163,7 +202,7 @@ fn packuments(rt: HostRuntime) -> Result<(), Fail> {
 fn the_status_that_is_asked_for(rt: HostRuntime) -> Result<(), Fail> {
     let alloc = rt.alloc();
     let first = changes_of(alloc, &unpublished(alloc), "@lab/kit", r#""public""#)?;
-    let of_lab = [PUT_PUBLIC, Change::AddVersion, PUT_LATEST, PUT_TAG];
+    let of_lab = [PUT_PUBLIC, Change::AddVersion, PUT_TAG];
     assert_eq!(rt; first.as_slice(), of_lab.as_slice());
     let facts = published(alloc, Status::Public, "0.9.0", "latest")?;
     let later = changes_of(alloc, &facts, "@lab/kit", r#""restricted""#)?;
@@ -184,5 +223,70 @@ fn a_package_of_nobody_is_always_public(rt: HostRuntime) -> Result<(), Fail> {
         Err(Refusal::AlwaysPublic)
     );
     assert_eq!(rt; may_ask(&facts, &request), Err(Refusal::Published));
+    Ok(())
+}
+
+#[test]
+fn archives_of_live_versions(rt: HostRuntime) -> Result<(), Fail> {
+    let alloc = rt.alloc();
+    let facts = published(alloc, Status::Public, "1.0.0", "latest")?;
+    assert_eq!(rt; may_ask(&facts, &archive(alloc, "1.0.0")?), Ok(()));
+    assert_eq!(rt;
+        may_ask(&facts, &archive(alloc, "3.0.0")?),
+        Err(Refusal::NotFound)
+    );
+    Ok(())
+}
+
+#[test]
+fn tags_of_packages_with_a_live_version(rt: HostRuntime) -> Result<(), Fail> {
+    let alloc = rt.alloc();
+    let facts = published(alloc, Status::Public, "1.0.0", "latest")?;
+    assert_eq!(rt; may_ask(&facts, &tags(alloc)?), Ok(()));
+    assert_eq!(rt;
+        may_ask(&unpublished(alloc), &tags(alloc)?),
+        Err(Refusal::NotFound)
+    );
+    Ok(())
+}
+
+#[test]
+fn a_tag_is_set_to_a_live_version(rt: HostRuntime) -> Result<(), Fail> {
+    let alloc = rt.alloc();
+    let facts = published(alloc, Status::Public, "1.0.0", "latest")?;
+    let changes = decide(alloc, &facts, &tag_set(alloc, "next", "1.0.0")?)?;
+    assert_eq!(rt; changes.as_slice(), [PUT_TAG].as_slice());
+    assert_eq!(rt;
+        may_ask(&facts, &tag_set(alloc, "latest", "3.0.0")?),
+        Err(Refusal::NotFound)
+    );
+    Ok(())
+}
+
+#[test]
+fn a_tag_other_than_latest_is_removed(rt: HostRuntime) -> Result<(), Fail> {
+    let alloc = rt.alloc();
+    let facts = published(alloc, Status::Public, "1.0.0", "next")?;
+    let changes = decide(alloc, &facts, &tag_remove(alloc, "next")?)?;
+    assert_eq!(rt; changes.as_slice(), [Change::DropTag].as_slice());
+    assert_eq!(rt;
+        may_ask(&facts, &tag_remove(alloc, "beta")?),
+        Err(Refusal::NotFound)
+    );
+    assert_eq!(rt;
+        may_ask(&facts, &tag_remove(alloc, "latest")?),
+        Err(Refusal::NotFound)
+    );
+    Ok(())
+}
+
+#[test]
+fn latest_is_kept(rt: HostRuntime) -> Result<(), Fail> {
+    let alloc = rt.alloc();
+    let facts = published(alloc, Status::Public, "1.0.0", "latest")?;
+    assert_eq!(rt;
+        may_ask(&facts, &tag_remove(alloc, "latest")?),
+        Err(Refusal::KeepsLatest)
+    );
     Ok(())
 }
