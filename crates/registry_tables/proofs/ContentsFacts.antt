@@ -8,7 +8,7 @@ use Rattle.registry_tables.specs.Contents.{contents, nothing_in, tokens_in, role
 use Rattle.registry_tables.specs.Fresh.{no_contents}
 
 pub contents_depend : DependsOn schema contents
-contents_depend old new (users, (tokens, (orgs, (members, (teams, (team_members, (packages, (grants, (owners, (versions, (spent, (tags, (needs, (meta, none)))))))))))))) = λ i. record {
+contents_depend old new (users, (tokens, (orgs, (members, (teams, (team_members, (packages, (grants, (owners, (versions, (spent, (tags, (needs, (meta, (need_ranges, none))))))))))))))) = λ i. record {
   registry = record {
     access = record {
       users = map_of 0 nothing_in (users i);
@@ -27,6 +27,7 @@ contents_depend old new (users, (tokens, (orgs, (members, (teams, (team_members,
   };
   needs = map_of 2 nothing_in (needs i);
   meta = map_of 0 number_named_in (meta i);
+  need_ranges = map_of 3 nothing_in (need_ranges i);
 }
 
 pub no_rows : contents (λ _. []) ≡ no_contents

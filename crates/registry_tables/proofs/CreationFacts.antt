@@ -33,7 +33,7 @@ never_run schema sql e refused old new count form call clean = inside ⊥ schema
 
 module _ {S : Type 0} (store : Ghosts S) where
   -- the number of the schema is put when all tables are there
-  pub numbered : {E : Type 0} (old new : Held S) (r : Result (Unit {0}) E) → HasMade store 14 old
+  pub numbered : {E : Type 0} (old new : Held S) (r : Result (Unit {0}) E) → HasMade store 15 old
       → (InForm store old → HasCleanDisk (state store new) → OnOk r (Leaves schema contents (with_number (stored (state store old)) schema_number) (state store new))) → AddsNoCrash store old new
       → HasCleanDisk (state store new) → OnOk r (Leaves schema contents fresh (state store new))
   numbered old new r made put quiet clean =

@@ -2,10 +2,14 @@ pub mod CallFacts
 pub mod CatalogFacts
 pub mod ContentsFacts
 pub mod CreationFacts
+pub mod FoundFacts
+pub mod HeldNeedFacts
 pub mod MappedFacts
 pub mod MetaFacts
+pub mod NeedFacts
 pub mod PackageFacts
 pub mod QuietFacts
+pub mod ReviseFacts
 pub mod SchemaFacts
 pub mod TagFacts
 pub mod VersionFacts

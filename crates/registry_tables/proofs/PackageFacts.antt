@@ -1,5 +1,5 @@
 -- What the statements on packages make and show.
-use Rattle.std.proofs.Common.{◌≡◌, ◌⊎◌, inl, inr, ℕ, List, [], ◌∷◌, ◌++◌, map, pos, Bool, true, false, cond, Option, Some, None, is_some, option_map, slice_get, Result, OnOk, refl, sym, ap, subst, ◌∙◌, codes, if◌then◌else◌}
+use Rattle.std.proofs.Common.{◌≡◌, ℕ, List, [], ◌∷◌, pos, Bool, true, false, Option, Some, None, is_some, option_map, slice_get, Result, OnOk, refl, ap, subst, ◌∙◌, codes, if◌then◌else◌}
 use Rattle.sqlite.specs.declared.types.Value.TheVariants.{Null, Int, Text as Stored}
 use Rattle.sqlite_value.specs.Order.{Row}
 use Rattle.sqlite_sql.specs.Term.{Term, lit, col}
@@ -13,8 +13,7 @@ use Rattle.registry_names.specs.Texts.{Text, is}
 use Rattle.registry_names.specs.Maps.{TextMap, at, put, revise}
 use Rattle.registry_names.specs.declared.status.Status.{Status}
 use Rattle.registry_names.specs.declared.status.Status.TheVariants.{Public, Restricted}
-use Rattle.registry_names.proofs.KeyFacts.{text_key, same_true}
-use Rattle.registry_names.proofs.MapFacts.{at-put, at-revise, same_map}
+use Rattle.registry_names.proofs.KeyFacts.{text_key}
 use Rattle.registry_rules.specs.State.{State}
 use Rattle.registry_rules.specs.Operations.{with_status}
 use Rattle.registry_rows.specs.Statements.{Means, MeansQuery, scan, by_texts, set_terms}
@@ -28,6 +27,7 @@ use Rattle.registry_tables.specs.Changes.{restated}
 use Rattle.registry_tables.specs.Spelled.{status_number, status_spelled}
 use Rattle.registry_tables.specs.Effects.{stored, registry_in}
 use Rattle.registry_tables.proofs.MappedFacts.{packages_mapped, with_statuses}
+use Rattle.registry_tables.proofs.ReviseFacts.{revised}
 
 -- ---- INSERT
 
@@ -59,29 +59,6 @@ set_means : Means schema set_text (Update 6 (record { lets = []; body = scan 12 
 unfolding understood everything
 set_means = (refl, (refl, refl))
 
-module _ {X : Type 0} (m : TextMap X) (p : Text) (x : X) where
-  abbrev with_new : Text → X → X
-  with_new k y = if is p k then x else y
-
-  one : (k : Text) → is p k ≡ true → at m k ≡ at m p
-  one k t = ap (at m) (sym (same_true text_key p k t))
-
-  there : (y : X) → at m p ≡ Some y → (k : Text) (b : Bool) → is p k ≡ b → option_map (λ y. cond b x y) (at m k) ≡ cond b (Some x) (at m k)
-  there y e k true t = ap (option_map (λ _. x)) (one k t ∙ e)
-  there y e k false t = option_map_id (at m k)
-
-  nowhere : at m p ≡ None → (k : Text) (b : Bool) → is p k ≡ b → option_map (λ y. cond b x y) (at m k) ≡ at m k
-  nowhere e k true t = ap (option_map (λ _. x)) (one k t ∙ e) ∙ sym (one k t ∙ e)
-  nowhere e k false t = option_map_id (at m k)
-
-  -- a value that is revised is put where one is there
-  revised : revise m with_new ≡ (if is_some (at m p) then put m p x else m)
-  revised = each (at m p) refl
-    where
-      each : (o : Option X) → at m p ≡ o → revise m with_new ≡ (if is_some o then put m p x else m)
-      each (Some y) e = same_map text_key _ _ (λ k. at-revise text_key m with_new k ∙ there y e k (is p k) refl ∙ sym (at-put text_key m p x k))
-      each None e = same_map text_key _ _ (λ k. at-revise text_key m with_new k ∙ nowhere e k (is p k) refl)
-
 -- a branch on maps is one on states
 on_either : (S : State) (b : Bool) (m n : TextMap Status) → record S { access = record S.access { statuses = if b then m else n } } ≡ (if b then record S { access = record S.access { statuses = m } } else record S { access = record S.access { statuses = n } })
 on_either S true m n = refl
@@ -89,7 +66,7 @@ on_either S false m n = refl
 
 restates : (p : Text) (status : Status) (old : Shown) → with_statuses (stored old) (revise (registry_in old).access.statuses (λ k y. if is p k then status else y)) ≡ on_registry (λ s. restated s p status) (stored old)
 restates p status old =
-    ap (with_statuses (stored old)) (revised (registry_in old).access.statuses p status)
+    ap (with_statuses (stored old)) (revised text_key (registry_in old).access.statuses p status)
     ∙ ap (λ s. on_registry (λ _. s) (stored old)) (on_either (registry_in old) (is_some (at (registry_in old).access.statuses p)) (put (registry_in old).access.statuses p status) (registry_in old).access.statuses)
 
 pub status_set : (p : Text) (status : Status) (old new : Shown) (r : Result ℕ Error) → Ready schema old → Executed set_text (Stored p ∷ Int (pos (status_number status)) ∷ []) old new r → HasCleanDisk new

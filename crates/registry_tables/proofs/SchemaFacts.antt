@@ -73,6 +73,10 @@ pub adds_meta : AddsTable 13 (codes "CREATE TABLE meta (name TEXT NOT NULL, valu
 unfolding understood everything
 adds_meta = record { table = record table.meta { tree = 0 }; means = record { command = (refl, (refl, refl)); text = refl; defined = refl; bare = refl }; next = refl }
 
+pub adds_need_ranges : AddsTable 14 (codes "CREATE TABLE need_ranges (package TEXT NOT NULL, version TEXT NOT NULL, target TEXT NOT NULL, range TEXT NOT NULL, PRIMARY KEY (package, version, target, range), FOREIGN KEY (package, version) REFERENCES versions ON DELETE CASCADE) STRICT")
+unfolding understood everything
+adds_need_ranges = record { table = record table.need_ranges { tree = 0 }; means = record { command = (refl, (refl, refl)); text = refl; defined = refl; bare = refl }; next = refl }
+
 -- where all tables are there, the first text can't be run
 pub users_exists : understood schema (codes "CREATE TABLE users (name TEXT NOT NULL, PRIMARY KEY (name)) STRICT") ≡ Err Exists
 unfolding understood everything

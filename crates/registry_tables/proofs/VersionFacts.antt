@@ -36,10 +36,10 @@ put_means : Means schema put_text (Insert 9 (Values (lit Null ∷ put_cells) 7))
 unfolding understood everything
 put_means = (refl, (refl, refl))
 
-pub version_put : (p v : Text) (published : ℕ) (manifest : Text) (archive : List ℕ) (old new : Shown) (r : Result ℕ Error) → Ready schema old
+pub version_inserted : (p v : Text) (published : ℕ) (manifest : Text) (archive : List ℕ) (old new : Shown) (r : Result ℕ Error) → Ready schema old
     → Executed put_text (Stored p ∷ Stored v ∷ Int (pos published) ∷ Stored manifest ∷ Blob archive ∷ []) old new r → HasCleanDisk new
     → OnOk r (Leaves schema contents (on_registry (λ s. with_version s p v (record { at = published; manifest = manifest; archive = archive; message = [] })) (stored old)) new)
-version_put p v published manifest archive = insert_puts versions_mapped put_text put_cells put_means (Stored p ∷ Stored v ∷ Int (pos published) ∷ Stored manifest ∷ Blob archive ∷ []) refl
+version_inserted p v published manifest archive = insert_puts versions_mapped put_text put_cells put_means (Stored p ∷ Stored v ∷ Int (pos published) ∷ Stored manifest ∷ Blob archive ∷ []) refl
 
 -- ---- SELECT by package and version
 

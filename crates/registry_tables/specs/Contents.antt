@@ -14,6 +14,7 @@ use Rattle.registry_access.specs.declared.levels.Level.TheVariants.{Nothing, Rea
 use Rattle.registry_rules.specs.State.{State, Release, Withdrawal}
 use Rattle.registry_rows.specs.Columns.{text_in, blob_in, number_in}
 use Rattle.registry_rows.specs.Rows.{map_of}
+use Rattle.registry_rows.specs.TextKeys.{TextsMap}
 use Rattle.registry_tables.specs.Schema as table
 
 -- ---- the value that a row puts under its key
@@ -82,18 +83,25 @@ state_in db = record {
 -- all that is stored
 pub record Contents : Type 0 where
   pub registry : State
-  -- package, version and target. No call puts one yet
+  -- package, version and target. No call puts one: `need_ranges` has the ranges too
   pub needs : TripleMap (Unit {0})
   -- the number of the schema, under `schema`
   pub meta : TextMap ℕ
+  -- what live versions depend on: package, version, target and range
+  pub need_ranges : TextsMap 3 (Unit {0})
 
 abbrev pub contents : Trees → Contents
 contents db = record {
   registry = state_in db;
   needs = map_of 2 nothing_in (db table.needs.tree);
   meta = map_of 0 number_named_in (db table.meta.tree);
+  need_ranges = map_of 3 nothing_in (db table.need_ranges.tree);
 }
 
 -- the registry's state is changed by f, and nothing else
 abbrev pub on_registry : (State → State) → Contents → Contents
 on_registry f c = record c { registry = f c.registry }
+
+-- the needs that are stored are changed by f, and nothing else
+abbrev pub on_need_ranges : (TextsMap 3 (Unit {0}) → TextsMap 3 (Unit {0})) → Contents → Contents
+on_need_ranges f c = record c { need_ranges = f c.need_ranges }

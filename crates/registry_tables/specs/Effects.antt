@@ -30,10 +30,18 @@ module _ {S : Type 0} (store : Ghosts S) where
   abbrev pub GoesOn : Held S → Type 0
   GoesOn h = IsTrue (state store h).in_transaction
 
+  -- a statement has run in the transaction: it goes on, and the tables are in form, as long as the disk is clean
+  abbrev pub IsUnderWay : Held S → Type 0
+  IsUnderWay h = HasCleanDisk (state store h) → Leaves schema contents (stored (state store h)) (state store h)
+
   module _ {R E : Type 0} (old new : Held S) (result : Result R E) where
-    -- the registry's state is changed by f, and no other row; the tables are in form, and the transaction goes on
+    -- what is stored is changed by f; the tables are in form, and the transaction goes on
+    abbrev pub Stores : (Contents → Contents) → Type 0
+    Stores f = HasCleanDisk (state store new) → OnOk result (Leaves schema contents (f (stored (state store old))) (state store new))
+
+    -- the same, where f changes the registry's state and no other row
     abbrev pub Makes : (State → State) → Type 0
-    Makes f = HasCleanDisk (state store new) → OnOk result (Leaves schema contents (on_registry f (stored (state store old))) (state store new))
+    Makes f = Stores (on_registry f)
 
     -- the answer is told by what is stored
     abbrev pub Tells : (R → Contents → Type 0) → Type 0

@@ -28,7 +28,7 @@ with_number c n = record c { meta = put c.meta schema_key n }
 
 -- what no rows say
 abbrev pub no_contents : Contents
-no_contents = record { registry = nothing; needs = empty; meta = empty }
+no_contents = record { registry = nothing; needs = empty; meta = empty; need_ranges = empty }
 
 -- a registry of which nothing was asked yet
 abbrev pub fresh : Contents

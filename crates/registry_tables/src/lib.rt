@@ -9,10 +9,13 @@
 mod error;
 pub mod laws;
 mod meta;
+mod needs;
 mod package;
 mod packages;
 mod schema;
 mod tags;
+#[cfg(test)]
+mod tests;
 mod versions;
 
 pub use crate::error::fault_of;

@@ -45,6 +45,7 @@ fn create_all<S: Alter>(tx: &mut Transaction<'_, S>) -> Result<(), Error>
     create_grants(tx)?;
     create_versions(tx)?;
     create_needs(tx)?;
+    create_need_ranges(tx)?;
     put_schema(tx)
 }
 
@@ -136,6 +137,19 @@ fn create_needs<S: Alter>(tx: &mut Transaction<'_, S>) -> Result<(), Error>
     )?;
     tx.execute(
         "CREATE TABLE meta (name TEXT NOT NULL, value INTEGER NOT NULL, PRIMARY KEY (name)) STRICT",
+        &[],
+    )?;
+    Ok(())
+}
+
+fn create_need_ranges<S: Alter>(tx: &mut Transaction<'_, S>) -> Result<(), Error>
+    ensures same_reference { tx.new.conn.ghost_name ≡ tx.old.conn.ghost_name }
+    ensures made { HasMade S.Store 14 tx.old.conn.now → OnOk result (HasMade S.Store 15 tx.new.conn.now) }
+    ensures committed { KeepsCommitted S.Store tx.old.conn.now tx.new.conn.now }
+    ensures survives { AddsNoCrash S.Store tx.old.conn.now tx.new.conn.now }
+{
+    tx.execute(
+        "CREATE TABLE need_ranges (package TEXT NOT NULL, version TEXT NOT NULL, target TEXT NOT NULL, range TEXT NOT NULL, PRIMARY KEY (package, version, target, range), FOREIGN KEY (package, version) REFERENCES versions ON DELETE CASCADE) STRICT",
         &[],
     )?;
     Ok(())

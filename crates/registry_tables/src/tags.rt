@@ -1,11 +1,11 @@
 //! The table `tags`: the dist-tags of every package. A tag names a live version.
 
-ghost use Rattle.std.specs.Prelude.{◌≡◌, ◌≢◌, [], IfOk, map};
+ghost use Rattle.std.specs.Prelude.{◌≡◌, ◌≢◌, [], IfOk, is_some, map};
 ghost use Rattle.registry_names.specs.Texts.{Text as Bytes};
-ghost use Rattle.registry_names.specs.Maps.{of};
+ghost use Rattle.registry_names.specs.Maps.{at, of};
 ghost use Rattle.registry_rules.specs.Operations.{with_tag, without_tag};
 ghost use Rattle.registry_rules.specs.Standing.{tag_entry};
-ghost use Rattle.registry_tables.specs.Changes.{retagged, tagged};
+ghost use Rattle.registry_tables.specs.Changes.{moved, retagged, tagged};
 ghost use Rattle.registry_tables.specs.Spelled.{tag_spelled};
 ghost use Rattle.registry_tables.specs.Effects.{InForm, Makes, Tells, LeavesAll, KeepsCommitted, AddsNoCrash};
 
@@ -72,25 +72,10 @@ fn set_tag<S: Alter>(
     ensures committed { KeepsCommitted S.Store tx.old.conn.now tx.new.conn.now }
     ensures survives { AddsNoCrash S.Store tx.old.conn.now tx.new.conn.now }
 {
-    drop_tag(tx, name, change.tag)?;
     match change.version {
         Some(version) => put_tag(tx, name, change.tag, version),
-        None => Ok(()),
+        None => drop_tag(tx, name, change.tag),
     }
-}
-
-fn drop_tag<S: Alter>(tx: &mut Transaction<'_, S>, name: &str, tag: &str) -> Result<(), Error>
-    requires in_form { InForm S.Store tx.old.conn.now }
-    ensures same_reference { tx.new.conn.ghost_name ≡ tx.old.conn.ghost_name }
-    ensures makes { Makes S.Store tx.old.conn.now tx.new.conn.now result (λ s. without_tag s name.now tag.now) }
-    ensures committed { KeepsCommitted S.Store tx.old.conn.now tx.new.conn.now }
-    ensures survives { AddsNoCrash S.Store tx.old.conn.now tx.new.conn.now }
-{
-    tx.execute(
-        "DELETE FROM tags WHERE package = ?1 AND tag = ?2",
-        params![name, tag],
-    )?;
-    Ok(())
 }
 
 fn put_tag<S: Alter>(
@@ -105,9 +90,77 @@ fn put_tag<S: Alter>(
     ensures committed { KeepsCommitted S.Store tx.old.conn.now tx.new.conn.now }
     ensures survives { AddsNoCrash S.Store tx.old.conn.now tx.new.conn.now }
 {
+    if has_tag(tx, name, tag)? {
+        update_tag(tx, name, tag, version)
+    } else {
+        insert_tag(tx, name, tag, version)
+    }
+}
+
+fn insert_tag<S: Alter>(
+    tx: &mut Transaction<'_, S>,
+    name: &str,
+    tag: &str,
+    version: &str,
+) -> Result<(), Error>
+    requires in_form { InForm S.Store tx.old.conn.now }
+    ensures same_reference { tx.new.conn.ghost_name ≡ tx.old.conn.ghost_name }
+    ensures makes { Makes S.Store tx.old.conn.now tx.new.conn.now result (λ s. with_tag s name.now tag.now version.now) }
+    ensures committed { KeepsCommitted S.Store tx.old.conn.now tx.new.conn.now }
+    ensures survives { AddsNoCrash S.Store tx.old.conn.now tx.new.conn.now }
+{
     tx.execute(
         "INSERT INTO tags VALUES (?1, ?2, ?3)",
         params![name, tag, version],
+    )?;
+    Ok(())
+}
+
+fn update_tag<S: Alter>(
+    tx: &mut Transaction<'_, S>,
+    name: &str,
+    tag: &str,
+    version: &str,
+) -> Result<(), Error>
+    requires in_form { InForm S.Store tx.old.conn.now }
+    ensures same_reference { tx.new.conn.ghost_name ≡ tx.old.conn.ghost_name }
+    ensures makes { Makes S.Store tx.old.conn.now tx.new.conn.now result (λ s. moved s name.now tag.now version.now) }
+    ensures committed { KeepsCommitted S.Store tx.old.conn.now tx.new.conn.now }
+    ensures survives { AddsNoCrash S.Store tx.old.conn.now tx.new.conn.now }
+{
+    tx.execute(
+        "UPDATE tags SET version = ?3 WHERE package = ?1 AND tag = ?2",
+        params![name, tag, version],
+    )?;
+    Ok(())
+}
+
+// Whether the package has this tag.
+fn has_tag<S: Alter>(tx: &mut Transaction<'_, S>, name: &str, tag: &str) -> Result<bool, Error>
+    requires in_form { InForm S.Store tx.old.conn.now }
+    ensures same_reference { tx.new.conn.ghost_name ≡ tx.old.conn.ghost_name }
+    ensures tells { Tells S.Store tx.old.conn.now tx.new.conn.now result (λ has c. has ≡ is_some (at c.registry.tags (name.now, tag.now))) }
+    ensures leaves { LeavesAll S.Store tx.old.conn.now tx.new.conn.now result }
+    ensures committed { KeepsCommitted S.Store tx.old.conn.now tx.new.conn.now }
+    ensures survives { AddsNoCrash S.Store tx.old.conn.now tx.new.conn.now }
+{
+    let rows = tx.query_all(
+        "SELECT version FROM tags WHERE package = ?1 AND tag = ?2",
+        params![name, tag],
+    )?;
+    Ok(!rows.is_empty())
+}
+
+fn drop_tag<S: Alter>(tx: &mut Transaction<'_, S>, name: &str, tag: &str) -> Result<(), Error>
+    requires in_form { InForm S.Store tx.old.conn.now }
+    ensures same_reference { tx.new.conn.ghost_name ≡ tx.old.conn.ghost_name }
+    ensures makes { Makes S.Store tx.old.conn.now tx.new.conn.now result (λ s. without_tag s name.now tag.now) }
+    ensures committed { KeepsCommitted S.Store tx.old.conn.now tx.new.conn.now }
+    ensures survives { AddsNoCrash S.Store tx.old.conn.now tx.new.conn.now }
+{
+    tx.execute(
+        "DELETE FROM tags WHERE package = ?1 AND tag = ?2",
+        params![name, tag],
     )?;
     Ok(())
 }

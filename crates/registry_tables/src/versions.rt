@@ -4,13 +4,15 @@ ghost use Rattle.std.specs.Prelude.{◌≡◌, ℕ, List, IfOk, map, option_map,
 ghost use Rattle.registry_names.specs.Texts.{Text as Bytes};
 ghost use Rattle.registry_names.specs.Maps.{at, of, seen};
 ghost use Rattle.registry_rules.specs.Operations.{with_version};
-ghost use Rattle.registry_rules.specs.Refusals.{version_of};
+ghost use Rattle.registry_rules.specs.Actions.{version_of};
 ghost use Rattle.registry_rules.specs.Standing.{live_entry, sight};
 ghost use Rattle.registry_rules.specs.Steps.{release_of};
+ghost use Rattle.registry_tables.specs.Needs.{version_put};
 ghost use Rattle.registry_tables.specs.Spelled.{bytes_spelled, live_spelled, text_spelled};
-ghost use Rattle.registry_tables.specs.Effects.{InForm, Makes, Tells, LeavesAll, KeepsCommitted, AddsNoCrash};
+ghost use Rattle.registry_tables.specs.Effects.{InForm, Makes, Stores, Tells, LeavesAll, KeepsCommitted, AddsNoCrash};
 
 use crate::error::fault_of;
+use crate::needs::put_needs;
 use registry_names::{Blob, Fault, Moment, Name, Text};
 use registry_publish::PublishForm;
 use registry_rows::{FromRow, read_first, read_rows};
@@ -18,7 +20,8 @@ use registry_rules::LiveVersion;
 use sqlite::{Alter, Error, Row, Transaction, params};
 use std::alloc::Global;
 
-/// Puts the version of a form, published at this moment and not deprecated.
+/// Puts the version of a form, published at this moment and not deprecated, and what it depends
+/// on.
 ///
 /// A package without a status is a fault, and so is a version that lives already.
 pub fn put_version<S: Alter>(
@@ -28,11 +31,26 @@ pub fn put_version<S: Alter>(
 ) -> Result<(), Fault>
     requires in_form { InForm S.Store tx.old.conn.now }
     ensures same_reference { tx.new.conn.ghost_name ≡ tx.old.conn.ghost_name }
-    ensures makes { Makes S.Store tx.old.conn.now tx.new.conn.now result (λ s. with_version s form.now.name (version_of form.now) (release_of form.now published)) }
+    ensures stores { Stores S.Store tx.old.conn.now tx.new.conn.now result (version_put form.now published) }
     ensures committed { KeepsCommitted S.Store tx.old.conn.now tx.new.conn.now }
     ensures survives { AddsNoCrash S.Store tx.old.conn.now tx.new.conn.now }
 {
-    insert_version(tx, form, published).map_err(fault_of)
+    put_release(tx, form, published).map_err(fault_of)
+}
+
+fn put_release<S: Alter>(
+    tx: &mut Transaction<'_, S>,
+    form: &PublishForm,
+    published: Moment,
+) -> Result<(), Error>
+    requires in_form { InForm S.Store tx.old.conn.now }
+    ensures same_reference { tx.new.conn.ghost_name ≡ tx.old.conn.ghost_name }
+    ensures stores { Stores S.Store tx.old.conn.now tx.new.conn.now result (version_put form.now published) }
+    ensures committed { KeepsCommitted S.Store tx.old.conn.now tx.new.conn.now }
+    ensures survives { AddsNoCrash S.Store tx.old.conn.now tx.new.conn.now }
+{
+    insert_version(tx, form, published)?;
+    put_needs(tx, form.name().text(), form.version().text(), form.needs())
 }
 
 fn insert_version<S: Alter>(

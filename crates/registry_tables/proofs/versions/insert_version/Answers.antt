@@ -1,15 +1,15 @@
 use Rattle.std.proofs.Common.{Ok, SFits, w64, rules}
 use Rattle.std.proofs.lemmas.Int.{to_z-of_z}
 use Rattle.sqlite.specs.Held.{state}
-use Rattle.registry_rules.specs.Refusals.{version_of}
+use Rattle.registry_rules.specs.Actions.{version_of}
 use Rattle.registry_tables.proofs.CallFacts.{failed_keeps}
-use Rattle.registry_tables.proofs.VersionFacts.{version_put}
+use Rattle.registry_tables.proofs.VersionFacts.{version_inserted}
 use Rattle.registry_tables.proofs.versions.insert_version.Goals as goal
 
 pub returns-clause-makes : goal.returns-clause-makes
 returns-clause-makes g c clean =
     let fits : SFits w64 c.seconds.result = search rules in
-    version_put c.args.form.now.name (version_of c.args.form.now) c.args.published c.args.form.now.manifest c.args.form.now.archive (state g.S.Store c.args.tx.now.conn.now) (state g.S.Store c.execute.new.self.conn.now) (Ok _) c.requires.in_form (record {
+    version_inserted c.args.form.now.name (version_of c.args.form.now) c.args.published c.args.form.now.manifest c.args.form.now.archive (state g.S.Store c.args.tx.now.conn.now) (state g.S.Store c.execute.new.self.conn.now) (Ok _) c.requires.in_form (record {
       ended = λ off. (_, (c.in_ok-execute.ensures.ended off).0);
       runs = rw (c.params-to_sql.ensures, c.params-to_sql-2.ensures, c.params-to_sql-3.ensures, c.params-to_sql-4.ensures, c.params-to_sql-5.ensures, c.text.ensures.text, c.name.ensures.value, c.text-2.ensures.text, c.version.ensures.value, to_z-of_z w64 c.seconds.result fits, c.seconds.ensures.seconds, c.manifest_text.ensures.value, c.archive.ensures) at c.in_ok-execute.ensures.runs;
       survives = c.in_ok-execute.ensures.survives;

@@ -1,12 +1,12 @@
 use Rattle.std.proofs.Common.{Ok}
 use Rattle.sqlite.specs.Held.{state}
 use Rattle.registry_tables.proofs.CallFacts.{failed_keeps}
-use Rattle.registry_tables.proofs.TagFacts.{tag_put}
-use Rattle.registry_tables.proofs.tags.put_tag.Goals as goal
+use Rattle.registry_tables.proofs.TagFacts.{tag_moved}
+use Rattle.registry_tables.proofs.tags.update_tag.Goals as goal
 
 pub returns-clause-makes : goal.returns-clause-makes
 returns-clause-makes g c clean =
-    tag_put c.args.name.now c.args.tag.now c.args.version.now (state g.S.Store c.args.tx.now.conn.now) (state g.S.Store c.execute.new.self.conn.now) (Ok _) c.requires.in_form (record {
+    tag_moved c.args.name.now c.args.tag.now c.args.version.now (state g.S.Store c.args.tx.now.conn.now) (state g.S.Store c.execute.new.self.conn.now) (Ok _) c.requires.in_form (record {
       ended = λ off. (_, (c.in_ok-execute.ensures.ended off).0);
       runs = rw (c.params-to_sql.ensures, c.params-to_sql-2.ensures, c.params-to_sql-3.ensures) at c.in_ok-execute.ensures.runs;
       survives = c.in_ok-execute.ensures.survives;

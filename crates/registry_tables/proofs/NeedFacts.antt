@@ -1,0 +1,100 @@
+-- What the statements on needs make and show.
+use Rattle.std.proofs.Common.{◌≡◌, ◌==◌, ℕ, List, [], ◌∷◌, ◌++◌, Bool, true, false, cond, not, Option, Some, None, is_some, take, get_or, length, ◌+◌, ◌<◌, Result, OnOk, refl, sym, ap, subst, ◌∙◌, codes}
+use Rattle.std.proofs.lemmas.List.{take_more}
+use Rattle.std.proofs.lemmas.Iterator.Adapters.{option_map_id}
+use Rattle.sqlite.specs.declared.types.Value.TheVariants.{Null, Text as Stored}
+use Rattle.sqlite_value.specs.Order.{Row}
+use Rattle.sqlite_sql.specs.Term.{Term, lit, col}
+use Rattle.sqlite.specs.Source.TheVariants.{Values}
+use Rattle.sqlite.specs.Command.TheVariants.{Insert, Select}
+use Rattle.sqlite.specs.Listing.{understood}
+use Rattle.sqlite.specs.declared.error.Error.{Error}
+use Rattle.sqlite.specs.State.{State as Shown, HasCleanDisk}
+use Rattle.sqlite_tied.specs.Compute.{everything}
+use Rattle.registry_names.specs.Texts.{Text}
+use Rattle.registry_names.specs.Maps.{at, put}
+use Rattle.registry_names.proofs.KeyFacts.{same_true}
+use Rattle.registry_names.proofs.MapFacts.{at-put, same_map}
+use Rattle.registry_publish.specs.Form.{FormParts}
+use Rattle.registry_publish.specs.declared.need.Need.{Need}
+use Rattle.registry_rules.specs.Operations.{with_version}
+use Rattle.registry_rules.specs.Actions.{version_of}
+use Rattle.registry_rules.specs.Steps.{release_of}
+use Rattle.registry_rows.specs.TextKeys.{Texts, TextsMap, texts_are}
+use Rattle.registry_rows.specs.Statements.{Means, MeansQuery, scan, by_texts}
+use Rattle.registry_rows.specs.Ready.{Ready, Leaves, Reads, Executed, Queried}
+use Rattle.registry_rows.proofs.TextKeyFacts.{texts_key}
+use Rattle.registry_rows.proofs.StatementFacts.{insert_puts}
+use Rattle.registry_rows.proofs.LookUpFacts.{select_finds}
+use Rattle.registry_tables.specs.Schema.{schema}
+use Rattle.registry_tables.specs.Contents.{Contents, contents, nothing_in, on_registry, on_need_ranges}
+use Rattle.registry_tables.specs.Needs.{need_key, with_need, with_needs, version_put}
+use Rattle.registry_tables.specs.Effects.{stored}
+use Rattle.registry_tables.proofs.FoundFacts.{some_found}
+use Rattle.registry_tables.proofs.MappedFacts.{need_ranges_mapped}
+
+-- ---- INSERT
+
+abbrev put_text : List ℕ
+put_text = codes "INSERT INTO need_ranges VALUES (?1, ?2, ?3, ?4)"
+
+abbrev put_cells : List Term
+put_cells = col 0 0 ∷ col 0 1 ∷ col 0 2 ∷ col 0 3 ∷ []
+
+put_means : Means schema put_text (Insert 14 (Values (lit Null ∷ put_cells) 5))
+unfolding understood everything
+put_means = (refl, (refl, refl))
+
+pub need_put : (p v : Text) (need : Need) (old new : Shown) (r : Result ℕ Error) → Ready schema old → Executed put_text (Stored p ∷ Stored v ∷ Stored need.target ∷ Stored need.range ∷ []) old new r → HasCleanDisk new
+    → OnOk r (Leaves schema contents (on_need_ranges (λ m. with_need m p v need) (stored old)) new)
+need_put p v need = insert_puts need_ranges_mapped put_text put_cells put_means (Stored p ∷ Stored v ∷ Stored need.target ∷ Stored need.range ∷ []) refl
+
+-- ---- SELECT
+
+abbrev find_text : List ℕ
+find_text = codes "SELECT target FROM need_ranges WHERE package = ?1 AND version = ?2 AND target = ?3 AND range = ?4"
+
+find_means : MeansQuery schema find_text (Select (record { lets = []; body = scan 28 (by_texts 3 1 0) (col 1 3 ∷ []) [] }) (codes "target" ∷ []))
+unfolding understood everything
+find_means = ((refl, (refl, refl)), refl)
+
+pub need_found : (p v : Text) (need : Need) (old new : Shown) (rows : List Row) → Ready schema old → Queried find_text (Stored p ∷ Stored v ∷ Stored need.target ∷ Stored need.range ∷ []) old new rows → HasCleanDisk new
+    → Reads schema old new × (not (length rows == 0) ≡ is_some (at (stored old).need_ranges (need_key p v need)))
+need_found p v need old new rows form call clean =
+    let it = select_finds need_ranges_mapped find_text (col 1 3 ∷ []) _ find_means (need_key p v need) nothing_in (λ u. u) (λ id vs. refl) old new rows form call clean in
+    (it.0, some_found nothing_in rows _ it.1 ∙ ap is_some (option_map_id (at (stored old).need_ranges (need_key p v need))))
+
+-- ---- one need after another
+
+-- a key that is there is put for nothing
+there_already : (m : TextsMap 3 (Unit {0})) (q : Texts 3) → is_some (at m q) ≡ true → put m q tt ≡ m
+there_already m q there = same_map (texts_key 3) _ _ (λ k. at-put (texts_key 3) m q tt k ∙ each k (texts_are 3 q k) refl)
+  where
+    is_there : (o : Option (Unit {0})) → is_some o ≡ true → Some tt ≡ o
+    is_there (Some u) h = refl
+    is_there None h = absurd cc
+
+    each : (k : Texts 3) (b : Bool) → texts_are 3 q k ≡ b → cond b (Some tt) (at m k) ≡ at m k
+    each k true t = is_there (at m q) there ∙ ap (at m) (same_true (texts_key 3) q k t)
+    each k false t = refl
+
+-- a need that is there stands already
+pub stands_already : (p v : Text) (need : Need) (c : Contents) → is_some (at c.need_ranges (need_key p v need)) ≡ true → c ≡ on_need_ranges (λ m. with_need m p v need) c
+stands_already p v need c there = λ i. record c { need_ranges = sym (there_already c.need_ranges (need_key p v need) there) i }
+
+with_needs-more : (p v : Text) (needs : List Need) (need : Need) (m : TextsMap 3 (Unit {0})) → with_needs m p v (needs ++ need ∷ []) ≡ with_need (with_needs m p v needs) p v need
+with_needs-more p v [] need m = refl
+with_needs-more p v (first ∷ needs) need m = with_needs-more p v needs need (with_need m p v first)
+
+-- one more need of the list
+pub needs_next : (p v : Text) (needs : List Need) (i : ℕ) (need : Need) (first mid new : Contents) → i < length needs → need ≡ get_or needs i need → mid ≡ on_need_ranges (λ m. with_needs m p v (take i needs)) first
+    → new ≡ on_need_ranges (λ m. with_need m p v need) mid → new ≡ on_need_ranges (λ m. with_needs m p v (take (i + 1) needs)) first
+needs_next p v needs i need first mid new within is_next so_far once =
+    let more : take (i + 1) needs ≡ take i needs ++ need ∷ [] = take_more needs i need within ∙ ap (λ n. take i needs ++ n ∷ []) (sym is_next) in
+    once ∙ ap (on_need_ranges (λ m. with_need m p v need)) so_far
+    ∙ ap (λ m. on_need_ranges (λ _. m) first) (sym (ap (with_needs first.need_ranges p v) more ∙ with_needs-more p v (take i needs) need first.need_ranges))
+
+-- the needs of a version after the version
+pub version_then_needs : (f : FormParts) (now : ℕ) (old mid new : Shown) (r : Result (Unit {0}) Error) → Leaves schema contents (on_registry (λ s. with_version s f.name (version_of f) (release_of f now)) (stored old)) mid
+    → OnOk r (Leaves schema contents (on_need_ranges (λ m. with_needs m f.name (version_of f) f.needs) (stored mid)) new) → OnOk r (Leaves schema contents (version_put f now (stored old)) new)
+version_then_needs f now old mid new r first second = subst (λ c. OnOk r (Leaves schema contents (on_need_ranges (λ m. with_needs m f.name (version_of f) f.needs) c) new)) first.holds second

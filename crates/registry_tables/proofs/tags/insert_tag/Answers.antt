@@ -1,0 +1,17 @@
+use Rattle.std.proofs.Common.{Ok}
+use Rattle.sqlite.specs.Held.{state}
+use Rattle.registry_tables.proofs.CallFacts.{failed_keeps}
+use Rattle.registry_tables.proofs.TagFacts.{tag_put}
+use Rattle.registry_tables.proofs.tags.insert_tag.Goals as goal
+
+pub returns-clause-makes : goal.returns-clause-makes
+returns-clause-makes g c clean =
+    tag_put c.args.name.now c.args.tag.now c.args.version.now (state g.S.Store c.args.tx.now.conn.now) (state g.S.Store c.execute.new.self.conn.now) (Ok _) c.requires.in_form (record {
+      ended = λ off. (_, (c.in_ok-execute.ensures.ended off).0);
+      runs = rw (c.params-to_sql.ensures, c.params-to_sql-2.ensures, c.params-to_sql-3.ensures) at c.in_ok-execute.ensures.runs;
+      survives = c.in_ok-execute.ensures.survives;
+    }) clean
+
+pub returns-in_err-execute-clause-committed : goal.returns-in_err-execute-clause-committed
+returns-in_err-execute-clause-committed g c clean =
+    failed_keeps g.S.Store c.args.tx.now.conn.now c.execute.new.self.conn.now _ _ _ (λ off. (c.in_err-execute.ensures.ended off).1) (c.in_err-execute.ensures.runs clean)
