@@ -1,5 +1,5 @@
 -- What the registry answers, and a packument from the rows of its package.
-use Rattle.std.proofs.Common.{◌≡◌, List, [], ◌∷◌, ◌++◌, map, refl, sym, ap, ap₂, ◌∙◌, All, Some, None, option_map, unwrap_or}
+use Rattle.std.proofs.Common.{◌≡◌, ℕ, Option, List, [], ◌∷◌, ◌++◌, map, refl, sym, ap, ap₂, ◌∙◌, All, Some, None, option_map, unwrap_or}
 use Rattle.std.proofs.lemmas.List.{map-append}
 use Rattle.std.proofs.lemmas.List.Elements.{All-head, All-tail}
 use Rattle.registry_names.specs.Texts.{Text}
@@ -7,6 +7,8 @@ use Rattle.registry_names.specs.Maps.{at, of, seen}
 use Rattle.registry_names.specs.declared.dist_tag.DistTag.{DistTag}
 use Rattle.registry_names.specs.declared.refusal.Refusal.{Refusal}
 use Rattle.registry_names.proofs.KeyFacts.{text_key}
+use Rattle.registry_names.specs.Versions.{VersionParts, text_of_version}
+use Rattle.registry_packument.specs.Lists.{tags_text}
 use Rattle.registry_packument.specs.Packuments.{packument_of}
 use Rattle.registry_packument.specs.declared.packument.VersionRow.{VersionRow}
 use Rattle.registry_rules.specs.State.{State, Release}
@@ -14,10 +16,10 @@ use Rattle.registry_rules.specs.Refusals.{refusal}
 use Rattle.registry_rules.specs.Standing.{sight, live_entry, tag_entry, AreRowsOf}
 use Rattle.registry_rules.specs.declared.facts.LiveVersion.{LiveVersion}
 use Rattle.registry_rules.specs.declared.facts.PackageRows.{PackageRows}
-use Rattle.registry_rules.specs.declared.reply.Reply.TheVariants.{Doc, Refused}
-use Rattle.registry_rules.specs.declared.request.Action.TheVariants.{Packument}
+use Rattle.registry_rules.specs.declared.reply.Reply.TheVariants.{Doc, Bytes, Refused}
+use Rattle.registry_rules.specs.declared.request.Action.TheVariants.{Packument, Archive, Tags}
 use Rattle.registry_rules.specs.declared.request.Request.{Request}
-use Rattle.registry_desk.specs.Answers.{version_row, manifest_of, row_of, dist_tag, reply, unless_refused, answer}
+use Rattle.registry_desk.specs.Answers.{version_row, archive_of, manifest_of, row_of, dist_tag, reply, unless_refused, answer}
 use Rattle.registry_desk.proofs.PartFacts.{part_found}
 
 -- ---- refused or not
@@ -80,3 +82,15 @@ packument_reply S p rows name versions text stand same_name made written =
     let tags = tags_are S p rows.tags.items stand.tags in
     let shown = made ∙ versions_are S p rows.live.items stand.live in
     ap (λ o. Doc (unwrap_or o [])) (sym written ∙ (λ i. packument_of (same_name i) (tags i) (shown i)))
+
+-- ---- an archive
+
+-- what stands at a live version is the reply
+pub archive_reply : (S : State) (p : Text) (v : VersionParts) (found : Option (List ℕ)) (archive : List ℕ) → found ≡ archive_of S p (text_of_version v) → found ≡ Some archive
+    → Bytes archive ≡ reply S (Archive p v)
+archive_reply S p v found archive is there = ap (λ o. Bytes (unwrap_or o [])) (sym there ∙ is)
+
+-- ---- the tags
+
+pub tags_reply : (S : State) (p : Text) (rows : PackageRows) (text : Text) → AreRowsOf rows S p → text ≡ tags_text rows.tags.items → Doc text ≡ reply S (Tags p)
+tags_reply S p rows text stand written = ap (λ (t : Text). Doc t) (written ∙ ap tags_text (tags_are S p rows.tags.items stand.tags))

@@ -3,7 +3,7 @@ use Rattle.std.proofs.Common.{◌≡◌, ◌∙◌, true, false, sym, ap, subst}
 use Rattle.std.specs.List.{AllByRecursion}
 use Rattle.sqlite.specs.Effect.{Database, IsDatabase}
 use Rattle.sqlite.specs.Held.{Held, state}
-use Rattle.sqlite.specs.State.{State as Shown, Shows}
+use Rattle.sqlite.specs.State.{State as Shown, HasCleanDisk, Shows}
 use Rattle.sqlite.specs.Steps.{IsEmpty}
 use Rattle.sqlite_trees.specs.declared.store.Store.{Ghosts}
 use Rattle.registry_rows.specs.Ready.{IsReady, Leaves}
@@ -29,4 +29,12 @@ committed_rests left mid new leaves shows = record {
   idle = shows.mode;
   in_form = λ _ _. ready_again mid new shows.now_is leaves.ready;
   settled = λ _ _. shows.now_is ∙ sym shows.committed_is;
+}
+
+-- what a commit leaves, however the disk is
+pub commit_rests : (left : Contents) (mid new : Shown) → new.in_transaction ≡ false → (HasCleanDisk new → Leaves schema contents left mid) → (HasCleanDisk new → Shows mid new mid.now mid.now false) → Rests new
+commit_rests left mid new ended leaves shows = record {
+  idle = ended;
+  in_form = λ clean _. ready_again mid new (shows clean).now_is (leaves clean).ready;
+  settled = λ clean _. (shows clean).now_is ∙ sym (shows clean).committed_is;
 }

@@ -3,17 +3,21 @@ use Rattle.std.proofs.Common.{◌≡◌, ◌⊎◌, inl, inr, ℕ, Bool, true, f
 use Rattle.std.proofs.lemmas.Bool.{and_from}
 use Rattle.registry_names.specs.Texts.{Text, is}
 use Rattle.registry_names.specs.Maps.{at}
+use Rattle.registry_names.specs.Versions.{text_of_version}
 use Rattle.registry_names.proofs.TextFacts.{is_true, is_self, is_sym}
 use Rattle.registry_names.proofs.KeyFacts.{pair_key}
-use Rattle.registry_names.proofs.MapFacts.{at-empty}
+use Rattle.registry_names.proofs.MapFacts.{at-empty, at-erase, at-erase_other, at-put}
+use Rattle.registry_rules.specs.Actions.{version_of}
 use Rattle.registry_rules.specs.State.{State, Release, nothing}
-use Rattle.registry_rules.specs.Refusals.{version_of, is_live}
+use Rattle.registry_rules.specs.Refusals.{is_live, stands, refusal_of}
 use Rattle.registry_rules.specs.Steps.{latest, step_of}
 use Rattle.registry_rules.specs.declared.request.Action.{Action}
-use Rattle.registry_rules.specs.declared.request.Action.TheVariants.{Publish, Packument}
+use Rattle.registry_rules.specs.declared.request.Action.TheVariants.{Publish, TagSet, TagRemove, Packument, Archive, Tags}
 use Rattle.registry_rules.specs.declared.request.Caller.{Caller}
-use Rattle.registry_desk.specs.History.{Entry, after}
-use Rattle.registry_desk.specs.Readings.{or_before, other_tag, latest_tag, HasTags}
+use Rattle.registry_rules.proofs.AllowedFacts.{is_there, isnt_kept}
+use Rattle.registry_rules.proofs.PutFacts.{each_left, each_put, still_there}
+use Rattle.registry_desk.specs.History.{Entry, Legal, after}
+use Rattle.registry_desk.specs.Readings.{or_before, unless_ended, other_tag, latest_tag, HasTags}
 use Rattle.registry_desk.proofs.PublishFacts.{at-live, at-tags}
 
 -- ---- a tag after a publish; `here` says that it is of this package, `alike` that it is the form's, `newest` that it is `latest`, and `first` that no `latest` stood
@@ -61,6 +65,20 @@ stands_after true same false false newest v r lived (Some w) n none stood lives 
 stands_after false same alike true newest v r lived old n none stood lives = stood lives
 stands_after false same alike false newest v r lived old n none stood lives = stood lives
 
+-- ---- a tag after it is set, or removed
+
+set_after : (b : Bool) (v : Text) (old said : Option Text) → old ≡ said → cond b (Some v) old ≡ or_before (cond b (Some v) None) said
+set_after true v old said same = refl
+set_after false v old said same = same
+
+removed_after : (b : Bool) (old said : Option Text) → old ≡ said → cond b None old ≡ or_before None (unless_ended b said)
+removed_after true old said same = refl
+removed_after false old said same = same
+
+never_both : (b c : Bool) → c ≡ false → (b && c) ≡ false
+never_both true c e = e
+never_both false c e = refl
+
 -- ---- the induction
 
 -- of `latest`, and of each other tag, the history speaks apart
@@ -78,9 +96,9 @@ tagged_nil = record {
   stands = λ p v lives. absurd (true≢false (sym lives ∙ ap is_some (at-empty {X = Release} pair_key (p, v))));
 }
 
-tagged_step : (now : ℕ) (who : Caller) (c : Action) (h : List Entry) (S : State) → Tagged h S
+tagged_step : (now : ℕ) (who : Caller) (c : Action) (h : List Entry) (S : State) → Tagged h S → refusal_of S c ≡ None
     → Tagged (record { at = now; who = who; what = c } ∷ h) (step_of S now c)
-tagged_step now who (Publish f) h S has =
+tagged_step now who (Publish f) h S has ok =
     let none : (p : Text) → is f.name p ≡ true → is_none (at S.tags (f.name, latest)) ≡ is_none (at S.tags (p, latest)) =
     λ p e. ap (λ q. is_none (at S.tags (q, latest))) (is_true f.name p e) in
     record {
@@ -97,11 +115,30 @@ tagged_step now who (Publish f) h S has =
           ∙ stands_after (is f.name p) (is (version_of f) v) (is f.tag latest) _ (is latest latest) (version_of f) _ _ _ (is_self latest) (none p) (has.stands p v)
           (ap is_some (sym (at-live S f now (p, v))) ∙ lives);
     }
-tagged_step now who (Packument p) h S has = record { newest = has.newest; other = has.other; named = has.named; stands = has.stands }
+tagged_step now who (TagSet q u v) h S has ok =
+    let w = text_of_version v in
+    record {
+      newest = λ p. at-put pair_key S.tags (q, u) w (p, latest) ∙ set_after (is q p && is u latest) w _ _ (has.newest p);
+      other = λ p t apart. at-put pair_key S.tags (q, u) w (p, t) ∙ set_after (is q p && is u t) w _ _ (has.other p t apart);
+      named = λ p t x e. each_put pair_key S.tags (q, u) w (λ k y. is_live S k.0 y ≡ true) (λ k y. has.named k.0 k.1 y) (is_there _ ok) (p, t) x e;
+      stands = λ p x lives. still_there pair_key S.tags (q, u) w (p, latest) (has.stands p x lives);
+    }
+tagged_step now who (TagRemove q u) h S has ok =
+    let other : is u latest ≡ false = isnt_kept (stands S q u) (is u latest) ok in
+    let apart = λ (p : Text). at-erase_other pair_key S.tags (q, u) (p, latest) (never_both (is q p) (is u latest) other) in
+    record {
+      newest = λ p. apart p ∙ has.newest p;
+      other = λ p t e. at-erase pair_key S.tags (q, u) (p, t) ∙ removed_after (is q p && is u t) _ _ (has.other p t e);
+      named = λ p t v e. has.named p t v (each_left pair_key S.tags (q, u) (p, t) v e);
+      stands = λ p v lives. ap is_some (apart p) ∙ has.stands p v lives;
+    }
+tagged_step now who (Packument p) h S has ok = record { newest = has.newest; other = has.other; named = has.named; stands = has.stands }
+tagged_step now who (Archive p v) h S has ok = record { newest = has.newest; other = has.other; named = has.named; stands = has.stands }
+tagged_step now who (Tags p) h S has ok = record { newest = has.newest; other = has.other; named = has.named; stands = has.stands }
 
-all_tagged : (h : List Entry) → Tagged h (after h)
-all_tagged [] = tagged_nil
-all_tagged (e ∷ h) = tagged_step e.at e.who e.what h (after h) (all_tagged h)
+all_tagged : (h : List Entry) → Legal h → Tagged h (after h)
+all_tagged [] legal = tagged_nil
+all_tagged (e ∷ h) legal = tagged_step e.at e.who e.what h (after h) (all_tagged h legal.2) legal.1
 
 -- ---- what the record of the readings says
 
@@ -113,9 +150,9 @@ there : {X : Type 0} (o : Option X) → is_some o ≡ true → (x : X) × (o ≡
 there None e = absurd (true≢false (sym e))
 there (Some x) e = (x, refl)
 
-pub has_tags : (h : List Entry) → HasTags h (after h)
-has_tags h =
-    let has = all_tagged h in
+pub has_tags : (h : List Entry) → Legal h → HasTags h (after h)
+has_tags h legal =
+    let has = all_tagged h legal in
     record {
       tags = λ p t. tag_is h (after h) has p t _ refl;
       named = has.named;

@@ -3,11 +3,12 @@ use Rattle.std.proofs.Common.{◌≡◌, ℕ, Bool, true, false, cond, ◌||◌,
 use Rattle.registry_names.specs.Keys.{pair_is}
 use Rattle.registry_names.proofs.KeyFacts.{pair_key}
 use Rattle.registry_names.proofs.MapFacts.{at-empty}
+use Rattle.registry_rules.specs.Actions.{version_of}
 use Rattle.registry_rules.specs.State.{State}
-use Rattle.registry_rules.specs.Refusals.{version_of, refusal_of}
+use Rattle.registry_rules.specs.Refusals.{refusal_of}
 use Rattle.registry_rules.specs.Steps.{release_of, step_of}
 use Rattle.registry_rules.specs.declared.request.Action.{Action}
-use Rattle.registry_rules.specs.declared.request.Action.TheVariants.{Publish, Packument}
+use Rattle.registry_rules.specs.declared.request.Action.TheVariants.{Publish, TagSet, TagRemove, Packument, Archive, Tags}
 use Rattle.registry_rules.specs.declared.request.Caller.{Caller}
 use Rattle.registry_desk.specs.History.{Entry, Legal, after}
 use Rattle.registry_desk.specs.Readings.{or_before, HasVersions, HasRecords}
@@ -29,7 +30,11 @@ versions_step now who (Publish f) h S has ok = record {
   once = (sym (has.live (f.name, version_of f)) ∙ (publish_passes S f ok).0, has.once);
   live = λ k. ap is_some (at-live S f now k) ∙ put_there (pair_is (f.name, version_of f) k) (release_of f now) _ _ (has.live k);
 }
+versions_step now who (TagSet p t v) h S has ok = record { once = has.once; live = has.live }
+versions_step now who (TagRemove p t) h S has ok = record { once = has.once; live = has.live }
 versions_step now who (Packument p) h S has ok = record { once = has.once; live = has.live }
+versions_step now who (Archive p v) h S has ok = record { once = has.once; live = has.live }
+versions_step now who (Tags p) h S has ok = record { once = has.once; live = has.live }
 
 pub has_versions : (h : List Entry) → Legal h → HasVersions h (after h)
 has_versions [] legal = record { once = tt; live = λ k. ap is_some (at-empty pair_key k) }
@@ -40,7 +45,11 @@ records_step : (now : ℕ) (who : Caller) (c : Action) (h : List Entry) (S : Sta
 records_step now who (Publish f) h S has = record {
   records = λ k. at-live S f now k ∙ put_before (pair_is (f.name, version_of f) k) (release_of f now) _ _ (has.records k);
 }
+records_step now who (TagSet p t v) h S has = record { records = has.records }
+records_step now who (TagRemove p t) h S has = record { records = has.records }
 records_step now who (Packument p) h S has = record { records = has.records }
+records_step now who (Archive p v) h S has = record { records = has.records }
+records_step now who (Tags p) h S has = record { records = has.records }
 
 pub has_records : (h : List Entry) → HasRecords h (after h)
 has_records [] = record { records = at-empty pair_key }

@@ -5,7 +5,9 @@
 #![tactic(auto)]
 
 mod answer;
+mod command;
 pub mod laws;
+mod query;
 mod registry;
 
 pub use crate::registry::Registry;

@@ -7,14 +7,15 @@ ghost use Rattle.sqlite.specs.Steps.{IsEmpty, over_memory};
 ghost use Rattle.sqlite_trees.specs.Tree.{Trees};
 ghost use Rattle.registry_rules.specs.Kept.{IsKept};
 ghost use Rattle.registry_rules.specs.State.{nothing};
-ghost use Rattle.registry_tables.specs.Contents.{contents, on_registry};
+ghost use Rattle.registry_tables.specs.Contents.{contents};
 ghost use Rattle.registry_tables.specs.Effects.{registry_in, stored};
 ghost use Rattle.registry_tables.specs.Fresh.{fresh};
+ghost use Rattle.registry_tables.specs.Needs.{HoldsNeeds};
 ghost use Rattle.registry_desk.specs.Headline.{Headline};
 ghost use Rattle.registry_desk.specs.History.{Entry, Legal, after};
 ghost use Rattle.registry_desk.specs.Readings.{Stands};
-ghost use Rattle.registry_desk.specs.Resting.{Rests, settled_by};
-ghost use Rattle.registry_desk.specs.Runs.{IsAnswer, Ran, grown, history, next};
+ghost use Rattle.registry_desk.specs.Resting.{Rests, next_stored, settled_by};
+ghost use Rattle.registry_desk.specs.Runs.{IsAnswer, Ran, grown, history};
 
 use crate::answer::answered_inside;
 use registry_names::Fault;
@@ -51,6 +52,7 @@ impl Registry<MemStore> {
     /// An empty registry in memory, or a fault.
     pub fn in_memory(alloc: Global) -> Result<Registry<MemStore>, Fault>
         ensures empty { IfOk result (λ r. registry_in (state over_memory r) ≡ nothing) }
+        ensures needs { IfOk result (λ r. HoldsNeeds (stored (state over_memory r))) }
         ensures served { IfOk result (λ r. IsTrue (state over_memory r).is_open) }
     {
         let Ok(mut conn) = Connection::open_in_memory(alloc) else {
@@ -72,10 +74,11 @@ impl<S: Alter> Registry<S> {
         ensures answer { HasCleanDisk (state S.Store self.new) → IsAnswer (registry_in (state S.Store self.old)) request.now result }
         ensures served { HasCleanDisk (state S.Store self.new) → OnOk result (IsTrue (state S.Store self.old).is_open) }
         ensures opened { HasCleanDisk (state S.Store self.new) → IsTrue (state S.Store self.new).is_open → IsTrue (state S.Store self.old).is_open }
-        ensures step { HasCleanDisk (state S.Store self.new) → IsTrue (state S.Store self.new).is_open → stored (state S.Store self.new) ≡ on_registry (λ s. next s request.now result) (stored (state S.Store self.old)) }
+        ensures step { HasCleanDisk (state S.Store self.new) → IsTrue (state S.Store self.new).is_open → stored (state S.Store self.new) ≡ next_stored request.now result (stored (state S.Store self.old)) }
         ensures history { HasCleanDisk (state S.Store self.new) → IsTrue (state S.Store self.new).is_open → (h : List Entry) → Legal h → registry_in (state S.Store self.old) ≡ after h → Stands (grown h request.now result) (registry_in (state S.Store self.new)) }
         ensures form { HasCleanDisk (state S.Store self.new) → IsTrue (state S.Store self.new).is_open → IsKept (registry_in (state S.Store self.old)) → IsKept (registry_in (state S.Store self.new)) }
-        ensures survives { Survives (state S.Store self.old) (state S.Store self.new) (λ db. contents db ≡ on_registry (settled_by request.now) (stored (state S.Store self.old))) }
+        ensures needs { HasCleanDisk (state S.Store self.new) → IsTrue (state S.Store self.new).is_open → HoldsNeeds (stored (state S.Store self.old)) → HoldsNeeds (stored (state S.Store self.new)) }
+        ensures survives { Survives (state S.Store self.old) (state S.Store self.new) (λ db. contents db ≡ settled_by request.now (stored (state S.Store self.old))) }
         ensures stays { HasCleanDisk (state S.Store self.new) → OnOk result ((db : Trees) → (state S.Store self.new).may_leave db → contents db ≡ stored (state S.Store self.new)) }
     {
         requests_are_in_form(request);
@@ -148,8 +151,8 @@ fn answered<S: Alter>(
     ensures answer { HasCleanDisk (state S.Store conn.new) → IsAnswer (registry_in (state S.Store conn.old)) request.now result }
     ensures served { HasCleanDisk (state S.Store conn.new) → OnOk result (IsTrue (state S.Store conn.old).is_open) }
     ensures opened { HasCleanDisk (state S.Store conn.new) → IsTrue (state S.Store conn.new).is_open → IsTrue (state S.Store conn.old).is_open }
-    ensures step { HasCleanDisk (state S.Store conn.new) → IsTrue (state S.Store conn.new).is_open → stored (state S.Store conn.new) ≡ on_registry (λ s. next s request.now result) (stored (state S.Store conn.old)) }
-    ensures survives { Survives (state S.Store conn.old) (state S.Store conn.new) (λ db. contents db ≡ on_registry (settled_by request.now) (stored (state S.Store conn.old))) }
+    ensures step { HasCleanDisk (state S.Store conn.new) → IsTrue (state S.Store conn.new).is_open → stored (state S.Store conn.new) ≡ next_stored request.now result (stored (state S.Store conn.old)) }
+    ensures survives { Survives (state S.Store conn.old) (state S.Store conn.new) (λ db. contents db ≡ settled_by request.now (stored (state S.Store conn.old))) }
     ensures stays { HasCleanDisk (state S.Store conn.new) → OnOk result ((db : Trees) → (state S.Store conn.new).may_leave db → contents db ≡ stored (state S.Store conn.new)) }
 {
     let mut tx = conn.transaction();

@@ -148,7 +148,7 @@ fn publish_and_ask<S: Alter>(
     match registry.apply(alloc, &at_first(Action::Packument { name }))? {
         Reply::Doc(text) => Ok(text),
         Reply::Refused(refusal) => Err(Ending::Refused(refusal)),
-        Reply::Created => Err(Ending::from(Fault::Database)),
+        Reply::Created | Reply::Done | Reply::Bytes(_) => Err(Ending::from(Fault::Database)),
     }
 }
 

@@ -1,6 +1,7 @@
 -- The lists that the registry answers with, as values.
 use Rattle.std.specs.Prelude.{ℕ, List, codes}
 use Rattle.serde_json.specs.Data.{Data, array, object}
+use Rattle.serde_json.specs.Written.{compact_text}
 use Rattle.registry_packument.specs.TextValues.{text_items, text_members}
 use Rattle.registry_packument.specs.declared.list.MemberRole.{MemberRole}
 use Rattle.registry_packument.specs.declared.list.MemberRole.TheVariants.{Developer, Admin, Owner}
@@ -39,3 +40,7 @@ list_value (Tags rows) = object (text_members tag_texts rows.items)
 list_value (Members rows) = object (text_members member_texts rows.items)
 list_value (Names names) = array (text_items names.items)
 list_value (Grants rows) = object (text_members grant_texts rows.items)
+
+-- the text of tags, each with its version
+abbrev pub tags_text : List DistTag → List ℕ
+tags_text rows = compact_text (object (text_members tag_texts rows))

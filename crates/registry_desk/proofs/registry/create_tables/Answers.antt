@@ -1,14 +1,12 @@
-use Rattle.std.proofs.Common.{◌≡◌, ◌∙◌, arith, rules, ap, sym, subst}
+use Rattle.std.proofs.Common.{◌≡◌, ◌∙◌, arith, rules, ap, subst}
 use Rattle.sqlite.specs.Held.{state}
 use Rattle.sqlite.specs.State.{HasCleanDisk, Survives}
 use Rattle.sqlite.proofs.StateLemmas.{survives_then}
 use Rattle.sqlite.proofs.Callers.{survives_begin}
 use Rattle.sqlite_trees.specs.Tree.{Trees}
-use Rattle.registry_rows.specs.Ready.{Leaves}
 use Rattle.registry_tables.specs.Contents.{contents}
 use Rattle.registry_tables.specs.Effects.{HasNoTables}
 use Rattle.registry_tables.specs.Fresh.{fresh}
-use Rattle.registry_tables.specs.Schema.{schema}
 use Rattle.registry_desk.specs.Resting.{Rests}
 use Rattle.registry_desk.proofs.CommitFacts.{empty_begun, committed_rests}
 use Rattle.registry_desk.proofs.registry.create_tables.Goals as goal

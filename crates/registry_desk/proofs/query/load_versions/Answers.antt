@@ -1,4 +1,4 @@
-use Rattle.std.proofs.Common.{◌≡◌, ◌∙◌, ap, arith}
+use Rattle.std.proofs.Common.{◌∙◌, ap, arith}
 use Rattle.sqlite.specs.Held.{state}
 use Rattle.sqlite.specs.State.{HasCleanDisk}
 use Rattle.registry_tables.specs.Contents.{Contents}
@@ -6,7 +6,7 @@ use Rattle.registry_tables.specs.Effects.{stored, registry_in}
 use Rattle.registry_desk.specs.Answers.{row_of}
 use Rattle.registry_desk.proofs.AnswerFacts.{rows_push}
 use Rattle.registry_desk.proofs.EffectFacts.{keeps_then, survives_both, leaves_read}
-use Rattle.registry_desk.proofs.answer.load_versions.Goals as goal
+use Rattle.registry_desk.proofs.query.load_versions.Goals as goal
 
 pub loop-version-preserved : goal.loop-version-preserved
 loop-version-preserved g c =
