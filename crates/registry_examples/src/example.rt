@@ -30,8 +30,18 @@ pub enum Ask {
     /// The publication of a version whose manifest has its name and its version alone, with the
     /// archive `abc`.
     Publish(&'static str, &'static str),
+    /// The same under a tag other than `latest`: name, version and tag.
+    PublishUnder(&'static str, &'static str, &'static str),
+    /// To let a tag name a version: package, tag and version.
+    TagSet(&'static str, &'static str, &'static str),
+    /// To remove a tag of a package.
+    TagRemove(&'static str, &'static str),
     /// The packument of a package.
     Packument(&'static str),
+    /// The archive of a version of a package.
+    Archive(&'static str, &'static str),
+    /// The tags of a package.
+    Tags(&'static str),
 }
 
 /// What is answered.
@@ -39,8 +49,12 @@ pub enum Ask {
 pub enum Expected {
     /// The version was published.
     Created,
+    /// The command was done.
+    Done,
     /// This document.
     Doc(&'static str),
+    /// The bytes of this text.
+    Bytes(&'static str),
     /// A refusal.
     Refused(Refusal),
 }

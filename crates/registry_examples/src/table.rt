@@ -11,8 +11,16 @@ const KIT_BODY: &str =
 const KIT_PACKUMENT: &str =
     r#"{"_id":"@lab/kit","dist-tags":{"latest":"1.0.0"},"name":"@lab/kit","versions":{"1.0.0":{"dist":{"integrity":"sha512-3a81oZNherrMQXNJriBBMRLm+k6JqX6iCp7u5ktV05ohkpkqJ0/BqDa6PCOj/uu9RU1EI2Q86A4qmslPpUyknw==","shasum":"a9993e364706816aba3e25717850c26c9cd0d89d","tarball":"http://localhost:8080/@lab/kit/-/@lab/kit-1.0.0.tgz"},"name":"@lab/kit","version":"1.0.0"}}}"#;
 
+/// The body of `@lab/kit` 1.0.1 with an archive of no bytes.
+const EMPTY_BODY: &str =
+    r#"{"name":"@lab/kit","versions":{"1.0.1":{"name":"@lab/kit","version":"1.0.1","dist":{"integrity":"sha512-z4PhNX7vuL3xVChQ1m2AB9Yg5AULVxXcg/SpIdNs6c5H0NE8XYXysP+DGNKHfuwvY7kxvUdBeoGlODJ6+SfaPg=="}}},"_attachments":{"a":{"data":"","length":0}}}"#;
+
+/// A body that asks for a status that no package without a scope can have.
+const RESTRICTED_BODY: &str =
+    r#"{"name":"tool","versions":{"1.0.0":{"name":"tool","version":"1.0.0"}},"access":"restricted","_attachments":{"a":{"data":"YWJj"}}}"#;
+
 /// All examples.
-pub const EXAMPLES: [Example; 5] = [
+pub static EXAMPLES: [Example; 10] = [
     Example {
         shows: "the body of @lab/kit gives its packument byte for byte",
         steps: &[
@@ -162,6 +170,181 @@ pub const EXAMPLES: [Example; 5] = [
                 expected: Expected::Doc(
                     r#"{"_id":"kid","dist-tags":{"latest":"1.0.0"},"name":"kid","versions":{"1.0.0":{"name":"kid","version":"1.0.0"},"2.0.0":{"name":"kid","version":"2.0.0"}}}"#,
                 ),
+            },
+        ],
+    },
+    Example {
+        shows: "a publish under another tag sets latest too where none stands, and only then",
+        steps: &[
+            Step {
+                at: 1,
+                ask: Ask::PublishUnder("kit", "1.0.0", "next"),
+                expected: Expected::Created,
+            },
+            Step {
+                at: 1,
+                ask: Ask::Tags("kit"),
+                expected: Expected::Doc(r#"{"latest":"1.0.0","next":"1.0.0"}"#),
+            },
+            Step {
+                at: 2,
+                ask: Ask::PublishUnder("kit", "1.1.0", "next"),
+                expected: Expected::Created,
+            },
+            Step {
+                at: 2,
+                ask: Ask::Tags("kit"),
+                expected: Expected::Doc(r#"{"latest":"1.0.0","next":"1.1.0"}"#),
+            },
+        ],
+    },
+    Example {
+        shows: "latest is kept, and what isn't there is neither named nor removed",
+        steps: &[
+            Step {
+                at: 100,
+                ask: Ask::Body(KIT_BODY),
+                expected: Expected::Created,
+            },
+            Step {
+                at: 101,
+                ask: Ask::TagRemove("@lab/kit", "latest"),
+                expected: Expected::Refused(Refusal::KeepsLatest),
+            },
+            Step {
+                at: 102,
+                ask: Ask::TagSet("@lab/kit", "latest", "3.0.0"),
+                expected: Expected::Refused(Refusal::NotFound),
+            },
+            Step {
+                at: 103,
+                ask: Ask::TagRemove("@lab/kit", "next"),
+                expected: Expected::Refused(Refusal::NotFound),
+            },
+            Step {
+                at: 104,
+                ask: Ask::Tags("@lab/kit"),
+                expected: Expected::Doc(r#"{"latest":"1.0.0"}"#),
+            },
+            Step {
+                at: 105,
+                ask: Ask::Packument("@lab/kit"),
+                expected: Expected::Doc(KIT_PACKUMENT),
+            },
+        ],
+    },
+    Example {
+        shows: "a tag names the version to which it was set last, until it is removed",
+        steps: &[
+            Step {
+                at: 1,
+                ask: Ask::Publish("kit", "1.0.0"),
+                expected: Expected::Created,
+            },
+            Step {
+                at: 2,
+                ask: Ask::Publish("kit", "1.1.0"),
+                expected: Expected::Created,
+            },
+            Step {
+                at: 3,
+                ask: Ask::TagSet("kit", "beta", "1.0.0"),
+                expected: Expected::Done,
+            },
+            Step {
+                at: 4,
+                ask: Ask::TagSet("kit", "latest", "1.0.0"),
+                expected: Expected::Done,
+            },
+            Step {
+                at: 5,
+                ask: Ask::Tags("kit"),
+                expected: Expected::Doc(r#"{"beta":"1.0.0","latest":"1.0.0"}"#),
+            },
+            Step {
+                at: 6,
+                ask: Ask::TagSet("kit", "beta", "1.1.0"),
+                expected: Expected::Done,
+            },
+            Step {
+                at: 7,
+                ask: Ask::Tags("kit"),
+                expected: Expected::Doc(r#"{"beta":"1.1.0","latest":"1.0.0"}"#),
+            },
+            Step {
+                at: 8,
+                ask: Ask::TagRemove("kit", "beta"),
+                expected: Expected::Done,
+            },
+            Step {
+                at: 9,
+                ask: Ask::TagRemove("kit", "beta"),
+                expected: Expected::Refused(Refusal::NotFound),
+            },
+            Step {
+                at: 10,
+                ask: Ask::Tags("kit"),
+                expected: Expected::Doc(r#"{"latest":"1.0.0"}"#),
+            },
+        ],
+    },
+    Example {
+        shows: "an archive comes back as it was sent, one of no bytes too",
+        steps: &[
+            Step {
+                at: 100,
+                ask: Ask::Body(KIT_BODY),
+                expected: Expected::Created,
+            },
+            Step {
+                at: 100,
+                ask: Ask::Archive("@lab/kit", "1.0.0"),
+                expected: Expected::Bytes("abc"),
+            },
+            Step {
+                at: 100,
+                ask: Ask::Archive("@lab/kit", "1.0.1"),
+                expected: Expected::Refused(Refusal::NotFound),
+            },
+            Step {
+                at: 101,
+                ask: Ask::Body(EMPTY_BODY),
+                expected: Expected::Created,
+            },
+            Step {
+                at: 101,
+                ask: Ask::Archive("@lab/kit", "1.0.1"),
+                expected: Expected::Bytes(""),
+            },
+            Step {
+                at: 101,
+                ask: Ask::Archive("kit", "1.0.1"),
+                expected: Expected::Refused(Refusal::NotFound),
+            },
+        ],
+    },
+    Example {
+        shows: "a package without a scope is always public, and a refusal leaves nothing",
+        steps: &[
+            Step {
+                at: 1,
+                ask: Ask::Body(RESTRICTED_BODY),
+                expected: Expected::Refused(Refusal::AlwaysPublic),
+            },
+            Step {
+                at: 2,
+                ask: Ask::Packument("tool"),
+                expected: Expected::Refused(Refusal::NotFound),
+            },
+            Step {
+                at: 2,
+                ask: Ask::Tags("tool"),
+                expected: Expected::Refused(Refusal::NotFound),
+            },
+            Step {
+                at: 2,
+                ask: Ask::Archive("tool", "1.0.0"),
+                expected: Expected::Refused(Refusal::NotFound),
             },
         ],
     },

@@ -5,7 +5,7 @@ mod rounds;
 use crate::example::{Ask, Example, Expected, Step};
 use crate::table::EXAMPLES;
 use registry_desk::Registry;
-use registry_names::{Fault, Moment, Name, Stop};
+use registry_names::{Fault, Moment, Name, Stop, TagText, Ver};
 use registry_publish::PublishForm;
 use registry_rules::{Action, Credential, Reply, Request};
 use std::alloc::{AllocError, Global};
@@ -51,7 +51,14 @@ fn request_of(alloc: Global, step: &Step) -> Result<Request, Stop> {
     let what = match step.ask {
         Ask::Body(body) => publish(alloc, body)?,
         Ask::Publish(name, version) => publish(alloc, &body_of(alloc, name, version)?)?,
+        Ask::PublishUnder(name, version, tag) => {
+            publish(alloc, &body_under(alloc, name, version, tag)?)?
+        }
+        Ask::TagSet(name, tag, version) => tag_set(alloc, name, tag, version)?,
+        Ask::TagRemove(name, tag) => tag_remove(alloc, name, tag)?,
         Ask::Packument(name) => packument(alloc, name)?,
+        Ask::Archive(name, version) => archive(alloc, name, version)?,
+        Ask::Tags(name) => tags(alloc, name)?,
     };
     Ok(request(step.at, what))
 }
@@ -76,6 +83,40 @@ fn packument(alloc: Global, name: &str) -> Result<Action, Stop> {
     })
 }
 
+fn tag_set(alloc: Global, name: &str, tag: &str, version: &str) -> Result<Action, Stop> {
+    Ok(Action::TagSet {
+        name: Name::parse(alloc, name)?,
+        tag: TagText::shape(alloc, tag)?,
+        version: Ver::parse(alloc, version)?,
+    })
+}
+
+fn tag_remove(alloc: Global, name: &str, tag: &str) -> Result<Action, Stop> {
+    Ok(Action::TagRemove {
+        name: Name::parse(alloc, name)?,
+        tag: TagText::shape(alloc, tag)?,
+    })
+}
+
+fn archive(alloc: Global, name: &str, version: &str) -> Result<Action, Stop> {
+    Ok(Action::Archive {
+        name: Name::parse(alloc, name)?,
+        version: Ver::parse(alloc, version)?,
+    })
+}
+
+fn tags(alloc: Global, name: &str) -> Result<Action, Stop> {
+    Ok(Action::Tags {
+        name: Name::parse(alloc, name)?,
+    })
+}
+
+fn body_under(alloc: Global, name: &str, version: &str, tag: &str) -> Result<String, AllocError> {
+    format!(in alloc;
+        "{{\"name\":\"{name}\",\"dist-tags\":{{\"{tag}\":\"{version}\"}},\"versions\":{{\"{version}\":{{\"name\":\"{name}\",\"version\":\"{version}\"}}}},\"_attachments\":{{\"a\":{{\"data\":\"YWJj\"}}}}}}"
+    )
+}
+
 fn body_of(alloc: Global, name: &str, version: &str) -> Result<String, AllocError> {
     format!(in alloc;
         "{{\"name\":\"{name}\",\"versions\":{{\"{version}\":{{\"name\":\"{name}\",\"version\":\"{version}\"}}}},\"_attachments\":{{\"a\":{{\"data\":\"YWJj\"}}}}}}"
@@ -93,7 +134,9 @@ fn are_expected(outcomes: &[Result<Reply, Fault>], steps: &[Step]) -> bool {
 fn is_expected(outcome: &Result<Reply, Fault>, expected: &Expected) -> bool {
     match (outcome, expected) {
         (Ok(Reply::Created), Expected::Created) => true,
+        (Ok(Reply::Done), Expected::Done) => true,
         (Ok(Reply::Doc(text)), Expected::Doc(wanted)) => text.as_str() == *wanted,
+        (Ok(Reply::Bytes(bytes)), Expected::Bytes(wanted)) => bytes.as_slice() == wanted.as_bytes(),
         (Ok(Reply::Refused(refusal)), Expected::Refused(wanted)) => refusal == wanted,
         _ => false,
     }
