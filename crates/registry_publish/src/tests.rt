@@ -1,6 +1,11 @@
 //! Bodies that are read and bodies that are refused, from the rules as they are written down.
 
+mod archives;
+mod asked;
+mod client;
+mod members;
 mod needs;
+mod order;
 mod tokens;
 
 use crate::{PublishForm, integrity_of};
@@ -15,6 +20,12 @@ const KIT: &str =
 const KIT_MANIFEST: &str =
     r#"{"dist":{"integrity":"sha512-3a81oZNherrMQXNJriBBMRLm+k6JqX6iCp7u5ktV05ohkpkqJ0/BqDa6PCOj/uu9RU1EI2Q86A4qmslPpUyknw==","shasum":"a9993e364706816aba3e25717850c26c9cd0d89d","tarball":"http://localhost:8080/@lab/kit/-/@lab/kit-1.0.0.tgz"},"name":"@lab/kit","version":"1.0.0"}"#;
 
+const ABC_INTEGRITY: &str =
+    "sha512-3a81oZNherrMQXNJriBBMRLm+k6JqX6iCp7u5ktV05ohkpkqJ0/BqDa6PCOj/uu9RU1EI2Q86A4qmslPpUyknw==";
+
+const EMPTY_INTEGRITY: &str =
+    "sha512-z4PhNX7vuL3xVChQ1m2AB9Yg5AULVxXcg/SpIdNs6c5H0NE8XYXysP+DGNKHfuwvY7kxvUdBeoGlODJ6+SfaPg==";
+
 const TOO_LARGE: Option<Stop> = Some(Stop::Refused(Refusal::TooLarge));
 
 const BAD_BODY: Option<Stop> = Some(Stop::Refused(Refusal::BadBody));
@@ -22,6 +33,12 @@ const BAD_BODY: Option<Stop> = Some(Stop::Refused(Refusal::BadBody));
 const BAD_NAME: Option<Stop> = Some(Stop::Refused(Refusal::BadName));
 
 const BAD_VERSION: Option<Stop> = Some(Stop::Refused(Refusal::BadVersion));
+
+const RANGE_TAG: Option<Stop> = Some(Stop::Refused(Refusal::RangeTag));
+
+const BAD_TAG: Option<Stop> = Some(Stop::Refused(Refusal::BadTag));
+
+const BAD_INTEGRITY: Option<Stop> = Some(Stop::Refused(Refusal::BadIntegrity));
 
 fn stop_of(answer: Result<PublishForm, Stop>) -> Option<Stop> {
     match answer {
@@ -34,6 +51,10 @@ fn stop_of(answer: Result<PublishForm, Stop>) -> Option<Stop> {
 fn read_with(alloc: Global, from: &str, to: &str) -> Result<PublishForm, Stop> {
     let body = KIT.replace(alloc, from, to)?;
     PublishForm::read(alloc, body.as_bytes())
+}
+
+fn stop_with(alloc: Global, from: &str, to: &str) -> Option<Stop> {
+    stop_of(read_with(alloc, from, to))
 }
 
 // The example's manifest has one more member, of so many arrays in one another.
@@ -80,7 +101,7 @@ fn broken_bodies(rt: HostRuntime) -> Result<(), Fail> {
         ("\"version\":\"1.0.0\"", "\"version\":\"1.0.1\""),
         ("\"version\":", "\"name\":\"@lab/kits\",\"version\":"),
     ] {
-        assert_eq!(rt; stop_of(read_with(rt.alloc(), from, to)), BAD_BODY, "{to}");
+        assert_eq!(rt; stop_with(rt.alloc(), from, to), BAD_BODY, "{to}");
     }
     let cut = match KIT.as_bytes().split_last() {
         Some((_, cut)) => cut,
@@ -96,6 +117,16 @@ fn a_body_of_too_many_bytes(rt: HostRuntime) -> Result<(), Fail> {
     assert_eq!(rt;
         stop_of(PublishForm::read(rt.alloc(), body.as_slice())),
         TOO_LARGE
+    );
+    Ok(())
+}
+
+#[test]
+fn a_body_of_the_most_bytes(rt: HostRuntime) -> Result<(), Fail> {
+    let body = zeros(rt.alloc(), 4_194_304)?;
+    assert_eq!(rt;
+        stop_of(PublishForm::read(rt.alloc(), body.as_slice())),
+        BAD_BODY
     );
     Ok(())
 }
@@ -127,7 +158,7 @@ fn names_before_versions(rt: HostRuntime) -> Result<(), Fail> {
 fn versions_of_bodies(rt: HostRuntime) -> Result<(), Fail> {
     for refused in ["1.0.0+b", "v1.0.0", "9007199254740992.0.0"] {
         assert_eq!(rt;
-            stop_of(read_with(rt.alloc(), "1.0.0", refused)),
+            stop_with(rt.alloc(), "1.0.0", refused),
             BAD_VERSION,
             "{refused}"
         );
@@ -142,24 +173,16 @@ fn an_empty_archive(rt: HostRuntime) -> Result<(), Fail> {
     let empty = KIT.replace(rt.alloc(), "\"YWJj\",\"length\":3", "\"\",\"length\":0")?;
     let body = empty
         .as_str()
-        .replace(rt.alloc(), "\"integrity\"", "\"other\"")?;
+        .replace(rt.alloc(), ABC_INTEGRITY, EMPTY_INTEGRITY)?;
     let form = PublishForm::read(rt.alloc(), body.as_bytes())?;
     assert_eq!(rt; form.archive(), b"".as_slice());
+    assert_eq!(rt; form.integrity(), EMPTY_INTEGRITY);
     Ok(())
 }
 
 #[test]
 fn integrities_of_bytes(rt: HostRuntime) -> Result<(), Fail> {
-    for (bytes, want) in [
-        (
-            "",
-            "sha512-z4PhNX7vuL3xVChQ1m2AB9Yg5AULVxXcg/SpIdNs6c5H0NE8XYXysP+DGNKHfuwvY7kxvUdBeoGlODJ6+SfaPg==",
-        ),
-        (
-            "abc",
-            "sha512-3a81oZNherrMQXNJriBBMRLm+k6JqX6iCp7u5ktV05ohkpkqJ0/BqDa6PCOj/uu9RU1EI2Q86A4qmslPpUyknw==",
-        ),
-    ] {
+    for (bytes, want) in [("", EMPTY_INTEGRITY), ("abc", ABC_INTEGRITY)] {
         let integrity = integrity_of(rt.alloc(), bytes.as_bytes())?;
         assert_eq!(rt; integrity.as_str(), want);
     }

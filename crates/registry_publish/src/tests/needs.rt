@@ -6,7 +6,7 @@ use std::alloc::{AllocError, Global};
 use std::test::Fail;
 
 // Each need as `target range,`.
-fn listed(alloc: Global, needs: &[Need]) -> Result<String, AllocError> {
+pub(super) fn listed(alloc: Global, needs: &[Need]) -> Result<String, AllocError> {
     let mut text = String::new(alloc);
     for need in needs {
         text.push_str(need.target.as_str())?;
@@ -38,6 +38,22 @@ fn needs_of_manifests(rt: HostRuntime) -> Result<(), Fail> {
     let others = r#"{"dependencies":{},"devDependencies":{"d":"*"},"bundleDependencies":null}"#;
     assert!(rt; is_listed(rt.alloc(), others, "")?);
     Ok(())
+}
+
+#[test]
+fn the_order_of_needs(rt: HostRuntime) -> Result<(), Fail> {
+    let members =
+        r#"{"peerDependencies":{"b":"4","B":"5"},"optionalDependencies":{"a":"3"},"dependencies":{"d":"1","c":"2"},"devDependencies":{"e":"*"}}"#;
+    assert!(rt; is_listed(rt.alloc(), members, "c 2,d 1,a 3,B 5,b 4,")?);
+    assert!(rt; is_listed(rt.alloc(), "{}", "")?);
+    Ok(())
+}
+
+#[test]
+fn texts_that_are_no_manifests(rt: HostRuntime) {
+    for text in ["", "null", "1", "\"a\"", "[{}]"] {
+        assert_eq!(rt; refusal(rt.alloc(), text), Some(Refusal::BadBody), "{text}");
+    }
 }
 
 #[test]
