@@ -8,13 +8,13 @@ ghost use Rattle.registry_packument.specs.Sources.{version_entry, IsInOrder};
 ghost use Rattle.std.specs.FinMap.Entries.{below_all};
 
 use super::{PackFault, packument_len, write_packument};
+use crate::tests::{TagCase, VersionCase, head, versions};
 use crate::{PackHead, VersionRow, VersionSource, packument_text};
-use registry_names::{DistTag, Fault, Text, ToWrite};
+use registry_names::{Fault, Text, ToWrite};
 use std::alloc::{AllocError, Global};
 use std::collections::VecDeque;
 use std::io;
 use std::io::{ErrorKind, Write};
-use std::process::Abort;
 use std::test::Fail;
 
 /// Rows in memory. The source answers so many calls, and then with a fault.
@@ -95,163 +95,140 @@ impl Write for Narrow {
     }
 }
 
+static KIT_TAGS: [TagCase; 1] = [("latest", "1.1.0")];
+
+fn kit(alloc: Global) -> Result<PackHead, AllocError> {
+    head(alloc, "kit", &KIT_TAGS)
+}
+
+fn source(alloc: Global, cases: &[VersionCase], answers: u32) -> Result<Rows, Fault> {
+    Rows::new(versions(alloc, cases)?, answers).ok_or(Fault::Database)
+}
+
+fn write<W: Write>(alloc: Global, source: &mut Rows, writer: &mut W) -> Result<(), PackFault> {
+    write_packument(alloc, &kit(alloc)?, source, &mut ToWrite::new(writer))
+}
+
+fn text(alloc: Global, cases: &[VersionCase]) -> Result<Text, Fault> {
+    packument_text(alloc, &kit(alloc)?, &versions(alloc, cases)?)
+}
+
+fn count(alloc: Global, cases: &[VersionCase], answers: u32) -> Result<u64, Fault> {
+    packument_len(alloc, &kit(alloc)?, &mut source(alloc, cases, answers)?)
+}
+
+const KIT_VERSIONS: &[VersionCase] = &[
+    ("1.0.0", r#"{"a":1}"#, ""),
+    ("1.1.0", r#"{"a":1,"z":2}"#, "old"),
+    ("2.0.0-b", "{}", ""),
+];
+
 const KIT: &str =
     r#"{"_id":"kit","dist-tags":{"latest":"1.1.0"},"name":"kit","versions":{"1.0.0":{"a":1},"1.1.0":{"a":1,"deprecated":"old","z":2},"2.0.0-b":{}}}"#;
 
-fn kit(alloc: Global) -> Result<PackHead, AllocError> {
-    let latest = DistTag {
-        tag: Text::from_str(alloc, "latest")?,
-        version: Text::from_str(alloc, "1.1.0")?,
-    };
-    Ok(PackHead {
-        name: Text::from_str(alloc, "kit")?,
-        tags: vec![in alloc; latest]?,
-    })
-}
+// Rows, and the packument of them.
+static PACKUMENTS: [(&[VersionCase], &str); 2] = [
+    (KIT_VERSIONS, KIT),
+    (
+        &[],
+        r#"{"_id":"kit","dist-tags":{"latest":"1.1.0"},"name":"kit","versions":{}}"#,
+    ),
+];
 
-fn row(
-    alloc: Global,
-    version: &str,
-    manifest: &str,
-    message: &str,
-) -> Result<VersionRow, AllocError> {
-    Ok(VersionRow {
-        version: Text::from_str(alloc, version)?,
-        manifest: Text::from_str(alloc, manifest)?,
-        message: Text::from_str(alloc, message)?,
-    })
-}
-
-fn versions(alloc: Global) -> Result<Vec<VersionRow>, AllocError> {
-    Ok(vec![in alloc;
-        row(alloc, "1.0.0", r#"{"a":1}"#, "")?,
-        row(alloc, "1.1.0", r#"{"a":1,"z":2}"#, "old")?,
-        row(alloc, "2.0.0-b", "{}", "")?,
-    ]?)
-}
-
-fn source(alloc: Global, answers: u32) -> Result<Rows, Fault> {
-    Rows::new(versions(alloc)?, answers).ok_or(Fault::Database)
+fn written(alloc: Global, cases: &[VersionCase]) -> Result<Vec<u8>, PackFault> {
+    let mut source = source(alloc, cases, 9)?;
+    let mut out = Vec::new(alloc);
+    write(alloc, &mut source, &mut out)?;
+    Ok(out)
 }
 
 #[test]
 fn written_read_and_counted_alike(rt: HostRuntime) -> Result<(), Fail> {
     let alloc = rt.alloc();
-    let head = kit(alloc)?;
-    let mut out = Vec::new(alloc);
-    let mut end = ToWrite::new(&mut out);
-    assert_eq!(rt;
-        write_packument(alloc, &head, &mut source(alloc, 9)?, &mut end),
-        Ok(())
-    );
-    assert_eq!(rt; out.as_slice(), KIT.as_bytes());
-    assert_eq!(rt;
-        packument_text(alloc, &head, &versions(alloc)?)?.as_str(),
-        KIT
-    );
-    assert_eq!(rt;
-        packument_len(alloc, &head, &mut source(alloc, 9)?),
-        Ok(KIT.len() as u64)
-    );
-    Ok(())
-}
-
-#[test]
-fn a_source_of_no_versions(rt: HostRuntime) -> Result<(), Fail> {
-    let alloc = rt.alloc();
-    let head = kit(alloc)?;
-    let mut none = Rows::new(vec![in alloc]?, 9).ok_or(Fault::Database)?;
-    let mut out = Vec::new(alloc);
-    let mut end = ToWrite::new(&mut out);
-    assert_eq!(rt; write_packument(alloc, &head, &mut none, &mut end), Ok(()));
-    let text = r#"{"_id":"kit","dist-tags":{"latest":"1.1.0"},"name":"kit","versions":{}}"#;
-    assert_eq!(rt; out.as_slice(), text.as_bytes());
-    assert_eq!(rt;
-        packument_len(alloc, &head, &mut none),
-        Ok(text.len() as u64)
-    );
+    for (cases, packument) in &PACKUMENTS {
+        assert_eq!(rt; written(alloc, cases)?.as_slice(), packument.as_bytes());
+        assert_eq!(rt; text(alloc, cases)?.as_str(), *packument);
+        assert_eq!(rt; count(alloc, cases, 9)?, packument.len() as u64);
+    }
     Ok(())
 }
 
 #[test]
 fn a_failed_write_leaves_a_front(rt: HostRuntime) -> Result<(), Fail> {
     let alloc = rt.alloc();
-    let head = kit(alloc)?;
     for room in 0..KIT.len() {
+        let mut source = source(alloc, KIT_VERSIONS, 9)?;
         let mut narrow = Narrow {
             taken: Vec::new(alloc),
             room,
         };
-        let mut end = ToWrite::new(&mut narrow);
-        assert_eq!(rt;
-            write_packument(alloc, &head, &mut source(alloc, 9)?, &mut end),
-            Err(PackFault::Write)
-        );
+        let end = write(alloc, &mut source, &mut narrow);
+        assert_eq!(rt; end, Err(PackFault::Write));
         assert_eq!(rt; Some(narrow.taken.as_slice()), KIT.as_bytes().get(..room));
     }
     Ok(())
 }
 
-// The source answers so many calls, and then faults: all but `left` is written.
-fn stops(rt: &impl Abort, alloc: Global, answers: u32, left: &str) -> Result<(), Fail> {
-    let head = kit(alloc)?;
-    let mut faulty = source(alloc, answers)?;
-    let mut out = Vec::new(alloc);
-    let mut end = ToWrite::new(&mut out);
-    assert_eq!(rt;
-        write_packument(alloc, &head, &mut faulty, &mut end),
-        Err(PackFault::Source(Fault::Database))
-    );
-    assert_eq!(rt;
-        Some(out.as_slice()),
-        KIT.strip_suffix(left).map(str::as_bytes)
-    );
-    assert_eq!(rt; faulty.next(alloc).err(), Some(Fault::Database));
-    assert_eq!(rt;
-        packument_len(alloc, &head, &mut source(alloc, answers)?),
-        Err(Fault::Database)
-    );
-    Ok(())
-}
+const SOURCE_FAILED: Result<(), PackFault> = Err(PackFault::Source(Fault::Database));
+
+// Rows, how many calls the source answers, and what of the packument is written.
+static FRONTS: [(&[VersionCase], u32, &str); 5] = [
+    (
+        KIT_VERSIONS,
+        0,
+        r#"{"_id":"kit","dist-tags":{"latest":"1.1.0"},"name":"kit","versions":{"#,
+    ),
+    (
+        KIT_VERSIONS,
+        1,
+        r#"{"_id":"kit","dist-tags":{"latest":"1.1.0"},"name":"kit","versions":{"1.0.0":{"a":1}"#,
+    ),
+    (
+        KIT_VERSIONS,
+        2,
+        r#"{"_id":"kit","dist-tags":{"latest":"1.1.0"},"name":"kit","versions":{"1.0.0":{"a":1},"1.1.0":{"a":1,"deprecated":"old","z":2}"#,
+    ),
+    (
+        KIT_VERSIONS,
+        3,
+        r#"{"_id":"kit","dist-tags":{"latest":"1.1.0"},"name":"kit","versions":{"1.0.0":{"a":1},"1.1.0":{"a":1,"deprecated":"old","z":2},"2.0.0-b":{}"#,
+    ),
+    // The second has no document.
+    (
+        &[
+            ("1.0.0", r#"{"a":1}"#, ""),
+            ("1.1.0", "[1]", "old"),
+            ("2.0.0-b", "{}", ""),
+        ],
+        9,
+        r#"{"_id":"kit","dist-tags":{"latest":"1.1.0"},"name":"kit","versions":{"1.0.0":{"a":1}"#,
+    ),
+];
 
 #[test]
 fn a_fault_of_the_source_leaves_a_front(rt: HostRuntime) -> Result<(), Fail> {
     let alloc = rt.alloc();
-    stops(
-        &rt,
-        alloc,
-        0,
-        r#""1.0.0":{"a":1},"1.1.0":{"a":1,"deprecated":"old","z":2},"2.0.0-b":{}}}"#,
-    )?;
-    stops(
-        &rt,
-        alloc,
-        1,
-        r#","1.1.0":{"a":1,"deprecated":"old","z":2},"2.0.0-b":{}}}"#,
-    )?;
-    stops(&rt, alloc, 2, r#","2.0.0-b":{}}}"#)?;
-    stops(&rt, alloc, 3, "}}")
+    for (cases, answers, front) in &FRONTS {
+        let mut source = source(alloc, cases, *answers)?;
+        let mut out = Vec::new(alloc);
+        assert_eq!(rt; write(alloc, &mut source, &mut out), SOURCE_FAILED);
+        assert_eq!(rt; out.as_slice(), front.as_bytes());
+        assert_eq!(rt; count(alloc, cases, *answers), Err(Fault::Database));
+    }
+    Ok(())
+}
+
+// What the source answers where it is asked again after its fault.
+fn asked_again(alloc: Global, answers: u32) -> Result<Option<Fault>, PackFault> {
+    let mut source = source(alloc, KIT_VERSIONS, answers)?;
+    let mut out = Vec::new(alloc);
+    let _ = write(alloc, &mut source, &mut out);
+    Ok(source.next(alloc).err())
 }
 
 #[test]
-fn a_missing_document_ends_the_front(rt: HostRuntime) -> Result<(), Fail> {
-    let alloc = rt.alloc();
-    let head = kit(alloc)?;
-    let rows = vec![in alloc;
-        row(alloc, "1.0.0", r#"{"a":1}"#, "")?,
-        row(alloc, "1.1.0", "[1]", "old")?,
-        row(alloc, "2.0.0-b", "{}", "")?,
-    ]?;
-    let mut broken = Rows::new(rows, 9).ok_or(Fault::Database)?;
-    let mut out = Vec::new(alloc);
-    let mut end = ToWrite::new(&mut out);
-    assert_eq!(rt;
-        write_packument(alloc, &head, &mut broken, &mut end),
-        Err(PackFault::Source(Fault::Database))
-    );
-    assert_eq!(rt;
-        out.as_slice(),
-        r#"{"_id":"kit","dist-tags":{"latest":"1.1.0"},"name":"kit","versions":{"1.0.0":{"a":1}"#.as_bytes()
-    );
-    Ok(())
+fn a_fault_of_the_source_stays(rt: HostRuntime) {
+    for answers in 0..4 {
+        assert_eq!(rt; asked_again(rt.alloc(), answers), Ok(Some(Fault::Database)));
+    }
 }
