@@ -141,14 +141,26 @@ fn publish_and_ask<S: Alter>(
     form: PublishForm,
 ) -> Result<Text, Ending> {
     let name = Name::parse(alloc, form.name().text())?;
-    let publish = at_first(Action::Publish { form });
-    if let Reply::Refused(refusal) = registry.apply(alloc, &publish)? {
-        return Err(Ending::Refused(refusal));
+    publish(alloc, registry, form)?;
+    ask(alloc, registry, name)
+}
+
+fn publish<S: Alter>(
+    alloc: Global,
+    registry: &mut Registry<S>,
+    form: PublishForm,
+) -> Result<(), Ending> {
+    match registry.apply(alloc, &at_first(Action::Publish { form }))? {
+        Reply::Refused(refusal) => Err(Ending::Refused(refusal)),
+        _ => Ok(()),
     }
+}
+
+fn ask<S: Alter>(alloc: Global, registry: &mut Registry<S>, name: Name) -> Result<Text, Ending> {
     match registry.apply(alloc, &at_first(Action::Packument { name }))? {
         Reply::Doc(text) => Ok(text),
         Reply::Refused(refusal) => Err(Ending::Refused(refusal)),
-        Reply::Created | Reply::Done | Reply::Bytes(_) => Err(Ending::from(Fault::Database)),
+        _ => Err(Ending::from(Fault::Database)),
     }
 }
 
