@@ -47,8 +47,18 @@ pub enum Ask {
     Tags,
 }
 
-/// What the calls tell of a case.
-pub fn told(alloc: Global, case: &Case) -> Result<String, Stop> {
+/// What is to be told in the first case of which the calls tell something else.
+pub fn first_other(alloc: Global, cases: &[Case]) -> Result<Option<&'static str>, Stop> {
+    for case in cases {
+        if told(alloc, case)?.as_str() != case.told {
+            return Ok(Some(case.told));
+        }
+    }
+    Ok(None)
+}
+
+// What the calls tell of a case.
+fn told(alloc: Global, case: &Case) -> Result<String, Stop> {
     let request = request(alloc, case.ask)?;
     let facts = facts(alloc, case.held)?;
     Ok(answer(alloc, &facts, &request)?)
