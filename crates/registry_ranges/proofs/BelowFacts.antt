@@ -1,5 +1,5 @@
 -- No prerelease is below `0`, so a version is below `<1.2.3-0` by its numbers alone.
-use Rattle.std.proofs.Common.{◌≡◌, ◌==◌, ℕ, zero, suc, List, [], ◌∷◌, Bool, true, false, refl, sym, ◌∙◌, inl, inr, Ordering, Less, Equal, Greater, nat_cmp, arith, length}
+use Rattle.std.proofs.Common.{◌≡◌, ◌==◌, ℕ, List, [], ◌∷◌, true, false, refl, sym, ◌∙◌, inl, inr, Ordering, Less, Equal, Greater, nat_cmp, arith, length}
 use Rattle.std.proofs.lemmas.Bool.{cases_Bool}
 use Rattle.std.proofs.lemmas.Bool.Decides.{nat_tests}
 use Rattle.std.specs.Char.{is_ascii_digit}
@@ -9,10 +9,10 @@ use Rattle.std.specs.List.{list_all}
 use Rattle.std.specs.Prelude.{◌&&◌, not}
 use Rattle.std.specs.Ordering.{is_lt, ordering_then}
 use Rattle.semver.specs.Grammar.{is_pre_release, is_pre_identifier, is_build_identifier, has_leading_zero}
-use Rattle.semver.specs.Order.{is_numeric, parts, pre_cmp, pre_part_cmp}
+use Rattle.semver.specs.Order.{is_numeric, pre_cmp, pre_part_cmp}
 use Rattle.semver.specs.OrderLaws.{parts-shape, pre_cmp-both}
-use Rattle.semver.proofs.Segments.{and-left, and-right}
-use Rattle.registry_names.specs.Versions.{VersionParts, precedence}
+use Rattle.semver.proofs.Segments.{and-left}
+use Rattle.registry_names.specs.Versions.{VersionParts}
 use Rattle.registry_ranges.specs.Comparators.{holds, below}
 
 -- what comes after a comparison that isn't below

@@ -1,5 +1,5 @@
 -- Lists that stand one after another in one list, as the pieces between their ends.
-use Rattle.std.proofs.Common.{◌≡◌, ◌≤◌, ◌<◌, ◌+◌, ◌-◌, ℕ, List, [], ◌∷◌, ◌++◌, Bool, true, false, length, drop, take, refl, ap, ◌∙◌, arith}
+use Rattle.std.proofs.Common.{◌≡◌, ◌≤◌, ◌<◌, ◌+◌, ◌-◌, ℕ, List, [], ◌∷◌, ◌++◌, Bool, true, false, length, drop, refl, ap, arith}
 use Rattle.std.proofs.lemmas.List.{drop-append-le, drop-map, drop_more, length-drop, length-map, take-append-le, take-map, take_all}
 use Rattle.std.specs.List.{list_any}
 use Rattle.std.specs.Prelude.{map, slice_index, slice_range}
