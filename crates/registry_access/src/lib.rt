@@ -18,8 +18,6 @@ mod role;
 mod rows;
 mod search;
 mod standing;
-#[cfg(test)]
-mod tests;
 
 pub use crate::access::{allowed, allowed_by, level, level_of};
 pub use crate::ask::Ask;

@@ -31,16 +31,19 @@ pub fn print_crowd<R: Print + Clock, S: Alter>(
 }
 
 /// Prints how long the publish of a new package and the packument of one version take where there
-/// are a thousand packages, and where there are ten thousand.
+/// are a thousand packages, and where there are ten thousand: of packages whose names stand behind
+/// all others, and of some whose names stand before them.
 pub fn print_growth<R: Print + Clock, S: Alter>(
     rt: &R,
     alloc: Global,
     registry: &mut Registry<S>,
 ) -> Result<(), Failure> {
-    publish_first(alloc, registry, 0..1_000)?;
-    print_next(rt, alloc, registry, 1_000..1_500)?;
-    publish_first(alloc, registry, 1_500..10_000)?;
-    print_next(rt, alloc, registry, 10_000..10_500)
+    publish_first(alloc, registry, 10_000..11_000)?;
+    print_next(rt, alloc, registry, "behind 1000 packages", 11_000..11_500)?;
+    print_next(rt, alloc, registry, "before 1500 packages", 9_500..10_000)?;
+    publish_first(alloc, registry, 11_500..19_500)?;
+    print_next(rt, alloc, registry, "behind 10000 packages", 19_500..20_000)?;
+    print_next(rt, alloc, registry, "before 10500 packages", 9_000..9_500)
 }
 
 /// Prints how long it takes to read a body of almost as many bytes as one may have.
@@ -105,20 +108,21 @@ fn publish_first<S: Alter>(
     ask_all(alloc, registry, &publishes(alloc, &bodies)?)
 }
 
-// How long the publishes of the next packages take, and a packument of each.
+// How long the publishes of the next packages take, and a packument of each, which stand at this
+// place among all.
 fn print_next<R: Print + Clock, S: Alter>(
     rt: &R,
     alloc: Global,
     registry: &mut Registry<S>,
+    place: &str,
     packages: Range<u32>,
 ) -> Result<(), Failure> {
-    let there = packages.start;
     let releases = first_of_each(alloc, packages)?;
     let requests = publishes(alloc, &bodies(alloc, &releases)?)?;
-    let what = format!(in alloc; "publish at {there} packages")?;
+    let what = format!(in alloc; "publish {place}")?;
     print_asking(rt, alloc, registry, &what, &requests)?;
     let requests = packuments(alloc, &releases)?;
-    let what = format!(in alloc; "packument of 1 version at {there} packages")?;
+    let what = format!(in alloc; "packument of 1 version {place}")?;
     print_asking(rt, alloc, registry, &what, &requests)
 }
 

@@ -13,6 +13,7 @@ mod rounds;
 
 use failure::Failure;
 use registry_desk::Registry;
+use sqlite::Alter;
 use std::alloc::Global;
 use std::env;
 use std::time::Clock;
@@ -45,9 +46,20 @@ fn print_figures<R: Print + Clock>(rt: &R, alloc: Global) -> Result<(), Failure>
 
 fn perform<R: Print + Clock>(rt: &R, alloc: Global, task: Task) -> Result<(), Failure> {
     let mut registry = Registry::in_memory(alloc)?;
-    match task {
-        Task::Rounds => rounds::print_rounds(rt, alloc, &mut registry),
-        Task::Crowd => figures::print_crowd(rt, alloc, &mut registry),
-        Task::Growth => figures::print_growth(rt, alloc, &mut registry),
+    task.perform(rt, alloc, &mut registry)
+}
+
+impl Task {
+    fn perform<R: Print + Clock, S: Alter>(
+        self,
+        rt: &R,
+        alloc: Global,
+        registry: &mut Registry<S>,
+    ) -> Result<(), Failure> {
+        match self {
+            Task::Rounds => rounds::print_rounds(rt, alloc, registry),
+            Task::Crowd => figures::print_crowd(rt, alloc, registry),
+            Task::Growth => figures::print_growth(rt, alloc, registry),
+        }
     }
 }

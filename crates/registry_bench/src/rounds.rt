@@ -43,7 +43,8 @@ fn go_round<S: Alter>(
 
 // Whether the reply is a packument with a manifest of the version.
 fn has_version(alloc: Global, reply: &Reply, release: Release) -> Result<bool, AllocError> {
-    let key = format!(in alloc; "\"{}\":{{", release.version_text(alloc)?)?;
+    let version = release.version_text(alloc)?;
+    let key = format!(in alloc; "\"{version}\":{{")?;
     match reply {
         Reply::Doc(text) => Ok(text.as_str().contains(key.as_str())),
         _ => Ok(false),

@@ -2,11 +2,13 @@
 //! registry in memory, and prints the packument of the package on standard output.
 #![tactic(auto)]
 
+mod ending;
 mod program;
+mod publication;
 #[cfg(test)]
 mod tests;
 
-use program::Ending;
+use ending::Ending;
 use registry_names::{Fault, FromRead, Text, ToWrite};
 use std::alloc::AllocError;
 use std::env;

@@ -1,71 +1,15 @@
 //! What the program does, over any ends of bytes.
 
-use registry_desk::Registry;
-use registry_names::{
-    ByteIn, ByteOut, Fault, Moment, Name, ReadStop, Refusal, Stop, Text, read_whole, write_whole,
-};
-use registry_publish::PublishForm;
-use registry_rules::{Action, Credential, Reply, Request};
-use sqlite::Alter;
-use std::alloc::{AllocError, Global};
+use crate::ending::{Ending, Failure};
+use crate::publication::packument_of;
+use registry_names::{ByteIn, ByteOut, Text, read_whole, write_whole};
+use std::alloc::Global;
 
 /// One byte more than a body may have: enough to see that it is too large.
 const MOST_READ: usize = 4_194_305;
 
 /// What is printed where there are words.
 const USAGE: &str = "usage: registry < BODY\n";
-
-/// Why nothing is printed on standard output.
-#[derive(Clone, Copy, Debug, PartialEq, Eq)]
-pub enum Ending {
-    /// The body is turned away.
-    Refused(Refusal),
-    /// The words are none that the program takes.
-    Usage,
-    /// The machine failed.
-    Fault(Failure),
-}
-
-/// What failed.
-#[derive(Clone, Copy, Debug, PartialEq, Eq)]
-pub enum Failure {
-    /// The registry.
-    Registry(Fault),
-    /// Standard input.
-    Read,
-    /// Standard output.
-    Write,
-}
-
-impl From<Fault> for Ending {
-    fn from(fault: Fault) -> Ending {
-        Ending::Fault(Failure::Registry(fault))
-    }
-}
-
-impl From<AllocError> for Ending {
-    fn from(error: AllocError) -> Ending {
-        Ending::from(Fault::from(error))
-    }
-}
-
-impl From<Stop> for Ending {
-    fn from(stop: Stop) -> Ending {
-        match stop {
-            Stop::Refused(refusal) => Ending::Refused(refusal),
-            Stop::Fault(fault) => Ending::from(fault),
-        }
-    }
-}
-
-impl From<ReadStop> for Ending {
-    fn from(stop: ReadStop) -> Ending {
-        match stop {
-            ReadStop::Read => Ending::Fault(Failure::Read),
-            ReadStop::Memory => Ending::from(Fault::Memory),
-        }
-    }
-}
 
 /// Runs the program on the words after its name, and answers its exit status.
 ///
@@ -125,50 +69,5 @@ fn print_packument<I: ByteIn, O: ByteOut>(
     match write_whole(output, text.as_bytes()) {
         Ok(()) => Ok(()),
         Err(_) => Err(Ending::Fault(Failure::Write)),
-    }
-}
-
-// The packument of the one package of an empty registry to which the body is published.
-fn packument_of(alloc: Global, body: &[u8]) -> Result<Text, Ending> {
-    let form = PublishForm::read(alloc, body)?;
-    let mut registry = Registry::in_memory(alloc)?;
-    publish_and_ask(alloc, &mut registry, form)
-}
-
-fn publish_and_ask<S: Alter>(
-    alloc: Global,
-    registry: &mut Registry<S>,
-    form: PublishForm,
-) -> Result<Text, Ending> {
-    let name = Name::parse(alloc, form.name().text())?;
-    publish(alloc, registry, form)?;
-    ask(alloc, registry, name)
-}
-
-fn publish<S: Alter>(
-    alloc: Global,
-    registry: &mut Registry<S>,
-    form: PublishForm,
-) -> Result<(), Ending> {
-    match registry.apply(alloc, &at_first(Action::Publish { form }))? {
-        Reply::Refused(refusal) => Err(Ending::Refused(refusal)),
-        _ => Ok(()),
-    }
-}
-
-fn ask<S: Alter>(alloc: Global, registry: &mut Registry<S>, name: Name) -> Result<Text, Ending> {
-    match registry.apply(alloc, &at_first(Action::Packument { name }))? {
-        Reply::Doc(text) => Ok(text),
-        Reply::Refused(refusal) => Err(Ending::Refused(refusal)),
-        _ => Err(Ending::from(Fault::Database)),
-    }
-}
-
-// The request at moment 0.
-fn at_first(what: Action) -> Request {
-    Request {
-        at: Moment::clamped(0),
-        who: Credential::Anonymous,
-        what,
     }
 }

@@ -13,6 +13,3 @@ pub use from_read::FromRead;
 pub use reading::{RETRY_LIMIT, ReadStop, read_whole};
 pub use to_write::ToWrite;
 pub use writing::write_whole;
-
-#[cfg(test)]
-mod tests;

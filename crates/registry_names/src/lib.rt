@@ -18,8 +18,6 @@ mod refusal;
 mod status;
 mod stop;
 mod tag;
-#[cfg(test)]
-mod tests;
 mod text;
 mod version;
 

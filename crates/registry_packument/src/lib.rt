@@ -19,8 +19,6 @@ mod list;
 mod packument;
 mod source;
 mod stream;
-#[cfg(test)]
-mod tests;
 
 pub use crate::document::version_text;
 pub use crate::head::PackHead;

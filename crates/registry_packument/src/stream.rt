@@ -172,6 +172,3 @@ pub fn write_packument<W: ByteOut, S: VersionSource>(
     write_whole(writer, opening(alloc, head)?.as_bytes())?;
     write_versions(alloc, source, writer)
 }
-
-#[cfg(test)]
-mod tests;

@@ -16,8 +16,6 @@ mod json;
 mod members;
 mod need;
 mod needs;
-#[cfg(test)]
-mod tests;
 mod token;
 
 pub use crate::floats::has_float;

@@ -22,8 +22,6 @@ mod reader;
 mod relation;
 mod selector;
 mod simple;
-#[cfg(test)]
-mod tests;
 
 pub use crate::dist_tag::tag;
 pub use crate::range::Range;

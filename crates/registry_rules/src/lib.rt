@@ -14,8 +14,6 @@ mod publish;
 mod reply;
 mod request;
 mod tags;
-#[cfg(test)]
-mod tests;
 
 pub use crate::change::{Change, Changes, SetTag};
 pub use crate::decision::{decide, may_ask};

@@ -14,8 +14,6 @@ mod package;
 mod packages;
 mod schema;
 mod tags;
-#[cfg(test)]
-mod tests;
 mod versions;
 
 pub use crate::error::fault_of;

@@ -19,9 +19,6 @@ use crate::meta::put_schema;
 use registry_names::Fault;
 use sqlite::{Alter, Error, Transaction};
 
-#[cfg(test)]
-mod tests;
-
 /// Makes the tables in a database that has none: all of them empty, but for the number of the
 /// schema. Where they are there already, the answer is `Database`.
 pub fn create<S: Alter>(tx: &mut Transaction<'_, S>) -> Result<(), Fault>

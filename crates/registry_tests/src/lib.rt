@@ -1,0 +1,24 @@
+//! Tests of each crate's public calls: that they succeed where there is memory, which no contract
+//! says, and what they answer to cases that are worked out by hand or by an outside program.
+//!
+//! They stand here, and not in the crates, since the gate proves a crate once more with its tests.
+#![tactic(auto)]
+
+#[cfg(test)]
+mod access;
+#[cfg(test)]
+mod ends;
+#[cfg(test)]
+mod names;
+#[cfg(test)]
+mod packument;
+#[cfg(test)]
+mod publish;
+#[cfg(test)]
+mod ranges;
+#[cfg(test)]
+mod rows;
+#[cfg(test)]
+mod rules;
+#[cfg(test)]
+mod tables;

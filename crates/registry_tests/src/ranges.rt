@@ -1,0 +1,208 @@
+//! The tables of the specification, and texts of each kind.
+
+use registry_names::{Refusal, Stop, Ver};
+use registry_ranges::{Range, Selector, is_range, tag};
+use std::test::Fail;
+
+fn allows(rt: &HostRuntime, range: &str, version: &str) -> Result<bool, Fail> {
+    let version = Ver::parse(rt.alloc(), version)?;
+    match Range::parse(rt.alloc(), range)? {
+        Some(range) => Ok(range.allows(&version)),
+        None => Ok(false),
+    }
+}
+
+fn selects(rt: &HostRuntime, selector: &str, version: &str) -> Result<bool, Fail> {
+    let version = Ver::parse(rt.alloc(), version)?;
+    let selector = Selector::parse(rt.alloc(), selector)?;
+    Ok(selector.selects(&version))
+}
+
+fn stop_of<T: Drop>(answer: Result<T, Stop>) -> Option<Stop> {
+    match answer {
+        Ok(_) => None,
+        Err(stop) => Some(stop),
+    }
+}
+
+const BAD_SELECTOR: Option<Stop> = Some(Stop::Refused(Refusal::BadSelector));
+
+const RANGE_TAG: Option<Stop> = Some(Stop::Refused(Refusal::RangeTag));
+
+const BAD_TAG: Option<Stop> = Some(Stop::Refused(Refusal::BadTag));
+
+#[test]
+fn allowed_versions(rt: HostRuntime) -> Result<(), Fail> {
+    for (range, version) in [
+        ("^1.2.3", "1.2.3"),
+        ("^1.2.3", "1.9.0"),
+        ("^0.0.3", "0.0.3"),
+        ("^0.0", "0.0.9"),
+        ("~1.2", "1.2.9"),
+        ("1.2.3 - 2.3", "1.2.3"),
+        ("1.2.3 - 2.3", "2.3.9"),
+        (">1.2", "1.3.0"),
+        (">=1.2.3-beta.1 <1.3.0", "1.2.3-beta.2"),
+        (">=1.2.3-beta.1 <1.3.0", "1.2.4"),
+        ("1 || 3", "1.5.0"),
+        ("1 || 3", "3.1.0"),
+        ("*", "0.0.0"),
+        ("", "1.0.0"),
+        ("  || 9", "4.0.0"),
+        ("1.x.3-beta", "1.0.0"),
+        ("=v1", "1.0.0"),
+        (">= 1", "2.0.0"),
+        ("~> 1", "1.9.0"),
+        ("v1 - v2 ", "2.9.0"),
+        ("1.2.3+build", "1.2.3"),
+        ("<=9007199254740991", "9007199254740991.0.0"),
+    ] {
+        assert!(rt; is_range(range), "{range}");
+        assert!(rt; allows(&rt, range, version)?, "{range} {version}");
+    }
+    Ok(())
+}
+
+#[test]
+fn other_versions(rt: HostRuntime) -> Result<(), Fail> {
+    for (range, version) in [
+        ("^1.2.3", "1.2.2"),
+        ("^1.2.3", "2.0.0-0"),
+        ("^1.2.3", "1.3.0-beta"),
+        ("^0.0.3", "0.0.4"),
+        ("^0.0", "0.1.0"),
+        ("~1.2", "1.3.0"),
+        ("1.2.3 - 2.3", "2.4.0"),
+        (">1.2", "1.2.9"),
+        (">=1.2.3-beta.1 <1.3.0", "1.2.4-beta"),
+        ("1 || 3", "2.0.0"),
+        ("*", "1.0.0-a"),
+        ("", "1.0.0-a"),
+        ("<*", "0.0.0"),
+        (">*", "9.0.0"),
+        ("1 2", "1.0.0"),
+        ("1.2.3 - 2.3", "1.2.3-a"),
+    ] {
+        assert!(rt; is_range(range), "{range}");
+        assert!(rt; !allows(&rt, range, version)?, "{range} {version}");
+    }
+    Ok(())
+}
+
+#[test]
+fn texts_that_are_no_ranges(rt: HostRuntime) -> Result<(), Fail> {
+    for text in [
+        "v",
+        "1.2.3.4",
+        "1.2-beta",
+        "01.2.3",
+        "> =1",
+        "1.2.3-",
+        "1.2.3-01",
+        "9007199254740992",
+        "x.9007199254740992",
+        "x-y",
+        "1.2.3 -2.3",
+        "1.2.3- 2",
+        "1.2.3 - 2.3 4",
+        "1.2.3 - ",
+        "- 1",
+        "1|2",
+        "1|| |2",
+        "==1",
+        "~ > 1",
+        "1\t||2",
+        "1*.3.2",
+        "2.0.*1",
+        "vv1",
+        "latest",
+    ] {
+        assert!(rt; !is_range(text), "{text}");
+        assert!(rt; Range::parse(rt.alloc(), text)?.is_none(), "{text}");
+    }
+    Ok(())
+}
+
+#[test]
+fn long_texts(rt: HostRuntime) -> Result<(), Fail> {
+    let alternatives = "1||".repeat(rt.alloc(), 100_000)?;
+    assert!(rt; is_range(alternatives.as_str()));
+    assert!(rt; Range::parse(rt.alloc(), alternatives.as_str())?.is_some());
+    let spaces = " ".repeat(rt.alloc(), 1_000_000)?;
+    assert!(rt; is_range(spaces.as_str()));
+    let digits = "1".repeat(rt.alloc(), 1_000_000)?;
+    assert!(rt; !is_range(digits.as_str()));
+    let parts = "1.".repeat(rt.alloc(), 500_000)?;
+    assert!(rt; !is_range(parts.as_str()));
+    Ok(())
+}
+
+#[test]
+fn tags(rt: HostRuntime) -> Result<(), Fail> {
+    for text in ["", "x", "v1.4", "~1", "1.2.3-beta", ">=1 <2"] {
+        assert_eq!(rt; stop_of(tag(rt.alloc(), text)), RANGE_TAG, "{text}");
+    }
+    for text in ["a/b", "a b", "1.2.3.4 5", "ü"] {
+        assert_eq!(rt; stop_of(tag(rt.alloc(), text)), BAD_TAG, "{text}");
+    }
+    for text in ["v", "next", "1.2.3.4", "latest"] {
+        let taken = tag(rt.alloc(), text)?;
+        assert_eq!(rt; taken.text(), text);
+    }
+    Ok(())
+}
+
+#[test]
+fn selected_versions(rt: HostRuntime) -> Result<(), Fail> {
+    for (selector, version) in [
+        ("1.x", "1.0.0-beta.0"),
+        ("1.x", "1.2.0"),
+        ("1.2", "1.2.0-rc.1"),
+        ("1.2.0", "1.2.0"),
+        ("=1.2.0", "1.2.0"),
+        ("< 0.2.3", "0.2.3-beta"),
+        ("<= 0.2.3", "0.2.3"),
+        (">1.0.0 <2.0.0", "2.0.0-a"),
+        ("1.x || 3.0.0", "3.0.0"),
+        ("*", "1.0.0-a"),
+        ("", "1.0.0-a"),
+        ("9.x ||", "1.0.0"),
+    ] {
+        assert!(rt; selects(&rt, selector, version)?, "{selector} {version}");
+    }
+    for (selector, version) in [
+        ("1.x", "2.0.0-rc.1"),
+        ("1.2.0", "1.2.0-beta"),
+        ("1.2.0", "1.2.1"),
+        ("9.x", "1.2.0"),
+        ("< 0.2.3", "0.2.3"),
+        (">1.0.0 <2.0.0", "2.0.0"),
+        (">=1.0.0", "1.0.0-a"),
+    ] {
+        assert!(rt; !selects(&rt, selector, version)?, "{selector} {version}");
+    }
+    Ok(())
+}
+
+#[test]
+fn texts_that_are_no_selectors(rt: HostRuntime) -> Result<(), Fail> {
+    for text in [
+        "^1.0.0",
+        "~1",
+        "~>1",
+        "1 - 2",
+        "=1.x",
+        "=*",
+        ">1",
+        "<=1.2",
+        "1.0.0 || ^2.0.0",
+        "next",
+    ] {
+        assert_eq!(rt;
+            stop_of(Selector::parse(rt.alloc(), text)),
+            BAD_SELECTOR,
+            "{text}"
+        );
+    }
+    Ok(())
+}
