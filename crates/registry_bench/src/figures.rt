@@ -32,18 +32,19 @@ pub fn print_crowd<R: Print + Clock, S: Alter>(
 
 /// Prints how long the publish of a new package and the packument of one version take where there
 /// are a thousand packages, and where there are ten thousand: of packages whose names stand behind
-/// all others, and of some whose names stand before them.
+/// all others, and of some whose names stand before them. Names with numbers of five digits stand
+/// in the order of the numbers.
 pub fn print_growth<R: Print + Clock, S: Alter>(
     rt: &R,
     alloc: Global,
     registry: &mut Registry<S>,
 ) -> Result<(), Failure> {
-    publish_first(alloc, registry, 10_000..11_000)?;
-    print_next(rt, alloc, registry, "behind 1000 packages", 11_000..11_500)?;
-    print_next(rt, alloc, registry, "before 1500 packages", 9_500..10_000)?;
-    publish_first(alloc, registry, 11_500..19_500)?;
-    print_next(rt, alloc, registry, "behind 10000 packages", 19_500..20_000)?;
-    print_next(rt, alloc, registry, "before 10500 packages", 9_000..9_500)
+    publish_first(alloc, registry, 20_000..21_000)?;
+    print_next(rt, alloc, registry, "behind 1000 packages", 21_000..21_500)?;
+    print_next(rt, alloc, registry, "before 1500 packages", 19_500..20_000)?;
+    publish_first(alloc, registry, 21_500..29_500)?;
+    print_next(rt, alloc, registry, "behind 10000 packages", 29_500..30_000)?;
+    print_next(rt, alloc, registry, "before 10500 packages", 19_000..19_500)
 }
 
 /// Prints how long it takes to read a body of almost as many bytes as one may have.

@@ -20,7 +20,7 @@ pub struct Release {
 }
 
 impl Release {
-    /// The package's name, as `package-00007`: their order is that of the numbers.
+    /// The package's name, as `package-7`.
     pub fn name(self, alloc: Global) -> Result<Name, Stop> {
         Name::parse(alloc, &self.name_text(alloc)?)
     }
@@ -40,6 +40,6 @@ impl Release {
     }
 
     fn name_text(self, alloc: Global) -> Result<String, AllocError> {
-        format!(in alloc; "package-{:05}", self.package)
+        format!(in alloc; "package-{}", self.package)
     }
 }

@@ -24,13 +24,6 @@ ready_again mid new same ready = record {
   rowids = subst (λ (d : Database). AllByRecursion (λ t. HasRowids (d.trees t.tree)) schema.tables) (sym same) ready.rowids;
 }
 
-pub committed_rests : (left : Contents) (mid new : Shown) → Leaves schema contents left mid → Shows mid new mid.now mid.now false → Rests new
-committed_rests left mid new leaves shows = record {
-  idle = shows.mode;
-  in_form = λ _ _. ready_again mid new shows.now_is leaves.ready;
-  settled = λ _ _. shows.now_is ∙ sym shows.committed_is;
-}
-
 -- what a commit leaves, however the disk is
 pub commit_rests : (left : Contents) (mid new : Shown) → new.in_transaction ≡ false → (HasCleanDisk new → Leaves schema contents left mid) → (HasCleanDisk new → Shows mid new mid.now mid.now false) → Rests new
 commit_rests left mid new ended leaves shows = record {
@@ -38,3 +31,6 @@ commit_rests left mid new ended leaves shows = record {
   in_form = λ clean _. ready_again mid new (shows clean).now_is (leaves clean).ready;
   settled = λ clean _. (shows clean).now_is ∙ sym (shows clean).committed_is;
 }
+
+pub committed_rests : (left : Contents) (mid new : Shown) → Leaves schema contents left mid → Shows mid new mid.now mid.now false → Rests new
+committed_rests left mid new leaves shows = commit_rests left mid new shows.mode (λ _. leaves) (λ _. shows)

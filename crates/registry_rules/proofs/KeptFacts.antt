@@ -1,5 +1,6 @@
 -- A request in form that nothing refuses keeps what holds of all that the registry holds.
 use Rattle.std.proofs.Common.{◌≡◌, ◌≢◌, ℕ, ◌≤◌, Bool, true, false, ◌&&◌, is_none, is_some, Option, Some, None, refl, sym, ap, ◌∙◌, subst, true≢false}
+use Rattle.std.proofs.lemmas.Bool.{and_right}
 use Rattle.std.specs.Prelude.{IsSome, IsTrue}
 use Rattle.registry_names.specs.Keys.{Pair}
 use Rattle.registry_names.specs.Maps.{at}
@@ -130,16 +131,12 @@ tag_set_kept S p t v name tag live kept = record {
   unscoped = kept.unscoped;
 }
 
-never_both : (b c : Bool) → c ≡ false → (b && c) ≡ false
-never_both true c e = e
-never_both false c e = refl
-
 tag_removed_kept : (S : State) (p t : Text) → is t latest ≡ false → IsKept S → IsKept (without_tag S p t)
 tag_removed_kept S p t other kept = record {
   live = kept.live;
   tags = λ q u w h. still_tag S (without_tag S p t) refl q u w (kept.tags q u w (each_left pair_key S.tags (p, t) (q, u) w h));
   status = kept.status;
-  latest = λ q w h. ap is_some (at-erase_other pair_key S.tags (p, t) (q, latest) (never_both (is p q) (is t latest) other)) ∙ kept.latest q w h;
+  latest = λ q w h. ap is_some (at-erase_other pair_key S.tags (p, t) (q, latest) (and_right (is p q) (is t latest) other)) ∙ kept.latest q w h;
   unscoped = kept.unscoped;
 }
 
