@@ -1,4 +1,4 @@
-//! The tables of the specification, and texts of each kind.
+//! The tables of `docs/RANGES.md`, and texts of each kind.
 
 use registry_names::{Refusal, Stop, Ver};
 use registry_ranges::{Range, Selector, is_range, tag};
