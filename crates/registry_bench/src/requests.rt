@@ -3,7 +3,7 @@
 use crate::failure::Failure;
 use crate::release::{ARCHIVE, Release};
 use registry_desk::Registry;
-use registry_names::{Moment, Stop};
+use registry_names::{Moment, Stop, Text};
 use registry_publish::PublishForm;
 use registry_rules::{Action, Credential, Reply, Request};
 use sqlite::Alter;
@@ -56,15 +56,15 @@ pub fn packuments(alloc: Global, releases: &[Release]) -> Result<Vec<Request>, S
     Ok(packuments)
 }
 
-/// The reply to a request that isn't to be turned away.
+/// Asks what isn't to be turned away, and leaves the reply.
 pub fn ask<S: Alter>(
     alloc: Global,
     registry: &mut Registry<S>,
     request: &Request,
-) -> Result<Reply, Failure> {
+) -> Result<(), Failure> {
     match registry.apply(alloc, request)? {
         Reply::Refused(refusal) => Err(Failure::Refused(refusal)),
-        reply => Ok(reply),
+        Reply::Created | Reply::Done | Reply::Doc(_) | Reply::Bytes(_) => Ok(()),
     }
 }
 
@@ -78,4 +78,17 @@ pub fn ask_all<S: Alter>(
         ask(alloc, registry, request)?;
     }
     Ok(())
+}
+
+/// The document that is the reply to a query which isn't to be turned away.
+pub fn document<S: Alter>(
+    alloc: Global,
+    registry: &mut Registry<S>,
+    query: &Request,
+) -> Result<Text, Failure> {
+    match registry.apply(alloc, query)? {
+        Reply::Doc(text) => Ok(text),
+        Reply::Refused(refusal) => Err(Failure::Refused(refusal)),
+        Reply::Created | Reply::Done | Reply::Bytes(_) => Err(Failure::Reply),
+    }
 }

@@ -2,9 +2,10 @@
 
 use crate::failure::Failure;
 use crate::release::{ARCHIVE, Release};
-use crate::requests::{ask, packument, publish};
+use crate::requests::{ask, document, packument, publish};
 use registry_desk::Registry;
-use registry_rules::Reply;
+use registry_names::{Stop, Text};
+use registry_rules::Request;
 use sqlite::Alter;
 use std::alloc::{AllocError, Global};
 
@@ -31,22 +32,41 @@ fn go_round<S: Alter>(
     registry: &mut Registry<S>,
     release: Release,
 ) -> Result<(), Failure> {
-    let body = release.body(alloc, ARCHIVE)?;
-    ask(alloc, registry, &publish(alloc, &body)?)?;
-    let reply = ask(alloc, registry, &packument(alloc, release)?)?;
-    if has_version(alloc, &reply, release)? {
+    publish_release(alloc, registry, release)?;
+    let packument = packument_of(alloc, registry, release)?;
+    if has_version(alloc, packument.as_str(), release)? {
         Ok(())
     } else {
         Err(Failure::Reply)
     }
 }
 
-// Whether the reply is a packument with a manifest of the version.
-fn has_version(alloc: Global, reply: &Reply, release: Release) -> Result<bool, AllocError> {
+fn publish_release<S: Alter>(
+    alloc: Global,
+    registry: &mut Registry<S>,
+    release: Release,
+) -> Result<(), Failure> {
+    let request = publish_of(alloc, release)?;
+    ask(alloc, registry, &request)
+}
+
+fn publish_of(alloc: Global, release: Release) -> Result<Request, Stop> {
+    let body = release.body(alloc, ARCHIVE)?;
+    publish(alloc, &body)
+}
+
+fn packument_of<S: Alter>(
+    alloc: Global,
+    registry: &mut Registry<S>,
+    release: Release,
+) -> Result<Text, Failure> {
+    let query = packument(alloc, release)?;
+    document(alloc, registry, &query)
+}
+
+// Whether the packument has a manifest of the version.
+fn has_version(alloc: Global, packument: &str, release: Release) -> Result<bool, AllocError> {
     let version = release.version_text(alloc)?;
     let key = format!(in alloc; "\"{version}\":{{")?;
-    match reply {
-        Reply::Doc(text) => Ok(text.as_str().contains(key.as_str())),
-        _ => Ok(false),
-    }
+    Ok(packument.contains(key.as_str()))
 }

@@ -176,20 +176,36 @@ static TABLE: [Case; 31] = [
     ("anonymous", "@ghost/kit", Level::Nothing, UNREAD_ANONYMOUS),
 ];
 
+// Whether the rows say what is wanted.
+fn rows_say(alloc: Global, rows: &AccessRows, case: &Case) -> Result<bool, Stop> {
+    let (who, package, wanted, answers) = case;
+    let caller = caller(alloc, who)?;
+    let name = Name::parse(alloc, package)?;
+    Ok(level(rows, &caller, &name) == *wanted && by_rows(rows, &caller, &name) == *answers)
+}
+
 // The first caller and package of whom the rows say something else.
 fn other_by_rows(
     alloc: Global,
     cases: &[Case],
 ) -> Result<Option<(&'static str, &'static str)>, Stop> {
     let rows = registry(alloc)?;
-    for (who, package, wanted, answers) in cases {
-        let caller = caller(alloc, who)?;
-        let name = Name::parse(alloc, package)?;
-        if level(&rows, &caller, &name) != *wanted || by_rows(&rows, &caller, &name) != *answers {
-            return Ok(Some((*who, *package)));
+    for case in cases {
+        if !rows_say(alloc, &rows, case)? {
+            return Ok(Some((case.0, case.1)));
         }
     }
     Ok(None)
+}
+
+// Whether the caller's standing says what is wanted.
+fn standing_says(alloc: Global, case: &Case) -> Result<bool, Stop> {
+    let (who, package, wanted, answers) = case;
+    let caller = caller(alloc, who)?;
+    let name = Name::parse(alloc, package)?;
+    let standing = standing(alloc, who, package)?;
+    let is_level = level_of(&standing, &caller) == *wanted;
+    Ok(is_level && by_standing(&standing, &caller, &name) == *answers)
 }
 
 // The first caller and package whose standing says something else.
@@ -197,14 +213,9 @@ fn other_by_standings(
     alloc: Global,
     cases: &[Case],
 ) -> Result<Option<(&'static str, &'static str)>, Stop> {
-    for (who, package, wanted, answers) in cases {
-        let caller = caller(alloc, who)?;
-        let name = Name::parse(alloc, package)?;
-        let standing = standing(alloc, who, package)?;
-        if level_of(&standing, &caller) != *wanted
-            || by_standing(&standing, &caller, &name) != *answers
-        {
-            return Ok(Some((*who, *package)));
+    for case in cases {
+        if !standing_says(alloc, case)? {
+            return Ok(Some((case.0, case.1)));
         }
     }
     Ok(None)
@@ -273,21 +284,42 @@ static ORGANISATION_TABLE: [OrganisationCase; 6] = [
     ),
 ];
 
+fn organisation_says(
+    alloc: Global,
+    rows: &AccessRows,
+    caller: &Caller,
+    organisation: &str,
+    answers: [Answer; 3],
+) -> Result<bool, Stop> {
+    let organisation = Ident::parse(alloc, organisation)?;
+    Ok(of_organisation(rows, caller, &organisation) == answers)
+}
+
+// Whether the rows say what is wanted of operating, of `lab`, and of `ghost`.
+fn organisations_say(
+    alloc: Global,
+    rows: &AccessRows,
+    case: &OrganisationCase,
+) -> Result<bool, Stop> {
+    let (who, operate, answers, missing) = case;
+    let caller = caller(alloc, who)?;
+    let missing = [*missing, *missing, *missing];
+    Ok(
+        allowed(rows, &caller, &Ask::Operate) == *operate
+            && organisation_says(alloc, rows, &caller, "lab", *answers)?
+            && organisation_says(alloc, rows, &caller, "ghost", missing)?,
+    )
+}
+
 // The first caller of whom the rows say something else.
 fn other_by_organisation(
     alloc: Global,
     cases: &[OrganisationCase],
 ) -> Result<Option<&'static str>, Stop> {
     let rows = registry(alloc)?;
-    let lab = Ident::parse(alloc, "lab")?;
-    let missing = Ident::parse(alloc, "ghost")?;
-    for (who, operate, answers, not_there) in cases {
-        let caller = caller(alloc, who)?;
-        if allowed(&rows, &caller, &Ask::Operate) != *operate
-            || of_organisation(&rows, &caller, &lab) != *answers
-            || of_organisation(&rows, &caller, &missing) != [*not_there, *not_there, *not_there]
-        {
-            return Ok(Some(*who));
+    for case in cases {
+        if !organisations_say(alloc, &rows, case)? {
+            return Ok(Some(case.0));
         }
     }
     Ok(None)

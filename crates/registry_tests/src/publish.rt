@@ -8,7 +8,7 @@ mod needs;
 mod order;
 mod tokens;
 
-use registry_names::{Refusal, Stop};
+use registry_names::{Refusal, Status, Stop};
 use registry_publish::{PublishForm, integrity_of};
 use std::alloc::{AllocError, Global};
 use std::test::Fail;
@@ -40,6 +40,66 @@ const BAD_TAG: Option<Stop> = Some(Stop::Refused(Refusal::BadTag));
 
 const BAD_INTEGRITY: Option<Stop> = Some(Stop::Refused(Refusal::BadIntegrity));
 
+/// What a form is to say.
+struct Said {
+    name: &'static str,
+    version: &'static str,
+    tag: &'static str,
+    access: Option<Status>,
+    manifest: &'static str,
+    integrity: &'static str,
+    archive_len: usize,
+    needs_len: usize,
+}
+
+static KIT_SAID: Said = Said {
+    name: "@lab/kit",
+    version: "1.0.0",
+    tag: "latest",
+    access: None,
+    manifest: KIT_MANIFEST,
+    integrity: ABC_INTEGRITY,
+    archive_len: 3,
+    needs_len: 0,
+};
+
+impl Said {
+    // The first of these that the form says otherwise.
+    fn other_in(&self, form: &PublishForm) -> Option<&'static str> {
+        if form.name().text() != self.name {
+            Some("name")
+        } else if form.version().text() != self.version {
+            Some("version")
+        } else if form.tag().text() != self.tag {
+            Some("tag")
+        } else if form.access() != self.access {
+            Some("access")
+        } else if form.manifest_text() != self.manifest {
+            Some("manifest")
+        } else {
+            self.other_archive_in(form)
+        }
+    }
+
+    fn other_archive_in(&self, form: &PublishForm) -> Option<&'static str> {
+        if form.integrity() != self.integrity {
+            Some("integrity")
+        } else if form.archive().len() != self.archive_len {
+            Some("archive")
+        } else if form.needs().len() != self.needs_len {
+            Some("needs")
+        } else {
+            None
+        }
+    }
+}
+
+// The first of these that the body's form says otherwise.
+fn other_said(alloc: Global, body: &str, said: &Said) -> Result<Option<&'static str>, Stop> {
+    let form = PublishForm::read(alloc, body.as_bytes())?;
+    Ok(said.other_in(&form))
+}
+
 fn stop_of(answer: Result<PublishForm, Stop>) -> Option<Stop> {
     match answer {
         Ok(_) => None,
@@ -55,6 +115,24 @@ fn read_with(alloc: Global, from: &str, to: &str) -> Result<PublishForm, Stop> {
 
 fn stop_with(alloc: Global, from: &str, to: &str) -> Option<Stop> {
     stop_of(read_with(alloc, from, to))
+}
+
+fn has_version(alloc: Global, version: &str) -> Result<bool, Stop> {
+    let form = read_with(alloc, "1.0.0", version)?;
+    Ok(form.version().text() == version)
+}
+
+fn has_archive(alloc: Global, body: &str, archive: &[u8], integrity: &str) -> Result<bool, Stop> {
+    let form = PublishForm::read(alloc, body.as_bytes())?;
+    Ok(form.archive() == archive && form.integrity() == integrity)
+}
+
+// The example's body with an archive of no bytes, and its integrity.
+fn kit_with_nothing(alloc: Global) -> Result<String, AllocError> {
+    let empty = KIT.replace(alloc, "\"YWJj\",\"length\":3", "\"\",\"length\":0")?;
+    empty
+        .as_str()
+        .replace(alloc, ABC_INTEGRITY, EMPTY_INTEGRITY)
 }
 
 // The example's manifest has one more member, of so many arrays in one another.
@@ -76,31 +154,26 @@ fn zeros(alloc: Global, count: usize) -> Result<Vec<u8>, AllocError> {
 
 #[test]
 fn the_body_of_a_first_version(rt: HostRuntime) -> Result<(), Fail> {
-    let form = PublishForm::read(rt.alloc(), KIT.as_bytes())?;
-    assert_eq!(rt; form.name().text(), "@lab/kit");
-    assert_eq!(rt; form.version().text(), "1.0.0");
-    assert_eq!(rt; form.tag().text(), "latest");
-    assert_eq!(rt; form.access(), None);
-    assert_eq!(rt; form.manifest_text(), KIT_MANIFEST);
-    assert_eq!(rt; form.archive(), b"abc".as_slice());
-    assert_eq!(rt; form.needs().len(), 0);
-    assert_eq!(rt; form.integrity().len(), 95);
+    assert_eq!(rt; other_said(rt.alloc(), KIT, &KIT_SAID)?, None);
+    assert!(rt; has_archive(rt.alloc(), KIT, b"abc".as_slice(), ABC_INTEGRITY)?);
     Ok(())
 }
 
+static BROKEN: [(&str, &str); 9] = [
+    ("YWJj", "YWJ"),
+    ("\"versions\":{", "\"versions\":{\"0.1.0\":{},"),
+    ("\"_attachments\":{", "\"_attachments\":{\"x\":{},"),
+    ("\"version\":", "\"x\":1.5,\"version\":"),
+    ("\"shasum\":", "\"x\":[{\"y\":1e3}],\"shasum\":"),
+    ("\"version\":", "\"deprecated\":\"a\",\"version\":"),
+    ("\"version\":", "\"deprecated\":null,\"version\":"),
+    ("\"version\":\"1.0.0\"", "\"version\":\"1.0.1\""),
+    ("\"version\":", "\"name\":\"@lab/kits\",\"version\":"),
+];
+
 #[test]
 fn broken_bodies(rt: HostRuntime) -> Result<(), Fail> {
-    for (from, to) in [
-        ("YWJj", "YWJ"),
-        ("\"versions\":{", "\"versions\":{\"0.1.0\":{},"),
-        ("\"_attachments\":{", "\"_attachments\":{\"x\":{},"),
-        ("\"version\":", "\"x\":1.5,\"version\":"),
-        ("\"shasum\":", "\"x\":[{\"y\":1e3}],\"shasum\":"),
-        ("\"version\":", "\"deprecated\":\"a\",\"version\":"),
-        ("\"version\":", "\"deprecated\":null,\"version\":"),
-        ("\"version\":\"1.0.0\"", "\"version\":\"1.0.1\""),
-        ("\"version\":", "\"name\":\"@lab/kits\",\"version\":"),
-    ] {
+    for (from, to) in &BROKEN {
         assert_eq!(rt; stop_with(rt.alloc(), from, to), BAD_BODY, "{to}");
     }
     let cut = match KIT.as_bytes().split_last() {
@@ -132,11 +205,9 @@ fn a_body_of_the_most_bytes(rt: HostRuntime) -> Result<(), Fail> {
 }
 
 #[test]
-fn manifests_of_many_levels(rt: HostRuntime) -> Result<(), Fail> {
-    let form = read_nested(rt.alloc(), 100)?;
-    assert_eq!(rt; form.version().text(), "1.0.0");
+fn manifests_of_many_levels(rt: HostRuntime) {
+    assert_eq!(rt; stop_of(read_nested(rt.alloc(), 100)), None);
     assert_eq!(rt; stop_of(read_nested(rt.alloc(), 200)), BAD_BODY);
-    Ok(())
 }
 
 #[test]
@@ -154,29 +225,25 @@ fn names_before_versions(rt: HostRuntime) -> Result<(), Fail> {
     Ok(())
 }
 
+static NO_VERSIONS: [&str; 3] = ["1.0.0+b", "v1.0.0", "9007199254740992.0.0"];
+
 #[test]
 fn versions_of_bodies(rt: HostRuntime) -> Result<(), Fail> {
-    for refused in ["1.0.0+b", "v1.0.0", "9007199254740992.0.0"] {
+    for refused in &NO_VERSIONS {
         assert_eq!(rt;
             stop_with(rt.alloc(), "1.0.0", refused),
             BAD_VERSION,
             "{refused}"
         );
     }
-    let form = read_with(rt.alloc(), "1.0.0", "9007199254740991.0.0")?;
-    assert_eq!(rt; form.version().text(), "9007199254740991.0.0");
+    assert!(rt; has_version(rt.alloc(), "9007199254740991.0.0")?);
     Ok(())
 }
 
 #[test]
 fn an_empty_archive(rt: HostRuntime) -> Result<(), Fail> {
-    let empty = KIT.replace(rt.alloc(), "\"YWJj\",\"length\":3", "\"\",\"length\":0")?;
-    let body = empty
-        .as_str()
-        .replace(rt.alloc(), ABC_INTEGRITY, EMPTY_INTEGRITY)?;
-    let form = PublishForm::read(rt.alloc(), body.as_bytes())?;
-    assert_eq!(rt; form.archive(), b"".as_slice());
-    assert_eq!(rt; form.integrity(), EMPTY_INTEGRITY);
+    let body = kit_with_nothing(rt.alloc())?;
+    assert!(rt; has_archive(rt.alloc(), &body, b"".as_slice(), EMPTY_INTEGRITY)?);
     Ok(())
 }
 

@@ -1,7 +1,8 @@
 //! The tables of `docs/RANGES.md`, and texts of each kind.
 
-use registry_names::{Refusal, Stop, Ver};
+use registry_names::{Fault, Refusal, Stop, Ver};
 use registry_ranges::{Range, Selector, is_range, tag};
+use std::alloc::{AllocError, Global};
 use std::test::Fail;
 
 fn allows(rt: &HostRuntime, range: &str, version: &str) -> Result<bool, Fail> {
@@ -10,6 +11,25 @@ fn allows(rt: &HostRuntime, range: &str, version: &str) -> Result<bool, Fail> {
         Some(range) => Ok(range.allows(&version)),
         None => Ok(false),
     }
+}
+
+fn is_read(alloc: Global, text: &str) -> Result<bool, Fault> {
+    Ok(Range::parse(alloc, text)?.is_some())
+}
+
+fn is_read_often(alloc: Global, part: &str, times: usize) -> Result<bool, Fault> {
+    let text = part.repeat(alloc, times)?;
+    is_read(alloc, &text)
+}
+
+fn is_range_often(alloc: Global, part: &str, times: usize) -> Result<bool, AllocError> {
+    let text = part.repeat(alloc, times)?;
+    Ok(is_range(&text))
+}
+
+fn is_tag(alloc: Global, text: &str) -> Result<bool, Stop> {
+    let taken = tag(alloc, text)?;
+    Ok(taken.text() == text)
 }
 
 fn selects(rt: &HostRuntime, selector: &str, version: &str) -> Result<bool, Fail> {
@@ -31,173 +51,186 @@ const RANGE_TAG: Option<Stop> = Some(Stop::Refused(Refusal::RangeTag));
 
 const BAD_TAG: Option<Stop> = Some(Stop::Refused(Refusal::BadTag));
 
+static ALLOWED: [(&str, &str); 22] = [
+    ("^1.2.3", "1.2.3"),
+    ("^1.2.3", "1.9.0"),
+    ("^0.0.3", "0.0.3"),
+    ("^0.0", "0.0.9"),
+    ("~1.2", "1.2.9"),
+    ("1.2.3 - 2.3", "1.2.3"),
+    ("1.2.3 - 2.3", "2.3.9"),
+    (">1.2", "1.3.0"),
+    (">=1.2.3-beta.1 <1.3.0", "1.2.3-beta.2"),
+    (">=1.2.3-beta.1 <1.3.0", "1.2.4"),
+    ("1 || 3", "1.5.0"),
+    ("1 || 3", "3.1.0"),
+    ("*", "0.0.0"),
+    ("", "1.0.0"),
+    ("  || 9", "4.0.0"),
+    ("1.x.3-beta", "1.0.0"),
+    ("=v1", "1.0.0"),
+    (">= 1", "2.0.0"),
+    ("~> 1", "1.9.0"),
+    ("v1 - v2 ", "2.9.0"),
+    ("1.2.3+build", "1.2.3"),
+    ("<=9007199254740991", "9007199254740991.0.0"),
+];
+
 #[test]
 fn allowed_versions(rt: HostRuntime) -> Result<(), Fail> {
-    for (range, version) in [
-        ("^1.2.3", "1.2.3"),
-        ("^1.2.3", "1.9.0"),
-        ("^0.0.3", "0.0.3"),
-        ("^0.0", "0.0.9"),
-        ("~1.2", "1.2.9"),
-        ("1.2.3 - 2.3", "1.2.3"),
-        ("1.2.3 - 2.3", "2.3.9"),
-        (">1.2", "1.3.0"),
-        (">=1.2.3-beta.1 <1.3.0", "1.2.3-beta.2"),
-        (">=1.2.3-beta.1 <1.3.0", "1.2.4"),
-        ("1 || 3", "1.5.0"),
-        ("1 || 3", "3.1.0"),
-        ("*", "0.0.0"),
-        ("", "1.0.0"),
-        ("  || 9", "4.0.0"),
-        ("1.x.3-beta", "1.0.0"),
-        ("=v1", "1.0.0"),
-        (">= 1", "2.0.0"),
-        ("~> 1", "1.9.0"),
-        ("v1 - v2 ", "2.9.0"),
-        ("1.2.3+build", "1.2.3"),
-        ("<=9007199254740991", "9007199254740991.0.0"),
-    ] {
+    for (range, version) in &ALLOWED {
         assert!(rt; is_range(range), "{range}");
         assert!(rt; allows(&rt, range, version)?, "{range} {version}");
     }
     Ok(())
 }
 
+static NOT_ALLOWED: [(&str, &str); 16] = [
+    ("^1.2.3", "1.2.2"),
+    ("^1.2.3", "2.0.0-0"),
+    ("^1.2.3", "1.3.0-beta"),
+    ("^0.0.3", "0.0.4"),
+    ("^0.0", "0.1.0"),
+    ("~1.2", "1.3.0"),
+    ("1.2.3 - 2.3", "2.4.0"),
+    (">1.2", "1.2.9"),
+    (">=1.2.3-beta.1 <1.3.0", "1.2.4-beta"),
+    ("1 || 3", "2.0.0"),
+    ("*", "1.0.0-a"),
+    ("", "1.0.0-a"),
+    ("<*", "0.0.0"),
+    (">*", "9.0.0"),
+    ("1 2", "1.0.0"),
+    ("1.2.3 - 2.3", "1.2.3-a"),
+];
+
 #[test]
 fn other_versions(rt: HostRuntime) -> Result<(), Fail> {
-    for (range, version) in [
-        ("^1.2.3", "1.2.2"),
-        ("^1.2.3", "2.0.0-0"),
-        ("^1.2.3", "1.3.0-beta"),
-        ("^0.0.3", "0.0.4"),
-        ("^0.0", "0.1.0"),
-        ("~1.2", "1.3.0"),
-        ("1.2.3 - 2.3", "2.4.0"),
-        (">1.2", "1.2.9"),
-        (">=1.2.3-beta.1 <1.3.0", "1.2.4-beta"),
-        ("1 || 3", "2.0.0"),
-        ("*", "1.0.0-a"),
-        ("", "1.0.0-a"),
-        ("<*", "0.0.0"),
-        (">*", "9.0.0"),
-        ("1 2", "1.0.0"),
-        ("1.2.3 - 2.3", "1.2.3-a"),
-    ] {
+    for (range, version) in &NOT_ALLOWED {
         assert!(rt; is_range(range), "{range}");
         assert!(rt; !allows(&rt, range, version)?, "{range} {version}");
     }
     Ok(())
 }
 
+static NO_RANGES: [&str; 24] = [
+    "v",
+    "1.2.3.4",
+    "1.2-beta",
+    "01.2.3",
+    "> =1",
+    "1.2.3-",
+    "1.2.3-01",
+    "9007199254740992",
+    "x.9007199254740992",
+    "x-y",
+    "1.2.3 -2.3",
+    "1.2.3- 2",
+    "1.2.3 - 2.3 4",
+    "1.2.3 - ",
+    "- 1",
+    "1|2",
+    "1|| |2",
+    "==1",
+    "~ > 1",
+    "1\t||2",
+    "1*.3.2",
+    "2.0.*1",
+    "vv1",
+    "latest",
+];
+
 #[test]
 fn texts_that_are_no_ranges(rt: HostRuntime) -> Result<(), Fail> {
-    for text in [
-        "v",
-        "1.2.3.4",
-        "1.2-beta",
-        "01.2.3",
-        "> =1",
-        "1.2.3-",
-        "1.2.3-01",
-        "9007199254740992",
-        "x.9007199254740992",
-        "x-y",
-        "1.2.3 -2.3",
-        "1.2.3- 2",
-        "1.2.3 - 2.3 4",
-        "1.2.3 - ",
-        "- 1",
-        "1|2",
-        "1|| |2",
-        "==1",
-        "~ > 1",
-        "1\t||2",
-        "1*.3.2",
-        "2.0.*1",
-        "vv1",
-        "latest",
-    ] {
+    for text in &NO_RANGES {
         assert!(rt; !is_range(text), "{text}");
-        assert!(rt; Range::parse(rt.alloc(), text)?.is_none(), "{text}");
+        assert!(rt; !is_read(rt.alloc(), text)?, "{text}");
     }
     Ok(())
 }
 
 #[test]
 fn long_texts(rt: HostRuntime) -> Result<(), Fail> {
-    let alternatives = "1||".repeat(rt.alloc(), 100_000)?;
-    assert!(rt; is_range(alternatives.as_str()));
-    assert!(rt; Range::parse(rt.alloc(), alternatives.as_str())?.is_some());
-    let spaces = " ".repeat(rt.alloc(), 1_000_000)?;
-    assert!(rt; is_range(spaces.as_str()));
-    let digits = "1".repeat(rt.alloc(), 1_000_000)?;
-    assert!(rt; !is_range(digits.as_str()));
-    let parts = "1.".repeat(rt.alloc(), 500_000)?;
-    assert!(rt; !is_range(parts.as_str()));
+    assert!(rt; is_read_often(rt.alloc(), "1||", 100_000)?);
+    assert!(rt; is_range_often(rt.alloc(), "1||", 100_000)?);
+    assert!(rt; is_range_often(rt.alloc(), " ", 1_000_000)?);
+    assert!(rt; !is_range_often(rt.alloc(), "1", 1_000_000)?);
+    assert!(rt; !is_range_often(rt.alloc(), "1.", 500_000)?);
     Ok(())
 }
+
+static RANGES: [&str; 6] = ["", "x", "v1.4", "~1", "1.2.3-beta", ">=1 <2"];
+
+static NO_TAGS: [&str; 4] = ["a/b", "a b", "1.2.3.4 5", "ü"];
+
+static TAGS: [&str; 4] = ["v", "next", "1.2.3.4", "latest"];
 
 #[test]
 fn tags(rt: HostRuntime) -> Result<(), Fail> {
-    for text in ["", "x", "v1.4", "~1", "1.2.3-beta", ">=1 <2"] {
+    for text in &RANGES {
         assert_eq!(rt; stop_of(tag(rt.alloc(), text)), RANGE_TAG, "{text}");
     }
-    for text in ["a/b", "a b", "1.2.3.4 5", "ü"] {
+    for text in &NO_TAGS {
         assert_eq!(rt; stop_of(tag(rt.alloc(), text)), BAD_TAG, "{text}");
     }
-    for text in ["v", "next", "1.2.3.4", "latest"] {
-        let taken = tag(rt.alloc(), text)?;
-        assert_eq!(rt; taken.text(), text);
+    for text in &TAGS {
+        assert!(rt; is_tag(rt.alloc(), text)?, "{text}");
     }
     Ok(())
 }
 
+static SELECTED: [(&str, &str); 12] = [
+    ("1.x", "1.0.0-beta.0"),
+    ("1.x", "1.2.0"),
+    ("1.2", "1.2.0-rc.1"),
+    ("1.2.0", "1.2.0"),
+    ("=1.2.0", "1.2.0"),
+    ("< 0.2.3", "0.2.3-beta"),
+    ("<= 0.2.3", "0.2.3"),
+    (">1.0.0 <2.0.0", "2.0.0-a"),
+    ("1.x || 3.0.0", "3.0.0"),
+    ("*", "1.0.0-a"),
+    ("", "1.0.0-a"),
+    ("9.x ||", "1.0.0"),
+];
+
+static NOT_SELECTED: [(&str, &str); 7] = [
+    ("1.x", "2.0.0-rc.1"),
+    ("1.2.0", "1.2.0-beta"),
+    ("1.2.0", "1.2.1"),
+    ("9.x", "1.2.0"),
+    ("< 0.2.3", "0.2.3"),
+    (">1.0.0 <2.0.0", "2.0.0"),
+    (">=1.0.0", "1.0.0-a"),
+];
+
 #[test]
 fn selected_versions(rt: HostRuntime) -> Result<(), Fail> {
-    for (selector, version) in [
-        ("1.x", "1.0.0-beta.0"),
-        ("1.x", "1.2.0"),
-        ("1.2", "1.2.0-rc.1"),
-        ("1.2.0", "1.2.0"),
-        ("=1.2.0", "1.2.0"),
-        ("< 0.2.3", "0.2.3-beta"),
-        ("<= 0.2.3", "0.2.3"),
-        (">1.0.0 <2.0.0", "2.0.0-a"),
-        ("1.x || 3.0.0", "3.0.0"),
-        ("*", "1.0.0-a"),
-        ("", "1.0.0-a"),
-        ("9.x ||", "1.0.0"),
-    ] {
+    for (selector, version) in &SELECTED {
         assert!(rt; selects(&rt, selector, version)?, "{selector} {version}");
     }
-    for (selector, version) in [
-        ("1.x", "2.0.0-rc.1"),
-        ("1.2.0", "1.2.0-beta"),
-        ("1.2.0", "1.2.1"),
-        ("9.x", "1.2.0"),
-        ("< 0.2.3", "0.2.3"),
-        (">1.0.0 <2.0.0", "2.0.0"),
-        (">=1.0.0", "1.0.0-a"),
-    ] {
+    for (selector, version) in &NOT_SELECTED {
         assert!(rt; !selects(&rt, selector, version)?, "{selector} {version}");
     }
     Ok(())
 }
 
+static NO_SELECTORS: [&str; 10] = [
+    "^1.0.0",
+    "~1",
+    "~>1",
+    "1 - 2",
+    "=1.x",
+    "=*",
+    ">1",
+    "<=1.2",
+    "1.0.0 || ^2.0.0",
+    "next",
+];
+
 #[test]
 fn texts_that_are_no_selectors(rt: HostRuntime) -> Result<(), Fail> {
-    for text in [
-        "^1.0.0",
-        "~1",
-        "~>1",
-        "1 - 2",
-        "=1.x",
-        "=*",
-        ">1",
-        "<=1.2",
-        "1.0.0 || ^2.0.0",
-        "next",
-    ] {
+    for text in &NO_SELECTORS {
         assert_eq!(rt;
             stop_of(Selector::parse(rt.alloc(), text)),
             BAD_SELECTOR,

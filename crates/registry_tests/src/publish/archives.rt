@@ -9,18 +9,20 @@ fn stop_with_archive(alloc: Global, members: &str) -> Option<Stop> {
     stop_with(alloc, r#""data":"YWJj","length":3"#, members)
 }
 
+static OUT_OF_FORM: [&str; 8] = [
+    r#""data":"YWJjZA""#,
+    r#""data":"YWJjZB==""#,
+    r#""data":"YWJj\n""#,
+    r#""data":null"#,
+    r#""length":3"#,
+    r#""data":"YWJj","length":4"#,
+    r#""data":"YWJj","length":"3""#,
+    r#""data":"YWJj","length":null"#,
+];
+
 #[test]
 fn archives_out_of_form(rt: HostRuntime) {
-    for members in [
-        r#""data":"YWJjZA""#,
-        r#""data":"YWJjZB==""#,
-        r#""data":"YWJj\n""#,
-        r#""data":null"#,
-        r#""length":3"#,
-        r#""data":"YWJj","length":4"#,
-        r#""data":"YWJj","length":"3""#,
-        r#""data":"YWJj","length":null"#,
-    ] {
+    for members in &OUT_OF_FORM {
         assert_eq!(rt;
             stop_with_archive(rt.alloc(), members),
             BAD_BODY,
@@ -30,9 +32,11 @@ fn archives_out_of_form(rt: HostRuntime) {
     assert_eq!(rt; stop_with_archive(rt.alloc(), r#""data":"YWJj""#), None);
 }
 
+static OF_OTHER_BYTES: [&str; 2] = [r#""data":"YWJjZA==","length":4"#, r#""data":"","length":0"#];
+
 #[test]
 fn integrities_of_archives(rt: HostRuntime) {
-    for members in [r#""data":"YWJjZA==","length":4"#, r#""data":"","length":0"#] {
+    for members in &OF_OTHER_BYTES {
         assert_eq!(rt;
             stop_with_archive(rt.alloc(), members),
             BAD_INTEGRITY,

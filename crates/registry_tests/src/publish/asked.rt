@@ -29,15 +29,17 @@ fn tags_that_are_asked_for(rt: HostRuntime) -> Result<(), Fail> {
     Ok(())
 }
 
+static NO_TAGS: [&str; 5] = [
+    r#""dist-tags":{"latest":"1.0.0","next":"1.0.0"}"#,
+    r#""dist-tags":{"latest":"1.0.1"}"#,
+    r#""dist-tags":{"latest":null}"#,
+    r#""dist-tags":["latest"]"#,
+    r#""dist-tags":null"#,
+];
+
 #[test]
 fn tags_out_of_form(rt: HostRuntime) {
-    for member in [
-        r#""dist-tags":{"latest":"1.0.0","next":"1.0.0"}"#,
-        r#""dist-tags":{"latest":"1.0.1"}"#,
-        r#""dist-tags":{"latest":null}"#,
-        r#""dist-tags":["latest"]"#,
-        r#""dist-tags":null"#,
-    ] {
+    for member in &NO_TAGS {
         assert_eq!(rt; stop_with(rt.alloc(), TAGS, member), BAD_BODY, "{member}");
     }
 }
@@ -52,14 +54,16 @@ fn statuses_that_are_asked_for(rt: HostRuntime) -> Result<(), Fail> {
     Ok(())
 }
 
+static NO_STATUSES: [&str; 4] = [
+    r#""access":"secret""#,
+    r#""access":"Public""#,
+    r#""access":["public"]"#,
+    r#""access":false"#,
+];
+
 #[test]
 fn statuses_out_of_form(rt: HostRuntime) {
-    for member in [
-        r#""access":"secret""#,
-        r#""access":"Public""#,
-        r#""access":["public"]"#,
-        r#""access":false"#,
-    ] {
+    for member in &NO_STATUSES {
         assert_eq!(rt; stop_with(rt.alloc(), ACCESS, member), BAD_BODY, "{member}");
     }
 }

@@ -2,11 +2,11 @@
 
 use registry_names::{Refusal, Stop};
 use registry_publish::{Need, needs_of};
-use std::alloc::{AllocError, Global};
+use std::alloc::Global;
 use std::test::Fail;
 
 // Each need as `target range,`.
-pub(super) fn listed(alloc: Global, needs: &[Need]) -> Result<String, AllocError> {
+pub(super) fn listed(alloc: Global, needs: &[Need]) -> Result<String, Stop> {
     let mut text = String::new(alloc);
     for need in needs {
         text.push_str(need.target.as_str())?;
@@ -49,27 +49,26 @@ fn the_order_of_needs(rt: HostRuntime) -> Result<(), Fail> {
     Ok(())
 }
 
+static NO_MANIFESTS: [&str; 5] = ["", "null", "1", "\"a\"", "[{}]"];
+
 #[test]
 fn texts_that_are_no_manifests(rt: HostRuntime) {
-    for text in ["", "null", "1", "\"a\"", "[{}]"] {
+    for text in &NO_MANIFESTS {
         assert_eq!(rt; refusal(rt.alloc(), text), Some(Refusal::BadBody), "{text}");
     }
 }
 
+static OUT_OF_FORM: [&str; 5] = [
+    "{}}",
+    "[]",
+    r#"{"dependencies":null}"#,
+    r#"{"optionalDependencies":["a"]}"#,
+    r#"{"peerDependencies":{"a":1}}"#,
+];
+
 #[test]
 fn manifests_out_of_form(rt: HostRuntime) {
-    assert_eq!(rt; refusal(rt.alloc(), "{}}"), Some(Refusal::BadBody));
-    assert_eq!(rt; refusal(rt.alloc(), "[]"), Some(Refusal::BadBody));
-    assert_eq!(rt;
-        refusal(rt.alloc(), r#"{"dependencies":null}"#),
-        Some(Refusal::BadBody)
-    );
-    assert_eq!(rt;
-        refusal(rt.alloc(), r#"{"optionalDependencies":["a"]}"#),
-        Some(Refusal::BadBody)
-    );
-    assert_eq!(rt;
-        refusal(rt.alloc(), r#"{"peerDependencies":{"a":1}}"#),
-        Some(Refusal::BadBody)
-    );
+    for text in &OUT_OF_FORM {
+        assert_eq!(rt; refusal(rt.alloc(), text), Some(Refusal::BadBody), "{text}");
+    }
 }

@@ -28,23 +28,41 @@ fn stop(alloc: Global, name: &str, version: &str, tag: &str, data: &str) -> Opti
     stop_of(read_shape(alloc, name, version, tag, data))
 }
 
+// The name, the version, the tag and the data, and what stops their body.
+type Case = (
+    &'static str,
+    &'static str,
+    &'static str,
+    &'static str,
+    Option<Stop>,
+);
+
+static EACH_BEFORE_THE_NEXT: [Case; 6] = [
+    ("Kit", "1.0", "1.x", "YWJ", BAD_BODY),
+    ("Kit", "1.0", "1.x", "YWJk", BAD_NAME),
+    ("kit", "1.0", "1.x", "YWJk", BAD_VERSION),
+    ("kit", "1.0.0", "1.x", "YWJk", RANGE_TAG),
+    ("kit", "1.0.0", "next", "YWJk", BAD_INTEGRITY),
+    ("kit", "1.0.0", "next", "YWJj", None),
+];
+
 #[test]
 fn each_refusal_before_the_next(rt: HostRuntime) {
-    assert_eq!(rt; stop(rt.alloc(), "Kit", "1.0", "1.x", "YWJ"), BAD_BODY);
-    assert_eq!(rt; stop(rt.alloc(), "Kit", "1.0", "1.x", "YWJk"), BAD_NAME);
-    assert_eq!(rt; stop(rt.alloc(), "kit", "1.0", "1.x", "YWJk"), BAD_VERSION);
-    assert_eq!(rt; stop(rt.alloc(), "kit", "1.0.0", "1.x", "YWJk"), RANGE_TAG);
-    assert_eq!(rt;
-        stop(rt.alloc(), "kit", "1.0.0", "next", "YWJk"),
-        BAD_INTEGRITY
-    );
-    assert_eq!(rt; stop(rt.alloc(), "kit", "1.0.0", "next", "YWJj"), None);
+    for (name, version, tag, data, want) in &EACH_BEFORE_THE_NEXT {
+        assert_eq!(rt; stop(rt.alloc(), name, version, tag, data), *want);
+    }
 }
+
+static BAD_TAGS: [Case; 4] = [
+    ("kit", "1.0", "a/b", "YWJj", BAD_VERSION),
+    ("kit", "1.0.0", "a/b", "YWJk", BAD_TAG),
+    ("kit", "1.0.0", "a/b", "YWJj", BAD_TAG),
+    ("kit", "1.0.0", "1.x", "YWJj", RANGE_TAG),
+];
 
 #[test]
 fn bad_tags_among_the_refusals(rt: HostRuntime) {
-    assert_eq!(rt; stop(rt.alloc(), "kit", "1.0", "a/b", "YWJj"), BAD_VERSION);
-    assert_eq!(rt; stop(rt.alloc(), "kit", "1.0.0", "a/b", "YWJk"), BAD_TAG);
-    assert_eq!(rt; stop(rt.alloc(), "kit", "1.0.0", "a/b", "YWJj"), BAD_TAG);
-    assert_eq!(rt; stop(rt.alloc(), "kit", "1.0.0", "1.x", "YWJj"), RANGE_TAG);
+    for (name, version, tag, data, want) in &BAD_TAGS {
+        assert_eq!(rt; stop(rt.alloc(), name, version, tag, data), *want);
+    }
 }

@@ -59,23 +59,29 @@ pub fn first_other(alloc: Global, cases: &[Case]) -> Result<Option<&'static str>
 
 // What the calls tell of a case.
 fn told(alloc: Global, case: &Case) -> Result<String, Stop> {
-    let request = request(alloc, case.ask)?;
     let facts = facts(alloc, case.held)?;
-    Ok(answer(alloc, &facts, &request)?)
+    told_of(alloc, &facts, case.ask)
 }
 
-fn answer(alloc: Global, facts: &Facts, request: &Request) -> Result<String, AllocError> {
+fn told_of(alloc: Global, facts: &Facts, ask: Ask) -> Result<String, Stop> {
+    let request = request(alloc, ask)?;
+    answer(alloc, facts, &request)
+}
+
+fn answer(alloc: Global, facts: &Facts, request: &Request) -> Result<String, Stop> {
     let may = may_ask(facts, request);
     match decide(alloc, facts, request) {
         Ok(changes) if may.is_ok() => changes_text(alloc, &changes),
-        Err(Stop::Refused(refusal)) if may == Err(refusal) => {
-            String::from_str(alloc, refusal_word(refusal))
-        }
-        _ => String::from_str(alloc, "the calls differ, or no memory is left"),
+        Err(Stop::Refused(refusal)) if may == Err(refusal) => text(alloc, refusal_word(refusal)),
+        _ => text(alloc, "the calls differ, or no memory is left"),
     }
 }
 
-fn changes_text(alloc: Global, changes: &[Change]) -> Result<String, AllocError> {
+fn text(alloc: Global, word: &str) -> Result<String, Stop> {
+    Ok(String::from_str(alloc, word)?)
+}
+
+fn changes_text(alloc: Global, changes: &[Change]) -> Result<String, Stop> {
     let mut text = String::from_str(alloc, "allowed:")?;
     for change in changes {
         text.push_str(change_word(*change))?;

@@ -84,11 +84,16 @@ fn told_with_rows_on<S: Alter>(
     let mut tx = conn.transaction();
     create(&mut tx)?;
     let mut lines = told_inside(alloc, &mut tx, calls)?;
-    match tx.query_all(TABLE_OF_EACH_ROW, &[]) {
-        Ok(rows) => lines.push_str(rows_text(alloc, &rows)?.as_str())?,
-        Err(error) => return Err(Stop::Fault(fault_of(error))),
-    }
+    let rows = table_of_each_row(alloc, &mut tx)?;
+    lines.push_str(rows.as_str())?;
     Ok(lines)
+}
+
+fn table_of_each_row<S: Alter>(alloc: Global, tx: &mut Transaction<'_, S>) -> Result<String, Stop> {
+    match tx.query_all(TABLE_OF_EACH_ROW, &[]) {
+        Ok(rows) => rows_text(alloc, &rows),
+        Err(error) => Err(Stop::Fault(fault_of(error))),
+    }
 }
 
 fn told_inside<S: Alter>(
@@ -119,32 +124,12 @@ fn answer<S: Alter>(alloc: Global, tx: &mut Transaction<'_, S>, call: Call) -> R
 {
     match call {
         Call::Status(name, status) => put_status(alloc, tx, name, status),
-        Call::Version(name, version, at) => publish(
-            alloc,
-            tx,
-            &body_of(alloc, name, version, 1)?,
-            at,
-        ),
-        Call::Archive(name, version, times) => publish(
-            alloc,
-            tx,
-            &body_of(alloc, name, version, times)?,
-            0,
-        ),
-        Call::Needs(name, version) => publish(
-            alloc,
-            tx,
-            &body_with_needs(alloc, name, version)?,
-            0,
-        ),
+        Call::Version(name, version, at) => publish(alloc, tx, name, version, at),
+        Call::Archive(name, version, times) => publish_archive(alloc, tx, name, version, times),
+        Call::Needs(name, version) => publish_needs(alloc, tx, name, version),
         Call::Tag(name, tag, version) => change_tag(alloc, tx, name, tag, version),
         Call::NoTag(name) => change_no_tag(alloc, tx, name),
-        Call::First(name, version, at) => publish_first(
-            alloc,
-            tx,
-            &body_of(alloc, name, version, 1)?,
-            at,
-        ),
+        Call::First(name, version, at) => publish_first(alloc, tx, name, version, at),
         Call::TellPackage(name) => tell_package(alloc, tx, name),
         Call::TellManifest(name, version) => tell_manifest(alloc, tx, name, version),
         Call::TellArchive(name, version) => tell_archive(alloc, tx, name, version),
@@ -175,19 +160,48 @@ fn put_status<S: Alter>(
 fn publish<S: Alter>(
     alloc: Global,
     tx: &mut Transaction<'_, S>,
-    body: &str,
+    name: &str,
+    version: &str,
     at: i64,
 ) -> Result<String, Stop>
     requires in_form { InForm S.Store tx.old.conn.now }
     ensures same_reference { tx.new.conn.ghost_name ≡ tx.old.conn.ghost_name }
     ensures in_form { OnOk result (InForm S.Store tx.new.conn.now) }
 {
-    let form = PublishForm::read(alloc, body.as_bytes())?;
-    put_version(tx, &form, Moment::clamped(at))?;
-    Ok(String::new(alloc))
+    let body = body_of(alloc, name, version, 1)?;
+    publish_body(alloc, tx, &body, at)
 }
 
-fn publish_first<S: Alter>(
+fn publish_archive<S: Alter>(
+    alloc: Global,
+    tx: &mut Transaction<'_, S>,
+    name: &str,
+    version: &str,
+    times: usize,
+) -> Result<String, Stop>
+    requires in_form { InForm S.Store tx.old.conn.now }
+    ensures same_reference { tx.new.conn.ghost_name ≡ tx.old.conn.ghost_name }
+    ensures in_form { OnOk result (InForm S.Store tx.new.conn.now) }
+{
+    let body = body_of(alloc, name, version, times)?;
+    publish_body(alloc, tx, &body, 0)
+}
+
+fn publish_needs<S: Alter>(
+    alloc: Global,
+    tx: &mut Transaction<'_, S>,
+    name: &str,
+    version: &str,
+) -> Result<String, Stop>
+    requires in_form { InForm S.Store tx.old.conn.now }
+    ensures same_reference { tx.new.conn.ghost_name ≡ tx.old.conn.ghost_name }
+    ensures in_form { OnOk result (InForm S.Store tx.new.conn.now) }
+{
+    let body = body_with_needs(alloc, name, version)?;
+    publish_body(alloc, tx, &body, 0)
+}
+
+fn publish_body<S: Alter>(
     alloc: Global,
     tx: &mut Transaction<'_, S>,
     body: &str,
@@ -198,8 +212,65 @@ fn publish_first<S: Alter>(
     ensures in_form { OnOk result (InForm S.Store tx.new.conn.now) }
 {
     let form = PublishForm::read(alloc, body.as_bytes())?;
-    let rows = first_publication(alloc, tx, &form, Status::Restricted, Moment::clamped(at))?;
-    Ok(package_line(alloc, &rows)?)
+    publish_form(alloc, tx, &form, at)
+}
+
+fn publish_form<S: Alter>(
+    alloc: Global,
+    tx: &mut Transaction<'_, S>,
+    form: &PublishForm,
+    at: i64,
+) -> Result<String, Stop>
+    requires in_form { InForm S.Store tx.old.conn.now }
+    ensures same_reference { tx.new.conn.ghost_name ≡ tx.old.conn.ghost_name }
+    ensures in_form { OnOk result (InForm S.Store tx.new.conn.now) }
+{
+    put_version(tx, form, Moment::clamped(at))?;
+    Ok(String::new(alloc))
+}
+
+fn publish_first<S: Alter>(
+    alloc: Global,
+    tx: &mut Transaction<'_, S>,
+    name: &str,
+    version: &str,
+    at: i64,
+) -> Result<String, Stop>
+    requires in_form { InForm S.Store tx.old.conn.now }
+    ensures same_reference { tx.new.conn.ghost_name ≡ tx.old.conn.ghost_name }
+    ensures in_form { OnOk result (InForm S.Store tx.new.conn.now) }
+{
+    let body = body_of(alloc, name, version, 1)?;
+    publish_first_body(alloc, tx, &body, at)
+}
+
+fn publish_first_body<S: Alter>(
+    alloc: Global,
+    tx: &mut Transaction<'_, S>,
+    body: &str,
+    at: i64,
+) -> Result<String, Stop>
+    requires in_form { InForm S.Store tx.old.conn.now }
+    ensures same_reference { tx.new.conn.ghost_name ≡ tx.old.conn.ghost_name }
+    ensures in_form { OnOk result (InForm S.Store tx.new.conn.now) }
+{
+    let form = PublishForm::read(alloc, body.as_bytes())?;
+    publish_first_form(alloc, tx, &form, at)
+}
+
+fn publish_first_form<S: Alter>(
+    alloc: Global,
+    tx: &mut Transaction<'_, S>,
+    form: &PublishForm,
+    at: i64,
+) -> Result<String, Stop>
+    requires in_form { InForm S.Store tx.old.conn.now }
+    ensures same_reference { tx.new.conn.ghost_name ≡ tx.old.conn.ghost_name }
+    ensures in_form { OnOk result (InForm S.Store tx.new.conn.now) }
+{
+    let at = Moment::clamped(at);
+    let rows = first_publication(alloc, tx, form, Status::Restricted, at)?;
+    package_line(alloc, &rows)
 }
 
 fn change_tag<S: Alter>(
@@ -243,7 +314,7 @@ fn tell_package<S: Alter>(
 {
     let name = Name::parse(alloc, name)?;
     let rows = load_package(alloc, tx, &name)?;
-    Ok(package_line(alloc, &rows)?)
+    package_line(alloc, &rows)
 }
 
 fn tell_manifest<S: Alter>(
@@ -258,7 +329,7 @@ fn tell_manifest<S: Alter>(
 {
     let name = Name::parse(alloc, name)?;
     let manifest = load_manifest(tx, &name, version)?;
-    Ok(manifest_line(alloc, &manifest)?)
+    manifest_line(alloc, &manifest)
 }
 
 fn tell_archive<S: Alter>(
@@ -273,5 +344,5 @@ fn tell_archive<S: Alter>(
 {
     let name = Name::parse(alloc, name)?;
     let archive = load_archive(tx, &name, version)?;
-    Ok(archive_line(alloc, &archive)?)
+    archive_line(alloc, &archive)
 }

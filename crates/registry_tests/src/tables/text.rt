@@ -28,11 +28,11 @@ pub fn body_with_needs(alloc: Global, name: &str, version: &str) -> Result<Strin
 }
 
 /// The status of a package, its versions with the seconds when they were published, and its tags.
-pub fn package_line(alloc: Global, rows: &PackageRows) -> Result<String, AllocError> {
+pub fn package_line(alloc: Global, rows: &PackageRows) -> Result<String, Stop> {
     let status = status_text(rows.status);
     let versions = versions_text(alloc, rows)?;
     let tags = tags_text(alloc, rows)?;
-    format!(in alloc; "{status}{versions}{tags}\n")
+    Ok(format!(in alloc; "{status}{versions}{tags}\n")?)
 }
 
 fn status_text(status: Option<Status>) -> &'static str {
@@ -65,22 +65,22 @@ fn tags_text(alloc: Global, rows: &PackageRows) -> Result<String, AllocError> {
 }
 
 /// The manifest, or `none`.
-pub fn manifest_line(alloc: Global, manifest: &Option<Text>) -> Result<String, AllocError> {
+pub fn manifest_line(alloc: Global, manifest: &Option<Text>) -> Result<String, Stop> {
     match manifest {
-        Some(manifest) => format!(in alloc; "{}\n", manifest.as_str()),
-        None => String::from_str(alloc, "none\n"),
+        Some(manifest) => Ok(format!(in alloc; "{}\n", manifest.as_str())?),
+        None => Ok(String::from_str(alloc, "none\n")?),
     }
 }
 
 /// How many bytes the archive has, and its last three as a text; or `none`.
-pub fn archive_line(alloc: Global, archive: &Option<Blob>) -> Result<String, AllocError> {
+pub fn archive_line(alloc: Global, archive: &Option<Blob>) -> Result<String, Stop> {
     match archive {
-        Some(archive) => format!(in alloc;
+        Some(archive) => Ok(format!(in alloc;
             "{}:{}\n",
             archive.as_slice().len(),
             end_of(archive.as_slice())
-        ),
-        None => String::from_str(alloc, "none\n"),
+        )?),
+        None => Ok(String::from_str(alloc, "none\n")?),
     }
 }
 
