@@ -16,13 +16,21 @@ type Outcomes = Vec<Result<Reply, Fault>>;
 #[test]
 fn examples_have_their_replies(rt: HostRuntime) -> Result<(), Fail> {
     for example in &EXAMPLES {
-        let requests = requests_of(rt.alloc(), example).or(Err("an ask out of form"))?;
-        let outcomes = all_at_once(rt.alloc(), &requests).or(Err("no registry"))?;
-        assert!(rt; are_expected(&outcomes, example.steps), "{}", example.shows);
-        let outcomes = one_by_one(rt.alloc(), &requests).or(Err("no registry"))?;
-        assert!(rt; are_expected(&outcomes, example.steps), "{}", example.shows);
+        assert!(rt; has_its_replies(rt.alloc(), example)?, "{}", example.shows);
     }
     Ok(())
+}
+
+// Whether the requests have the replies of the example, all at once and one by one.
+fn has_its_replies(alloc: Global, example: &Example) -> Result<bool, Stop> {
+    let requests = requests_of(alloc, example)?;
+    have_replies(alloc, &requests, example.steps)
+}
+
+fn have_replies(alloc: Global, requests: &[Request], steps: &[Step]) -> Result<bool, Stop> {
+    let are_so_at_once = are_expected(&all_at_once(alloc, requests)?, steps);
+    let are_so_one_by_one = are_expected(&one_by_one(alloc, requests)?, steps);
+    Ok(are_so_at_once && are_so_one_by_one)
 }
 
 fn all_at_once(alloc: Global, requests: &[Request]) -> Result<Outcomes, Fault> {
@@ -48,19 +56,20 @@ fn requests_of(alloc: Global, example: &Example) -> Result<Vec<Request>, Stop> {
 }
 
 fn request_of(alloc: Global, step: &Step) -> Result<Request, Stop> {
-    let what = match step.ask {
-        Ask::Body(body) => publish(alloc, body)?,
-        Ask::Publish(name, version) => publish(alloc, &body_of(alloc, name, version)?)?,
-        Ask::PublishUnder(name, version, tag) => {
-            publish(alloc, &body_under(alloc, name, version, tag)?)?
-        }
-        Ask::TagSet(name, tag, version) => tag_set(alloc, name, tag, version)?,
-        Ask::TagRemove(name, tag) => tag_remove(alloc, name, tag)?,
-        Ask::Packument(name) => packument(alloc, name)?,
-        Ask::Archive(name, version) => archive(alloc, name, version)?,
-        Ask::Tags(name) => tags(alloc, name)?,
-    };
-    Ok(request(step.at, what))
+    Ok(request(step.at, action_of(alloc, step.ask)?))
+}
+
+fn action_of(alloc: Global, ask: Ask) -> Result<Action, Stop> {
+    match ask {
+        Ask::Body(body) => publish(alloc, body),
+        Ask::Publish(name, version) => publish_of(alloc, name, version),
+        Ask::PublishUnder(name, version, tag) => publish_under(alloc, name, version, tag),
+        Ask::TagSet(name, tag, version) => tag_set(alloc, name, tag, version),
+        Ask::TagRemove(name, tag) => tag_remove(alloc, name, tag),
+        Ask::Packument(name) => packument(alloc, name),
+        Ask::Archive(name, version) => archive(alloc, name, version),
+        Ask::Tags(name) => tags(alloc, name),
+    }
 }
 
 fn request(at: i64, what: Action) -> Request {
@@ -75,6 +84,16 @@ fn publish(alloc: Global, body: &str) -> Result<Action, Stop> {
     Ok(Action::Publish {
         form: PublishForm::read(alloc, body.as_bytes())?,
     })
+}
+
+fn publish_of(alloc: Global, name: &str, version: &str) -> Result<Action, Stop> {
+    let body = body_of(alloc, name, version)?;
+    publish(alloc, &body)
+}
+
+fn publish_under(alloc: Global, name: &str, version: &str, tag: &str) -> Result<Action, Stop> {
+    let body = body_under(alloc, name, version, tag)?;
+    publish(alloc, &body)
 }
 
 fn packument(alloc: Global, name: &str) -> Result<Action, Stop> {

@@ -190,8 +190,16 @@ fn other_by_rows(
     cases: &[Case],
 ) -> Result<Option<(&'static str, &'static str)>, Stop> {
     let rows = registry(alloc)?;
+    other_in_rows(alloc, &rows, cases)
+}
+
+fn other_in_rows(
+    alloc: Global,
+    rows: &AccessRows,
+    cases: &[Case],
+) -> Result<Option<(&'static str, &'static str)>, Stop> {
     for case in cases {
-        if !rows_say(alloc, &rows, case)? {
+        if !rows_say(alloc, rows, case)? {
             return Ok(Some((case.0, case.1)));
         }
     }
@@ -317,8 +325,16 @@ fn other_by_organisation(
     cases: &[OrganisationCase],
 ) -> Result<Option<&'static str>, Stop> {
     let rows = registry(alloc)?;
+    other_organisation_in_rows(alloc, &rows, cases)
+}
+
+fn other_organisation_in_rows(
+    alloc: Global,
+    rows: &AccessRows,
+    cases: &[OrganisationCase],
+) -> Result<Option<&'static str>, Stop> {
     for case in cases {
-        if !organisations_say(alloc, &rows, case)? {
+        if !organisations_say(alloc, rows, case)? {
             return Ok(Some(case.0));
         }
     }

@@ -1,22 +1,28 @@
 //! Two hundred requests, whose outcomes are the same by `run` and by `apply` one by one.
 
-use crate::tests::{all_at_once, body_of, one_by_one, packument, publish, request};
+use crate::tests::{all_at_once, one_by_one, packument, publish_of, request};
 use registry_names::{Fault, Refusal, Stop};
 use registry_rules::{Reply, Request};
-use std::alloc::Global;
+use std::alloc::{AllocError, Global};
 use std::test::Fail;
 
 #[test]
 fn both_ways_have_the_same_outcomes(rt: HostRuntime) -> Result<(), Fail> {
-    let requests = fifty_rounds(rt.alloc()).or(Err("an ask out of form"))?;
-    let outcomes = all_at_once(rt.alloc(), &requests).or(Err("no registry"))?;
-    let others = one_by_one(rt.alloc(), &requests).or(Err("no registry"))?;
-    assert_eq!(rt; outcomes.len(), 200);
-    assert!(rt; outcomes == others);
-    for round in outcomes.chunks(4) {
-        assert!(rt; is_round(round));
-    }
+    let requests = fifty_rounds(rt.alloc())?;
+    assert_eq!(rt; requests.len(), 200);
+    assert!(rt; are_alike(rt.alloc(), &requests)?);
     Ok(())
+}
+
+// Whether the outcomes are those of the rounds, and the same both ways.
+fn are_alike(alloc: Global, requests: &[Request]) -> Result<bool, Fault> {
+    let outcomes = all_at_once(alloc, requests)?;
+    let others = one_by_one(alloc, requests)?;
+    Ok(outcomes == others && are_rounds(&outcomes, requests.len()))
+}
+
+fn are_rounds(outcomes: &[Result<Reply, Fault>], count: usize) -> bool {
+    outcomes.len() == count && outcomes.chunks(4).all(is_round)
 }
 
 // Rounds over seven packages in turn, each with its next version.
@@ -30,15 +36,26 @@ fn fifty_rounds(alloc: Global) -> Result<Vec<Request>, Stop> {
 
 // A version is published, and once more; then its package is asked for, and one that is unknown.
 fn push_round(alloc: Global, requests: &mut Vec<Request>, round: u8) -> Result<(), Stop> {
-    let name = format!(in alloc; "kit-{}", round % 7)?;
-    let unknown = format!(in alloc; "kid-{}", round % 7)?;
-    let body = body_of(alloc, &name, &format!(in alloc; "1.{}.0", round / 7)?)?;
-    let at = i64::from(round);
-    requests.push(request(at, publish(alloc, &body)?))?;
-    requests.push(request(at, publish(alloc, &body)?))?;
-    requests.push(request(at, packument(alloc, &name)?))?;
-    requests.push(request(at, packument(alloc, &unknown)?))?;
+    requests.push(publish_in(alloc, round)?)?;
+    requests.push(publish_in(alloc, round)?)?;
+    requests.push(packument_in(alloc, "kit", round)?)?;
+    requests.push(packument_in(alloc, "kid", round)?)?;
     Ok(())
+}
+
+fn publish_in(alloc: Global, round: u8) -> Result<Request, Stop> {
+    let name = name_in(alloc, "kit", round)?;
+    let version = format!(in alloc; "1.{}.0", round / 7)?;
+    Ok(request(i64::from(round), publish_of(alloc, &name, &version)?))
+}
+
+fn packument_in(alloc: Global, stem: &str, round: u8) -> Result<Request, Stop> {
+    let name = name_in(alloc, stem, round)?;
+    Ok(request(i64::from(round), packument(alloc, &name)?))
+}
+
+fn name_in(alloc: Global, stem: &str, round: u8) -> Result<String, AllocError> {
+    format!(in alloc; "{stem}-{}", round % 7)
 }
 
 fn is_round(outcomes: &[Result<Reply, Fault>]) -> bool {

@@ -83,13 +83,26 @@ fn told_with_rows_on<S: Alter>(
 {
     let mut tx = conn.transaction();
     create(&mut tx)?;
-    let mut lines = told_inside(alloc, &mut tx, calls)?;
-    let rows = table_of_each_row(alloc, &mut tx)?;
+    told_with_rows_inside(alloc, &mut tx, calls)
+}
+
+fn told_with_rows_inside<S: Alter>(
+    alloc: Global,
+    tx: &mut Transaction<'_, S>,
+    calls: &[Call],
+) -> Result<String, Stop>
+    requires in_form { InForm S.Store tx.old.conn.now }
+    ensures same_reference { tx.new.conn.ghost_name ≡ tx.old.conn.ghost_name }
+{
+    let mut lines = told_inside(alloc, tx, calls)?;
+    let rows = table_of_each_row(alloc, tx)?;
     lines.push_str(rows.as_str())?;
     Ok(lines)
 }
 
-fn table_of_each_row<S: Alter>(alloc: Global, tx: &mut Transaction<'_, S>) -> Result<String, Stop> {
+fn table_of_each_row<S: Alter>(alloc: Global, tx: &mut Transaction<'_, S>) -> Result<String, Stop>
+    ensures same_reference { tx.new.conn.ghost_name ≡ tx.old.conn.ghost_name }
+{
     match tx.query_all(TABLE_OF_EACH_ROW, &[]) {
         Ok(rows) => rows_text(alloc, &rows),
         Err(error) => Err(Stop::Fault(fault_of(error))),
