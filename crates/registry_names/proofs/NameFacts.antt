@@ -1,9 +1,9 @@
 -- Where a name may be cut: a scope holds no slash.
-use Rattle.std.proofs.Common.{◌≡◌, ◌≢◌, ℕ, ◌<◌, ◌&&◌, Bool, true, false, Option, Some, None, MatchOption, Bor, List, [], ◌∷◌, ◌++◌, length, get_or, slice_index, arith, refl, sym, lit<}
+use Rattle.std.proofs.Common.{◌≡◌, ◌≢◌, ℕ, ◌<◌, ◌&&◌, Bool, true, false, Option, Some, None, MatchOption, Bor, List, ◌∷◌, ◌++◌, length, get_or, slice_index, refl, sym, lit<}
 use Rattle.std.proofs.lemmas.List.Sums.{AllPass-from_list_all}
 use Rattle.std.proofs.lemmas.Str.Pattern.{IsSplitOnceResult, split_after}
 use Rattle.registry_names.specs.Idents.{is_alnum, is_ident, is_ident_char}
-use Rattle.registry_names.specs.Names.{is_plain_part, is_scoped_part, IsName, IsNameOf}
+use Rattle.registry_names.specs.Names.{is_plain_part, is_scoped_part, IsName}
 
 pub and_left : (a b : Bool) → (a && b) ≡ true → a ≡ true
 and_left true b h = refl

@@ -1,4 +1,4 @@
-use Rattle.std.proofs.Common.{◌≡◌, ◌∙◌, ◌∷◌, refl, sym, lit<, ◌&&◌, false}
+use Rattle.std.proofs.Common.{◌≡◌, ◌∙◌, refl, sym, lit<, ◌&&◌, false}
 use Rattle.registry_names.specs.Idents.{is_ident}
 use Rattle.registry_names.specs.Names.{is_scoped_part}
 use Rattle.registry_names.proofs.NameFacts.{no_plain_name, no_unsplit_name}
