@@ -1,11 +1,13 @@
 -- How many bytes the packument has: those that are counted, and those of the rows that are left.
-use Rattle.std.proofs.Common.{◌≡◌, ℕ, ◌+◌, ◌^◌, ◌≤◌, Bool, true, false, List, [], ◌∷◌, length, Option, Some, None, option_map, option_and_then, unwrap_or, refl, ap, sym, ◌∙◌, arith, append_assoc, length-append}
+use Rattle.std.proofs.Common.{◌≡◌, ℕ, ◌+◌, ◌^◌, ◌≤◌, ◌⊎◌, inl, inr, Bool, true, false, List, [], ◌∷◌, length, Option, Some, None, option_map, option_and_then, unwrap_or, refl, ap, sym, ◌∙◌, arith, append_assoc, length-append}
 use Rattle.std.specs.Prelude.{nat_lt, if◌then◌else◌}
 use Rattle.std.proofs.lemmas.Bool.{le-ltb}
 use Rattle.std.proofs.lemmas.Option.{none-some}
 use Rattle.registry_packument.specs.ObjectTexts.{Pair, member_text, members_text, object_text}
 use Rattle.registry_packument.specs.Packuments.{version_pair, version_pairs, pack_pairs, opening_text, versions_text, pack_text, pack_len}
-use Rattle.registry_packument.specs.Writing.{Adds}
+use Rattle.registry_packument.specs.Writing.{IsFaultOf}
+use Rattle.registry_names.specs.declared.stop.Fault.{Fault}
+use Rattle.registry_names.specs.declared.stop.Fault.TheVariants.{Memory, Database}
 use Rattle.registry_packument.specs.declared.head.PackHead.{PackHead}
 use Rattle.registry_packument.specs.declared.packument.VersionRow.{VersionRow}
 use Rattle.registry_packument.proofs.PackFacts.{pack_pairs-parts}
@@ -39,11 +41,11 @@ step_at count more later p (Some ps) e =
     ap Some (omega (arith, parts, e))
 
 -- the next row is counted
-pub with_left-step : (whole : Option ℕ) (count more : ℕ) (text : List ℕ) (later : Bool) (row : VersionRow) (old rows : List VersionRow) → old ≡ row ∷ rows
-    → with_left count later old ≡ whole → more ≡ count + length text → Adds (member_text later) (version_pair row) [] text → with_left more true rows ≡ whole
-with_left-step whole count more text later row old rows gives left e (p, (is, w)) =
+pub with_left-step : (whole : Option ℕ) (count more : ℕ) (later : Bool) (row : VersionRow) (old rows : List VersionRow) → old ≡ row ∷ rows
+    → with_left count later old ≡ whole → (p : Pair) × (version_pair row ≡ Some p) × (more ≡ count + length (member_text later p)) → with_left more true rows ≡ whole
+with_left-step whole count more later row old rows gives left (p, is, e) =
     let before : with_left count later (row ∷ rows) ≡ whole = rw gives at left in
-    step_at count more later p (version_pairs rows) (e ∙ ap (λ t. count + length t) w) ∙ (rw is at before)
+    step_at count more later p (version_pairs rows) e ∙ (rw is at before)
 
 -- ---- no length
 
@@ -63,7 +65,22 @@ too_many_at : (count : ℕ) (later : Bool) (left : Option (List Pair)) (all : Op
 too_many_at count later None all h le = no_text all h
 too_many_at count later (Some ps) all h le = too_long all (count + length (versions_text later ps)) h (omega arith)
 
--- too much is counted already
-pub no_len-count : (head : PackHead) (all rows : List VersionRow) (count : ℕ) (later : Bool)
-    → with_left count later rows ≡ whole_len head all → 2 ^ 64 ≤ count → pack_len head all ≡ None
-no_len-count head all rows count later h le = too_many_at count later (version_pairs rows) (pack_text head all) h le
+row_at : (head : PackHead) (all : List VersionRow) (row : VersionRow) (rows : List VersionRow) (count : ℕ) (later : Bool) (pair : Option Pair) → version_pair row ≡ pair
+    → with_left count later (row ∷ rows) ≡ whole_len head all → ((p : Pair) → version_pair row ≡ Some p → 2 ^ 64 ≤ count + length (member_text later p)) → pack_len head all ≡ None
+row_at head all row rows count later None e h much =
+    let none : None ≡ whole_len head all = rw e at h in no_text (pack_text head all) none
+row_at head all row rows count later (Some p) e h much =
+    let more = count + length (member_text later p) in
+    too_many_at more true (version_pairs rows) (pack_text head all) (with_left-step _ count more later row _ rows refl h (p, e, refl)) (much p e)
+
+is_fault : (fault : Fault) (len : Option ℕ) → len ≡ None → IsFaultOf len fault
+is_fault Memory len none = tt
+is_fault Database len none = none
+
+-- memory ran out, or the next row has no document, or is too much
+pub row_fault : (head : PackHead) (all : List VersionRow) (row : VersionRow) (old rows : List VersionRow) (count : ℕ) (later : Bool) (fault : Fault) → old ≡ row ∷ rows
+    → with_left count later old ≡ whole_len head all
+    → (fault ≡ Memory) ⊎ ((p : Pair) → version_pair row ≡ Some p → 2 ^ 64 ≤ count + length (member_text later p)) → IsFaultOf (pack_len head all) fault
+row_fault head all row old rows count later fault gives left (inl memory) = rw memory tt
+row_fault head all row old rows count later fault gives left (inr much) =
+    is_fault fault _ (row_at head all row rows count later (version_pair row) refl (rw gives at left) much)

@@ -1,9 +1,9 @@
 //! Packuments version by version, in memory that doesn't grow with the versions.
 
-ghost use Rattle.std.specs.Prelude.{◌≡◌, ◌≢◌, ◌+◌, ◌≤◌, ◌<◌, ◌^◌, true, false, [], Some, None, length, string_bytes, OnOk, OnErr, IfOk, IfErr, IsErr, IsSome, IsSomeAnd};
+ghost use Rattle.std.specs.Prelude.{◌≡◌, ◌≢◌, ◌+◌, ◌≤◌, ◌<◌, ◌^◌, ◌⊎◌, true, false, [], Some, None, length, string_bytes, OnOk, OnErr, IfOk, IfErr, IsErr, IsSome, IsSomeAnd};
 ghost use Rattle.registry_names.specs.Ends.{Writes, WritesFront, full_count};
-ghost use Rattle.registry_packument.specs.ObjectTexts.{member_text};
-ghost use Rattle.registry_packument.specs.Packuments.{version_pair, version_pairs, pack_text, pack_len};
+ghost use Rattle.registry_packument.specs.ObjectTexts.{Pair, member_text};
+ghost use Rattle.registry_packument.specs.Packuments.{version_pair, version_pairs, opening_text, pack_text, pack_len};
 ghost use Rattle.registry_packument.specs.Sources.{IsFaultFrom};
 ghost use Rattle.registry_packument.specs.Streams.{row_front, versions_front, pack_front, IsPackFault, failures_after};
 ghost use Rattle.registry_packument.specs.Writing.{Adds, IsFaultOf};
@@ -69,6 +69,26 @@ fn counted(count: u64, text: &str) -> Result<u64, Fault>
     count.checked_add(text.len() as u64).ok_or(Fault::Database)
 }
 
+// How many bytes stand before the first version.
+fn opening_len(alloc: Global, head: &PackHead) -> Result<u64, Fault>
+    ensures ok { IfOk result (λ len. len ≡ length (opening_text head.now)) }
+    ensures err { IfErr result (λ fault. fault ≡ Fault.Memory) }
+{
+    let text = opening(alloc, head)?;
+    Ok(text.len() as u64)
+}
+
+// A count of bytes, and those of the member of one version.
+fn counted_row(alloc: Global, count: u64, later: bool, row: &VersionRow) -> Result<u64, Fault>
+    ensures ok { IfOk result (λ sum. (p : Pair) × (version_pair row.now ≡ Some p)
+        × (sum ≡ count + length (member_text later p))) }
+    ensures err { IfErr result (λ fault. (fault ≡ Fault.Memory) ⊎ ((p : Pair)
+        → version_pair row.now ≡ Some p → 2 ^ 64 ≤ count + length (member_text later p))) }
+{
+    let member = version_member(alloc, later, row)?;
+    counted(count, member.as_str())
+}
+
 /// How many bytes [`packument_text`](crate::packument_text) has of the rows that the source gives.
 ///
 /// `Database` comes where a version has no document (see [`version_text`](crate::version_text)), and
@@ -84,10 +104,10 @@ pub fn packument_len<S: VersionSource>(
         (pack_len head.now (S.rows source.old))) }
     ensures taken { OnOk result (S.rows source.new ≡ []) }
 {
-    let mut count = counted(0, opening(alloc, head)?.as_str())?;
+    let mut count = opening_len(alloc, head)?;
     let mut later = false;
     'versions: while let Some(row) = source.next(alloc)? {
-        count = counted(count, version_member(alloc, later, &row)?.as_str())?;
+        count = counted_row(alloc, count, later, &row)?;
         later = true;
     }
     counted(count, CLOSING)

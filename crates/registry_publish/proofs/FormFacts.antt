@@ -9,13 +9,13 @@ use Rattle.registry_names.specs.Versions.{VersionParts, IsVersion, IsVersionOf, 
 use Rattle.registry_names.specs.declared.stop.Stop.{Stop}
 use Rattle.registry_names.specs.declared.stop.Stop.TheVariants.{Refused, Fault as Faulted}
 use Rattle.registry_names.specs.declared.stop.Fault.TheVariants.{Memory, Database}
-use Rattle.registry_names.specs.declared.refusal.Refusal.TheVariants.{BadName, BadVersion, RangeTag, BadTag, BadIntegrity}
-use Rattle.registry_publish.specs.Body.{BodyParts, IsBody, IsBodyOf, is_manifest, tag_of}
-use Rattle.registry_publish.specs.Form.{FormParts, IsFormOf, IsManifestText, StopsForm, most_bytes}
+use Rattle.registry_names.specs.declared.refusal.Refusal.TheVariants.{BadName, BadVersion, RangeTag, BadTag}
+use Rattle.registry_publish.specs.Body.{BodyParts, IsBody, is_manifest, tag_of}
+use Rattle.registry_publish.specs.Form.{FormParts, IsFormOf, IsManifestText, IsTextOf, StopsForm, most_bytes}
 use Rattle.registry_ranges.specs.Grammar.{IsRangeText}
-use Rattle.registry_ranges.specs.Tags.{IsTag}
 use Rattle.registry_publish.specs.Integrity.{has_integrity, integrity_text}
 use Rattle.registry_publish.specs.Needs.{needs_of}
+use Rattle.registry_publish.specs.Reads.{IsNamed, IsReadBody, StopsTexts}
 use Rattle.registry_publish.specs.Stops.{StopsReading}
 use Rattle.registry_publish.proofs.BodyFacts.{no_body_of, no_float}
 use Rattle.registry_publish.proofs.DepthFacts.{manifest_depth}
@@ -27,46 +27,61 @@ stops_body b d short is (Refused r) h = rw h.0 (short, no_body_of b d is h.1)
 stops_body b d short is (Faulted Memory) h = short
 stops_body b d short is (Faulted Database) h = h
 
-pub stops_name : (b : List ℕ) (p : BodyParts) → length b ≤ most_bytes → IsBodyOf b p
+pub stops_name : (b : List ℕ) (p : BodyParts) → IsReadBody b p
     → (e : Stop) → (e ≡ Faulted Memory) ⊎ ((e ≡ Refused BadName) × (¬ (IsName p.name))) → StopsForm b e
-stops_name b p short h e (inl m) = rw m short
-stops_name b p short h e (inr r) = rw r.0 (p, short, h, r.1)
+stops_name b p i e (inl m) = rw m i.short
+stops_name b p i e (inr r) = rw r.0 (p, i.short, i.body, r.1)
 
-pub stops_version : (b : List ℕ) (p : BodyParts) → length b ≤ most_bytes → IsBodyOf b p → IsName p.name
+pub stops_version : (b : List ℕ) (p : BodyParts) → IsReadBody b p → IsName p.name
     → (e : Stop) → (e ≡ Faulted Memory) ⊎ ((e ≡ Refused BadVersion) × (¬ (IsVersion p.version))) → StopsForm b e
-stops_version b p short h n e (inl m) = rw m short
-stops_version b p short h n e (inr r) = rw r.0 (p, short, h, (n, r.1))
+stops_version b p i n e (inl m) = rw m i.short
+stops_version b p i n e (inr r) = rw r.0 (p, i.short, i.body, (n, r.1))
 
-pub stops_tag : (b : List ℕ) (p : BodyParts) → length b ≤ most_bytes → IsBodyOf b p → IsName p.name → IsVersion p.version → (e : Stop)
+pub stops_tag : (b : List ℕ) (p : BodyParts) → IsReadBody b p → IsName p.name → IsVersion p.version → (e : Stop)
     → (e ≡ Refused RangeTag → IsRangeText (tag_of p)) → (e ≡ Refused BadTag → (is_tag (tag_of p) ≡ false) × ¬ (IsRangeText (tag_of p)))
     → (e ≡ Faulted Memory) ⊎ ((e ≡ Refused RangeTag) ⊎ (e ≡ Refused BadTag)) → StopsForm b e
-stops_tag b p short h name version e range bad (inl m) = rw m short
-stops_tag b p short h name version e range bad (inr (inl r)) = rw r (p, short, h, (name, version, range r))
-stops_tag b p short h name version e range bad (inr (inr r)) = rw r (p, short, h, (name, version, (bad r).0, (bad r).1))
+stops_tag b p i name version e range bad (inl m) = rw m i.short
+stops_tag b p i name version e range bad (inr (inl r)) = rw r (p, i.short, i.body, (name, version, range r))
+stops_tag b p i name version e range bad (inr (inr r)) = rw r (p, i.short, i.body, (name, version, (bad r).0, (bad r).1))
 
-pub stops_integrity : (b : List ℕ) (p : BodyParts) → length b ≤ most_bytes → IsBodyOf b p → IsName p.name → IsVersion p.version → IsTag (tag_of p)
-    → (i : List ℕ) → i ≡ integrity_text p.archive → has_integrity i p.manifest ≡ false → StopsForm b (Refused BadIntegrity)
-stops_integrity b p short h name version tag i is other = (p, short, h, (name, version, tag, rw is at other))
+pub stops_texts : (b : List ℕ) (p : BodyParts) → IsReadBody b p
+    → (name : List ℕ) (version : VersionParts) (tag : List ℕ) → IsNamed p name version tag
+    → (e : Stop) → StopsTexts p e → StopsForm b e
+stops_texts b p i name version tag n (Refused r) h = rw h.0 (p, i.short, i.body, (n.name.1, (version, n.version), n.tag.1, h.1))
+stops_texts b p i name version tag n (Faulted Memory) h = i.short
+stops_texts b p i name version tag n (Faulted Database) h = h
 
--- the form that is made of what was read
-pub form_of : (b : List ℕ) (d : Data) (p : BodyParts) (f : FormParts) → length b ≤ most_bytes → IsUtf8 b × (read b ≡ Some d) → depth d ≤ max_depth → IsBody d p
-    → (f.name ≡ p.name) × IsName p.name → IsVersionOf p.version f.version → (f.tag ≡ tag_of p) × IsTag (tag_of p)
-    → f.access ≡ p.access → f.archive ≡ p.archive → f.needs ≡ p.needs
-    → f.integrity ≡ integrity_text p.archive → has_integrity f.integrity p.manifest ≡ true
-    → (has_float p.manifest ≡ false → f.manifest ≡ compact_text p.manifest)
-    → (depth p.manifest ≤ max_depth → read f.manifest ≡ Some p.manifest) → IsFormOf b f
-form_of b d p f short is low body name version tag access archive needs integrity agrees text reads = record {
-  parts = p;
+-- a body that was read, of bytes that aren't too large
+pub read_body : (b : List ℕ) (d : Data) (p : BodyParts) → length b ≤ most_bytes → IsUtf8 b × (read b ≡ Some d) → depth d ≤ max_depth → IsBody d p → IsReadBody b p
+read_body b d p short is low body = record {
   short = short;
   body = (d, is.0, is.1, body);
-  name = name;
-  version = version;
-  tag = tag;
+  nests = le_trans (manifest_depth d p body) low;
+}
+
+-- the text that its manifest is written as
+pub text_of : (b : List ℕ) (p : BodyParts) → IsReadBody b p → (text : List ℕ)
+    → (has_float p.manifest ≡ false → text ≡ compact_text p.manifest)
+    → (depth p.manifest ≤ max_depth → read text ≡ Some p.manifest) → IsTextOf p.manifest text
+text_of b p i text written reads = (written (no_float _ _ p.manifest i.body.3.manifest), reads i.nests)
+
+-- the form that is made of it
+pub form_of : (b : List ℕ) (p : BodyParts) (f : FormParts) → IsReadBody b p → IsNamed p f.name f.version f.tag
+    → f.access ≡ p.access → f.archive ≡ p.archive → f.needs ≡ p.needs
+    → (f.integrity ≡ integrity_text p.archive) × (has_integrity f.integrity p.manifest ≡ true)
+    → IsTextOf p.manifest f.manifest → IsFormOf b f
+form_of b p f i n access archive needs integrity text = record {
+  parts = p;
+  short = i.short;
+  body = i.body;
+  name = n.name;
+  version = n.version;
+  tag = n.tag;
   access = access;
-  manifest = (text (no_float _ _ p.manifest body.manifest), reads (le_trans (manifest_depth d p body) low));
+  manifest = text;
   archive = archive;
   needs = needs;
-  integrity = (integrity, agrees);
+  integrity = integrity;
 }
 
 own_text : (t : List ℕ) (v : VersionParts) → IsVersionOf t v → IsVersionOf (text_of_version v) v

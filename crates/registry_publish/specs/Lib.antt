@@ -6,6 +6,7 @@ pub mod Form
 pub mod Integrity
 pub mod Members
 pub mod Needs
+pub mod Reads
 pub mod Stops
 pub mod Tokens
 pub mod Views

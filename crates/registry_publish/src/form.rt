@@ -1,14 +1,18 @@
 //! The form of a publication.
 
-ghost use Rattle.std.specs.Prelude.{◌≡◌, true, Some, MatchResult};
+ghost use Rattle.std.specs.Prelude.{◌≡◌, List, ℕ, true, Some, IfErr, IfOk, MatchResult, string_bytes};
+ghost use Rattle.serde_json.specs.View.{view};
 ghost use Rattle.registry_names.specs.Names.{IsName};
 ghost use Rattle.registry_names.specs.Tags.{is_tag};
 ghost use Rattle.registry_names.specs.Versions.{IsVersionOf, text_of_version};
-ghost use Rattle.registry_publish.specs.Form.{FormParts, IsFormOf, IsManifestText, StopsForm};
+ghost use Rattle.registry_publish.specs.Form.{FormParts, IsFormOf, IsManifestText, IsTextOf, StopsForm};
+ghost use Rattle.registry_publish.specs.Integrity as spec;
 ghost use Rattle.registry_publish.specs.Integrity.{integrity_text};
 ghost use Rattle.registry_publish.specs.Needs.{needs_of};
+ghost use Rattle.registry_publish.specs.Reads.{IsNamed, IsReadBody, StopsTexts};
+ghost use Rattle.registry_publish.specs.Views.{body_view};
 
-use crate::body::body_of;
+use crate::body::{Body, body_of};
 use crate::integrity::{has_integrity, integrity_of};
 use crate::json::document;
 use crate::need::Need;
@@ -93,24 +97,7 @@ impl PublishForm {
         }
         let value = document(alloc, body)?;
         let body = body_of(alloc, &value)?;
-        let name = Name::parse(alloc, body.name)?;
-        let version = Ver::parse(alloc, body.version)?;
-        let tag = registry_ranges::tag(alloc, body.tag())?;
-        let integrity = integrity_of(alloc, body.archive.as_slice())?;
-        if !has_integrity(body.manifest, integrity.as_str()) {
-            return Err(Stop::Refused(Refusal::BadIntegrity));
-        }
-        let manifest = body.manifest.to_string(alloc)?;
-        Ok(PublishForm {
-            name,
-            version,
-            tag,
-            access: body.access,
-            manifest,
-            archive: body.archive,
-            needs: body.needs,
-            integrity,
-        })
+        form_of(alloc, body)
     }
 
     /// The name of the package.
@@ -178,4 +165,52 @@ impl PublishForm {
     {
         self.integrity.as_str()
     }
+}
+
+// The form that a body has.
+fn form_of(alloc: Global, body: Body<'_>) -> Result<PublishForm, Stop>
+    requires { (b : List ℕ) × IsReadBody b (body_view body) }
+    ensures { (b : List ℕ) → IsReadBody b (body_view body.entry)
+        → MatchResult result (IsFormOf b) (StopsForm b) }
+{
+    let (name, version, tag) = names_of(alloc, &body)?;
+    let (manifest, integrity) = texts_of(alloc, &body)?;
+    Ok(PublishForm {
+        name,
+        version,
+        tag,
+        access: body.access,
+        manifest,
+        archive: body.archive,
+        needs: body.needs,
+        integrity,
+    })
+}
+
+// The name, the version and the tag that a body says.
+fn names_of(alloc: Global, body: &Body<'_>) -> Result<(Name, Ver, TagText), Stop>
+    ensures ok { IfOk result (λ names. IsNamed (body_view body.now) names.0 names.1 names.2) }
+    ensures err { IfErr result (λ stop. (b : List ℕ) → IsReadBody b (body_view body.now)
+        → StopsForm b stop) }
+{
+    let name = Name::parse(alloc, body.name)?;
+    let version = Ver::parse(alloc, body.version)?;
+    let tag = registry_ranges::tag(alloc, body.tag())?;
+    Ok((name, version, tag))
+}
+
+// The manifest's text, and the archive's integrity, where the manifest says no other.
+fn texts_of(alloc: Global, body: &Body<'_>) -> Result<(String, Text), Stop>
+    ensures manifest { IfOk result (λ texts. (b : List ℕ) → IsReadBody b (body_view body.now)
+        → IsTextOf (view body.now.manifest.now) (string_bytes texts.0)) }
+    ensures integrity { IfOk result (λ texts. (texts.1 ≡ integrity_text body.now.archive.items)
+        × (spec.has_integrity texts.1 (view body.now.manifest.now) ≡ true)) }
+    ensures err { IfErr result (StopsTexts (body_view body.now)) }
+{
+    let integrity = integrity_of(alloc, body.archive.as_slice())?;
+    if !has_integrity(body.manifest, integrity.as_str()) {
+        return Err(Stop::Refused(Refusal::BadIntegrity));
+    }
+    let manifest = body.manifest.to_string(alloc)?;
+    Ok((manifest, integrity))
 }

@@ -1,10 +1,11 @@
 -- The tables made one after another, each of them empty.
-use Rattle.std.proofs.Common.{◌≡◌, ℕ, suc, List, [], Result, OnOk, Ok, Err, arith, sym, ap, subst, ◌∙◌}
+use Rattle.std.proofs.Common.{◌≡◌, ℕ, zero, suc, ◌+◌, ◌<◌, List, [], length, get_or, refl, Result, OnOk, Ok, Err, arith, sym, ap, subst, ◌∙◌}
 use Rattle.sqlite_trees.specs.declared.store.Store.{Ghosts}
 use Rattle.sqlite.specs.Held.{Held, state}
 use Rattle.sqlite.specs.State.{State, HasCleanDisk, ExecutesIn}
 use Rattle.sqlite.specs.Listing.{understood}
 use Rattle.sqlite_resolve.specs.declared.error.CompileError.{CompileError}
+use Rattle.sqlite_resolve.specs.declared.error.CompileError.TheVariants.{Exists}
 use Rattle.sqlite_schema.specs.declared.schema.Schema.{Schema}
 use Rattle.registry_rows.specs.Tables.{no_tables}
 use Rattle.registry_rows.specs.Ready.{Ready, Blank, Leaves, Executed}
@@ -12,26 +13,43 @@ use Rattle.registry_rows.proofs.ReadyFacts.{inside}
 use Rattle.registry_rows.proofs.CreateFacts.{create_adds, creates_ready, blank_holds}
 use Rattle.registry_tables.specs.Schema.{schema}
 use Rattle.registry_tables.specs.Contents.{contents}
-use Rattle.registry_tables.specs.Effects.{AddsNoCrash, InForm, stored}
+use Rattle.registry_tables.specs.Creation.{creation}
+use Rattle.registry_tables.specs.Effects.{AddsNoCrash, HasNoTables, InForm, stored}
 use Rattle.registry_tables.specs.Fresh.{HasMade, first_tables, fresh, no_contents, schema_number, with_number}
 use Rattle.registry_tables.proofs.ContentsFacts.{contents_depend, no_rows}
-use Rattle.registry_tables.proofs.SchemaFacts.{AddsTable}
+use Rattle.registry_tables.proofs.SchemaFacts.{AddsTable, adds, users_exists}
 
-pub add_first : (sql : List ℕ) → AddsTable 0 sql → (old new : State) (count : ℕ) → Ready no_tables old → Executed sql [] old new (Ok count) → HasCleanDisk new → Blank (first_tables 1) new
+add_first : (sql : List ℕ) → AddsTable 0 sql → (old new : State) (count : ℕ) → Ready no_tables old → Executed sql [] old new (Ok count) → HasCleanDisk new → Blank (first_tables 1) new
 add_first sql it old new count form call clean = inside (Blank (first_tables 1) new) no_tables sql [] old new (Ok count) form call clean (λ n ready ran on.
     let made = creates_ready no_tables sql it.table old new it.means ready n ran in
     subst (λ s. Blank s new) it.next (record { ready = made.0; empty = (made.2, tt); mode = on }))
 
-pub add_table : (n : ℕ) (sql : List ℕ) → AddsTable n sql → (old new : State) (count : ℕ) → (HasCleanDisk old → Blank (first_tables n) old) → Executed sql [] old new (Ok count) → HasCleanDisk new → Blank (first_tables (suc n)) new
+add_table : (n : ℕ) (sql : List ℕ) → AddsTable n sql → (old new : State) (count : ℕ) → (HasCleanDisk old → Blank (first_tables n) old) → Executed sql [] old new (Ok count) → HasCleanDisk new → Blank (first_tables (suc n)) new
 add_table n sql it old new count made call clean = subst (λ s. Blank s new) it.next (create_adds (first_tables n) sql it.table it.means old new (Ok count) made call clean)
 
 -- a text that isn't understood isn't run
-pub never_run : (schema : Schema) (sql : List ℕ) (e : CompileError) → understood schema sql ≡ Err e → (old new : State) (count : ℕ) → Ready schema old → Executed sql [] old new (Ok count) → ¬ HasCleanDisk new
+never_run : (schema : Schema) (sql : List ℕ) (e : CompileError) → understood schema sql ≡ Err e → (old new : State) (count : ℕ) → Ready schema old → Executed sql [] old new (Ok count) → ¬ HasCleanDisk new
 unfolding ExecutesIn
 never_run schema sql e refused old new count form call clean = inside ⊥ schema sql [] old new (Ok count) form call clean (λ n ready ran on.
     absurd (let both = sym (ap (λ s. understood s sql) ready.schema_is ∙ refused) ∙ ran.1.is in cc))
 
 module _ {S : Type 0} (store : Ghosts S) where
+  -- the next text, after those so far
+  pub makes_next : (i : ℕ) (first old new : Held S) (count : ℕ) → i < length creation → (i ≡ 0 → old ≡ first) → (0 < i → HasNoTables store first → HasMade store i old)
+      → Executed (get_or creation i []) [] (state store old) (state store new) (Ok count) → HasNoTables store first → HasMade store (i + 1) new
+  makes_next zero first old new count within idle made call none =
+      add_first (get_or creation 0 []) (adds 0 within) (state store old) (state store new) count (subst (HasNoTables store) (sym (idle refl)) none) call
+  makes_next (suc n) first old new count within idle made call none =
+      let same : suc (suc n) ≡ suc n + 1 = omega arith in
+      subst (λ k. HasMade store k new) same (add_table (suc n) (get_or creation (suc n) []) (adds (suc n) within) (state store old) (state store new) count (made (omega arith) none) call)
+
+  -- where the tables were there, no text is run
+  pub refuses_next : (i : ℕ) (first old new : Held S) (count : ℕ) → (i ≡ 0 → old ≡ first) → (0 < i → InForm store first → ¬ HasCleanDisk (state store old))
+      → Executed (get_or creation i []) [] (state store old) (state store new) (Ok count) → InForm store first → ¬ HasCleanDisk (state store new)
+  refuses_next zero first old new count idle refused call form =
+      never_run schema (get_or creation 0 []) Exists users_exists (state store old) (state store new) count (subst (InForm store) (sym (idle refl)) form) call
+  refuses_next (suc n) first old new count idle refused call form = λ clean. refused (omega arith) form (omega (arith, call.survives.clean, clean))
+
   -- the number of the schema is put when all tables are there
   pub numbered : {E : Type 0} (old new : Held S) (r : Result (Unit {0}) E) → HasMade store 15 old
       → (InForm store old → HasCleanDisk (state store new) → OnOk r (Leaves schema contents (with_number (stored (state store old)) schema_number) (state store new))) → AddsNoCrash store old new

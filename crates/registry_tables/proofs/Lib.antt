@@ -1,7 +1,7 @@
-pub mod CallFacts
 pub mod CatalogFacts
 pub mod ContentsFacts
 pub mod CreationFacts
+pub mod FaultFacts
 pub mod FoundFacts
 pub mod HeldNeedFacts
 pub mod MappedFacts

@@ -28,6 +28,7 @@ use Rattle.registry_tables.specs.Spelled.{status_number, status_spelled}
 use Rattle.registry_tables.specs.Effects.{stored, registry_in}
 use Rattle.registry_tables.proofs.MappedFacts.{packages_mapped, with_statuses}
 use Rattle.registry_tables.proofs.ReviseFacts.{revised}
+use Rattle.registry_tables.proofs.QuietFacts.{makes_after}
 
 -- ---- INSERT
 
@@ -90,3 +91,9 @@ pub status_found : (p : Text) (old new : Shown) (rows : List Row) → Ready sche
 status_found p old new rows form call clean =
     let it = select_finds packages_mapped find_text (col 1 2 ∷ []) _ find_means p status_spelled (λ (s : Status). s) (λ id vs. refl) old new rows form call clean in
     (it.0, first_listed status_spelled rows _ it.1 ∙ option_map_id (at (registry_in old).access.statuses p))
+
+-- a package whose status was read is there, so it has the new one
+pub restates_known : {E : Type 0} {was : Status} (p : Text) (status : Status) (a b c : Shown) (r : Result (Unit {0}) E) → Reads schema a b → at (registry_in a).access.statuses p ≡ Some was
+    → OnOk r (Leaves schema contents (on_registry (λ s. restated s p status) (stored b)) c) → OnOk r (Leaves schema contents (on_registry (λ s. with_status s p status) (stored a)) c)
+restates_known p status a b c r reads known makes = subst (λ o. OnOk r (Leaves schema contents (on_registry (λ s. if is_some o then with_status s p status else s) (stored a)) c)) known
+    (makes_after (on_registry (λ s. restated s p status)) a b c r reads makes)

@@ -1,18 +1,21 @@
 -- Calls inside a transaction commit nothing, one after another.
-use Rattle.std.proofs.Common.{◌≡◌, inl, inr, ℕ, List, Option, None, Some, false, Result, Err, IsTrue, refl, ◌∙◌, sym, subst, arith}
+use Rattle.std.proofs.Common.{◌≡◌, inl, inr, ℕ, List, Option, None, Some, false, Result, OnOk, Err, IsTrue, refl, ◌∙◌, sym, subst, arith}
 use Rattle.std.proofs.lemmas.Bool.{cases_Bool}
 use Rattle.sqlite_value.specs.Order.{Row}
 use Rattle.sqlite_trees.specs.declared.store.Store.{Ghosts}
 use Rattle.sqlite_schema.specs.declared.command.Returning.{Returning}
 use Rattle.sqlite_schema.specs.declared.schema.Schema.{Schema}
 use Rattle.sqlite.specs.declared.error.Error.{Error}
+use Rattle.sqlite.specs.Effect.{Database}
 use Rattle.sqlite.specs.Clock.{timed}
 use Rattle.sqlite.specs.Held.{Held, state}
 use Rattle.sqlite.specs.State.{State, HasCleanDisk, KeepsCommit, ExecutesInside, Shown, ShowsRows}
 use Rattle.sqlite.proofs.InsideLemmas.{unchanged_keeps, inside_keeps, keeps_then}
 use Rattle.sqlite.proofs.StateLemmas.{survives_then}
-use Rattle.registry_rows.specs.Ready.{Reads}
-use Rattle.registry_tables.specs.Effects.{KeepsCommitted, AddsNoCrash}
+use Rattle.registry_rows.specs.Ready.{Leaves, Reads}
+use Rattle.registry_tables.specs.Schema.{schema}
+use Rattle.registry_tables.specs.Contents.{Contents, contents}
+use Rattle.registry_tables.specs.Effects.{KeepsCommitted, AddsNoCrash, stored}
 
 -- nothing was committed, and a crash leaves nothing new
 pub record IsQuiet {S : Type 0} (store : Ghosts S) (a b : Held S) : Type 0 where
@@ -49,3 +52,7 @@ shown_quiet sql params a b rows on h = go h.0.returning h.2
 -- a query after a query
 pub reads_then : (s : Schema) (a b c : State) → Reads s a b → Reads s b c → Reads s a c
 reads_then s a b c one two = record { was_open = one.was_open; ready = two.ready; same = two.same ∙ one.same; mode = two.mode ∙ one.mode; committed = keeps_then a b c one.committed two.committed }
+
+-- a change after a query
+pub makes_after : {E : Type 0} (f : Contents → Contents) (a b c : State) (r : Result (Unit {0}) E) → Reads schema a b → OnOk r (Leaves schema contents (f (stored b)) c) → OnOk r (Leaves schema contents (f (stored a)) c)
+makes_after f a b c r reads makes = subst (λ (d : Database). OnOk r (Leaves schema contents (f (contents d.trees)) c)) reads.same makes

@@ -30,6 +30,7 @@ use Rattle.registry_tables.specs.Effects.{stored, registry_in}
 use Rattle.registry_tables.specs.Spelled.{tag_spelled, text_spelled}
 use Rattle.registry_tables.proofs.FoundFacts.{some_found}
 use Rattle.registry_tables.proofs.MappedFacts.{tags_mapped, with_tags}
+use Rattle.registry_tables.proofs.QuietFacts.{makes_after}
 use Rattle.registry_tables.proofs.ReviseFacts.{revised}
 
 -- ---- INSERT
@@ -124,6 +125,12 @@ pub tags_listed : (p : Text) (old new : Shown) (rows : List Row) → Ready schem
 tags_listed p old new rows form call clean =
     let it = select_lists tags_mapped list_text list_columns _ list_means p tag_spelled (λ (v : Text). v) (λ id vs. refl) old new rows form call clean in
     (it.0, it.1 ∙ seen_as_is (of (registry_in old).tags p))
+
+-- a tag that was found is there, so it moves
+pub moves_known : {E : Type 0} (p t v : Text) (a b c : Shown) (r : Result (Unit {0}) E) → Reads schema a b → is_some (at (registry_in a).tags (p, t)) ≡ true
+    → OnOk r (Leaves schema contents (on_registry (λ s. moved s p t v) (stored b)) c) → OnOk r (Leaves schema contents (on_registry (λ s. with_tag s p t v) (stored a)) c)
+moves_known p t v a b c r reads known makes = subst (λ there. OnOk r (Leaves schema contents (on_registry (λ s. if there then with_tag s p t v else s) (stored a)) c)) known
+    (makes_after (on_registry (λ s. moved s p t v)) a b c r reads makes)
 
 -- ---- one change after another
 

@@ -1,5 +1,6 @@
 pub mod Changes
 pub mod Contents
+pub mod Creation
 pub mod Effects
 pub mod Faults
 pub mod Fresh

@@ -54,10 +54,9 @@ fn put_status<S: Alter>(
     ensures committed { KeepsCommitted S.Store tx.old.conn.now tx.new.conn.now }
     ensures survives { AddsNoCrash S.Store tx.old.conn.now tx.new.conn.now }
 {
-    if load_status(tx, name)?.is_none() {
-        insert_status(tx, name, status)
-    } else {
-        update_status(tx, name, status)
+    match load_status(tx, name)? {
+        Some(_) => update_status(tx, name, status),
+        None => insert_status(tx, name, status),
     }
 }
 

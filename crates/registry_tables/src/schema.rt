@@ -5,12 +5,13 @@
 //! row goes with the one that it names. Tables are made in this order, and later ones are added
 //! behind them.
 
-ghost use Rattle.std.specs.Prelude.{◌≡◌, IsErr, OnOk};
+ghost use Rattle.std.specs.Prelude.{◌≡◌, IsErr, OnOk, map};
 ghost use Rattle.sqlite.specs.Held.{state};
 ghost use Rattle.sqlite.specs.State.{HasCleanDisk};
 ghost use Rattle.registry_rows.specs.Ready.{Leaves};
 ghost use Rattle.registry_tables.specs.Schema.{schema};
 ghost use Rattle.registry_tables.specs.Contents.{contents};
+ghost use Rattle.registry_tables.specs.Creation.{creation};
 ghost use Rattle.registry_tables.specs.Effects.{AddsNoCrash, HasNoTables, InForm, KeepsCommitted};
 ghost use Rattle.registry_tables.specs.Fresh.{HasMade, fresh};
 
@@ -18,6 +19,25 @@ use crate::error::fault_of;
 use crate::meta::put_schema;
 use registry_names::Fault;
 use sqlite::{Alter, Error, Transaction};
+
+// The texts that make the tables, in their order.
+const TABLES: [&str; 15] = [
+    "CREATE TABLE users (name TEXT NOT NULL, PRIMARY KEY (name)) STRICT",
+    "CREATE TABLE tokens (digest BLOB NOT NULL, user TEXT NOT NULL, PRIMARY KEY (digest), FOREIGN KEY (user) REFERENCES users) STRICT",
+    "CREATE TABLE orgs (name TEXT NOT NULL, PRIMARY KEY (name)) STRICT",
+    "CREATE TABLE members (org TEXT NOT NULL, user TEXT NOT NULL, role INTEGER NOT NULL, PRIMARY KEY (org, user), FOREIGN KEY (org) REFERENCES orgs, FOREIGN KEY (user) REFERENCES users) STRICT",
+    "CREATE TABLE teams (org TEXT NOT NULL, team TEXT NOT NULL, PRIMARY KEY (org, team), FOREIGN KEY (org) REFERENCES orgs) STRICT",
+    "CREATE TABLE team_members (org TEXT NOT NULL, team TEXT NOT NULL, user TEXT NOT NULL, PRIMARY KEY (org, team, user), FOREIGN KEY (org, team) REFERENCES teams ON DELETE CASCADE, FOREIGN KEY (org, user) REFERENCES members ON DELETE CASCADE) STRICT",
+    "CREATE TABLE packages (name TEXT NOT NULL, status INTEGER NOT NULL, PRIMARY KEY (name)) STRICT",
+    "CREATE TABLE grants (org TEXT NOT NULL, team TEXT NOT NULL, package TEXT NOT NULL, level INTEGER NOT NULL, PRIMARY KEY (org, team, package), FOREIGN KEY (org, team) REFERENCES teams ON DELETE CASCADE, FOREIGN KEY (package) REFERENCES packages) STRICT",
+    "CREATE TABLE owners (package TEXT NOT NULL, user TEXT NOT NULL, PRIMARY KEY (package, user), FOREIGN KEY (package) REFERENCES packages, FOREIGN KEY (user) REFERENCES users) STRICT",
+    "CREATE TABLE versions (package TEXT NOT NULL, version TEXT NOT NULL, published INTEGER NOT NULL, manifest TEXT NOT NULL, deprecated TEXT NOT NULL, archive BLOB NOT NULL, PRIMARY KEY (package, version), FOREIGN KEY (package) REFERENCES packages) STRICT",
+    "CREATE TABLE spent (package TEXT NOT NULL, version TEXT NOT NULL, published INTEGER NOT NULL, withdrawn INTEGER NOT NULL, PRIMARY KEY (package, version), FOREIGN KEY (package) REFERENCES packages) STRICT",
+    "CREATE TABLE tags (package TEXT NOT NULL, tag TEXT NOT NULL, version TEXT NOT NULL, PRIMARY KEY (package, tag), FOREIGN KEY (package, version) REFERENCES versions) STRICT",
+    "CREATE TABLE needs (package TEXT NOT NULL, version TEXT NOT NULL, target TEXT NOT NULL, PRIMARY KEY (package, version, target), FOREIGN KEY (package, version) REFERENCES versions ON DELETE CASCADE) STRICT",
+    "CREATE TABLE meta (name TEXT NOT NULL, value INTEGER NOT NULL, PRIMARY KEY (name)) STRICT",
+    "CREATE TABLE need_ranges (package TEXT NOT NULL, version TEXT NOT NULL, target TEXT NOT NULL, range TEXT NOT NULL, PRIMARY KEY (package, version, target, range), FOREIGN KEY (package, version) REFERENCES versions ON DELETE CASCADE) STRICT",
+];
 
 /// Makes the tables in a database that has none: all of them empty, but for the number of the
 /// schema. Where they are there already, the answer is `Database`.
@@ -38,116 +58,21 @@ fn create_all<S: Alter>(tx: &mut Transaction<'_, S>) -> Result<(), Error>
     ensures committed { KeepsCommitted S.Store tx.old.conn.now tx.new.conn.now }
     ensures survives { AddsNoCrash S.Store tx.old.conn.now tx.new.conn.now }
 {
-    create_members(tx)?;
-    create_grants(tx)?;
-    create_versions(tx)?;
-    create_needs(tx)?;
-    create_need_ranges(tx)?;
+    create_tables(tx, &TABLES)?;
     put_schema(tx)
 }
 
-fn create_members<S: Alter>(tx: &mut Transaction<'_, S>) -> Result<(), Error>
+// Runs the texts that make the tables.
+fn create_tables<S: Alter>(tx: &mut Transaction<'_, S>, texts: &[&str]) -> Result<(), Error>
+    requires texts { map (λ text. text.now) texts.now ≡ creation }
     ensures same_reference { tx.new.conn.ghost_name ≡ tx.old.conn.ghost_name }
-    ensures made { HasNoTables S.Store tx.old.conn.now → OnOk result (HasMade S.Store 4 tx.new.conn.now) }
+    ensures made { HasNoTables S.Store tx.old.conn.now → OnOk result (HasMade S.Store 15 tx.new.conn.now) }
     ensures refused { InForm S.Store tx.old.conn.now → HasCleanDisk (state S.Store tx.new.conn.now) → IsErr result }
     ensures committed { KeepsCommitted S.Store tx.old.conn.now tx.new.conn.now }
     ensures survives { AddsNoCrash S.Store tx.old.conn.now tx.new.conn.now }
 {
-    tx.execute(
-        "CREATE TABLE users (name TEXT NOT NULL, PRIMARY KEY (name)) STRICT",
-        &[],
-    )?;
-    tx.execute(
-        "CREATE TABLE tokens (digest BLOB NOT NULL, user TEXT NOT NULL, PRIMARY KEY (digest), FOREIGN KEY (user) REFERENCES users) STRICT",
-        &[],
-    )?;
-    tx.execute(
-        "CREATE TABLE orgs (name TEXT NOT NULL, PRIMARY KEY (name)) STRICT",
-        &[],
-    )?;
-    tx.execute(
-        "CREATE TABLE members (org TEXT NOT NULL, user TEXT NOT NULL, role INTEGER NOT NULL, PRIMARY KEY (org, user), FOREIGN KEY (org) REFERENCES orgs, FOREIGN KEY (user) REFERENCES users) STRICT",
-        &[],
-    )?;
-    Ok(())
-}
-
-fn create_grants<S: Alter>(tx: &mut Transaction<'_, S>) -> Result<(), Error>
-    ensures same_reference { tx.new.conn.ghost_name ≡ tx.old.conn.ghost_name }
-    ensures made { HasMade S.Store 4 tx.old.conn.now → OnOk result (HasMade S.Store 8 tx.new.conn.now) }
-    ensures committed { KeepsCommitted S.Store tx.old.conn.now tx.new.conn.now }
-    ensures survives { AddsNoCrash S.Store tx.old.conn.now tx.new.conn.now }
-{
-    tx.execute(
-        "CREATE TABLE teams (org TEXT NOT NULL, team TEXT NOT NULL, PRIMARY KEY (org, team), FOREIGN KEY (org) REFERENCES orgs) STRICT",
-        &[],
-    )?;
-    tx.execute(
-        "CREATE TABLE team_members (org TEXT NOT NULL, team TEXT NOT NULL, user TEXT NOT NULL, PRIMARY KEY (org, team, user), FOREIGN KEY (org, team) REFERENCES teams ON DELETE CASCADE, FOREIGN KEY (org, user) REFERENCES members ON DELETE CASCADE) STRICT",
-        &[],
-    )?;
-    tx.execute(
-        "CREATE TABLE packages (name TEXT NOT NULL, status INTEGER NOT NULL, PRIMARY KEY (name)) STRICT",
-        &[],
-    )?;
-    tx.execute(
-        "CREATE TABLE grants (org TEXT NOT NULL, team TEXT NOT NULL, package TEXT NOT NULL, level INTEGER NOT NULL, PRIMARY KEY (org, team, package), FOREIGN KEY (org, team) REFERENCES teams ON DELETE CASCADE, FOREIGN KEY (package) REFERENCES packages) STRICT",
-        &[],
-    )?;
-    Ok(())
-}
-
-fn create_versions<S: Alter>(tx: &mut Transaction<'_, S>) -> Result<(), Error>
-    ensures same_reference { tx.new.conn.ghost_name ≡ tx.old.conn.ghost_name }
-    ensures made { HasMade S.Store 8 tx.old.conn.now → OnOk result (HasMade S.Store 12 tx.new.conn.now) }
-    ensures committed { KeepsCommitted S.Store tx.old.conn.now tx.new.conn.now }
-    ensures survives { AddsNoCrash S.Store tx.old.conn.now tx.new.conn.now }
-{
-    tx.execute(
-        "CREATE TABLE owners (package TEXT NOT NULL, user TEXT NOT NULL, PRIMARY KEY (package, user), FOREIGN KEY (package) REFERENCES packages, FOREIGN KEY (user) REFERENCES users) STRICT",
-        &[],
-    )?;
-    tx.execute(
-        "CREATE TABLE versions (package TEXT NOT NULL, version TEXT NOT NULL, published INTEGER NOT NULL, manifest TEXT NOT NULL, deprecated TEXT NOT NULL, archive BLOB NOT NULL, PRIMARY KEY (package, version), FOREIGN KEY (package) REFERENCES packages) STRICT",
-        &[],
-    )?;
-    tx.execute(
-        "CREATE TABLE spent (package TEXT NOT NULL, version TEXT NOT NULL, published INTEGER NOT NULL, withdrawn INTEGER NOT NULL, PRIMARY KEY (package, version), FOREIGN KEY (package) REFERENCES packages) STRICT",
-        &[],
-    )?;
-    tx.execute(
-        "CREATE TABLE tags (package TEXT NOT NULL, tag TEXT NOT NULL, version TEXT NOT NULL, PRIMARY KEY (package, tag), FOREIGN KEY (package, version) REFERENCES versions) STRICT",
-        &[],
-    )?;
-    Ok(())
-}
-
-fn create_needs<S: Alter>(tx: &mut Transaction<'_, S>) -> Result<(), Error>
-    ensures same_reference { tx.new.conn.ghost_name ≡ tx.old.conn.ghost_name }
-    ensures made { HasMade S.Store 12 tx.old.conn.now → OnOk result (HasMade S.Store 14 tx.new.conn.now) }
-    ensures committed { KeepsCommitted S.Store tx.old.conn.now tx.new.conn.now }
-    ensures survives { AddsNoCrash S.Store tx.old.conn.now tx.new.conn.now }
-{
-    tx.execute(
-        "CREATE TABLE needs (package TEXT NOT NULL, version TEXT NOT NULL, target TEXT NOT NULL, PRIMARY KEY (package, version, target), FOREIGN KEY (package, version) REFERENCES versions ON DELETE CASCADE) STRICT",
-        &[],
-    )?;
-    tx.execute(
-        "CREATE TABLE meta (name TEXT NOT NULL, value INTEGER NOT NULL, PRIMARY KEY (name)) STRICT",
-        &[],
-    )?;
-    Ok(())
-}
-
-fn create_need_ranges<S: Alter>(tx: &mut Transaction<'_, S>) -> Result<(), Error>
-    ensures same_reference { tx.new.conn.ghost_name ≡ tx.old.conn.ghost_name }
-    ensures made { HasMade S.Store 14 tx.old.conn.now → OnOk result (HasMade S.Store 15 tx.new.conn.now) }
-    ensures committed { KeepsCommitted S.Store tx.old.conn.now tx.new.conn.now }
-    ensures survives { AddsNoCrash S.Store tx.old.conn.now tx.new.conn.now }
-{
-    tx.execute(
-        "CREATE TABLE need_ranges (package TEXT NOT NULL, version TEXT NOT NULL, target TEXT NOT NULL, range TEXT NOT NULL, PRIMARY KEY (package, version, target, range), FOREIGN KEY (package, version) REFERENCES versions ON DELETE CASCADE) STRICT",
-        &[],
-    )?;
+    for text in texts {
+        tx.execute(text, &[])?;
+    }
     Ok(())
 }

@@ -1,6 +1,6 @@
 use Rattle.std.proofs.Common.{Ok}
 use Rattle.sqlite.specs.Held.{state}
-use Rattle.registry_tables.proofs.CallFacts.{failed_keeps}
+use Rattle.registry_tables.proofs.QuietFacts.{executed_quiet}
 use Rattle.registry_tables.proofs.TagFacts.{tag_moved}
 use Rattle.registry_tables.proofs.tags.update_tag.Goals as goal
 
@@ -13,5 +13,7 @@ returns-clause-makes g c clean =
     }) clean
 
 pub returns-in_err-execute-clause-committed : goal.returns-in_err-execute-clause-committed
-returns-in_err-execute-clause-committed g c clean =
-    failed_keeps g.S.Store c.args.tx.now.conn.now c.execute.new.self.conn.now _ _ _ (λ off. (c.in_err-execute.ensures.ended off).1) (c.in_err-execute.ensures.runs clean)
+returns-in_err-execute-clause-committed g c = (executed_quiet g.S.Store _ _ c.args.tx.now.conn.now c.execute.new.self.conn.now _ _ c.execute.ensures.ended c.execute.ensures.runs c.execute.ensures.survives).committed
+
+pub returns-clause-committed : goal.returns-clause-committed
+returns-clause-committed g c = (executed_quiet g.S.Store _ _ c.args.tx.now.conn.now c.execute.new.self.conn.now _ _ c.execute.ensures.ended c.execute.ensures.runs c.execute.ensures.survives).committed
