@@ -1,15 +1,16 @@
 -- The first tables, and what a commit leaves.
-use Rattle.std.proofs.Common.{◌≡◌, ◌∙◌, true, false, sym, ap, subst}
+use Rattle.std.proofs.Common.{◌≡◌, ◌∙◌, inl, inr, IsTrue, true, false, true≢false, sym, ap, subst}
 use Rattle.std.specs.List.{AllByRecursion}
 use Rattle.sqlite.specs.Effect.{Database, IsDatabase}
 use Rattle.sqlite.specs.Held.{Held, state}
-use Rattle.sqlite.specs.State.{State as Shown, HasCleanDisk, Shows}
-use Rattle.sqlite.specs.Steps.{IsEmpty}
+use Rattle.sqlite.specs.State.{State as Shown, HasCleanDisk, IsRolledBack, KeepsCommit, Shows}
+use Rattle.sqlite.specs.Steps.{FailsToCommit, IsEmpty}
+use Rattle.sqlite.specs.declared.error.Error.{Error}
 use Rattle.sqlite_trees.specs.declared.store.Store.{Ghosts}
 use Rattle.registry_rows.specs.Ready.{IsReady, Leaves}
 use Rattle.registry_rows.specs.Rows.{HasRowids}
 use Rattle.registry_tables.specs.Contents.{Contents, contents}
-use Rattle.registry_tables.specs.Effects.{HasNoTables}
+use Rattle.registry_tables.specs.Effects.{HasNoTables, stored}
 use Rattle.registry_tables.specs.Schema.{schema}
 use Rattle.registry_desk.specs.Resting.{Rests}
 
@@ -34,3 +35,33 @@ commit_rests left mid new ended leaves shows = record {
 
 pub committed_rests : (left : Contents) (mid new : Shown) → Leaves schema contents left mid → Shows mid new mid.now mid.now false → Rests new
 committed_rests left mid new leaves shows = commit_rests left mid new shows.mode (λ _. leaves) (λ _. shows)
+
+-- ---- what is left where nothing was committed
+
+-- a commit that fails in a transaction rolls back
+pub failed_undone : (mid new : Shown) (e : Error) → mid.in_transaction ≡ true → FailsToCommit mid new e → IsRolledBack mid new
+failed_undone mid new e mode (inl fails) = fails.3
+failed_undone mid new e mode (inr ended) = absurd (true≢false (sym mode ∙ ended.1))
+
+module _ (old mid new : Shown) where
+  undone : KeepsCommit old mid → IsRolledBack mid new → IsTrue new.is_open → IsTrue old.is_open × (new.now ≡ old.committed) × (new.committed ≡ old.committed)
+  undone keeps back on =
+      let same = keeps.committed (back.was_open on) in
+      (keeps.was_open (back.was_open on), (back.undone on).0 ∙ same, (back.undone on).1 ∙ same)
+
+  pub undone_open : KeepsCommit old mid → IsRolledBack mid new → IsTrue new.is_open → IsTrue old.is_open
+  undone_open keeps back on = (undone keeps back on).0
+
+  undone_now : Rests old → HasCleanDisk old → KeepsCommit old mid → IsRolledBack mid new → IsTrue new.is_open → new.now ≡ old.now
+  undone_now rests clean keeps back on = let left = undone keeps back on in left.1 ∙ sym (rests.settled clean left.0)
+
+  pub undone_stored : Rests old → HasCleanDisk old → KeepsCommit old mid → IsRolledBack mid new → IsTrue new.is_open → stored new ≡ stored old
+  undone_stored rests clean keeps back on = ap (λ (d : Database). contents d.trees) (undone_now rests clean keeps back on)
+
+  pub undone_rests : Rests old → new.in_transaction ≡ false → (HasCleanDisk new → HasCleanDisk old × KeepsCommit old mid × IsRolledBack mid new) → Rests new
+  undone_rests rests ended back = record {
+    idle = ended;
+    in_form = λ clean on. let b = back clean in
+        ready_again old new (undone_now rests b.0 b.1 b.2 on) (rests.in_form b.0 (undone b.1 b.2 on).0);
+    settled = λ clean on. let b = back clean in let left = undone b.1 b.2 on in left.1 ∙ sym left.2;
+  }
