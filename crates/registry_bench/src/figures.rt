@@ -119,10 +119,30 @@ fn print_next<R: Print + Clock, S: Alter>(
     packages: Range<u32>,
 ) -> Result<(), Failure> {
     let releases = first_of_each(alloc, packages)?;
-    let requests = publishes(alloc, &bodies(alloc, &releases)?)?;
+    print_publishes(rt, alloc, registry, place, &releases)?;
+    print_packuments(rt, alloc, registry, place, &releases)
+}
+
+fn print_publishes<R: Print + Clock, S: Alter>(
+    rt: &R,
+    alloc: Global,
+    registry: &mut Registry<S>,
+    place: &str,
+    releases: &[Release],
+) -> Result<(), Failure> {
+    let requests = publishes(alloc, &bodies(alloc, releases)?)?;
     let what = format!(in alloc; "publish {place}")?;
-    print_asking(rt, alloc, registry, &what, &requests)?;
-    let requests = packuments(alloc, &releases)?;
+    print_asking(rt, alloc, registry, &what, &requests)
+}
+
+fn print_packuments<R: Print + Clock, S: Alter>(
+    rt: &R,
+    alloc: Global,
+    registry: &mut Registry<S>,
+    place: &str,
+    releases: &[Release],
+) -> Result<(), Failure> {
+    let requests = packuments(alloc, releases)?;
     let what = format!(in alloc; "packument of 1 version {place}")?;
     print_asking(rt, alloc, registry, &what, &requests)
 }

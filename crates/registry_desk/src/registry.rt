@@ -30,9 +30,15 @@ use std::marker::Model;
 ///
 /// Between requests it has no transaction, its tables are in form, and all that it sees was
 /// committed. A fault of the disk may shut it for good: then every request is answered by a fault.
-#[derive(Drop)]
 pub struct Registry<S: Alter> {
     conn: Connection<S>,
+}
+
+// Written out, so that to drop a registry is one call and not one for each part.
+impl<S: Alter + Drop> Drop for Registry<S> {
+    fn drop(self) {
+        let Registry { conn: _ } = self;
+    }
 }
 
 impl<S: Alter> Model for Registry<S> {

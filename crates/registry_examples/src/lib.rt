@@ -1,7 +1,9 @@
 //! Examples that cross the crates: lists of requests to an empty registry, with the reply to each
 //! and what the list shows. Their expected replies are worked out by hand from the rules.
 //!
-//! An example is data; one runner asks its requests in their order and compares the replies.
+//! An example is data; one runner asks its requests in their order and compares the replies. The
+//! tests of the public calls of `registry_tables` and `registry_rows` stand here too, since they
+//! need a database as well.
 #![tactic(auto)]
 
 mod example;

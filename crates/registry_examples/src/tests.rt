@@ -1,6 +1,9 @@
-//! The runner: requests on an empty registry, by `run` and by `apply` one by one.
+//! The runner: requests on an empty registry, by `run` and by `apply` one by one. Its modules see
+//! long lists, and calls on the tables and on rows alone.
 
 mod rounds;
+mod rows;
+mod tables;
 
 use crate::example::{Ask, Example, Expected, Step};
 use crate::table::EXAMPLES;
@@ -15,10 +18,18 @@ type Outcomes = Vec<Result<Reply, Fault>>;
 
 #[test]
 fn examples_have_their_replies(rt: HostRuntime) -> Result<(), Fail> {
-    for example in &EXAMPLES {
-        assert!(rt; has_its_replies(rt.alloc(), example)?, "{}", example.shows);
-    }
+    assert_eq!(rt; first_other(rt.alloc())?, None);
     Ok(())
+}
+
+// What the first example shows that has other replies.
+fn first_other(alloc: Global) -> Result<Option<&'static str>, Stop> {
+    for example in &EXAMPLES {
+        if !has_its_replies(alloc, example)? {
+            return Ok(Some(example.shows));
+        }
+    }
+    Ok(None)
 }
 
 // Whether the requests have the replies of the example, all at once and one by one.

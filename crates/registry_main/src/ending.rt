@@ -4,7 +4,7 @@ use registry_names::{Fault, ReadStop, Refusal, Stop};
 use std::alloc::AllocError;
 
 /// Why nothing is printed on standard output.
-#[derive(Clone, Copy, Debug, PartialEq, Eq)]
+#[derive(Clone, Copy)]
 pub enum Ending {
     /// The body is turned away.
     Refused(Refusal),
@@ -15,7 +15,7 @@ pub enum Ending {
 }
 
 /// What failed.
-#[derive(Clone, Copy, Debug, PartialEq, Eq)]
+#[derive(Clone, Copy)]
 pub enum Failure {
     /// The registry.
     Registry(Fault),

@@ -37,10 +37,20 @@ fn in_profile(version: &Version) -> bool
 /// A version of [SemVer 2.0.0](https://semver.org/spec/v2.0.0.html) without build metadata, of at
 /// most 256 characters, its numbers at most 9007199254740991. So two versions of one precedence
 /// are one version. Contracts see its parts.
-#[derive(Debug, Drop)]
+#[derive(Debug)]
 pub struct Ver {
     text: String,
     version: Version,
+}
+
+// Written out, so that to drop a version is one call and not one for each part.
+impl Drop for Ver {
+    fn drop(self) {
+        let Ver {
+            text: _,
+            version: _,
+        } = self;
+    }
 }
 
 impl Model for Ver {

@@ -25,7 +25,7 @@ const MOST_BYTES: usize = 4_194_304;
 /// What a publication asks for: the package's name and the version, the tag that is to name the
 /// version, the status that is to be set, and the version's manifest and archive, with what the
 /// manifest says it depends on and the archive's integrity. Contracts see these eight parts.
-#[derive(Debug, Drop)]
+#[derive(Debug)]
 pub struct PublishForm {
     name: Name,
     version: Ver,
@@ -35,6 +35,22 @@ pub struct PublishForm {
     archive: Vec<u8>,
     needs: Vec<Need>,
     integrity: Text,
+}
+
+// Written out, so that to drop a form is one call and not one for each part.
+impl Drop for PublishForm {
+    fn drop(self) {
+        let PublishForm {
+            name: _,
+            version: _,
+            tag: _,
+            access: _,
+            manifest: _,
+            archive: _,
+            needs: _,
+            integrity: _,
+        } = self;
+    }
 }
 
 impl Model for PublishForm {

@@ -12,7 +12,7 @@ use crate::relation::Relation;
 use crate::simple::Operator;
 
 /// A relation to a version without build metadata, whose prerelease is in the text.
-#[derive(Clone, Copy, Debug, Drop)]
+#[derive(Clone, Copy)]
 pub struct Bound<'a> {
     pub relation: Relation,
     pub major: u64,

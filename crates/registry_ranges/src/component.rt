@@ -8,7 +8,7 @@ ghost use Rattle.registry_ranges.specs.Reading.{read_view};
 use crate::number::number_at;
 
 /// A component of a partial version.
-#[derive(Clone, Copy, Debug, PartialEq, Eq, Drop)]
+#[derive(Clone, Copy, PartialEq, Eq)]
 pub enum Component {
     /// `x`, `X` or `*`, by its byte.
     Wildcard(u8),

@@ -16,7 +16,7 @@ use registry_names::{Fault, Ver};
 use std::alloc::Global;
 
 /// What is asked of a version, with a prerelease that is in the text.
-#[derive(Clone, Copy, Debug, Drop)]
+#[derive(Clone, Copy)]
 pub enum Question<'a> {
     /// Nothing.
     All,

@@ -9,7 +9,7 @@ use crate::qualifier::{build_at, pre_at};
 
 /// A partial version: one to three components, and behind three of them a prerelease and build
 /// metadata, each the empty text where it is left out.
-#[derive(Clone, Copy, Debug, Drop)]
+#[derive(Clone, Copy)]
 pub enum Partial<'a> {
     /// `1`
     One(Component),

@@ -9,7 +9,7 @@ use crate::component::Component;
 use crate::partial::Partial;
 
 /// What a partial version says up to its first wildcard.
-#[derive(Clone, Copy, Debug, Drop)]
+#[derive(Clone, Copy)]
 pub enum Prefix<'a> {
     /// Nothing.
     Any,

@@ -10,7 +10,7 @@ use crate::prefix::Prefix;
 use crate::simple::{Operator, Simple, simple_at, skip_spaces, skip_v};
 
 /// Where a reader stands in a range.
-#[derive(Clone, Copy, Debug, PartialEq, Eq, Drop)]
+#[derive(Clone, Copy, PartialEq, Eq)]
 pub enum Place {
     /// Before it.
     Before,
@@ -21,7 +21,7 @@ pub enum Place {
 }
 
 /// A part of a range.
-#[derive(Clone, Copy, Debug, Drop)]
+#[derive(Clone, Copy)]
 pub enum Part<'a> {
     /// One simple of a range.
     Simple(Simple<'a>),
@@ -32,7 +32,7 @@ pub enum Part<'a> {
 }
 
 /// What is read next.
-#[derive(Clone, Copy, Debug, Drop)]
+#[derive(Clone, Copy)]
 pub enum Step<'a> {
     /// A part of the range, and where the reader stands behind it.
     Part(Part<'a>, Reader<'a>),
@@ -45,7 +45,7 @@ pub enum Step<'a> {
 }
 
 /// A place in a text, and what follows it.
-#[derive(Clone, Copy, Debug, Drop)]
+#[derive(Clone, Copy)]
 pub struct Reader<'a> {
     pub place: Place,
     pub rest: &'a [u8],

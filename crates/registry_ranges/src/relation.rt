@@ -6,7 +6,7 @@ ghost use Rattle.registry_ranges.specs.Comparators.{meets};
 use std::cmp::Ordering;
 
 /// How a version stands to a bound, by precedence.
-#[derive(Clone, Copy, Debug, PartialEq, Eq, Drop)]
+#[derive(Clone, Copy, Debug, PartialEq, Eq)]
 pub enum Relation {
     /// `<`
     Less,

@@ -8,7 +8,7 @@ use crate::partial::partial_at;
 use crate::prefix::Prefix;
 
 /// What stands before a partial version.
-#[derive(Clone, Copy, Debug, PartialEq, Eq, Drop)]
+#[derive(Clone, Copy, PartialEq, Eq)]
 pub enum Operator {
     /// Nothing.
     Bare,
@@ -31,7 +31,7 @@ pub enum Operator {
 }
 
 /// What a partial version says, and what stands before it.
-#[derive(Clone, Copy, Debug, Drop)]
+#[derive(Clone, Copy)]
 pub struct Simple<'a> {
     pub operator: Operator,
     pub prefix: Prefix<'a>,

@@ -8,7 +8,6 @@ use registry_names::{Moment, Name, TagText, Ver};
 use registry_publish::PublishForm;
 
 /// One thing that is asked of the registry.
-#[derive(Drop)]
 pub struct Request {
     /// When it is asked.
     pub at: Moment,
@@ -16,6 +15,17 @@ pub struct Request {
     pub who: Credential,
     /// What he asks.
     pub what: Action,
+}
+
+// Written out, so that to drop a request is one call and not one for each part.
+impl Drop for Request {
+    fn drop(self) {
+        let Request {
+            at: _,
+            who: _,
+            what: _,
+        } = self;
+    }
 }
 
 /// What a caller shows of himself.

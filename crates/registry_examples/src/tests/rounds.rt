@@ -1,7 +1,7 @@
 //! Two hundred requests, whose outcomes are the same by `run` and by `apply` one by one.
 
 use crate::tests::{all_at_once, one_by_one, packument, publish_of, request};
-use registry_names::{Fault, Refusal, Stop};
+use registry_names::{Fault, Stop};
 use registry_rules::{Reply, Request};
 use std::alloc::{AllocError, Global};
 use std::test::Fail;
@@ -58,14 +58,22 @@ fn name_in(alloc: Global, stem: &str, round: u8) -> Result<String, AllocError> {
     format!(in alloc; "{stem}-{}", round % 7)
 }
 
+static ROUND: [&str; 4] = ["created", "Published", "a document", "NotFound"];
+
 fn is_round(outcomes: &[Result<Reply, Fault>]) -> bool {
-    matches!(
-        outcomes,
-        [
-            Ok(Reply::Created),
-            Ok(Reply::Refused(Refusal::Published)),
-            Ok(Reply::Doc(_)),
-            Ok(Reply::Refused(Refusal::NotFound)),
-        ]
-    )
+    outcomes
+        .iter()
+        .zip(&ROUND)
+        .all(|(outcome, wanted)| told(outcome) == *wanted)
+}
+
+fn told(outcome: &Result<Reply, Fault>) -> &'static str {
+    match outcome {
+        Ok(Reply::Created) => "created",
+        Ok(Reply::Done) => "done",
+        Ok(Reply::Doc(_)) => "a document",
+        Ok(Reply::Bytes(_)) => "bytes",
+        Ok(Reply::Refused(refusal)) => refusal.text(),
+        Err(fault) => fault.text(),
+    }
 }

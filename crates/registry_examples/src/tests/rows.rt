@@ -37,41 +37,46 @@ fn answer(alloc: Global, query: &str) -> Result<Vec<Row>, Error> {
     conn.query_all(query, &[])
 }
 
+fn counts(alloc: Global, query: &str) -> Result<Vec<Count>, Error> {
+    let rows = answer(alloc, query)?;
+    read_rows(alloc, &rows)
+}
+
+fn first_times(alloc: Global, query: &str) -> Result<Option<u32>, Error> {
+    let rows = answer(alloc, query)?;
+    let first: Option<Count> = read_first(&rows)?;
+    Ok(first.map(|count| count.times))
+}
+
+fn are_of(counts: &[Count], words: &[&str]) -> bool {
+    counts.len() == words.len()
+        && counts
+            .iter()
+            .zip(words)
+            .all(|(count, word)| count.word.as_str() == *word)
+}
+
 #[test]
 fn rows_are_read_in_order(rt: HostRuntime) -> Result<(), Fail> {
-    let rows = answer(
+    let counts = counts(
         rt.alloc(),
         "SELECT word, times FROM counts ORDER BY times DESC",
     )?;
-    let counts: Vec<Count> = read_rows(rt.alloc(), &rows)?;
-    assert_eq!(rt; counts.len(), 2);
-    for (count, word) in counts.iter().zip(["the", "and"]) {
-        assert_eq!(rt; count.word.as_str(), word);
-    }
+    assert!(rt; are_of(&counts, &["the", "and"]));
     Ok(())
 }
 
 #[test]
 fn the_first_row_is_read_if_there_is_one(rt: HostRuntime) -> Result<(), Fail> {
-    let some = answer(
-        rt.alloc(),
-        "SELECT word, times FROM counts WHERE word = 'the'",
-    )?;
-    let found: Option<Count> = read_first(&some)?;
-    assert_eq!(rt; found.map(|count| count.times), Some(9));
-    let none = answer(
-        rt.alloc(),
-        "SELECT word, times FROM counts WHERE word = 'of'",
-    )?;
-    let lost: Option<Count> = read_first(&none)?;
-    assert_eq!(rt; lost.is_none(), true);
+    let of_the = "SELECT word, times FROM counts WHERE word = 'the'";
+    assert_eq!(rt; first_times(rt.alloc(), of_the)?, Some(9));
+    let of_another = "SELECT word, times FROM counts WHERE word = 'of'";
+    assert_eq!(rt; first_times(rt.alloc(), of_another)?, None);
     Ok(())
 }
 
 #[test]
-fn a_row_of_another_type_is_refused(rt: HostRuntime) -> Result<(), Fail> {
-    let rows = answer(rt.alloc(), "SELECT times, word FROM counts")?;
-    let counts: Result<Vec<Count>, Error> = read_rows(rt.alloc(), &rows);
-    assert_eq!(rt; counts.is_err(), true);
-    Ok(())
+fn a_row_of_another_type_is_refused(rt: HostRuntime) {
+    let turned = "SELECT times, word FROM counts";
+    assert!(rt; counts(rt.alloc(), turned).is_err());
 }

@@ -1,24 +1,11 @@
 //! Texts in form and out of form, from the rules as they are written down.
 
 use registry_names::{
-    Blob, Fault, Ident, Message, Moment, Name, Refusal, Rule, Status, Stop, TagText, Text, Ver,
+    Blob, Fault, Ident, Message, Moment, Name, Refusal, Rule, Stop, TagText, Text, Ver,
 };
 use std::alloc::{AllocError, Global};
 use std::cmp::Ordering;
 use std::test::Fail;
-
-fn stop_of<T: Drop>(answer: Result<T, Stop>) -> Option<Stop> {
-    match answer {
-        Ok(_) => None,
-        Err(stop) => Some(stop),
-    }
-}
-
-const BAD_NAME: Option<Stop> = Some(Stop::Refused(Refusal::BadName));
-
-const BAD_VERSION: Option<Stop> = Some(Stop::Refused(Refusal::BadVersion));
-
-const BAD_TAG: Option<Stop> = Some(Stop::Refused(Refusal::BadTag));
 
 fn is_name(alloc: Global, text: &str) -> Result<bool, Stop> {
     let name = Name::parse(alloc, text)?;
@@ -98,41 +85,102 @@ fn texts_that_are_too_long(rt: HostRuntime) {
     }
 }
 
-static NAMES: [&str; 5] = ["kit", "@lab/kit", "@lab/.x", "@lab/_x", "0.a-b_c"];
+/// Texts that are of a kind, texts that are not, and how those are refused.
+struct Form {
+    kind: Kind,
+    taken: &'static [&'static str],
+    refused: &'static [&'static str],
+    refusal: Refusal,
+}
 
-static NO_NAMES: [&str; 17] = [
-    "",
-    ".x",
-    "_x",
-    "-x",
-    "Kit",
-    "node_modules",
-    "favicon.ico",
-    "@lab/..",
-    "@lab/.",
-    "@lab/",
-    "@lab",
-    "@/kit",
-    "@Lab/kit",
-    "@lab/kit/x",
-    "a/b",
-    "k t",
-    "kité",
+static FORMS: [Form; 5] = [
+    Form {
+        kind: Kind::Name,
+        taken: &["kit", "@lab/kit", "@lab/.x", "@lab/_x", "0.a-b_c"],
+        refused: &[
+            "",
+            ".x",
+            "_x",
+            "-x",
+            "Kit",
+            "node_modules",
+            "favicon.ico",
+            "@lab/..",
+            "@lab/.",
+            "@lab/",
+            "@lab",
+            "@/kit",
+            "@Lab/kit",
+            "@lab/kit/x",
+            "a/b",
+            "k t",
+            "kité",
+        ],
+        refusal: Refusal::BadName,
+    },
+    Form {
+        kind: Kind::Ident,
+        taken: &["ann", "0", "a-b_c"],
+        refused: &["", "-a", "_a", "Ann", "a.b", "a b", "@lab"],
+        refusal: Refusal::BadName,
+    },
+    Form {
+        kind: Kind::Version,
+        taken: &[
+            "1.0.0",
+            "0.0.0",
+            "9007199254740991.0.0",
+            "1.0.0-beta.0",
+            "1.0.0--",
+            "1.0.0-0a",
+        ],
+        refused: &[
+            "",
+            "1.0",
+            "1.0.0+b",
+            "v1.0.0",
+            "=1.0.0",
+            " 1.0.0",
+            "9007199254740992.0.0",
+            "01.0.0",
+            "1.0.0-",
+            "1.0.0-01",
+            "1.0.0-a..b",
+        ],
+        refusal: Refusal::BadVersion,
+    },
+    Form {
+        kind: Kind::Tag,
+        taken: &["latest", "v", "next", "1.2.3.4", "-_.!~*'()"],
+        refused: &["", "a/b", "a b", "a+b", "é"],
+        refusal: Refusal::BadTag,
+    },
+    Form {
+        kind: Kind::Message,
+        taken: &["", "use @lab/kit 2"],
+        refused: &[],
+        refusal: Refusal::BadBody,
+    },
 ];
 
 #[test]
-fn names_of_packages(rt: HostRuntime) -> Result<(), Fail> {
-    for taken in &NAMES {
-        assert!(rt; is_name(rt.alloc(), taken)?, "{taken}");
-    }
-    for refused in &NO_NAMES {
-        assert_eq!(rt;
-            stop_of(Name::parse(rt.alloc(), refused)),
-            BAD_NAME,
-            "{refused}"
-        );
+fn texts_in_form(rt: HostRuntime) -> Result<(), Fail> {
+    for form in &FORMS {
+        for text in form.taken {
+            assert!(rt; is_of(rt.alloc(), form.kind, text)?, "{text}");
+        }
     }
     Ok(())
+}
+
+#[test]
+fn texts_out_of_form(rt: HostRuntime) {
+    for form in &FORMS {
+        let refused = Err(Stop::Refused(form.refusal));
+        for text in form.refused {
+            assert_eq!(rt; is_of(rt.alloc(), form.kind, text), refused, "{text}");
+        }
+    }
 }
 
 fn has_parts(alloc: Global, text: &str, scope: Option<&str>, part: &str) -> Result<bool, Stop> {
@@ -145,63 +193,6 @@ fn parts_of_names(rt: HostRuntime) -> Result<(), Fail> {
     assert!(rt; has_parts(rt.alloc(), "@lab/kit", Some("lab"), "kit")?);
     assert!(rt; has_parts(rt.alloc(), "kit", None, "kit")?);
     assert!(rt; has_parts(rt.alloc(), "@lab/node_modules", Some("lab"), "node_modules")?);
-    Ok(())
-}
-
-static IDENTS: [&str; 3] = ["ann", "0", "a-b_c"];
-
-static NO_IDENTS: [&str; 7] = ["", "-a", "_a", "Ann", "a.b", "a b", "@lab"];
-
-#[test]
-fn names_of_users(rt: HostRuntime) -> Result<(), Fail> {
-    for taken in &IDENTS {
-        assert!(rt; is_ident(rt.alloc(), taken)?, "{taken}");
-    }
-    for refused in &NO_IDENTS {
-        assert_eq!(rt;
-            stop_of(Ident::parse(rt.alloc(), refused)),
-            BAD_NAME,
-            "{refused}"
-        );
-    }
-    Ok(())
-}
-
-static VERSIONS: [&str; 6] = [
-    "1.0.0",
-    "0.0.0",
-    "9007199254740991.0.0",
-    "1.0.0-beta.0",
-    "1.0.0--",
-    "1.0.0-0a",
-];
-
-static NO_VERSIONS: [&str; 11] = [
-    "",
-    "1.0",
-    "1.0.0+b",
-    "v1.0.0",
-    "=1.0.0",
-    " 1.0.0",
-    "9007199254740992.0.0",
-    "01.0.0",
-    "1.0.0-",
-    "1.0.0-01",
-    "1.0.0-a..b",
-];
-
-#[test]
-fn versions(rt: HostRuntime) -> Result<(), Fail> {
-    for taken in &VERSIONS {
-        assert!(rt; is_version(rt.alloc(), taken)?, "{taken}");
-    }
-    for refused in &NO_VERSIONS {
-        assert_eq!(rt;
-            stop_of(Ver::parse(rt.alloc(), refused)),
-            BAD_VERSION,
-            "{refused}"
-        );
-    }
     Ok(())
 }
 
@@ -239,35 +230,6 @@ fn versions_in_order(rt: HostRuntime) -> Result<(), Fail> {
     Ok(())
 }
 
-static TAGS: [&str; 5] = ["latest", "v", "next", "1.2.3.4", "-_.!~*'()"];
-
-static NO_TAGS: [&str; 5] = ["", "a/b", "a b", "a+b", "é"];
-
-#[test]
-fn tags(rt: HostRuntime) -> Result<(), Fail> {
-    for taken in &TAGS {
-        assert!(rt; is_tag(rt.alloc(), taken)?, "{taken}");
-    }
-    for refused in &NO_TAGS {
-        assert_eq!(rt;
-            stop_of(TagText::shape(rt.alloc(), refused)),
-            BAD_TAG,
-            "{refused}"
-        );
-    }
-    Ok(())
-}
-
-static MESSAGES: [&str; 2] = ["", "use @lab/kit 2"];
-
-#[test]
-fn messages(rt: HostRuntime) -> Result<(), Fail> {
-    for taken in &MESSAGES {
-        assert!(rt; is_message(rt.alloc(), taken)?, "{taken}");
-    }
-    Ok(())
-}
-
 // Seconds, the moment that they are, and the nearest moment.
 static MOMENTS: [(i64, Option<i64>, i64); 5] = [
     (-1, None, 0),
@@ -280,62 +242,57 @@ static MOMENTS: [(i64, Option<i64>, i64); 5] = [
 #[test]
 fn moments(rt: HostRuntime) {
     for (seconds, exact, nearest) in &MOMENTS {
-        assert_eq!(rt;
-            Moment::new(*seconds).map(Moment::seconds),
-            *exact,
-            "{seconds}"
-        );
-        assert_eq!(rt; Moment::clamped(*seconds).seconds(), *nearest, "{seconds}");
+        let moment = Moment::new(*seconds).map(Moment::seconds);
+        let clamped = Moment::clamped(*seconds).seconds();
+        assert_eq!(rt; (moment, clamped), (*exact, *nearest), "{seconds}");
     }
 }
 
-fn is_printed(refusal: Refusal, text: &str, status: u16) -> bool {
-    refusal.text() == text && refusal.status() == status
-}
+// Refusals, how each is printed, and the status of its answer.
+static REFUSALS: [(Refusal, &str, u16); 24] = [
+    (Refusal::BadName, "BadName", 400),
+    (Refusal::BadVersion, "BadVersion", 400),
+    (Refusal::RangeTag, "RangeTag", 400),
+    (Refusal::BadTag, "BadTag", 400),
+    (Refusal::BadBody, "BadBody", 400),
+    (Refusal::BadIntegrity, "BadIntegrity", 400),
+    (Refusal::TooLarge, "TooLarge", 413),
+    (Refusal::BadSelector, "BadSelector", 400),
+    (Refusal::NoCaller, "NoCaller", 401),
+    (Refusal::NotFound, "NotFound", 404),
+    (Refusal::Denied(Rule::A1), "Denied A1", 403),
+    (Refusal::Denied(Rule::A6), "Denied A6", 403),
+    (Refusal::Denied(Rule::A9), "Denied A9", 403),
+    (Refusal::Published, "Published", 409),
+    (Refusal::Spent, "Spent", 409),
+    (Refusal::TooLate, "TooLate", 409),
+    (Refusal::Depended, "Depended", 409),
+    (Refusal::KeepsLatest, "KeepsLatest", 409),
+    (Refusal::LastOwner, "LastOwner", 409),
+    (Refusal::KeepsDevelopers, "KeepsDevelopers", 409),
+    (Refusal::Exists, "Exists", 409),
+    (Refusal::OtherScope, "OtherScope", 409),
+    (Refusal::AlwaysPublic, "AlwaysPublic", 409),
+    (Refusal::Waiting, "Waiting", 409),
+];
 
 #[test]
-fn refusals_of_form_are_printed(rt: HostRuntime) {
-    assert!(rt; is_printed(Refusal::BadName, "BadName", 400));
-    assert!(rt; is_printed(Refusal::BadVersion, "BadVersion", 400));
-    assert!(rt; is_printed(Refusal::RangeTag, "RangeTag", 400));
-    assert!(rt; is_printed(Refusal::BadTag, "BadTag", 400));
-    assert!(rt; is_printed(Refusal::BadBody, "BadBody", 400));
-    assert!(rt; is_printed(Refusal::BadIntegrity, "BadIntegrity", 400));
-    assert!(rt; is_printed(Refusal::TooLarge, "TooLarge", 413));
-    assert!(rt; is_printed(Refusal::BadSelector, "BadSelector", 400));
+fn refusals_are_printed(rt: HostRuntime) {
+    for (refusal, text, status) in &REFUSALS {
+        assert_eq!(rt; (refusal.text(), refusal.status()), (*text, *status));
+    }
 }
 
-#[test]
-fn refusals_of_callers_are_printed(rt: HostRuntime) {
-    assert!(rt; is_printed(Refusal::NoCaller, "NoCaller", 401));
-    assert!(rt; is_printed(Refusal::NotFound, "NotFound", 404));
-    assert!(rt; is_printed(Refusal::Denied(Rule::A1), "Denied A1", 403));
-    assert!(rt; is_printed(Refusal::Denied(Rule::A6), "Denied A6", 403));
-    assert!(rt; is_printed(Refusal::Denied(Rule::A9), "Denied A9", 403));
-}
-
-#[test]
-fn refusals_by_state_are_printed(rt: HostRuntime) {
-    assert!(rt; is_printed(Refusal::Published, "Published", 409));
-    assert!(rt; is_printed(Refusal::Spent, "Spent", 409));
-    assert!(rt; is_printed(Refusal::TooLate, "TooLate", 409));
-    assert!(rt; is_printed(Refusal::Depended, "Depended", 409));
-    assert!(rt; is_printed(Refusal::KeepsLatest, "KeepsLatest", 409));
-    assert!(rt; is_printed(Refusal::LastOwner, "LastOwner", 409));
-    assert!(rt; is_printed(Refusal::KeepsDevelopers, "KeepsDevelopers", 409));
-    assert!(rt; is_printed(Refusal::Exists, "Exists", 409));
-    assert!(rt; is_printed(Refusal::OtherScope, "OtherScope", 409));
-    assert!(rt; is_printed(Refusal::AlwaysPublic, "AlwaysPublic", 409));
-    assert!(rt; is_printed(Refusal::Waiting, "Waiting", 409));
-}
+static FAULTS: [(Fault, &str, u16); 2] = [
+    (Fault::Memory, "Memory", 503),
+    (Fault::Database, "Database", 500),
+];
 
 #[test]
 fn faults_are_printed(rt: HostRuntime) {
-    assert_eq!(rt; Fault::Memory.text(), "Memory");
-    assert_eq!(rt; Fault::Memory.status(), 503);
-    assert_eq!(rt; Fault::Database.text(), "Database");
-    assert_eq!(rt; Fault::Database.status(), 500);
-    assert_ne!(rt; Status::Public, Status::Restricted);
+    for (fault, text, status) in &FAULTS {
+        assert_eq!(rt; (fault.text(), fault.status()), (*text, *status));
+    }
 }
 
 fn text_is_held(alloc: Global, text: &str) -> Result<bool, AllocError> {

@@ -1,0 +1,17 @@
+//! Tests of the public calls on values: names, byte ends, grants, ranges and decisions. They see
+//! that a call succeeds where there is memory, which no contract says, and what it answers to
+//! cases that are worked out by hand or by an outside program.
+//!
+//! They stand here, and not in the crates, since the gate proves a crate once more with its tests.
+#![tactic(auto)]
+
+#[cfg(test)]
+mod access;
+#[cfg(test)]
+mod ends;
+#[cfg(test)]
+mod names;
+#[cfg(test)]
+mod ranges;
+#[cfg(test)]
+mod rules;
