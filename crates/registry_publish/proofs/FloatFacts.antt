@@ -1,10 +1,15 @@
--- A float in a list of values, or of members, from a place on.
-use Rattle.std.proofs.Common.{◌≡◌, ℕ, ◌+◌, ◌<◌, true, false, List, ◌∷◌, length, get_or, drop, refl}
+-- A float in a number, and in a list of values, or of members, from a place on.
+use Rattle.std.proofs.Common.{◌≡◌, ℕ, ◌+◌, ◌<◌, true, false, List, ◌∷◌, length, get_or, drop, refl, rules}
 use Rattle.std.proofs.lemmas.List.{drop_more}
-use Rattle.serde_json.specs.View.{view, items_view, members_view}
+use Rattle.serde_json.specs.Find.{is_float}
+use Rattle.serde_json.specs.View.{view, number_view, items_view, members_view}
 use Rattle.serde_json.specs.Written.{has_float, items_have_float, members_have_float}
-use Rattle.serde_json.specs.declared.value.Value.{Value}
+use Rattle.serde_json.specs.declared.number.Number.{Number}
+use Rattle.serde_json.specs.declared.value.Value.{Value, Number as NumberOf, the_lemmas}
 use Rattle.serde_json.proofs.Views.{Entry}
+
+pub float_number : (n : Number) → has_float (view (NumberOf n)) ≡ is_float (number_view n)
+float_number n = search (rules, the_lemmas)
 
 pub float_here : (vs : List Value) (i : ℕ) (d : Value) → i < length vs → has_float (view (get_or vs i d)) ≡ true
     → true ≡ items_have_float (items_view (drop i vs))

@@ -1,5 +1,5 @@
 -- What stops a body that was read, and the form that is made of it.
-use Rattle.std.proofs.Common.{◌≡◌, ◌∙◌, ◌≤◌, ◌⊎◌, inl, inr, ℕ, true, false, List, length, Some, refl, sym, le_trans, IsUtf8}
+use Rattle.std.proofs.Common.{◌≡◌, ◌∙◌, ◌≤◌, ◌⊎◌, inl, inr, ℕ, true, false, List, length, Some, None, refl, sym, le_trans, IsUtf8}
 use Rattle.serde_json.specs.Data.{Data, depth}
 use Rattle.serde_json.specs.Read.{read, max_depth}
 use Rattle.serde_json.specs.Written.{has_float, compact_text}
@@ -17,9 +17,15 @@ use Rattle.registry_publish.specs.Integrity.{has_integrity, integrity_text}
 use Rattle.registry_publish.specs.Needs.{needs_of}
 use Rattle.registry_publish.specs.Reads.{IsNamed, IsReadBody, StopsTexts}
 use Rattle.registry_publish.specs.Stops.{StopsReading}
-use Rattle.registry_publish.proofs.BodyFacts.{no_body_of, no_float}
+use Rattle.registry_publish.proofs.BodyFacts.{no_body_of, no_body_of_none, no_float}
 use Rattle.registry_publish.proofs.DepthFacts.{manifest_depth}
 use Rattle.registry_publish.proofs.NeedFacts.{needs_of_text}
+
+-- bytes that aren't too large, and are no JSON
+pub stops_document : (b : List ℕ) → length b ≤ most_bytes → (e : Stop) → StopsReading (IsUtf8 b → read b ≡ None) e → StopsForm b e
+stops_document b short (Refused r) h = rw h.0 (short, no_body_of_none b h.1)
+stops_document b short (Faulted Memory) h = short
+stops_document b short (Faulted Database) h = h
 
 pub stops_body : (b : List ℕ) (d : Data) → length b ≤ most_bytes → read b ≡ Some d
     → (e : Stop) → StopsReading ((p : BodyParts) → ¬ (IsBody d p)) e → StopsForm b e

@@ -1,3 +1,4 @@
+pub mod AttachmentFacts
 pub mod BodyFacts
 pub mod DepthFacts
 pub mod FloatFacts

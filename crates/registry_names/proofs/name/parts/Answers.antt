@@ -1,8 +1,8 @@
-use Rattle.std.proofs.Common.{◌≡◌, ◌∙◌, refl, sym, lit<, ◌&&◌, false}
+use Rattle.std.proofs.Common.{◌≡◌, ◌∙◌, ap, refl, sym, ◌∷◌, ℕ, List, lit<, ◌&&◌, false, arith}
 use Rattle.registry_names.specs.Idents.{is_ident}
 use Rattle.registry_names.specs.Names.{is_scoped_part}
 use Rattle.registry_names.proofs.NameFacts.{no_plain_name, no_unsplit_name}
-use Rattle.std.proofs.lemmas.Str.Pattern.{strip_prefix_char}
+use Rattle.std.proofs.lemmas.Str.Pattern.{strip_prefix_char, split_parts}
 use Rattle.registry_names.proofs.name.parts.Goals as goal
 use Rattle.registry_names.proofs.name.parts.Goals.{else-is_ident-via-then-is_ident+else-is_scoped_part, else-is_ident-via-else-is_ident}
 
@@ -26,3 +26,12 @@ returns-else-is_ident c =
     no_unsplit_name c.args.text.now c.in-Some.rest.now c.split_once.result
     (rw c.in-Some.is at (strip_prefix_char 64 _ _ c.strip_prefix.ensures.cases (lit< tt)))
     c.split_once.ensures.cases (rw c.in_ok-scope.was bad)
+
+pub returns-then-is_plain_part : goal.returns-then-is_plain_part
+returns-then-is_plain_part c = (refl, sym c.is_plain_part.ensures ∙ c.if-is_plain_part.true, omega arith)
+
+pub returns-then-is_scoped_part : goal.returns-then-is_scoped_part
+returns-then-is_scoped_part c =
+    let at = rw c.in-Some.is at (strip_prefix_char 64 _ _ c.strip_prefix.ensures.cases (lit< tt)) in
+    let cut = rw c.in_ok-scope.was at (split_parts 47 _ _ c.split_once.ensures.cases (lit< tt)) in
+    (at ∙ ap (λ (l : List ℕ). 64 ∷ l) cut.0, sym c.is_ident.ensures ∙ c.if-is_ident.true, sym c.is_scoped_part.ensures ∙ c.if-is_scoped_part.true, omega arith)

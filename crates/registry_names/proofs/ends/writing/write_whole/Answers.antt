@@ -1,5 +1,5 @@
-use Rattle.std.proofs.Common.{arith, ◌≤◌, ◌-◌, length, drop, ◌∙◌, length-drop}
-use Rattle.std.proofs.lemmas.List.{length-take, take-take}
+use Rattle.std.proofs.Common.{arith, ◌≤◌, ◌-◌, length, drop, ◌∙◌, length-drop, ◌≡◌, take}
+use Rattle.std.proofs.lemmas.List.{length-take, take-take, take_all}
 use Rattle.std.proofs.Math.Seq.{take-add}
 use Rattle.registry_names.proofs.EndFacts.{Writes-append, Writes-one}
 use Rattle.registry_names.proofs.ends.writing.write_whole.Goals as goal
@@ -17,3 +17,8 @@ pieces-preserved g c =
       failures = cc (c.in_ok-written.ensures.counted);
       silence = cc (c.in_ok-written.ensures.told);
     }
+
+pub returns-clause-ok : goal.returns-clause-ok
+returns-clause-ok g c =
+    let all : take c.pieces.written c.args.text.now ≡ c.args.text.now = take_all _ _ (omega arith) in
+    rw all at c.pieces.invariant.wrote
