@@ -4,7 +4,7 @@ use registry_names::{Fault, Refusal, Stop};
 use std::alloc::AllocError;
 
 /// Why the program ends early, with status 1.
-#[derive(Clone, Copy)]
+#[derive(Clone, Copy, Debug)]
 pub enum Failure {
     /// There are words, and they aren't `full`.
     Usage,

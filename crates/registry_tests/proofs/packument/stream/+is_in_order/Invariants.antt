@@ -1,5 +1,5 @@
 use Rattle.std.proofs.Common.{length}
-use Rattle.registry_document_tests.proofs.packument.stream.+is_in_order.Given as goal
+use Rattle.registry_tests.proofs.packument.stream.+is_in_order.Given as goal
 
 abbrev pub decreases-is_in_order : goal.decreases-is_in_order
 decreases-is_in_order l = length l.rows.now

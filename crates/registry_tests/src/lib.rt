@@ -1,0 +1,21 @@
+//! Tests of the public calls that need no database: that they succeed where there is memory, which
+//! no contract says, and what they answer to cases that are worked out by hand or by an outside
+//! program.
+//!
+//! They stand here, and not in the crates, since the gate proves a crate once more with its tests.
+#![tactic(auto)]
+
+#[cfg(test)]
+mod access;
+#[cfg(test)]
+mod ends;
+#[cfg(test)]
+mod names;
+#[cfg(test)]
+mod packument;
+#[cfg(test)]
+mod publish;
+#[cfg(test)]
+mod ranges;
+#[cfg(test)]
+mod rules;
