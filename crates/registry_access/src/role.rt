@@ -1,7 +1,7 @@
 //! What a member is in an organisation.
 
 /// What a member is in an organisation.
-#[derive(Clone, Copy, Debug, PartialEq, Eq, Hash)]
+#[derive(Clone, Copy, Debug, PartialEq, Eq)]
 pub enum Role {
     /// Publishes new packages of the scope, and has what his teams are granted.
     Developer,

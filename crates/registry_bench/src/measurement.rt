@@ -24,6 +24,11 @@ impl Measurement {
         }
     }
 
+    /// Prints what it was that took so long, and how long.
+    pub fn print<R: Print>(&self, rt: &R, what: &str) -> Result<(), Failure> {
+        println!(rt; "{what}: {self}").or(Err(Failure::Print))
+    }
+
     // In microseconds, and 0 for what was never done.
     fn mean(&self) -> u128 {
         let total = self.total.as_micros();

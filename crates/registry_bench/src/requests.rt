@@ -1,21 +1,22 @@
-//! Requests, and their replies.
+//! Requests about releases, at moment 0.
 
 use crate::failure::Failure;
 use crate::release::{ARCHIVE, Release};
 use registry_desk::Registry;
-use registry_names::{Moment, Stop, Text};
+use registry_names::{Moment, Stop};
 use registry_publish::PublishForm;
 use registry_rules::{Action, Credential, Reply, Request};
 use sqlite::Alter;
-use std::alloc::{AllocError, Global};
+use std::alloc::Global;
 
-/// The publish of a body.
-pub fn publish(alloc: Global, body: &str) -> Result<Request, Stop> {
+/// The publish of a release.
+pub fn publish(alloc: Global, release: Release) -> Result<Request, Stop> {
+    let body = release.body(alloc, ARCHIVE)?;
     let form = PublishForm::read(alloc, body.as_bytes())?;
     Ok(request(Action::Publish { form }))
 }
 
-/// The query of a release's packument.
+/// The query of the packument that has the release.
 pub fn packument(alloc: Global, release: Release) -> Result<Request, Stop> {
     let name = release.name(alloc)?;
     Ok(request(Action::Packument { name }))
@@ -29,46 +30,7 @@ fn request(what: Action) -> Request {
     }
 }
 
-/// The bodies of releases.
-pub fn bodies(alloc: Global, releases: &[Release]) -> Result<Vec<String>, AllocError> {
-    let mut bodies = Vec::new(alloc);
-    for release in releases {
-        bodies.push(release.body(alloc, ARCHIVE)?)?;
-    }
-    Ok(bodies)
-}
-
-/// The publishes of bodies.
-pub fn publishes(alloc: Global, bodies: &[String]) -> Result<Vec<Request>, Stop> {
-    let mut publishes = Vec::new(alloc);
-    for body in bodies {
-        publishes.push(publish(alloc, body)?)?;
-    }
-    Ok(publishes)
-}
-
-/// The queries of releases' packuments.
-pub fn packuments(alloc: Global, releases: &[Release]) -> Result<Vec<Request>, Stop> {
-    let mut packuments = Vec::new(alloc);
-    for release in releases {
-        packuments.push(packument(alloc, *release)?)?;
-    }
-    Ok(packuments)
-}
-
-/// Asks what isn't to be turned away, and leaves the reply.
-pub fn ask<S: Alter>(
-    alloc: Global,
-    registry: &mut Registry<S>,
-    request: &Request,
-) -> Result<(), Failure> {
-    match registry.apply(alloc, request)? {
-        Reply::Refused(refusal) => Err(Failure::Refused(refusal)),
-        Reply::Created | Reply::Done | Reply::Doc(_) | Reply::Bytes(_) => Ok(()),
-    }
-}
-
-/// Asks one request after another, none of which is to be turned away.
+/// Asks one request after another, none of which is to be turned away, and leaves the replies.
 pub fn ask_all<S: Alter>(
     alloc: Global,
     registry: &mut Registry<S>,
@@ -80,15 +42,13 @@ pub fn ask_all<S: Alter>(
     Ok(())
 }
 
-/// The document that is the reply to a query which isn't to be turned away.
-pub fn document<S: Alter>(
+fn ask<S: Alter>(
     alloc: Global,
     registry: &mut Registry<S>,
-    query: &Request,
-) -> Result<Text, Failure> {
-    match registry.apply(alloc, query)? {
-        Reply::Doc(text) => Ok(text),
+    request: &Request,
+) -> Result<(), Failure> {
+    match registry.apply(alloc, request)? {
         Reply::Refused(refusal) => Err(Failure::Refused(refusal)),
-        Reply::Created | Reply::Done | Reply::Bytes(_) => Err(Failure::Reply),
+        Reply::Created | Reply::Done | Reply::Doc(_) | Reply::Bytes(_) => Ok(()),
     }
 }

@@ -1,67 +1,69 @@
 //! Ten rounds of a publish and a packument.
 
 use crate::failure::Failure;
-use crate::release::{ARCHIVE, Release};
-use crate::requests::{ask, document, packument, publish};
+use crate::release::Release;
+use crate::requests::{packument, publish};
 use registry_desk::Registry;
-use registry_names::{Stop, Text};
-use registry_rules::Request;
-use sqlite::Alter;
+use registry_names::{Fault, Stop};
+use registry_rules::{Reply, Request};
 use std::alloc::{AllocError, Global};
 
 const ROUNDS: u32 = 10;
 
 /// Publishes ten versions of a package, asks for the packument after each, and prints that each
 /// packument has the version.
-pub fn print_rounds<R: Print, S: Alter>(
-    rt: &R,
-    alloc: Global,
-    registry: &mut Registry<S>,
-) -> Result<(), Failure> {
-    for version in 0..ROUNDS {
-        let package = 0;
-        go_round(alloc, registry, Release { package, version })?;
+pub fn print_rounds<R: Print>(rt: &R, alloc: Global) -> Result<(), Failure> {
+    if !are_rounds(alloc, &outcomes(alloc)?)? {
+        return Err(Failure::Reply);
     }
     println!(rt; "{ROUNDS} rounds: each version was published, and its packument has it").or(Err(
         Failure::Print,
     ))
 }
 
-fn go_round<S: Alter>(
-    alloc: Global,
-    registry: &mut Registry<S>,
-    release: Release,
-) -> Result<(), Failure> {
-    publish_release(alloc, registry, release)?;
-    let packument = packument_of(alloc, registry, release)?;
-    if has_version(alloc, packument.as_str(), release)? {
-        Ok(())
-    } else {
-        Err(Failure::Reply)
+fn outcomes(alloc: Global) -> Result<Vec<Result<Reply, Fault>>, Failure> {
+    let requests = requests(alloc)?;
+    let mut registry = Registry::in_memory(alloc)?;
+    Ok(registry.run(alloc, &requests)?)
+}
+
+fn release(version: u32) -> Release {
+    Release {
+        package: 0,
+        version,
     }
 }
 
-fn publish_release<S: Alter>(
-    alloc: Global,
-    registry: &mut Registry<S>,
-    release: Release,
-) -> Result<(), Failure> {
-    let request = publish_of(alloc, release)?;
-    ask(alloc, registry, &request)
+fn requests(alloc: Global) -> Result<Vec<Request>, Stop> {
+    let mut requests = Vec::new(alloc);
+    for version in 0..ROUNDS {
+        requests.push(publish(alloc, release(version))?)?;
+        requests.push(packument(alloc, release(version))?)?;
+    }
+    Ok(requests)
 }
 
-fn publish_of(alloc: Global, release: Release) -> Result<Request, Stop> {
-    let body = release.body(alloc, ARCHIVE)?;
-    publish(alloc, &body)
+// Whether the outcomes are those of the rounds.
+fn are_rounds(alloc: Global, outcomes: &[Result<Reply, Fault>]) -> Result<bool, AllocError> {
+    for (version, round) in (0..ROUNDS).zip(outcomes.chunks(2)) {
+        if !is_round(alloc, round, release(version))? {
+            return Ok(false);
+        }
+    }
+    Ok(true)
 }
 
-fn packument_of<S: Alter>(
+fn is_round(
     alloc: Global,
-    registry: &mut Registry<S>,
+    outcomes: &[Result<Reply, Fault>],
     release: Release,
-) -> Result<Text, Failure> {
-    let query = packument(alloc, release)?;
-    document(alloc, registry, &query)
+) -> Result<bool, AllocError> {
+    match outcomes {
+        [Ok(Reply::Created), Ok(Reply::Doc(packument))] => {
+            has_version(alloc, packument.as_str(), release)
+        }
+        _ => Ok(false),
+    }
 }
 
 // Whether the packument has a manifest of the version.

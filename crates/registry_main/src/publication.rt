@@ -2,58 +2,50 @@
 
 use crate::ending::Ending;
 use registry_desk::Registry;
-use registry_names::{Fault, Moment, Name, Text};
+use registry_names::{Fault, Moment, Name, Stop, Text};
 use registry_publish::PublishForm;
 use registry_rules::{Action, Credential, Reply, Request};
-use sqlite::Alter;
 use std::alloc::Global;
 
 /// The packument of the one package of an empty registry to which the body is published.
 pub fn packument_of(alloc: Global, body: &[u8]) -> Result<Text, Ending> {
+    let requests = publish_and_query(alloc, body)?;
+    document_in(outcomes_of(alloc, &requests)?)
+}
+
+// The publish of the body, and the query of its package's packument.
+fn publish_and_query(alloc: Global, body: &[u8]) -> Result<[Request; 2], Stop> {
     let form = PublishForm::read(alloc, body)?;
-    let mut registry = Registry::in_memory(alloc)?;
-    publish_and_ask(alloc, &mut registry, form)
-}
-
-fn publish_and_ask<S: Alter>(
-    alloc: Global,
-    registry: &mut Registry<S>,
-    form: PublishForm,
-) -> Result<Text, Ending> {
     let name = Name::parse(alloc, form.name().text())?;
-    publish(alloc, registry, form)?;
-    ask(alloc, registry, name)
+    Ok([
+        request(Action::Publish { form }),
+        request(Action::Packument { name }),
+    ])
 }
 
-fn publish<S: Alter>(
-    alloc: Global,
-    registry: &mut Registry<S>,
-    form: PublishForm,
-) -> Result<(), Ending> {
-    match apply(alloc, registry, Action::Publish { form })? {
-        Reply::Refused(refusal) => Err(Ending::Refused(refusal)),
-        _ => Ok(()),
-    }
-}
-
-fn ask<S: Alter>(alloc: Global, registry: &mut Registry<S>, name: Name) -> Result<Text, Ending> {
-    match apply(alloc, registry, Action::Packument { name })? {
-        Reply::Doc(text) => Ok(text),
-        Reply::Refused(refusal) => Err(Ending::Refused(refusal)),
-        Reply::Created | Reply::Done | Reply::Bytes(_) => Err(Ending::from(Fault::Database)),
-    }
-}
-
-// Asks at moment 0.
-fn apply<S: Alter>(
-    alloc: Global,
-    registry: &mut Registry<S>,
-    what: Action,
-) -> Result<Reply, Fault> {
-    let request = Request {
+// A request at moment 0.
+fn request(what: Action) -> Request {
+    Request {
         at: Moment::clamped(0),
         who: Credential::Anonymous,
         what,
-    };
-    registry.apply(alloc, &request)
+    }
+}
+
+// What the requests have as outcomes on an empty registry.
+fn outcomes_of(alloc: Global, requests: &[Request]) -> Result<Vec<Result<Reply, Fault>>, Fault> {
+    let mut registry = Registry::in_memory(alloc)?;
+    registry.run(alloc, requests)
+}
+
+// The document among the outcomes, where no request before it was turned away.
+fn document_in(outcomes: Vec<Result<Reply, Fault>>) -> Result<Text, Ending> {
+    for outcome in outcomes {
+        match outcome? {
+            Reply::Created | Reply::Done | Reply::Bytes(_) => {}
+            Reply::Doc(text) => return Ok(text),
+            Reply::Refused(refusal) => return Err(Ending::Refused(refusal)),
+        }
+    }
+    Err(Ending::from(Fault::Database))
 }

@@ -2,6 +2,7 @@
 
 use crate::program::program;
 use registry_names::{FromRead, Text, ToWrite};
+use std::alloc::{AllocError, Global};
 use std::io;
 use std::io::{ErrorKind, Read, Write};
 use std::test::Fail;
@@ -10,144 +11,224 @@ const BODY: &str =
     r#"{"name":"kit","versions":{"1.0.0":{"name":"kit","version":"1.0.0"}},"_attachments":{"kit-1.0.0.tgz":{"data":"YWJj"}}}"#;
 
 const PACKUMENT: &str =
-    r#"{"_id":"kit","dist-tags":{"latest":"1.0.0"},"name":"kit","versions":{"1.0.0":{"name":"kit","version":"1.0.0"}}}"#;
+    "{\"_id\":\"kit\",\"dist-tags\":{\"latest\":\"1.0.0\"},\"name\":\"kit\",\"versions\":{\"1.0.0\":{\"name\":\"kit\",\"version\":\"1.0.0\"}}}\n";
 
 const NAME_OUT_OF_FORM: &str =
     r#"{"name":".x","versions":{"1.0.0":{"name":".x","version":"1.0.0"}},"_attachments":{"a":{"data":""}}}"#;
 
-/// A reader that gives its bytes, and fails where they end.
-#[derive(Drop)]
-struct Broken<'a> {
-    left: &'a [u8],
+/// Which end fails.
+#[derive(Clone, Copy)]
+enum Failing {
+    None,
+    /// The input, where its text ends.
+    Input,
+    /// The output, which takes nothing.
+    Output,
 }
 
-impl Read for Broken<'_> {
+/// How the program is called, and what it leaves.
+struct Case {
+    shows: &'static str,
+    words: &'static [&'static str],
+    /// The input is this text, so many times.
+    text: &'static str,
+    times: usize,
+    failing: Failing,
+    status: u8,
+    output: &'static str,
+    errors: &'static str,
+}
+
+static CASES: [Case; 8] = [
+    Case {
+        shows: "a body is published, and its packument printed",
+        words: &[],
+        text: BODY,
+        times: 1,
+        failing: Failing::None,
+        status: 0,
+        output: PACKUMENT,
+        errors: "",
+    },
+    Case {
+        shows: "an object without members is refused",
+        words: &[],
+        text: "{}",
+        times: 1,
+        failing: Failing::None,
+        status: 1,
+        output: "",
+        errors: "refused: BadBody\n",
+    },
+    Case {
+        shows: "an input of no bytes is refused",
+        words: &[],
+        text: "",
+        times: 1,
+        failing: Failing::None,
+        status: 1,
+        output: "",
+        errors: "refused: BadBody\n",
+    },
+    Case {
+        shows: "a name out of form is refused",
+        words: &[],
+        text: NAME_OUT_OF_FORM,
+        times: 1,
+        failing: Failing::None,
+        status: 1,
+        output: "",
+        errors: "refused: BadName\n",
+    },
+    Case {
+        shows: "a body of a byte too many is refused",
+        words: &[],
+        text: "0",
+        times: 4_194_305,
+        failing: Failing::None,
+        status: 1,
+        output: "",
+        errors: "refused: TooLarge\n",
+    },
+    Case {
+        shows: "there are no words to be given",
+        words: &["nonsense"],
+        text: BODY,
+        times: 1,
+        failing: Failing::None,
+        status: 2,
+        output: "",
+        errors: "usage: registry < BODY\n",
+    },
+    Case {
+        shows: "an input that breaks is a fault",
+        words: &[],
+        text: BODY,
+        times: 1,
+        failing: Failing::Input,
+        status: 3,
+        output: "",
+        errors: "fault: Read\n",
+    },
+    Case {
+        shows: "an output that takes nothing is a fault",
+        words: &[],
+        text: BODY,
+        times: 1,
+        failing: Failing::Output,
+        status: 3,
+        output: "",
+        errors: "fault: Write\n",
+    },
+];
+
+#[test]
+fn calls_leave_what_they_should(rt: HostRuntime) -> Result<(), Fail> {
+    assert_eq!(rt; first_other(&rt, rt.alloc())?, None);
+    Ok(())
+}
+
+// What the first call shows that leaves something else.
+fn first_other<R>(rt: &R, alloc: Global) -> Result<Option<&'static str>, AllocError> {
+    for case in &CASES {
+        if !is_as_said(rt, alloc, case)? {
+            return Ok(Some(case.shows));
+        }
+    }
+    Ok(None)
+}
+
+fn is_as_said<R>(rt: &R, alloc: Global, case: &Case) -> Result<bool, AllocError> {
+    let words = words(alloc, case.words)?;
+    leaves(rt, alloc, &words, case)
+}
+
+fn words(alloc: Global, texts: &[&str]) -> Result<Vec<Text>, AllocError> {
+    let mut words = Vec::new(alloc);
+    for text in texts {
+        words.push(Text::from_str(alloc, text)?)?;
+    }
+    Ok(words)
+}
+
+// Whether the program leaves what the case says.
+fn leaves<R>(rt: &R, alloc: Global, words: &[Text], case: &Case) -> Result<bool, AllocError> {
+    let text = case.text.repeat(alloc, case.times)?;
+    let input = Input::new(text.as_bytes(), case.failing);
+    let mut output = Output::new(alloc, case.failing);
+    let mut errors = Output::new(alloc, Failing::None);
+    let status = program(
+        rt,
+        alloc,
+        words,
+        &mut FromRead::new(input),
+        &mut ToWrite::new(&mut output),
+        &mut ToWrite::new(&mut errors),
+    );
+    Ok(status == case.status && output.holds(case.output) && errors.holds(case.errors))
+}
+
+/// A reader of a text. Its first read is interrupted, and it may break where the text ends.
+#[derive(Drop)]
+struct Input<'a> {
+    left: &'a [u8],
+    is_read: bool,
+    breaks: bool,
+}
+
+impl Input<'_> {
+    fn new(text: &[u8], failing: Failing) -> Input<'_> {
+        Input {
+            left: text,
+            is_read: false,
+            breaks: matches!(failing, Failing::Input),
+        }
+    }
+}
+
+impl Read for Input<'_> {
     fn read(&mut self, buf: &mut [u8]) -> io::Result<usize> {
-        if self.left.is_empty() {
+        if !self.is_read {
+            self.is_read = true;
+            return Err(io::Error::from(ErrorKind::Interrupted));
+        }
+        if self.breaks && self.left.is_empty() {
             return Err(io::Error::from(ErrorKind::TimedOut));
         }
         self.left.read(buf)
     }
 }
 
-/// A reader that is interrupted once.
+/// A writer that takes all bytes, or none.
 #[derive(Drop)]
-struct Interrupted<'a> {
-    left: &'a [u8],
-    is_over: bool,
+struct Output {
+    taken: Vec<u8>,
+    is_full: bool,
 }
 
-impl Read for Interrupted<'_> {
-    fn read(&mut self, buf: &mut [u8]) -> io::Result<usize> {
-        if !self.is_over {
-            self.is_over = true;
-            return Err(io::Error::from(ErrorKind::Interrupted));
+impl Output {
+    fn new(alloc: Global, failing: Failing) -> Output {
+        Output {
+            taken: Vec::new(alloc),
+            is_full: matches!(failing, Failing::Output),
         }
-        self.left.read(buf)
+    }
+
+    fn holds(&self, text: &str) -> bool {
+        self.taken.as_slice() == text.as_bytes()
     }
 }
 
-/// A writer that takes nothing.
-#[derive(Drop)]
-struct Full;
-
-impl Write for Full {
-    fn write(&mut self, _: &[u8]) -> io::Result<usize> {
-        Ok(0)
+impl Write for Output {
+    fn write(&mut self, buf: &[u8]) -> io::Result<usize> {
+        if self.is_full {
+            Ok(0)
+        } else {
+            self.taken.write(buf)
+        }
     }
 
     fn flush(&mut self) -> io::Result<()> {
         Ok(())
     }
-}
-
-/// What the program leaves.
-#[derive(Drop)]
-struct Left {
-    status: u8,
-    output: Vec<u8>,
-    errors: Vec<u8>,
-}
-
-impl Left {
-    fn is(&self, status: u8, output: &str, errors: &str) -> bool {
-        self.status == status
-            && self.output.as_slice() == output.as_bytes()
-            && self.errors.as_slice() == errors.as_bytes()
-    }
-}
-
-fn left_by(rt: &HostRuntime, words: &[Text], input: impl Read + Drop) -> Left {
-    let mut output = Vec::new(rt.alloc());
-    let mut errors = Vec::new(rt.alloc());
-    let status = program(
-        rt,
-        rt.alloc(),
-        words,
-        &mut FromRead::new(input),
-        &mut ToWrite::new(&mut output),
-        &mut ToWrite::new(&mut errors),
-    );
-    Left {
-        status,
-        output,
-        errors,
-    }
-}
-
-#[test]
-fn a_body_is_published_and_its_packument_printed(rt: HostRuntime) -> Result<(), Fail> {
-    let line = format!(in rt.alloc(); "{PACKUMENT}\n")?;
-    assert!(rt; left_by(&rt, &[], BODY.as_bytes()).is(0, line.as_str(), ""));
-    let interrupted = Interrupted {
-        left: BODY.as_bytes(),
-        is_over: false,
-    };
-    assert!(rt; left_by(&rt, &[], interrupted).is(0, line.as_str(), ""));
-    Ok(())
-}
-
-#[test]
-fn a_refusal_is_printed_on_the_errors(rt: HostRuntime) {
-    assert!(rt; left_by(&rt, &[], b"{}".as_slice()).is(1, "", "refused: BadBody\n"));
-    assert!(rt; left_by(&rt, &[], b"".as_slice()).is(1, "", "refused: BadBody\n"));
-    assert!(rt; left_by(&rt, &[], NAME_OUT_OF_FORM.as_bytes()).is(1, "", "refused: BadName\n"));
-}
-
-#[test]
-fn a_body_of_too_many_bytes_is_refused(rt: HostRuntime) -> Result<(), Fail> {
-    let body = vec![in rt.alloc(); 0; 4_194_305]?;
-    assert!(rt; left_by(&rt, &[], body.as_slice()).is(1, "", "refused: TooLarge\n"));
-    Ok(())
-}
-
-#[test]
-fn words_are_wrong(rt: HostRuntime) -> Result<(), Fail> {
-    let words = [Text::from_str(rt.alloc(), "nonsense")?];
-    let left = left_by(&rt, &words, BODY.as_bytes());
-    assert!(rt; left.is(2, "", "usage: registry < BODY\n"));
-    Ok(())
-}
-
-#[test]
-fn an_input_that_breaks_is_a_fault(rt: HostRuntime) {
-    let broken = Broken {
-        left: BODY.as_bytes(),
-    };
-    assert!(rt; left_by(&rt, &[], broken).is(3, "", "fault: Read\n"));
-}
-
-#[test]
-fn an_output_that_takes_nothing_is_a_fault(rt: HostRuntime) {
-    let mut errors = Vec::new(rt.alloc());
-    let status = program(
-        &rt,
-        rt.alloc(),
-        &[],
-        &mut FromRead::new(BODY.as_bytes()),
-        &mut ToWrite::new(Full),
-        &mut ToWrite::new(&mut errors),
-    );
-    assert_eq!(rt; status, 3);
-    assert_eq!(rt; errors.as_slice(), b"fault: Write\n".as_slice());
 }

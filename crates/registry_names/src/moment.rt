@@ -10,7 +10,7 @@ const LAST_SECOND: i64 = 253_402_300_799;
 
 /// A moment in whole seconds since 1970-01-01T00:00:00Z: from 0 to 253402300799, which is
 /// 9999-12-31T23:59:59Z. Contracts see the number of seconds.
-#[derive(Clone, Copy, Debug, PartialEq, Eq, PartialOrd, Ord, Hash)]
+#[derive(Clone, Copy, Debug, PartialEq, Eq, PartialOrd, Ord)]
 pub struct Moment {
     seconds: i64,
 }

@@ -5,7 +5,7 @@ ghost use Rattle.registry_names.specs.Refusals as spec;
 ghost use Rattle.registry_names.specs.Refusals.{refusal_status, refusal_text};
 
 /// A rule of access: who may do what. Its name is printed behind `Denied`.
-#[derive(Clone, Copy, Debug, PartialEq, Eq, Hash)]
+#[derive(Clone, Copy, Debug, PartialEq, Eq)]
 pub enum Rule {
     /// The operator manages users, tokens and organisations.
     A1,
@@ -30,7 +30,7 @@ pub enum Rule {
 
 /// Why a request is turned away, in the order in which the reasons are tested: where several
 /// hold, the first is answered.
-#[derive(Clone, Copy, Debug, PartialEq, Eq, Hash)]
+#[derive(Clone, Copy, Debug, PartialEq, Eq)]
 pub enum Refusal {
     /// A text is no name of a package, a user, an organisation or a team.
     BadName,

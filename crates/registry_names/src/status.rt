@@ -1,7 +1,7 @@
 //! Who may read a package.
 
 /// Who may read a package without being granted it.
-#[derive(Clone, Copy, Debug, PartialEq, Eq, Hash)]
+#[derive(Clone, Copy, Debug, PartialEq, Eq)]
 pub enum Status {
     /// Everybody.
     Public,

@@ -10,7 +10,7 @@ use std::alloc::{AllocError, AllocFailed};
 
 /// What went wrong in the machine. A fault may come at any place instead of an answer, and it
 /// changes nothing.
-#[derive(Clone, Copy, Debug, PartialEq, Eq, Hash)]
+#[derive(Clone, Copy, Debug, PartialEq, Eq)]
 pub enum Fault {
     /// No memory was left.
     Memory,
@@ -41,7 +41,7 @@ impl Fault {
 }
 
 /// Why a call answers nothing. It hands out nothing then.
-#[derive(Clone, Copy, Debug, PartialEq, Eq, Hash)]
+#[derive(Clone, Copy, Debug, PartialEq, Eq)]
 pub enum Stop {
     /// The request is turned away.
     Refused(Refusal),

@@ -9,7 +9,7 @@ use registry_names::{DistTag, Fault, Text};
 use std::alloc::Global;
 
 /// What a member is in an organisation.
-#[derive(Clone, Copy, Debug, PartialEq, Eq, Hash)]
+#[derive(Clone, Copy, Debug, PartialEq, Eq)]
 pub enum MemberRole {
     /// Printed as `developer`.
     Developer,
@@ -41,7 +41,7 @@ pub struct Member {
 }
 
 /// What a team is granted on a package.
-#[derive(Clone, Copy, Debug, PartialEq, Eq, Hash)]
+#[derive(Clone, Copy, Debug, PartialEq, Eq)]
 pub enum GrantLevel {
     /// Printed as `read-only`.
     ReadOnly,

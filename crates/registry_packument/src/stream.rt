@@ -17,7 +17,7 @@ use registry_names::{ByteOut, Fault, WriteFailed, write_whole};
 use std::alloc::{AllocError, Global};
 
 /// Why a packument wasn't written whole.
-#[derive(Clone, Copy, Debug, PartialEq, Eq, Hash)]
+#[derive(Clone, Copy, Debug, PartialEq, Eq)]
 pub enum PackFault {
     /// A write failed.
     Write,

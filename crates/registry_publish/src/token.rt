@@ -32,7 +32,7 @@ fn is_token(text: &str) -> bool
 
 /// What is kept of a token: the SHA-256 (FIPS 180-4) of its text, from which nobody has the token
 /// back. Contracts see its 32 bytes.
-#[derive(Clone, Copy, Debug, PartialEq, Eq, Hash)]
+#[derive(Clone, Copy, Debug, PartialEq, Eq)]
 pub struct TokenDigest {
     bytes: [u8; 32],
 }

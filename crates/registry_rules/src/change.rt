@@ -14,7 +14,7 @@ pub type Changes = Vec<Change>;
 
 /// One change to what the registry holds. It repeats nothing of the request that it is made for:
 /// package, version, tag, manifest and archive are the request's.
-#[derive(Clone, Copy, Debug, PartialEq, Eq, Hash)]
+#[derive(Clone, Copy, Debug, PartialEq, Eq)]
 pub enum Change {
     /// The package has this status.
     PutStatus(Status),
@@ -28,7 +28,7 @@ pub enum Change {
 }
 
 /// The tag that a change sets.
-#[derive(Clone, Copy, Debug, PartialEq, Eq, Hash)]
+#[derive(Clone, Copy, Debug, PartialEq, Eq)]
 pub enum SetTag {
     /// `latest`.
     Latest,

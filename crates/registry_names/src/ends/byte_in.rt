@@ -8,7 +8,7 @@ use std::error::Error;
 use std::fmt;
 
 /// Why a read gave no bytes.
-#[derive(Clone, Copy, Debug, PartialEq, Eq, Hash)]
+#[derive(Clone, Copy, Debug, PartialEq, Eq)]
 pub enum ReadFailed {
     /// A signal came before any byte; the next read may go on.
     Interrupted,

@@ -8,7 +8,7 @@ use std::error::Error;
 use std::fmt;
 
 /// A write took no byte of a text.
-#[derive(Clone, Copy, Debug, PartialEq, Eq, Hash)]
+#[derive(Clone, Copy, Debug, PartialEq, Eq)]
 pub struct WriteFailed;
 
 impl fmt::Display for WriteFailed {

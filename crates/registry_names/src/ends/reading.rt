@@ -14,7 +14,7 @@ use std::fmt;
 pub const RETRY_LIMIT: u32 = 1000;
 
 /// Why `read_whole` gave no bytes.
-#[derive(Clone, Copy, Debug, PartialEq, Eq, Hash)]
+#[derive(Clone, Copy, Debug, PartialEq, Eq)]
 pub enum ReadStop {
     /// A read failed, or was interrupted once more than `RETRY_LIMIT` times.
     Read,
