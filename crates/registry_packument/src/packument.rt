@@ -14,7 +14,7 @@ use registry_names::{Fault, Text};
 use std::alloc::{AllocError, Global};
 
 /// A version of a package, with its document.
-#[derive(Debug, Drop)]
+#[derive(Debug)]
 pub struct VersionRow {
     /// The text of the version, as `1.0.0`.
     pub version: Text,
@@ -22,6 +22,16 @@ pub struct VersionRow {
     pub manifest: Text,
     /// The message of its deprecation, or the empty text where it isn't deprecated.
     pub message: Text,
+}
+
+impl Drop for VersionRow {
+    fn drop(self) {
+        let VersionRow {
+            version: _,
+            manifest: _,
+            message: _,
+        } = self;
+    }
 }
 
 /// What ends a packument: the brace of its versions, and its own.

@@ -61,9 +61,9 @@ pub(crate) fn body_of(alloc: Global, value: &Value) -> Result<Body<'_>, Stop>
     if !is_manifest(manifest, name, version) {
         return Err(BAD_BODY);
     }
-    let needs = needs_in(alloc, manifest)?;
     let tag = tag_at(value, version).ok_or(BAD_BODY)?;
     let access = access_at(value).ok_or(BAD_BODY)?;
+    let needs = needs_in(alloc, manifest)?;
     let archive = archive_of(alloc, value)?;
     Ok(Body {
         name,
