@@ -14,8 +14,7 @@ use registry_access::{
     AccessRows, Ask, Caller, Level, Standing, allowed, allowed_by, level, level_of,
 };
 use registry_names::{Ident, Name, Refusal, Rule, Stop};
-use std::alloc::Global;
-use std::test::Fail;
+use std::alloc::{AllocError, Global};
 
 type Answer = Result<Rule, Refusal>;
 
@@ -47,63 +46,44 @@ fn caller(alloc: Global, who: &str) -> Result<Caller, Stop> {
     }
 }
 
-// The answers where a caller asks to publish a package, to write it, to manage its maintainers, and
-// to read it.
-fn by_rows(rows: &AccessRows, caller: &Caller, name: &Name) -> [Answer; 4] {
-    [
-        allowed(rows, caller, &Ask::Publish(name)),
-        allowed(rows, caller, &Ask::Write(name)),
-        allowed(rows, caller, &Ask::Owners(name)),
-        allowed(rows, caller, &Ask::Read(name)),
-    ]
-}
+/// The answers where a caller asks to publish a package, to write it, to manage its maintainers,
+/// and to read it.
+type Answers = [Answer; 4];
 
-fn by_standing(standing: &Standing, caller: &Caller, name: &Name) -> [Answer; 4] {
-    [
-        allowed_by(standing, caller, &Ask::Publish(name)),
-        allowed_by(standing, caller, &Ask::Write(name)),
-        allowed_by(standing, caller, &Ask::Owners(name)),
-        allowed_by(standing, caller, &Ask::Read(name)),
-    ]
-}
+const READER: Answers = [DENIED_A6, DENIED_A6, DENIED_A7, Ok(Rule::A8)];
 
-const READER: [Answer; 4] = [DENIED_A6, DENIED_A6, DENIED_A7, Ok(Rule::A8)];
+const WRITER: Answers = [Ok(Rule::A6), Ok(Rule::A6), DENIED_A7, Ok(Rule::A8)];
 
-const WRITER: [Answer; 4] = [Ok(Rule::A6), Ok(Rule::A6), DENIED_A7, Ok(Rule::A8)];
+const MAINTAINER: Answers = [Ok(Rule::A6), Ok(Rule::A6), Ok(Rule::A7), Ok(Rule::A8)];
 
-const MAINTAINER: [Answer; 4] = [Ok(Rule::A6), Ok(Rule::A6), Ok(Rule::A7), Ok(Rule::A8)];
+const STRANGER: Answers = [DENIED_A4, DENIED_A6, DENIED_A7, Ok(Rule::A8)];
 
-const STRANGER: [Answer; 4] = [DENIED_A4, DENIED_A6, DENIED_A7, Ok(Rule::A8)];
+const ANONYMOUS: Answers = [NO_CALLER, NO_CALLER, NO_CALLER, Ok(Rule::A8)];
 
-const ANONYMOUS: [Answer; 4] = [NO_CALLER, NO_CALLER, NO_CALLER, Ok(Rule::A8)];
+const UNREAD_ANONYMOUS: Answers = [NO_CALLER, NO_CALLER, NO_CALLER, NOT_FOUND];
 
-const UNREAD_ANONYMOUS: [Answer; 4] = [NO_CALLER, NO_CALLER, NO_CALLER, NOT_FOUND];
+const OUTSIDER: Answers = [DENIED_A4, NOT_FOUND, NOT_FOUND, NOT_FOUND];
 
-// A caller, a package, his level on it, and the answers.
-type Case = (&'static str, &'static str, Level, [Answer; 4]);
+const UNREAD_MEMBER: Answers = [DENIED_A6, NOT_FOUND, NOT_FOUND, NOT_FOUND];
 
-static TABLE: [Case; 31] = [
-    (
-        "operator",
-        "@lab/kit",
-        Level::Nothing,
-        [DENIED_A4, NOT_FOUND, NOT_FOUND, NOT_FOUND],
-    ),
+const FIRST_OF_SCOPE: Answers = [Ok(Rule::A4), NOT_FOUND, NOT_FOUND, NOT_FOUND];
+
+const UNREAD_OPERATOR: Answers = [DENIED_A5, NOT_FOUND, NOT_FOUND, NOT_FOUND];
+
+const FIRST: Answers = [Ok(Rule::A5), NOT_FOUND, NOT_FOUND, NOT_FOUND];
+
+const MISSING: Answers = [NOT_FOUND, NOT_FOUND, NOT_FOUND, NOT_FOUND];
+
+/// A caller, a package, his level on it, and the answers.
+type Case = (&'static str, &'static str, Level, Answers);
+
+static PACKAGES: [Case; 31] = [
+    ("operator", "@lab/kit", Level::Nothing, OUTSIDER),
     ("ann", "@lab/kit", Level::Write, WRITER),
     ("amy", "@lab/kit", Level::Write, WRITER),
     ("bob", "@lab/kit", Level::Write, WRITER),
-    (
-        "dan",
-        "@lab/kit",
-        Level::Nothing,
-        [DENIED_A6, NOT_FOUND, NOT_FOUND, NOT_FOUND],
-    ),
-    (
-        "eve",
-        "@lab/kit",
-        Level::Nothing,
-        [DENIED_A4, NOT_FOUND, NOT_FOUND, NOT_FOUND],
-    ),
+    ("dan", "@lab/kit", Level::Nothing, UNREAD_MEMBER),
+    ("eve", "@lab/kit", Level::Nothing, OUTSIDER),
     ("anonymous", "@lab/kit", Level::Nothing, UNREAD_ANONYMOUS),
     ("operator", "@lab/app", Level::Read, STRANGER),
     ("ann", "@lab/app", Level::Write, WRITER),
@@ -117,235 +97,177 @@ static TABLE: [Case; 31] = [
     ("bob", "tool", Level::Write, MAINTAINER),
     ("eve", "tool", Level::Read, READER),
     ("anonymous", "tool", Level::Read, ANONYMOUS),
-    (
-        "operator",
-        "@lab/none",
-        Level::Nothing,
-        [DENIED_A4, NOT_FOUND, NOT_FOUND, NOT_FOUND],
-    ),
-    (
-        "ann",
-        "@lab/none",
-        Level::Nothing,
-        [Ok(Rule::A4), NOT_FOUND, NOT_FOUND, NOT_FOUND],
-    ),
-    (
-        "dan",
-        "@lab/none",
-        Level::Nothing,
-        [Ok(Rule::A4), NOT_FOUND, NOT_FOUND, NOT_FOUND],
-    ),
-    (
-        "eve",
-        "@lab/none",
-        Level::Nothing,
-        [DENIED_A4, NOT_FOUND, NOT_FOUND, NOT_FOUND],
-    ),
+    ("operator", "@lab/none", Level::Nothing, OUTSIDER),
+    ("ann", "@lab/none", Level::Nothing, FIRST_OF_SCOPE),
+    ("dan", "@lab/none", Level::Nothing, FIRST_OF_SCOPE),
+    ("eve", "@lab/none", Level::Nothing, OUTSIDER),
     ("anonymous", "@lab/none", Level::Nothing, UNREAD_ANONYMOUS),
-    (
-        "operator",
-        "none",
-        Level::Nothing,
-        [DENIED_A5, NOT_FOUND, NOT_FOUND, NOT_FOUND],
-    ),
-    (
-        "dan",
-        "none",
-        Level::Nothing,
-        [Ok(Rule::A5), NOT_FOUND, NOT_FOUND, NOT_FOUND],
-    ),
-    (
-        "eve",
-        "none",
-        Level::Nothing,
-        [Ok(Rule::A5), NOT_FOUND, NOT_FOUND, NOT_FOUND],
-    ),
+    ("operator", "none", Level::Nothing, UNREAD_OPERATOR),
+    ("dan", "none", Level::Nothing, FIRST),
+    ("eve", "none", Level::Nothing, FIRST),
     ("anonymous", "none", Level::Nothing, UNREAD_ANONYMOUS),
-    (
-        "operator",
-        "@ghost/kit",
-        Level::Nothing,
-        [NOT_FOUND, NOT_FOUND, NOT_FOUND, NOT_FOUND],
-    ),
-    (
-        "ann",
-        "@ghost/kit",
-        Level::Nothing,
-        [NOT_FOUND, NOT_FOUND, NOT_FOUND, NOT_FOUND],
-    ),
+    ("operator", "@ghost/kit", Level::Nothing, MISSING),
+    ("ann", "@ghost/kit", Level::Nothing, MISSING),
     ("anonymous", "@ghost/kit", Level::Nothing, UNREAD_ANONYMOUS),
 ];
 
-// Whether the rows say what is wanted.
-fn rows_say(alloc: Global, rows: &AccessRows, case: &Case) -> Result<bool, Stop> {
+// Whether the rows answer so.
+fn rows_answer(rows: &AccessRows, caller: &Caller, name: &Name, answers: &Answers) -> bool {
+    let [publish, write, owners, read] = answers;
+    allowed(rows, caller, &Ask::Publish(name)) == *publish
+        && allowed(rows, caller, &Ask::Write(name)) == *write
+        && allowed(rows, caller, &Ask::Owners(name)) == *owners
+        && allowed(rows, caller, &Ask::Read(name)) == *read
+}
+
+fn standing_answers(standing: &Standing, caller: &Caller, name: &Name, answers: &Answers) -> bool {
+    let [publish, write, owners, read] = answers;
+    allowed_by(standing, caller, &Ask::Publish(name)) == *publish
+        && allowed_by(standing, caller, &Ask::Write(name)) == *write
+        && allowed_by(standing, caller, &Ask::Owners(name)) == *owners
+        && allowed_by(standing, caller, &Ask::Read(name)) == *read
+}
+
+/// What a caller's level and answers follow from.
+#[derive(Drop)]
+enum Source<'a> {
+    Rows(&'a AccessRows),
+    Standing,
+}
+
+fn rows_say(rows: &AccessRows, caller: &Caller, name: &Name, case: &Case) -> bool {
+    let (_, _, wanted, answers) = case;
+    level(rows, caller, name) == *wanted && rows_answer(rows, caller, name, answers)
+}
+
+fn standing_says(alloc: Global, caller: &Caller, name: &Name, case: &Case) -> Result<bool, Stop> {
     let (who, package, wanted, answers) = case;
-    let caller = caller(alloc, who)?;
-    let name = Name::parse(alloc, package)?;
-    Ok(level(rows, &caller, &name) == *wanted && by_rows(rows, &caller, &name) == *answers)
-}
-
-// The first caller and package of whom the rows say something else.
-fn other_by_rows(
-    alloc: Global,
-    cases: &[Case],
-) -> Result<Option<(&'static str, &'static str)>, Stop> {
-    let rows = registry(alloc)?;
-    other_in_rows(alloc, &rows, cases)
-}
-
-fn other_in_rows(
-    alloc: Global,
-    rows: &AccessRows,
-    cases: &[Case],
-) -> Result<Option<(&'static str, &'static str)>, Stop> {
-    for case in cases {
-        if !rows_say(alloc, rows, case)? {
-            return Ok(Some((case.0, case.1)));
-        }
-    }
-    Ok(None)
-}
-
-// Whether the caller's standing says what is wanted.
-fn standing_says(alloc: Global, case: &Case) -> Result<bool, Stop> {
-    let (who, package, wanted, answers) = case;
-    let caller = caller(alloc, who)?;
-    let name = Name::parse(alloc, package)?;
     let standing = standing(alloc, who, package)?;
-    let is_level = level_of(&standing, &caller) == *wanted;
-    Ok(is_level && by_standing(&standing, &caller, &name) == *answers)
+    let is_level = level_of(&standing, caller) == *wanted;
+    Ok(is_level && standing_answers(&standing, caller, name, answers))
 }
 
-// The first caller and package whose standing says something else.
-fn other_by_standings(
-    alloc: Global,
-    cases: &[Case],
-) -> Result<Option<(&'static str, &'static str)>, Stop> {
-    for case in cases {
-        if !standing_says(alloc, case)? {
-            return Ok(Some((case.0, case.1)));
+// Whether the source says what is wanted.
+fn says(alloc: Global, source: &Source, case: &Case) -> Result<bool, Stop> {
+    let (who, package, _, _) = case;
+    let caller = caller(alloc, who)?;
+    let name = Name::parse(alloc, package)?;
+    match *source {
+        Source::Rows(rows) => Ok(rows_say(rows, &caller, &name, case)),
+        Source::Standing => standing_says(alloc, &caller, &name, case),
+    }
+}
+
+/// A caller, and what he is asked about.
+type Other = (&'static str, &'static str);
+
+const NO_MEMORY: Other = ("no", "memory");
+
+// Whether the source says all that is wanted, and else of whom and what it says something else.
+fn all_said(alloc: Global, source: &Source) -> Result<(), Other> {
+    for case in &PACKAGES {
+        if says(alloc, source, case) != Ok(true) {
+            return Err((case.0, case.1));
         }
     }
-    Ok(None)
-}
-
-#[test]
-fn packages_by_rows(rt: HostRuntime) -> Result<(), Fail> {
-    assert_eq!(rt; other_by_rows(rt.alloc(), &TABLE)?, None);
     Ok(())
 }
 
+fn all_said_by_rows(alloc: Global) -> Result<(), Other> {
+    match registry(alloc) {
+        Ok(rows) => all_said(alloc, &Source::Rows(&rows)),
+        Err(AllocError) => Err(NO_MEMORY),
+    }
+}
+
 #[test]
-fn packages_by_standings(rt: HostRuntime) -> Result<(), Fail> {
-    assert_eq!(rt; other_by_standings(rt.alloc(), &TABLE)?, None);
-    Ok(())
+fn packages_by_rows(rt: HostRuntime) -> Result<(), Other> {
+    all_said_by_rows(rt.alloc())
 }
 
-fn of_organisation(rows: &AccessRows, caller: &Caller, organisation: &Ident) -> [Answer; 3] {
-    [
-        allowed(rows, caller, &Ask::OrgMembers(organisation)),
-        allowed(rows, caller, &Ask::OrgTeams(organisation)),
-        allowed(rows, caller, &Ask::OrgRead(organisation)),
-    ]
+#[test]
+fn packages_by_standings(rt: HostRuntime) -> Result<(), Other> {
+    all_said(rt.alloc(), &Source::Standing)
 }
 
-// A caller, the answer where he asks to operate, and those about the members, the teams and the
-// sight of `lab`, and of an organisation that isn't there.
-type OrganisationCase = (&'static str, Answer, [Answer; 3], Answer);
+/// The answers where a caller asks to operate, and about the members, the teams and the sight of an
+/// organisation.
+type OrganisationAnswers = [Answer; 4];
 
-static ORGANISATION_TABLE: [OrganisationCase; 6] = [
-    (
-        "operator",
-        Ok(Rule::A1),
-        [DENIED_A2, DENIED_A3, DENIED_A9],
-        NOT_FOUND,
-    ),
-    (
-        "ann",
-        DENIED_A1,
-        [Ok(Rule::A2), Ok(Rule::A3), Ok(Rule::A9)],
-        NOT_FOUND,
-    ),
-    (
-        "amy",
-        DENIED_A1,
-        [DENIED_A2, Ok(Rule::A3), Ok(Rule::A9)],
-        NOT_FOUND,
-    ),
-    (
-        "bob",
-        DENIED_A1,
-        [DENIED_A2, DENIED_A3, Ok(Rule::A9)],
-        NOT_FOUND,
-    ),
-    (
-        "eve",
-        DENIED_A1,
-        [DENIED_A2, DENIED_A3, DENIED_A9],
-        NOT_FOUND,
-    ),
-    (
-        "anonymous",
-        NO_CALLER,
-        [NO_CALLER, NO_CALLER, NO_CALLER],
-        NO_CALLER,
-    ),
+const OPERATOR: OrganisationAnswers = [Ok(Rule::A1), DENIED_A2, DENIED_A3, DENIED_A9];
+
+const OWNER: OrganisationAnswers = [DENIED_A1, Ok(Rule::A2), Ok(Rule::A3), Ok(Rule::A9)];
+
+const ADMIN: OrganisationAnswers = [DENIED_A1, DENIED_A2, Ok(Rule::A3), Ok(Rule::A9)];
+
+const DEVELOPER: OrganisationAnswers = [DENIED_A1, DENIED_A2, DENIED_A3, Ok(Rule::A9)];
+
+const NO_MEMBER: OrganisationAnswers = [DENIED_A1, DENIED_A2, DENIED_A3, DENIED_A9];
+
+const OPERATOR_OF_NONE: OrganisationAnswers = [Ok(Rule::A1), NOT_FOUND, NOT_FOUND, NOT_FOUND];
+
+const USER_OF_NONE: OrganisationAnswers = [DENIED_A1, NOT_FOUND, NOT_FOUND, NOT_FOUND];
+
+const NOBODY: OrganisationAnswers = [NO_CALLER, NO_CALLER, NO_CALLER, NO_CALLER];
+
+type OrganisationCase = (&'static str, &'static str, OrganisationAnswers);
+
+static ORGANISATIONS: [OrganisationCase; 12] = [
+    ("operator", "lab", OPERATOR),
+    ("operator", "ghost", OPERATOR_OF_NONE),
+    ("ann", "lab", OWNER),
+    ("ann", "ghost", USER_OF_NONE),
+    ("amy", "lab", ADMIN),
+    ("amy", "ghost", USER_OF_NONE),
+    ("bob", "lab", DEVELOPER),
+    ("bob", "ghost", USER_OF_NONE),
+    ("eve", "lab", NO_MEMBER),
+    ("eve", "ghost", USER_OF_NONE),
+    ("anonymous", "lab", NOBODY),
+    ("anonymous", "ghost", NOBODY),
 ];
+
+fn organisation_answers(
+    rows: &AccessRows,
+    caller: &Caller,
+    organisation: &Ident,
+    answers: &OrganisationAnswers,
+) -> bool {
+    let [operate, members, teams, read] = answers;
+    allowed(rows, caller, &Ask::Operate) == *operate
+        && allowed(rows, caller, &Ask::OrgMembers(organisation)) == *members
+        && allowed(rows, caller, &Ask::OrgTeams(organisation)) == *teams
+        && allowed(rows, caller, &Ask::OrgRead(organisation)) == *read
+}
 
 fn organisation_says(
     alloc: Global,
     rows: &AccessRows,
-    caller: &Caller,
-    organisation: &str,
-    answers: [Answer; 3],
-) -> Result<bool, Stop> {
-    let organisation = Ident::parse(alloc, organisation)?;
-    Ok(of_organisation(rows, caller, &organisation) == answers)
-}
-
-// Whether the rows say what is wanted of operating, of `lab`, and of `ghost`.
-fn organisations_say(
-    alloc: Global,
-    rows: &AccessRows,
     case: &OrganisationCase,
 ) -> Result<bool, Stop> {
-    let (who, operate, answers, missing) = case;
+    let (who, organisation, answers) = case;
     let caller = caller(alloc, who)?;
-    let missing = [*missing, *missing, *missing];
-    Ok(
-        allowed(rows, &caller, &Ask::Operate) == *operate
-            && organisation_says(alloc, rows, &caller, "lab", *answers)?
-            && organisation_says(alloc, rows, &caller, "ghost", missing)?,
-    )
+    let organisation = Ident::parse(alloc, organisation)?;
+    Ok(organisation_answers(rows, &caller, &organisation, answers))
 }
 
-// The first caller of whom the rows say something else.
-fn other_by_organisation(
-    alloc: Global,
-    cases: &[OrganisationCase],
-) -> Result<Option<&'static str>, Stop> {
-    let rows = registry(alloc)?;
-    other_organisation_in_rows(alloc, &rows, cases)
-}
-
-fn other_organisation_in_rows(
-    alloc: Global,
-    rows: &AccessRows,
-    cases: &[OrganisationCase],
-) -> Result<Option<&'static str>, Stop> {
-    for case in cases {
-        if !organisations_say(alloc, rows, case)? {
-            return Ok(Some(case.0));
+fn all_said_in(alloc: Global, rows: &AccessRows) -> Result<(), Other> {
+    for case in &ORGANISATIONS {
+        if organisation_says(alloc, rows, case) != Ok(true) {
+            return Err((case.0, case.1));
         }
     }
-    Ok(None)
+    Ok(())
+}
+
+fn all_organisations(alloc: Global) -> Result<(), Other> {
+    match registry(alloc) {
+        Ok(rows) => all_said_in(alloc, &rows),
+        Err(AllocError) => Err(NO_MEMORY),
+    }
 }
 
 #[test]
-fn organisations(rt: HostRuntime) -> Result<(), Fail> {
-    assert_eq!(rt;
-        other_by_organisation(rt.alloc(), &ORGANISATION_TABLE)?,
-        None
-    );
-    Ok(())
+fn organisations(rt: HostRuntime) -> Result<(), Other> {
+    all_organisations(rt.alloc())
 }

@@ -3,9 +3,9 @@
 use registry_names::{
     ByteIn, ByteOut, FromRead, ReadFailed, ReadStop, ToWrite, WriteFailed, read_whole, write_whole,
 };
+use std::alloc::Global;
 use std::io;
 use std::io::{ErrorKind, Read, Write};
-use std::test::Fail;
 
 /// A reader whose second read is interrupted, and whose fourth fails.
 #[derive(Drop)]
@@ -60,8 +60,11 @@ impl Write for Narrow {
     }
 }
 
+/// What a read is to give.
+type Given = Result<&'static str, ReadFailed>;
+
 // Whether the next read gives this.
-fn gives<I: ByteIn>(end: &mut I, buf: &mut [u8], want: Result<&str, ReadFailed>) -> bool {
+fn gives<I: ByteIn>(end: &mut I, buf: &mut [u8], want: Given) -> bool {
     match (end.read(buf), want) {
         (Ok(count), Ok(text)) => &buf[..count] == text.as_bytes(),
         (Err(failed), Err(wanted)) => failed == wanted,
@@ -69,18 +72,25 @@ fn gives<I: ByteIn>(end: &mut I, buf: &mut [u8], want: Result<&str, ReadFailed>)
     }
 }
 
-static PIECES: [&str; 3] = ["regis", "try", ""];
-
-#[test]
-fn a_reader_gives_its_bytes_and_then_none(rt: HostRuntime) {
-    let mut end = FromRead::new(b"registry".as_slice());
-    let mut buf = [0; 5];
-    for piece in &PIECES {
-        assert!(rt; gives(&mut end, &mut buf, Ok(piece)), "{piece}");
+// Whether all reads give what is wanted, and else what the first was to give that doesn't.
+fn all_given<I: ByteIn>(end: &mut I, buf: &mut [u8], wanted: &[Given]) -> Result<(), &'static str> {
+    for want in wanted {
+        if !gives(end, buf, *want) {
+            return Err(want.unwrap_or("a failure"));
+        }
     }
+    Ok(())
 }
 
-static READS: [Result<&str, ReadFailed>; 5] = [
+static PIECES: [Given; 3] = [Ok("regis"), Ok("try"), Ok("")];
+
+#[test]
+fn a_reader_gives_its_bytes_and_then_none(_: HostRuntime) -> Result<(), &'static str> {
+    let mut end = FromRead::new(b"registry".as_slice());
+    all_given(&mut end, &mut [0; 5], &PIECES)
+}
+
+static READS: [Given; 5] = [
     Ok("ab"),
     Err(ReadFailed::Interrupted),
     Ok("cd"),
@@ -89,79 +99,149 @@ static READS: [Result<&str, ReadFailed>; 5] = [
 ];
 
 #[test]
-fn a_read_goes_on_after_one_that_failed(rt: HostRuntime) {
+fn a_read_goes_on_after_one_that_failed(_: HostRuntime) -> Result<(), &'static str> {
     let mut end = FromRead::new(Faltering {
         text: b"abcdef",
         reads: 0,
     });
-    let mut buf = [0; 2];
-    for want in &READS {
-        assert!(rt; gives(&mut end, &mut buf, *want));
-    }
+    all_given(&mut end, &mut [0; 2], &READS)
 }
 
 static WRITES: [&str; 3] = ["lab", "", "-kit"];
 
-#[test]
-fn a_writer_holds_what_was_written(rt: HostRuntime) {
-    let mut out = Vec::new(rt.alloc());
-    let mut end = ToWrite::new(&mut out);
+// Whether each text is taken whole by one write, and else the first that isn't.
+fn all_taken<O: ByteOut>(end: &mut O) -> Result<(), &'static str> {
     for text in &WRITES {
-        assert_eq!(rt; end.write(text.as_bytes()), Ok(text.len()));
+        if end.write(text.as_bytes()) != Ok(text.len()) {
+            return Err(text);
+        }
     }
-    assert_eq!(rt; out.as_slice(), b"lab-kit".as_slice());
+    Ok(())
+}
+
+// How the writes ended, and then whether this is held.
+fn held_after(
+    ended: Result<(), &'static str>,
+    held: &[u8],
+    wanted: &[u8],
+) -> Result<(), &'static str> {
+    ended?;
+    if held == wanted {
+        Ok(())
+    } else {
+        Err("what is held")
+    }
+}
+
+fn writer_holds_all(alloc: Global) -> Result<(), &'static str> {
+    let mut out = Vec::new(alloc);
+    let ended = all_taken(&mut ToWrite::new(&mut out));
+    held_after(ended, &out, b"lab-kit")
 }
 
 #[test]
-fn a_write_goes_on_after_one_that_failed(rt: HostRuntime) {
+fn a_writer_holds_what_was_written(rt: HostRuntime) -> Result<(), &'static str> {
+    writer_holds_all(rt.alloc())
+}
+
+// Texts, and whether each is written whole by a narrow writer.
+static WHOLE_WRITES: [(&str, Result<(), WriteFailed>); 4] = [
+    ("ab", Ok(())),
+    ("c", Err(WriteFailed)),
+    ("cd", Err(WriteFailed)),
+    ("defg", Ok(())),
+];
+
+// Whether each write ends so, and else the text of the first that doesn't.
+fn all_ended<O: ByteOut>(end: &mut O) -> Result<(), &'static str> {
+    for (text, wanted) in &WHOLE_WRITES {
+        if write_whole(end, text.as_bytes()) != *wanted {
+            return Err(text);
+        }
+    }
+    Ok(())
+}
+
+fn narrow_writer_goes_on(alloc: Global) -> Result<(), &'static str> {
     let mut narrow = Narrow {
-        taken: Vec::new(rt.alloc()),
+        taken: Vec::new(alloc),
         writes: 0,
     };
-    let mut end = ToWrite::new(&mut narrow);
-    let answers = [
-        write_whole(&mut end, b"ab"),
-        write_whole(&mut end, b"c"),
-        write_whole(&mut end, b"cd"),
-        write_whole(&mut end, b"defg"),
-    ];
-    let failed = Err(WriteFailed);
-    assert_eq!(rt; answers, [Ok(()), failed, failed, Ok(())]);
-    assert_eq!(rt; narrow.taken.as_slice(), b"abcdefg".as_slice());
+    let ended = all_ended(&mut ToWrite::new(&mut narrow));
+    held_after(ended, &narrow.taken, b"abcdefg")
 }
 
 #[test]
-fn a_whole_input_is_read_up_to_a_limit(rt: HostRuntime) -> Result<(), Fail> {
-    for (limit, want) in [(0, ""), (3, "reg"), (8, "registry"), (9, "registry")] {
+fn a_write_goes_on_after_one_that_failed(rt: HostRuntime) -> Result<(), &'static str> {
+    narrow_writer_goes_on(rt.alloc())
+}
+
+// Whether the whole of an input, up to a limit, is this.
+fn is_whole<I: ByteIn>(
+    alloc: Global,
+    end: &mut I,
+    limit: usize,
+    text: &str,
+) -> Result<bool, ReadStop> {
+    let bytes = read_whole(alloc, end, limit)?;
+    Ok(bytes.as_slice() == text.as_bytes())
+}
+
+// What is shown, a limit, and what is read up to it.
+static LIMITS: [(&str, usize, &str); 4] = [
+    ("nothing", 0, ""),
+    ("a part", 3, "reg"),
+    ("all of it", 8, "registry"),
+    ("no more than all", 9, "registry"),
+];
+
+fn all_limits(alloc: Global) -> Result<(), &'static str> {
+    for (shows, limit, text) in &LIMITS {
         let mut end = FromRead::new(b"registry".as_slice());
-        let bytes = read_whole(rt.alloc(), &mut end, limit)?;
-        assert_eq!(rt; bytes.as_slice(), want.as_bytes());
+        if is_whole(alloc, &mut end, *limit, text) != Ok(true) {
+            return Err(shows);
+        }
     }
     Ok(())
 }
 
 #[test]
-fn an_interrupted_read_is_tried_again(rt: HostRuntime) -> Result<(), Fail> {
+fn a_whole_input_is_read_up_to_a_limit(rt: HostRuntime) -> Result<(), &'static str> {
+    all_limits(rt.alloc())
+}
+
+fn is_tried_again<I: ByteIn>(alloc: Global, end: &mut I) -> Result<(), &'static str> {
+    if is_whole(alloc, end, 9, "abc") != Ok(true) {
+        Err("an interrupted read")
+    } else if is_whole(alloc, end, 9, "") != Err(ReadStop::Read) {
+        Err("a broken read")
+    } else {
+        Ok(())
+    }
+}
+
+#[test]
+fn an_interrupted_read_is_tried_again(rt: HostRuntime) -> Result<(), &'static str> {
     let mut end = FromRead::new(Faltering {
         text: b"abc",
         reads: 0,
     });
-    let bytes = read_whole(rt.alloc(), &mut end, 9)?;
-    assert_eq!(rt; bytes.as_slice(), b"abc".as_slice());
-    assert_eq!(rt;
-        read_whole(rt.alloc(), &mut end, 9).err(),
-        Some(ReadStop::Read)
-    );
-    Ok(())
+    is_tried_again(rt.alloc(), &mut end)
+}
+
+fn all_are_tried_again(alloc: Global) -> Result<(), &'static str> {
+    let mut restless = Restless { reads: 0 };
+    let mut end = FromRead::new(&mut restless);
+    if is_whole(alloc, &mut end, 9, "") != Err(ReadStop::Read) {
+        Err("the answer")
+    } else if restless.reads != 1001 {
+        Err("the reads")
+    } else {
+        Ok(())
+    }
 }
 
 #[test]
-fn a_thousand_interrupted_reads_are_tried_again(rt: HostRuntime) {
-    let mut restless = Restless { reads: 0 };
-    let mut end = FromRead::new(&mut restless);
-    assert_eq!(rt;
-        read_whole(rt.alloc(), &mut end, 9).err(),
-        Some(ReadStop::Read)
-    );
-    assert_eq!(rt; restless.reads, 1001);
+fn a_thousand_interrupted_reads_are_tried_again(rt: HostRuntime) -> Result<(), &'static str> {
+    all_are_tried_again(rt.alloc())
 }

@@ -2,13 +2,13 @@
 
 mod stream;
 
+use crate::packument::stream::{KIT, KIT_TAGS, KIT_VERSIONS, KIT_WITHOUT_VERSIONS};
 use registry_names::{DistTag, Fault, Text};
 use registry_packument::{
     Grant, GrantLevel, List, Member, MemberRole, PackHead, VersionRow, list_text, packument_text,
     version_text,
 };
 use std::alloc::{AllocError, Global};
-use std::test::Fail;
 
 /// A tag, and the version that it names.
 type TagCase = (&'static str, &'static str);
@@ -16,12 +16,24 @@ type TagCase = (&'static str, &'static str);
 /// A version, its manifest and its message.
 type VersionCase = (&'static str, &'static str, &'static str);
 
-fn tag(alloc: Global, tag: &str, version: &str) -> Result<DistTag, AllocError> {
-    Ok(DistTag {
-        tag: Text::from_str(alloc, tag)?,
-        version: Text::from_str(alloc, version)?,
-    })
+/// What text is asked for.
+enum Asked {
+    /// A packument, of a name, tags and versions.
+    Packument(&'static str, &'static [TagCase], &'static [VersionCase]),
+    /// A document, of a manifest and a message.
+    Document(&'static str, &'static str),
+    /// The list of a package's tags.
+    Tags(&'static [TagCase]),
+    /// The list of an organisation's members.
+    Members(&'static [(&'static str, MemberRole)]),
+    /// The list of names.
+    Names(&'static [&'static str]),
+    /// The list of a team's grants.
+    Grants(&'static [(&'static str, GrantLevel)]),
 }
+
+/// What a case shows, what is asked for, and its text, or None where a version has no document.
+type Case = (&'static str, Asked, Option<&'static str>);
 
 fn tags(alloc: Global, cases: &[TagCase]) -> Result<Vec<DistTag>, AllocError> {
     let mut tags = Vec::new(alloc);
@@ -31,11 +43,26 @@ fn tags(alloc: Global, cases: &[TagCase]) -> Result<Vec<DistTag>, AllocError> {
     Ok(tags)
 }
 
+pub fn tag(alloc: Global, tag: &str, version: &str) -> Result<DistTag, AllocError> {
+    Ok(DistTag {
+        tag: Text::from_str(alloc, tag)?,
+        version: Text::from_str(alloc, version)?,
+    })
+}
+
 fn head(alloc: Global, name: &str, cases: &[TagCase]) -> Result<PackHead, AllocError> {
     Ok(PackHead {
         name: Text::from_str(alloc, name)?,
         tags: tags(alloc, cases)?,
     })
+}
+
+fn versions(alloc: Global, cases: &[VersionCase]) -> Result<Vec<VersionRow>, AllocError> {
+    let mut rows = Vec::new(alloc);
+    for (text, manifest, message) in cases {
+        rows.push(version(alloc, text, manifest, message)?)?;
+    }
+    Ok(rows)
 }
 
 fn version(
@@ -51,129 +78,16 @@ fn version(
     })
 }
 
-fn versions(alloc: Global, cases: &[VersionCase]) -> Result<Vec<VersionRow>, AllocError> {
-    let mut rows = Vec::new(alloc);
-    for (text, manifest, message) in cases {
-        rows.push(version(alloc, text, manifest, message)?)?;
+fn tag_list(alloc: Global, cases: &[TagCase]) -> Result<List, AllocError> {
+    Ok(List::Tags(tags(alloc, cases)?))
+}
+
+fn members(alloc: Global, cases: &[(&str, MemberRole)]) -> Result<List, AllocError> {
+    let mut members = Vec::new(alloc);
+    for (user, role) in cases {
+        members.push(member(alloc, user, *role)?)?;
     }
-    Ok(rows)
-}
-
-/// A package, as its packument shows it.
-struct Package {
-    name: &'static str,
-    tags: &'static [TagCase],
-    versions: &'static [VersionCase],
-}
-
-fn packument(alloc: Global, package: &Package) -> Result<Text, Fault> {
-    let head = head(alloc, package.name, package.tags)?;
-    packument_text(alloc, &head, &versions(alloc, package.versions)?)
-}
-
-// A package, and its packument.
-static PACKUMENTS: [(Package, &str); 3] = [
-    (
-        Package {
-            name: "@lab/kit",
-            tags: &[("latest", "1.0.0")],
-            versions: &[(
-                "1.0.0",
-                r#"{"dist":{"integrity":"sha512-3a81oZNherrMQXNJriBBMRLm+k6JqX6iCp7u5ktV05ohkpkqJ0/BqDa6PCOj/uu9RU1EI2Q86A4qmslPpUyknw==","shasum":"a9993e364706816aba3e25717850c26c9cd0d89d","tarball":"http://localhost:8080/@lab/kit/-/@lab/kit-1.0.0.tgz"},"name":"@lab/kit","version":"1.0.0"}"#,
-                "",
-            )],
-        },
-        r#"{"_id":"@lab/kit","dist-tags":{"latest":"1.0.0"},"name":"@lab/kit","versions":{"1.0.0":{"dist":{"integrity":"sha512-3a81oZNherrMQXNJriBBMRLm+k6JqX6iCp7u5ktV05ohkpkqJ0/BqDa6PCOj/uu9RU1EI2Q86A4qmslPpUyknw==","shasum":"a9993e364706816aba3e25717850c26c9cd0d89d","tarball":"http://localhost:8080/@lab/kit/-/@lab/kit-1.0.0.tgz"},"name":"@lab/kit","version":"1.0.0"}}}"#,
-    ),
-    (
-        Package {
-            name: "kit",
-            tags: &[],
-            versions: &[],
-        },
-        r#"{"_id":"kit","dist-tags":{},"name":"kit","versions":{}}"#,
-    ),
-    (
-        Package {
-            name: "kit",
-            tags: &[("it's", "1.10.0"), (r#"say "hi""#, "1.9.0")],
-            versions: &[("1.10.0", r#"{"a":1}"#, "old"), ("1.9.0", "{}", "")],
-        },
-        r#"{"_id":"kit","dist-tags":{"it's":"1.10.0","say \"hi\"":"1.9.0"},"name":"kit","versions":{"1.10.0":{"a":1,"deprecated":"old"},"1.9.0":{}}}"#,
-    ),
-];
-
-#[test]
-fn packuments(rt: HostRuntime) -> Result<(), Fail> {
-    for (package, text) in &PACKUMENTS {
-        assert_eq!(rt; packument(rt.alloc(), package)?.as_str(), *text);
-    }
-    Ok(())
-}
-
-static WITHOUT_A_DOCUMENT: Package = Package {
-    name: "kit",
-    tags: &[],
-    versions: &[("1.0.0", "{}", ""), ("1.0.1", "[1]", "old")],
-};
-
-#[test]
-fn a_row_without_a_document_is_a_fault(rt: HostRuntime) {
-    assert_eq!(rt;
-        packument(rt.alloc(), &WITHOUT_A_DOCUMENT).err(),
-        Some(Fault::Database)
-    );
-}
-
-// A manifest, a message, and the document.
-static DOCUMENTS: [(&str, &str, &str); 5] = [
-    (
-        r#"{"dist":{"integrity":"sha512-3a81oZNherrMQXNJriBBMRLm+k6JqX6iCp7u5ktV05ohkpkqJ0/BqDa6PCOj/uu9RU1EI2Q86A4qmslPpUyknw==","shasum":"a9993e364706816aba3e25717850c26c9cd0d89d","tarball":"http://localhost:8080/@lab/kit/-/@lab/kit-1.0.0.tgz"},"name":"@lab/kit","version":"1.0.0"}"#,
-        "old",
-        r#"{"deprecated":"old","dist":{"integrity":"sha512-3a81oZNherrMQXNJriBBMRLm+k6JqX6iCp7u5ktV05ohkpkqJ0/BqDa6PCOj/uu9RU1EI2Q86A4qmslPpUyknw==","shasum":"a9993e364706816aba3e25717850c26c9cd0d89d","tarball":"http://localhost:8080/@lab/kit/-/@lab/kit-1.0.0.tgz"},"name":"@lab/kit","version":"1.0.0"}"#,
-    ),
-    (
-        r#"{"a":1,"z":2}"#,
-        "old",
-        r#"{"a":1,"deprecated":"old","z":2}"#,
-    ),
-    (
-        r#"{"deprecated":"older"}"#,
-        "old",
-        r#"{"deprecated":"old"}"#,
-    ),
-    ("{}", "say \"no\"\n", r#"{"deprecated":"say \"no\"\n"}"#),
-    (r#"{ "b": 1.50, "a": [] }"#, "", r#"{ "b": 1.50, "a": [] }"#),
-];
-
-#[test]
-fn the_message_stands_in_its_place(rt: HostRuntime) -> Result<(), Fail> {
-    for (manifest, message, document) in &DOCUMENTS {
-        let text = version_text(rt.alloc(), manifest, message)?;
-        assert_eq!(rt; text.as_str(), *document);
-    }
-    Ok(())
-}
-
-static NO_MANIFESTS: [&str; 4] = ["[1]", r#"{"a":1"#, "", r#"{"a":[{"b":1.5}]}"#];
-
-#[test]
-fn a_message_needs_a_manifest(rt: HostRuntime) {
-    for manifest in &NO_MANIFESTS {
-        assert_eq!(rt;
-            version_text(rt.alloc(), manifest, "old").err(),
-            Some(Fault::Database),
-            "at {manifest}"
-        );
-    }
-}
-
-/// The rows of a list.
-enum ListCase {
-    Tags(&'static [TagCase]),
-    Members(&'static [(&'static str, MemberRole)]),
-    Names(&'static [&'static str]),
-    Grants(&'static [(&'static str, GrantLevel)]),
+    Ok(List::Members(members))
 }
 
 fn member(alloc: Global, user: &str, role: MemberRole) -> Result<Member, AllocError> {
@@ -183,20 +97,20 @@ fn member(alloc: Global, user: &str, role: MemberRole) -> Result<Member, AllocEr
     })
 }
 
-fn members(alloc: Global, cases: &[(&str, MemberRole)]) -> Result<Vec<Member>, AllocError> {
-    let mut members = Vec::new(alloc);
-    for (user, role) in cases {
-        members.push(member(alloc, user, *role)?)?;
-    }
-    Ok(members)
-}
-
-fn names(alloc: Global, cases: &[&str]) -> Result<Vec<Text>, AllocError> {
+fn names(alloc: Global, cases: &[&str]) -> Result<List, AllocError> {
     let mut names = Vec::new(alloc);
     for name in cases {
         names.push(Text::from_str(alloc, name)?)?;
     }
-    Ok(names)
+    Ok(List::Names(names))
+}
+
+fn grants(alloc: Global, cases: &[(&str, GrantLevel)]) -> Result<List, AllocError> {
+    let mut grants = Vec::new(alloc);
+    for (name, level) in cases {
+        grants.push(grant(alloc, name, *level)?)?;
+    }
+    Ok(List::Grants(grants))
 }
 
 fn grant(alloc: Global, name: &str, level: GrantLevel) -> Result<Grant, AllocError> {
@@ -206,60 +120,193 @@ fn grant(alloc: Global, name: &str, level: GrantLevel) -> Result<Grant, AllocErr
     })
 }
 
-fn grants(alloc: Global, cases: &[(&str, GrantLevel)]) -> Result<Vec<Grant>, AllocError> {
-    let mut grants = Vec::new(alloc);
-    for (name, level) in cases {
-        grants.push(grant(alloc, name, *level)?)?;
+// Whether each case has its text, and else what the first shows that has another.
+fn all_told(alloc: Global, cases: &'static [Case]) -> Result<(), &'static str> {
+    for (shows, asked, told) in cases {
+        if !tells(text(alloc, asked), *told) {
+            return Err(shows);
+        }
     }
-    Ok(grants)
+    Ok(())
 }
 
-fn list(alloc: Global, case: &ListCase) -> Result<List, AllocError> {
-    match case {
-        ListCase::Tags(cases) => Ok(List::Tags(tags(alloc, cases)?)),
-        ListCase::Members(cases) => Ok(List::Members(members(alloc, cases)?)),
-        ListCase::Names(cases) => Ok(List::Names(names(alloc, cases)?)),
-        ListCase::Grants(cases) => Ok(List::Grants(grants(alloc, cases)?)),
+fn tells(answer: Result<Text, Fault>, told: Option<&str>) -> bool {
+    match answer {
+        Ok(text) => told == Some(text.as_str()),
+        Err(fault) => told.is_none() && fault == Fault::Database,
     }
 }
 
-// The rows of a list, and its text.
-static LISTS: [(ListCase, &str); 8] = [
-    (ListCase::Tags(&[]), "{}"),
-    (ListCase::Members(&[]), "{}"),
-    (ListCase::Names(&[]), "[]"),
-    (ListCase::Grants(&[]), "{}"),
+fn text(alloc: Global, asked: &Asked) -> Result<Text, Fault> {
+    match asked {
+        Asked::Packument(name, tags, versions) => packument(alloc, name, tags, versions),
+        Asked::Document(manifest, message) => version_text(alloc, manifest, message),
+        Asked::Tags(cases) => text_of(alloc, tag_list(alloc, cases)),
+        Asked::Members(cases) => text_of(alloc, members(alloc, cases)),
+        Asked::Names(cases) => text_of(alloc, names(alloc, cases)),
+        Asked::Grants(cases) => text_of(alloc, grants(alloc, cases)),
+    }
+}
+
+fn packument(
+    alloc: Global,
+    name: &str,
+    tags: &[TagCase],
+    cases: &[VersionCase],
+) -> Result<Text, Fault> {
+    let head = head(alloc, name, tags)?;
+    packument_of(alloc, &head, cases)
+}
+
+fn packument_of(alloc: Global, head: &PackHead, cases: &[VersionCase]) -> Result<Text, Fault> {
+    let rows = versions(alloc, cases)?;
+    packument_text(alloc, head, &rows)
+}
+
+fn text_of(alloc: Global, list: Result<List, AllocError>) -> Result<Text, Fault> {
+    list_text(alloc, &list?)
+}
+
+static PACKUMENTS: [Case; 6] = [
     (
-        ListCase::Tags(&[("beta", "2.0.0-b"), ("it's", "1.10.0"), ("latest", "1.9.0")]),
-        r#"{"beta":"2.0.0-b","it's":"1.10.0","latest":"1.9.0"}"#,
+        "a package of one version",
+        Asked::Packument(
+            "@lab/kit",
+            &[("latest", "1.0.0")],
+            &[(
+                "1.0.0",
+                r#"{"dist":{"integrity":"sha512-3a81oZNherrMQXNJriBBMRLm+k6JqX6iCp7u5ktV05ohkpkqJ0/BqDa6PCOj/uu9RU1EI2Q86A4qmslPpUyknw==","shasum":"a9993e364706816aba3e25717850c26c9cd0d89d","tarball":"http://localhost:8080/@lab/kit/-/@lab/kit-1.0.0.tgz"},"name":"@lab/kit","version":"1.0.0"}"#,
+                "",
+            )],
+        ),
+        Some(
+            r#"{"_id":"@lab/kit","dist-tags":{"latest":"1.0.0"},"name":"@lab/kit","versions":{"1.0.0":{"dist":{"integrity":"sha512-3a81oZNherrMQXNJriBBMRLm+k6JqX6iCp7u5ktV05ohkpkqJ0/BqDa6PCOj/uu9RU1EI2Q86A4qmslPpUyknw==","shasum":"a9993e364706816aba3e25717850c26c9cd0d89d","tarball":"http://localhost:8080/@lab/kit/-/@lab/kit-1.0.0.tgz"},"name":"@lab/kit","version":"1.0.0"}}}"#,
+        ),
     ),
     (
-        ListCase::Members(&[
-            ("ann", MemberRole::Owner),
-            ("bob", MemberRole::Developer),
-            ("eve", MemberRole::Admin),
-        ]),
-        r#"{"ann":"owner","bob":"developer","eve":"admin"}"#,
+        "a package of nothing",
+        Asked::Packument("kit", &[], &[]),
+        Some(r#"{"_id":"kit","dist-tags":{},"name":"kit","versions":{}}"#),
     ),
     (
-        ListCase::Names(&["builders", "developers", "say \"hi\""]),
-        r#"["builders","developers","say \"hi\""]"#,
+        "tags with quotes, and a message",
+        Asked::Packument(
+            "kit",
+            &[("it's", "1.10.0"), (r#"say "hi""#, "1.9.0")],
+            &[("1.10.0", r#"{"a":1}"#, "old"), ("1.9.0", "{}", "")],
+        ),
+        Some(
+            r#"{"_id":"kit","dist-tags":{"it's":"1.10.0","say \"hi\"":"1.9.0"},"name":"kit","versions":{"1.10.0":{"a":1,"deprecated":"old"},"1.9.0":{}}}"#,
+        ),
     ),
     (
-        ListCase::Grants(&[
-            ("@lab/kit", GrantLevel::ReadWrite),
-            ("@lab/pad", GrantLevel::ReadOnly),
-            ("@lab/rig", GrantLevel::ReadWrite),
-        ]),
-        r#"{"@lab/kit":"read-write","@lab/pad":"read-only","@lab/rig":"read-write"}"#,
+        "a package of three versions",
+        Asked::Packument("kit", KIT_TAGS, KIT_VERSIONS),
+        Some(KIT),
+    ),
+    (
+        "a tag without versions",
+        Asked::Packument("kit", KIT_TAGS, &[]),
+        Some(KIT_WITHOUT_VERSIONS),
+    ),
+    (
+        "a version without a document",
+        Asked::Packument("kit", &[], &[("1.0.0", "{}", ""), ("1.0.1", "[1]", "old")]),
+        None,
     ),
 ];
 
 #[test]
-fn lists_of_none_and_of_three(rt: HostRuntime) -> Result<(), Fail> {
-    for (case, text) in &LISTS {
-        let list = list(rt.alloc(), case)?;
-        assert_eq!(rt; list_text(rt.alloc(), &list)?.as_str(), *text);
-    }
-    Ok(())
+fn packuments(rt: HostRuntime) -> Result<(), &'static str> {
+    all_told(rt.alloc(), &PACKUMENTS)
+}
+
+static DOCUMENTS: [Case; 9] = [
+    (
+        "a message among members",
+        Asked::Document(
+            r#"{"dist":{"integrity":"sha512-3a81oZNherrMQXNJriBBMRLm+k6JqX6iCp7u5ktV05ohkpkqJ0/BqDa6PCOj/uu9RU1EI2Q86A4qmslPpUyknw==","shasum":"a9993e364706816aba3e25717850c26c9cd0d89d","tarball":"http://localhost:8080/@lab/kit/-/@lab/kit-1.0.0.tgz"},"name":"@lab/kit","version":"1.0.0"}"#,
+            "old",
+        ),
+        Some(
+            r#"{"deprecated":"old","dist":{"integrity":"sha512-3a81oZNherrMQXNJriBBMRLm+k6JqX6iCp7u5ktV05ohkpkqJ0/BqDa6PCOj/uu9RU1EI2Q86A4qmslPpUyknw==","shasum":"a9993e364706816aba3e25717850c26c9cd0d89d","tarball":"http://localhost:8080/@lab/kit/-/@lab/kit-1.0.0.tgz"},"name":"@lab/kit","version":"1.0.0"}"#,
+        ),
+    ),
+    (
+        "a message between members",
+        Asked::Document(r#"{"a":1,"z":2}"#, "old"),
+        Some(r#"{"a":1,"deprecated":"old","z":2}"#),
+    ),
+    (
+        "a message over an older one",
+        Asked::Document(r#"{"deprecated":"older"}"#, "old"),
+        Some(r#"{"deprecated":"old"}"#),
+    ),
+    (
+        "a message alone",
+        Asked::Document("{}", "say \"no\"\n"),
+        Some(r#"{"deprecated":"say \"no\"\n"}"#),
+    ),
+    (
+        "no message",
+        Asked::Document(r#"{ "b": 1.50, "a": [] }"#, ""),
+        Some(r#"{ "b": 1.50, "a": [] }"#),
+    ),
+    ("a message on an array", Asked::Document("[1]", "old"), None),
+    (
+        "a message on an open object",
+        Asked::Document(r#"{"a":1"#, "old"),
+        None,
+    ),
+    ("a message on no text", Asked::Document("", "old"), None),
+    (
+        "a message on a fraction",
+        Asked::Document(r#"{"a":[{"b":1.5}]}"#, "old"),
+        None,
+    ),
+];
+
+#[test]
+fn the_message_stands_in_its_place(rt: HostRuntime) -> Result<(), &'static str> {
+    all_told(rt.alloc(), &DOCUMENTS)
+}
+
+static LISTS: [Case; 8] = [
+    ("no tags", Asked::Tags(&[]), Some("{}")),
+    ("no members", Asked::Members(&[]), Some("{}")),
+    ("no names", Asked::Names(&[]), Some("[]")),
+    ("no grants", Asked::Grants(&[]), Some("{}")),
+    (
+        "three tags",
+        Asked::Tags(&[("beta", "2.0.0-b"), ("it's", "1.10.0"), ("latest", "1.9.0")]),
+        Some(r#"{"beta":"2.0.0-b","it's":"1.10.0","latest":"1.9.0"}"#),
+    ),
+    (
+        "three members",
+        Asked::Members(&[
+            ("ann", MemberRole::Owner),
+            ("bob", MemberRole::Developer),
+            ("eve", MemberRole::Admin),
+        ]),
+        Some(r#"{"ann":"owner","bob":"developer","eve":"admin"}"#),
+    ),
+    (
+        "three names",
+        Asked::Names(&["builders", "developers", "say \"hi\""]),
+        Some(r#"["builders","developers","say \"hi\""]"#),
+    ),
+    (
+        "three grants",
+        Asked::Grants(&[
+            ("@lab/kit", GrantLevel::ReadWrite),
+            ("@lab/pad", GrantLevel::ReadOnly),
+            ("@lab/rig", GrantLevel::ReadWrite),
+        ]),
+        Some(r#"{"@lab/kit":"read-write","@lab/pad":"read-only","@lab/rig":"read-write"}"#),
+    ),
+];
+
+#[test]
+fn lists_of_none_and_of_three(rt: HostRuntime) -> Result<(), &'static str> {
+    all_told(rt.alloc(), &LISTS)
 }

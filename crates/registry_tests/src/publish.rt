@@ -2,16 +2,19 @@
 
 mod archives;
 mod asked;
+pub mod case;
 mod client;
 mod members;
 mod needs;
 mod order;
 mod tokens;
 
-use registry_names::{Refusal, Status, Stop};
-use registry_publish::{PublishForm, integrity_of};
-use std::alloc::{AllocError, Global};
-use std::test::Fail;
+use crate::publish::case::Body::{Nested, With, Zeros};
+use crate::publish::case::Told::Refused;
+use crate::publish::case::{BAD_BODY, BAD_NAME, BAD_VERSION, Case, Change, Told, all_told};
+use registry_names::Refusal;
+use registry_publish::integrity_of;
+use std::alloc::Global;
 
 /// What the npm client sends to publish a package whose archive is the bytes `abc`.
 const KIT: &str =
@@ -26,232 +29,130 @@ const ABC_INTEGRITY: &str =
 const EMPTY_INTEGRITY: &str =
     "sha512-z4PhNX7vuL3xVChQ1m2AB9Yg5AULVxXcg/SpIdNs6c5H0NE8XYXysP+DGNKHfuwvY7kxvUdBeoGlODJ6+SfaPg==";
 
-const TOO_LARGE: Option<Stop> = Some(Stop::Refused(Refusal::TooLarge));
-
-const BAD_BODY: Option<Stop> = Some(Stop::Refused(Refusal::BadBody));
-
-const BAD_NAME: Option<Stop> = Some(Stop::Refused(Refusal::BadName));
-
-const BAD_VERSION: Option<Stop> = Some(Stop::Refused(Refusal::BadVersion));
-
-const RANGE_TAG: Option<Stop> = Some(Stop::Refused(Refusal::RangeTag));
-
-const BAD_TAG: Option<Stop> = Some(Stop::Refused(Refusal::BadTag));
-
-const BAD_INTEGRITY: Option<Stop> = Some(Stop::Refused(Refusal::BadIntegrity));
-
-/// What a form is to say.
-struct Said {
-    name: &'static str,
-    version: &'static str,
-    tag: &'static str,
-    access: Option<Status>,
-    manifest: &'static str,
-    integrity: &'static str,
-    archive_len: usize,
-    needs_len: usize,
-}
-
-static KIT_SAID: Said = Said {
-    name: "@lab/kit",
-    version: "1.0.0",
-    tag: "latest",
-    access: None,
-    manifest: KIT_MANIFEST,
-    integrity: ABC_INTEGRITY,
-    archive_len: 3,
-    needs_len: 0,
-};
-
-impl Said {
-    // The first of these that the form says otherwise.
-    fn other_in(&self, form: &PublishForm) -> Option<&'static str> {
-        if form.name().text() != self.name {
-            Some("name")
-        } else if form.version().text() != self.version {
-            Some("version")
-        } else if form.tag().text() != self.tag {
-            Some("tag")
-        } else if form.access() != self.access {
-            Some("access")
-        } else if form.manifest_text() != self.manifest {
-            Some("manifest")
-        } else {
-            self.other_archive_in(form)
-        }
-    }
-
-    fn other_archive_in(&self, form: &PublishForm) -> Option<&'static str> {
-        if form.integrity() != self.integrity {
-            Some("integrity")
-        } else if form.archive().len() != self.archive_len {
-            Some("archive")
-        } else if form.needs().len() != self.needs_len {
-            Some("needs")
-        } else {
-            None
-        }
-    }
-}
-
-// The first of these that the body's form says otherwise.
-fn other_said(alloc: Global, body: &str, said: &Said) -> Result<Option<&'static str>, Stop> {
-    let form = PublishForm::read(alloc, body.as_bytes())?;
-    Ok(said.other_in(&form))
-}
-
-fn stop_of(answer: Result<PublishForm, Stop>) -> Option<Stop> {
-    match answer {
-        Ok(_) => None,
-        Err(stop) => Some(stop),
-    }
-}
-
-// The example's body is read with a text in place of each one that it holds.
-fn read_with(alloc: Global, from: &str, to: &str) -> Result<PublishForm, Stop> {
-    let body = KIT.replace(alloc, from, to)?;
-    PublishForm::read(alloc, body.as_bytes())
-}
-
-fn stop_with(alloc: Global, from: &str, to: &str) -> Option<Stop> {
-    stop_of(read_with(alloc, from, to))
-}
-
-fn has_version(alloc: Global, version: &str) -> Result<bool, Stop> {
-    let form = read_with(alloc, "1.0.0", version)?;
-    Ok(form.version().text() == version)
-}
-
-fn has_archive(alloc: Global, body: &str, archive: &[u8], integrity: &str) -> Result<bool, Stop> {
-    let form = PublishForm::read(alloc, body.as_bytes())?;
-    Ok(form.archive() == archive && form.integrity() == integrity)
-}
-
-// The example's body with an archive of no bytes, and its integrity.
-fn kit_with_nothing(alloc: Global) -> Result<String, AllocError> {
-    let empty = KIT.replace(alloc, "\"YWJj\",\"length\":3", "\"\",\"length\":0")?;
-    empty
-        .as_str()
-        .replace(alloc, ABC_INTEGRITY, EMPTY_INTEGRITY)
-}
-
-// The example's manifest has one more member, of so many arrays in one another.
-fn read_nested(alloc: Global, depth: usize) -> Result<PublishForm, Stop> {
-    let mut member = String::from_str(alloc, "\"x\":")?;
-    for _ in 0..depth {
-        member.push_str("[")?;
-    }
-    for _ in 0..depth {
-        member.push_str("]")?;
-    }
-    member.push_str(",\"dist\":")?;
-    read_with(alloc, "\"dist\":", member.as_str())
-}
-
-fn zeros(alloc: Global, count: usize) -> Result<Vec<u8>, AllocError> {
-    [0].as_slice().repeat(alloc, count)
-}
-
-#[test]
-fn the_body_of_a_first_version(rt: HostRuntime) -> Result<(), Fail> {
-    assert_eq!(rt; other_said(rt.alloc(), KIT, &KIT_SAID)?, None);
-    assert!(rt; has_archive(rt.alloc(), KIT, b"abc".as_slice(), ABC_INTEGRITY)?);
-    Ok(())
-}
-
-static BROKEN: [(&str, &str); 9] = [
-    ("YWJj", "YWJ"),
-    ("\"versions\":{", "\"versions\":{\"0.1.0\":{},"),
-    ("\"_attachments\":{", "\"_attachments\":{\"x\":{},"),
-    ("\"version\":", "\"x\":1.5,\"version\":"),
-    ("\"shasum\":", "\"x\":[{\"y\":1e3}],\"shasum\":"),
-    ("\"version\":", "\"deprecated\":\"a\",\"version\":"),
-    ("\"version\":", "\"deprecated\":null,\"version\":"),
-    ("\"version\":\"1.0.0\"", "\"version\":\"1.0.1\""),
-    ("\"version\":", "\"name\":\"@lab/kits\",\"version\":"),
+static FIRST_VERSION: [Case; 8] = [
+    ("its name", With(&[]), Told::Name("@lab/kit")),
+    ("its version", With(&[]), Told::Version("1.0.0")),
+    ("its tag", With(&[]), Told::Tag("latest")),
+    ("its status", With(&[]), Told::Access(None)),
+    ("its manifest", With(&[]), Told::Manifest(KIT_MANIFEST)),
+    ("its archive", With(&[]), Told::Archive("abc")),
+    ("its integrity", With(&[]), Told::Integrity(ABC_INTEGRITY)),
+    ("its needs", With(&[]), Told::Needs(&[])),
 ];
 
 #[test]
-fn broken_bodies(rt: HostRuntime) -> Result<(), Fail> {
-    for (from, to) in &BROKEN {
-        assert_eq!(rt; stop_with(rt.alloc(), from, to), BAD_BODY, "{to}");
+fn the_body_of_a_first_version(rt: HostRuntime) -> Result<(), &'static str> {
+    all_told(rt.alloc(), &FIRST_VERSION)
+}
+
+static BROKEN: [Case; 10] = [
+    ("one byte less", With(&[("3}}}", "3}}")]), BAD_BODY),
+    ("three of four letters", With(&[("YWJj", "YWJ")]), BAD_BODY),
+    (
+        "two versions",
+        With(&[("\"versions\":{", "\"versions\":{\"0.1.0\":{},")]),
+        BAD_BODY,
+    ),
+    (
+        "two archives",
+        With(&[("\"_attachments\":{", "\"_attachments\":{\"x\":{},")]),
+        BAD_BODY,
+    ),
+    (
+        "a fraction",
+        With(&[("\"version\":", "\"x\":1.5,\"version\":")]),
+        BAD_BODY,
+    ),
+    (
+        "a fraction at some depth",
+        With(&[("\"shasum\":", "\"x\":[{\"y\":1e3}],\"shasum\":")]),
+        BAD_BODY,
+    ),
+    (
+        "a deprecation",
+        With(&[("\"version\":", "\"deprecated\":\"a\",\"version\":")]),
+        BAD_BODY,
+    ),
+    (
+        "a deprecation by null",
+        With(&[("\"version\":", "\"deprecated\":null,\"version\":")]),
+        BAD_BODY,
+    ),
+    (
+        "another version in the manifest",
+        With(&[("\"version\":\"1.0.0\"", "\"version\":\"1.0.1\"")]),
+        BAD_BODY,
+    ),
+    (
+        "another name in the manifest",
+        With(&[("\"version\":", "\"name\":\"@lab/kits\",\"version\":")]),
+        BAD_BODY,
+    ),
+];
+
+#[test]
+fn broken_bodies(rt: HostRuntime) -> Result<(), &'static str> {
+    all_told(rt.alloc(), &BROKEN)
+}
+
+static LIMITS: [Case; 4] = [
+    ("many levels", Nested(100), Told::Form),
+    ("too many levels", Nested(200), BAD_BODY),
+    ("the most bytes", Zeros(4_194_304), BAD_BODY),
+    (
+        "too many bytes",
+        Zeros(4_194_305),
+        Refused(Refusal::TooLarge),
+    ),
+];
+
+#[test]
+fn limits_of_bodies(rt: HostRuntime) -> Result<(), &'static str> {
+    all_told(rt.alloc(), &LIMITS)
+}
+
+const NO_VERSION: Change = ("1.0.0", "1.0");
+
+static VERSIONS: [Case; 6] = [
+    ("two numbers", With(&[NO_VERSION]), BAD_VERSION),
+    (
+        "a bad name first",
+        With(&[NO_VERSION, ("@lab/kit", "Kit")]),
+        BAD_NAME,
+    ),
+    ("a build", With(&[("1.0.0", "1.0.0+b")]), BAD_VERSION),
+    (
+        "a letter in front",
+        With(&[("1.0.0", "v1.0.0")]),
+        BAD_VERSION,
+    ),
+    (
+        "a number that is too great",
+        With(&[("1.0.0", "9007199254740992.0.0")]),
+        BAD_VERSION,
+    ),
+    (
+        "the greatest number",
+        With(&[("1.0.0", "9007199254740991.0.0")]),
+        Told::Version("9007199254740991.0.0"),
+    ),
+];
+
+#[test]
+fn versions_of_bodies(rt: HostRuntime) -> Result<(), &'static str> {
+    all_told(rt.alloc(), &VERSIONS)
+}
+
+// Whether the bytes have this integrity, and else the bytes.
+fn is_integrity(alloc: Global, bytes: &'static str, want: &str) -> Result<(), &'static str> {
+    match integrity_of(alloc, bytes.as_bytes()) {
+        Ok(integrity) if integrity.as_str() == want => Ok(()),
+        _ => Err(bytes),
     }
-    let cut = match KIT.as_bytes().split_last() {
-        Some((_, cut)) => cut,
-        None => b"".as_slice(),
-    };
-    assert_eq!(rt; stop_of(PublishForm::read(rt.alloc(), cut)), BAD_BODY);
-    Ok(())
 }
 
 #[test]
-fn a_body_of_too_many_bytes(rt: HostRuntime) -> Result<(), Fail> {
-    let body = zeros(rt.alloc(), 4_194_305)?;
-    assert_eq!(rt;
-        stop_of(PublishForm::read(rt.alloc(), body.as_slice())),
-        TOO_LARGE
-    );
-    Ok(())
-}
-
-#[test]
-fn a_body_of_the_most_bytes(rt: HostRuntime) -> Result<(), Fail> {
-    let body = zeros(rt.alloc(), 4_194_304)?;
-    assert_eq!(rt;
-        stop_of(PublishForm::read(rt.alloc(), body.as_slice())),
-        BAD_BODY
-    );
-    Ok(())
-}
-
-#[test]
-fn manifests_of_many_levels(rt: HostRuntime) {
-    assert_eq!(rt; stop_of(read_nested(rt.alloc(), 100)), None);
-    assert_eq!(rt; stop_of(read_nested(rt.alloc(), 200)), BAD_BODY);
-}
-
-#[test]
-fn names_before_versions(rt: HostRuntime) -> Result<(), Fail> {
-    let versioned = KIT.replace(rt.alloc(), "1.0.0", "1.0")?;
-    let both = versioned.as_str().replace(rt.alloc(), "@lab/kit", "Kit")?;
-    assert_eq!(rt;
-        stop_of(PublishForm::read(rt.alloc(), versioned.as_bytes())),
-        BAD_VERSION
-    );
-    assert_eq!(rt;
-        stop_of(PublishForm::read(rt.alloc(), both.as_bytes())),
-        BAD_NAME
-    );
-    Ok(())
-}
-
-static NO_VERSIONS: [&str; 3] = ["1.0.0+b", "v1.0.0", "9007199254740992.0.0"];
-
-#[test]
-fn versions_of_bodies(rt: HostRuntime) -> Result<(), Fail> {
-    for refused in &NO_VERSIONS {
-        assert_eq!(rt;
-            stop_with(rt.alloc(), "1.0.0", refused),
-            BAD_VERSION,
-            "{refused}"
-        );
-    }
-    assert!(rt; has_version(rt.alloc(), "9007199254740991.0.0")?);
-    Ok(())
-}
-
-#[test]
-fn an_empty_archive(rt: HostRuntime) -> Result<(), Fail> {
-    let body = kit_with_nothing(rt.alloc())?;
-    assert!(rt; has_archive(rt.alloc(), &body, b"".as_slice(), EMPTY_INTEGRITY)?);
-    Ok(())
-}
-
-#[test]
-fn integrities_of_bytes(rt: HostRuntime) -> Result<(), Fail> {
-    for (bytes, want) in [("", EMPTY_INTEGRITY), ("abc", ABC_INTEGRITY)] {
-        let integrity = integrity_of(rt.alloc(), bytes.as_bytes())?;
-        assert_eq!(rt; integrity.as_str(), want);
-    }
-    Ok(())
+fn integrities_of_bytes(rt: HostRuntime) -> Result<(), &'static str> {
+    is_integrity(rt.alloc(), "", EMPTY_INTEGRITY)?;
+    is_integrity(rt.alloc(), "abc", ABC_INTEGRITY)
 }

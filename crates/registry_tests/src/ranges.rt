@@ -1,248 +1,247 @@
 //! The tables of `docs/RANGES.md`, and texts of each kind.
 
-use registry_names::{Fault, Refusal, Stop, Ver};
+use registry_names::{Refusal, Stop, Ver};
 use registry_ranges::{Range, Selector, is_range, tag};
-use std::alloc::{AllocError, Global};
-use std::test::Fail;
+use std::alloc::Global;
 
-fn allows(rt: &HostRuntime, range: &str, version: &str) -> Result<bool, Fail> {
-    let version = Ver::parse(rt.alloc(), version)?;
-    match Range::parse(rt.alloc(), range)? {
-        Some(range) => Ok(range.allows(&version)),
-        None => Ok(false),
-    }
-}
+/// Whether a range allows a version. None where the text is no range.
+type Allowed = Option<bool>;
 
-fn is_read(alloc: Global, text: &str) -> Result<bool, Fault> {
-    Ok(Range::parse(alloc, text)?.is_some())
-}
+const ALLOWED: Allowed = Some(true);
 
-fn is_read_often(alloc: Global, part: &str, times: usize) -> Result<bool, Fault> {
-    let text = part.repeat(alloc, times)?;
-    is_read(alloc, &text)
-}
+const NOT_ALLOWED: Allowed = Some(false);
 
-fn is_range_often(alloc: Global, part: &str, times: usize) -> Result<bool, AllocError> {
-    let text = part.repeat(alloc, times)?;
-    Ok(is_range(&text))
-}
+const NO_RANGE: Allowed = None;
 
-fn is_tag(alloc: Global, text: &str) -> Result<bool, Stop> {
-    let taken = tag(alloc, text)?;
-    Ok(taken.text() == text)
-}
+/// A range, a version, and whether it is allowed.
+type Case<'a> = (&'a str, &'a str, Allowed);
 
-fn selects(rt: &HostRuntime, selector: &str, version: &str) -> Result<bool, Fail> {
-    let version = Ver::parse(rt.alloc(), version)?;
-    let selector = Selector::parse(rt.alloc(), selector)?;
-    Ok(selector.selects(&version))
-}
-
-fn stop_of<T: Drop>(answer: Result<T, Stop>) -> Option<Stop> {
-    match answer {
-        Ok(_) => None,
-        Err(stop) => Some(stop),
-    }
-}
-
-const BAD_SELECTOR: Option<Stop> = Some(Stop::Refused(Refusal::BadSelector));
-
-static ALLOWED: [(&str, &str); 22] = [
-    ("^1.2.3", "1.2.3"),
-    ("^1.2.3", "1.9.0"),
-    ("^0.0.3", "0.0.3"),
-    ("^0.0", "0.0.9"),
-    ("~1.2", "1.2.9"),
-    ("1.2.3 - 2.3", "1.2.3"),
-    ("1.2.3 - 2.3", "2.3.9"),
-    (">1.2", "1.3.0"),
-    (">=1.2.3-beta.1 <1.3.0", "1.2.3-beta.2"),
-    (">=1.2.3-beta.1 <1.3.0", "1.2.4"),
-    ("1 || 3", "1.5.0"),
-    ("1 || 3", "3.1.0"),
-    ("*", "0.0.0"),
-    ("", "1.0.0"),
-    ("  || 9", "4.0.0"),
-    ("1.x.3-beta", "1.0.0"),
-    ("=v1", "1.0.0"),
-    (">= 1", "2.0.0"),
-    ("~> 1", "1.9.0"),
-    ("v1 - v2 ", "2.9.0"),
-    ("1.2.3+build", "1.2.3"),
-    ("<=9007199254740991", "9007199254740991.0.0"),
+static RANGES: [Case<'static>; 62] = [
+    ("^1.2.3", "1.2.3", ALLOWED),
+    ("^1.2.3", "1.9.0", ALLOWED),
+    ("^0.0.3", "0.0.3", ALLOWED),
+    ("^0.0", "0.0.9", ALLOWED),
+    ("~1.2", "1.2.9", ALLOWED),
+    ("1.2.3 - 2.3", "1.2.3", ALLOWED),
+    ("1.2.3 - 2.3", "2.3.9", ALLOWED),
+    (">1.2", "1.3.0", ALLOWED),
+    (">=1.2.3-beta.1 <1.3.0", "1.2.3-beta.2", ALLOWED),
+    (">=1.2.3-beta.1 <1.3.0", "1.2.4", ALLOWED),
+    ("1 || 3", "1.5.0", ALLOWED),
+    ("1 || 3", "3.1.0", ALLOWED),
+    ("*", "0.0.0", ALLOWED),
+    ("", "1.0.0", ALLOWED),
+    ("  || 9", "4.0.0", ALLOWED),
+    ("1.x.3-beta", "1.0.0", ALLOWED),
+    ("=v1", "1.0.0", ALLOWED),
+    (">= 1", "2.0.0", ALLOWED),
+    ("~> 1", "1.9.0", ALLOWED),
+    ("v1 - v2 ", "2.9.0", ALLOWED),
+    ("1.2.3+build", "1.2.3", ALLOWED),
+    ("<=9007199254740991", "9007199254740991.0.0", ALLOWED),
+    ("^1.2.3", "1.2.2", NOT_ALLOWED),
+    ("^1.2.3", "2.0.0-0", NOT_ALLOWED),
+    ("^1.2.3", "1.3.0-beta", NOT_ALLOWED),
+    ("^0.0.3", "0.0.4", NOT_ALLOWED),
+    ("^0.0", "0.1.0", NOT_ALLOWED),
+    ("~1.2", "1.3.0", NOT_ALLOWED),
+    ("1.2.3 - 2.3", "2.4.0", NOT_ALLOWED),
+    (">1.2", "1.2.9", NOT_ALLOWED),
+    (">=1.2.3-beta.1 <1.3.0", "1.2.4-beta", NOT_ALLOWED),
+    ("1 || 3", "2.0.0", NOT_ALLOWED),
+    ("*", "1.0.0-a", NOT_ALLOWED),
+    ("", "1.0.0-a", NOT_ALLOWED),
+    ("<*", "0.0.0", NOT_ALLOWED),
+    (">*", "9.0.0", NOT_ALLOWED),
+    ("1 2", "1.0.0", NOT_ALLOWED),
+    ("1.2.3 - 2.3", "1.2.3-a", NOT_ALLOWED),
+    ("v", "1.0.0", NO_RANGE),
+    ("1.2.3.4", "1.0.0", NO_RANGE),
+    ("1.2-beta", "1.0.0", NO_RANGE),
+    ("01.2.3", "1.0.0", NO_RANGE),
+    ("> =1", "1.0.0", NO_RANGE),
+    ("1.2.3-", "1.0.0", NO_RANGE),
+    ("1.2.3-01", "1.0.0", NO_RANGE),
+    ("9007199254740992", "1.0.0", NO_RANGE),
+    ("x.9007199254740992", "1.0.0", NO_RANGE),
+    ("x-y", "1.0.0", NO_RANGE),
+    ("1.2.3 -2.3", "1.0.0", NO_RANGE),
+    ("1.2.3- 2", "1.0.0", NO_RANGE),
+    ("1.2.3 - 2.3 4", "1.0.0", NO_RANGE),
+    ("1.2.3 - ", "1.0.0", NO_RANGE),
+    ("- 1", "1.0.0", NO_RANGE),
+    ("1|2", "1.0.0", NO_RANGE),
+    ("1|| |2", "1.0.0", NO_RANGE),
+    ("==1", "1.0.0", NO_RANGE),
+    ("~ > 1", "1.0.0", NO_RANGE),
+    ("1\t||2", "1.0.0", NO_RANGE),
+    ("1*.3.2", "1.0.0", NO_RANGE),
+    ("2.0.*1", "1.0.0", NO_RANGE),
+    ("vv1", "1.0.0", NO_RANGE),
+    ("latest", "1.0.0", NO_RANGE),
 ];
 
-#[test]
-fn allowed_versions(rt: HostRuntime) -> Result<(), Fail> {
-    for (range, version) in &ALLOWED {
-        assert!(rt; is_range(range), "{range}");
-        assert!(rt; allows(&rt, range, version)?, "{range} {version}");
+fn allowed(alloc: Global, range: &str, version: &str) -> Result<Allowed, Stop> {
+    let version = Ver::parse(alloc, version)?;
+    match Range::parse(alloc, range)? {
+        Some(range) => Ok(Some(range.allows(&version))),
+        None => Ok(None),
     }
-    Ok(())
 }
 
-static NOT_ALLOWED: [(&str, &str); 16] = [
-    ("^1.2.3", "1.2.2"),
-    ("^1.2.3", "2.0.0-0"),
-    ("^1.2.3", "1.3.0-beta"),
-    ("^0.0.3", "0.0.4"),
-    ("^0.0", "0.1.0"),
-    ("~1.2", "1.3.0"),
-    ("1.2.3 - 2.3", "2.4.0"),
-    (">1.2", "1.2.9"),
-    (">=1.2.3-beta.1 <1.3.0", "1.2.4-beta"),
-    ("1 || 3", "2.0.0"),
-    ("*", "1.0.0-a"),
-    ("", "1.0.0-a"),
-    ("<*", "0.0.0"),
-    (">*", "9.0.0"),
-    ("1 2", "1.0.0"),
-    ("1.2.3 - 2.3", "1.2.3-a"),
-];
-
-#[test]
-fn other_versions(rt: HostRuntime) -> Result<(), Fail> {
-    for (range, version) in &NOT_ALLOWED {
-        assert!(rt; is_range(range), "{range}");
-        assert!(rt; !allows(&rt, range, version)?, "{range} {version}");
-    }
-    Ok(())
+// Whether both calls say of a range what is wanted.
+fn both_say(alloc: Global, case: &Case) -> Result<bool, Stop> {
+    let (range, version, wanted) = *case;
+    Ok(is_range(range) == wanted.is_some() && allowed(alloc, range, version)? == wanted)
 }
 
-static NO_RANGES: [&str; 24] = [
-    "v",
-    "1.2.3.4",
-    "1.2-beta",
-    "01.2.3",
-    "> =1",
-    "1.2.3-",
-    "1.2.3-01",
-    "9007199254740992",
-    "x.9007199254740992",
-    "x-y",
-    "1.2.3 -2.3",
-    "1.2.3- 2",
-    "1.2.3 - 2.3 4",
-    "1.2.3 - ",
-    "- 1",
-    "1|2",
-    "1|| |2",
-    "==1",
-    "~ > 1",
-    "1\t||2",
-    "1*.3.2",
-    "2.0.*1",
-    "vv1",
-    "latest",
-];
-
-#[test]
-fn texts_that_are_no_ranges(rt: HostRuntime) -> Result<(), Fail> {
-    for text in &NO_RANGES {
-        assert!(rt; !is_range(text), "{text}");
-        assert!(rt; !is_read(rt.alloc(), text)?, "{text}");
+// Whether all is said, and else the first range and version of which it isn't.
+fn all_ranges(alloc: Global) -> Result<(), (&'static str, &'static str)> {
+    for case in &RANGES {
+        if both_say(alloc, case) != Ok(true) {
+            return Err((case.0, case.1));
+        }
     }
     Ok(())
 }
 
 #[test]
-fn long_texts(rt: HostRuntime) -> Result<(), Fail> {
-    assert!(rt; is_read_often(rt.alloc(), "1||", 100_000)?);
-    assert!(rt; is_range_often(rt.alloc(), "1||", 100_000)?);
-    assert!(rt; is_range_often(rt.alloc(), " ", 1_000_000)?);
-    assert!(rt; !is_range_often(rt.alloc(), "1", 1_000_000)?);
-    assert!(rt; !is_range_often(rt.alloc(), "1.", 500_000)?);
-    Ok(())
+fn ranges(rt: HostRuntime) -> Result<(), (&'static str, &'static str)> {
+    all_ranges(rt.alloc())
 }
 
-static TAGS: [&str; 4] = ["v", "next", "1.2.3.4", "latest"];
+/// A part, how often it stands in a range, and whether 1.0.0 is allowed.
+type LongCase = (&'static str, usize, Allowed);
 
-#[test]
-fn tags(rt: HostRuntime) -> Result<(), Fail> {
-    for text in &TAGS {
-        assert!(rt; is_tag(rt.alloc(), text)?, "{text}");
-    }
-    Ok(())
+static LONG_RANGES: [LongCase; 4] = [
+    ("1||", 100_000, ALLOWED),
+    (" ", 1_000_000, ALLOWED),
+    ("1", 1_000_000, NO_RANGE),
+    ("1.", 500_000, NO_RANGE),
+];
+
+fn both_say_of_long(alloc: Global, case: &LongCase) -> Result<bool, Stop> {
+    let range = case.0.repeat(alloc, case.1)?;
+    both_say(alloc, &(&range, "1.0.0", case.2))
 }
 
-static NO_TAGS: [(&str, Refusal); 10] = [
-    ("", Refusal::RangeTag),
-    ("x", Refusal::RangeTag),
-    ("v1.4", Refusal::RangeTag),
-    ("~1", Refusal::RangeTag),
-    ("1.2.3-beta", Refusal::RangeTag),
-    (">=1 <2", Refusal::RangeTag),
-    ("a/b", Refusal::BadTag),
-    ("a b", Refusal::BadTag),
-    ("1.2.3.4 5", Refusal::BadTag),
-    ("ü", Refusal::BadTag),
-];
-
-#[test]
-fn texts_that_are_no_tags(rt: HostRuntime) {
-    for (text, refusal) in &NO_TAGS {
-        let refused = Err(Stop::Refused(*refusal));
-        assert_eq!(rt; is_tag(rt.alloc(), text), refused, "{text}");
-    }
-}
-
-static SELECTED: [(&str, &str); 12] = [
-    ("1.x", "1.0.0-beta.0"),
-    ("1.x", "1.2.0"),
-    ("1.2", "1.2.0-rc.1"),
-    ("1.2.0", "1.2.0"),
-    ("=1.2.0", "1.2.0"),
-    ("< 0.2.3", "0.2.3-beta"),
-    ("<= 0.2.3", "0.2.3"),
-    (">1.0.0 <2.0.0", "2.0.0-a"),
-    ("1.x || 3.0.0", "3.0.0"),
-    ("*", "1.0.0-a"),
-    ("", "1.0.0-a"),
-    ("9.x ||", "1.0.0"),
-];
-
-static NOT_SELECTED: [(&str, &str); 7] = [
-    ("1.x", "2.0.0-rc.1"),
-    ("1.2.0", "1.2.0-beta"),
-    ("1.2.0", "1.2.1"),
-    ("9.x", "1.2.0"),
-    ("< 0.2.3", "0.2.3"),
-    (">1.0.0 <2.0.0", "2.0.0"),
-    (">=1.0.0", "1.0.0-a"),
-];
-
-#[test]
-fn selected_versions(rt: HostRuntime) -> Result<(), Fail> {
-    for (selector, version) in &SELECTED {
-        assert!(rt; selects(&rt, selector, version)?, "{selector} {version}");
-    }
-    for (selector, version) in &NOT_SELECTED {
-        assert!(rt; !selects(&rt, selector, version)?, "{selector} {version}");
+fn all_long_ranges(alloc: Global) -> Result<(), &'static str> {
+    for case in &LONG_RANGES {
+        if both_say_of_long(alloc, case) != Ok(true) {
+            return Err(case.0);
+        }
     }
     Ok(())
 }
 
-static NO_SELECTORS: [&str; 10] = [
-    "^1.0.0",
-    "~1",
-    "~>1",
-    "1 - 2",
-    "=1.x",
-    "=*",
-    ">1",
-    "<=1.2",
-    "1.0.0 || ^2.0.0",
-    "next",
+#[test]
+fn long_ranges(rt: HostRuntime) -> Result<(), &'static str> {
+    all_long_ranges(rt.alloc())
+}
+
+/// Whether a tag is taken as it is, or a selector selects a version; or why the text is refused.
+type Told = Result<bool, Stop>;
+
+const TAKEN: Told = Ok(true);
+
+const RANGE_TAG: Told = Err(Stop::Refused(Refusal::RangeTag));
+
+const BAD_TAG: Told = Err(Stop::Refused(Refusal::BadTag));
+
+static TAGS: [(&str, Told); 14] = [
+    ("v", TAKEN),
+    ("next", TAKEN),
+    ("1.2.3.4", TAKEN),
+    ("latest", TAKEN),
+    ("", RANGE_TAG),
+    ("x", RANGE_TAG),
+    ("v1.4", RANGE_TAG),
+    ("~1", RANGE_TAG),
+    ("1.2.3-beta", RANGE_TAG),
+    (">=1 <2", RANGE_TAG),
+    ("a/b", BAD_TAG),
+    ("a b", BAD_TAG),
+    ("1.2.3.4 5", BAD_TAG),
+    ("ü", BAD_TAG),
 ];
 
-#[test]
-fn texts_that_are_no_selectors(rt: HostRuntime) -> Result<(), Fail> {
-    for text in &NO_SELECTORS {
-        assert_eq!(rt;
-            stop_of(Selector::parse(rt.alloc(), text)),
-            BAD_SELECTOR,
-            "{text}"
-        );
+fn tag_told(alloc: Global, text: &str) -> Told {
+    Ok(tag(alloc, text)?.text() == text)
+}
+
+// Whether each text is told, and else the first that isn't.
+fn all_tags(alloc: Global) -> Result<(), &'static str> {
+    for (text, told) in &TAGS {
+        if tag_told(alloc, text) != *told {
+            return Err(text);
+        }
     }
     Ok(())
+}
+
+#[test]
+fn tags(rt: HostRuntime) -> Result<(), &'static str> {
+    all_tags(rt.alloc())
+}
+
+const SELECTED: Told = Ok(true);
+
+const NOT_SELECTED: Told = Ok(false);
+
+const BAD_SELECTOR: Told = Err(Stop::Refused(Refusal::BadSelector));
+
+/// A selector, a version, and whether it is selected.
+type Selection = (&'static str, &'static str, Told);
+
+static SELECTORS: [Selection; 29] = [
+    ("1.x", "1.0.0-beta.0", SELECTED),
+    ("1.x", "1.2.0", SELECTED),
+    ("1.2", "1.2.0-rc.1", SELECTED),
+    ("1.2.0", "1.2.0", SELECTED),
+    ("=1.2.0", "1.2.0", SELECTED),
+    ("< 0.2.3", "0.2.3-beta", SELECTED),
+    ("<= 0.2.3", "0.2.3", SELECTED),
+    (">1.0.0 <2.0.0", "2.0.0-a", SELECTED),
+    ("1.x || 3.0.0", "3.0.0", SELECTED),
+    ("*", "1.0.0-a", SELECTED),
+    ("", "1.0.0-a", SELECTED),
+    ("9.x ||", "1.0.0", SELECTED),
+    ("1.x", "2.0.0-rc.1", NOT_SELECTED),
+    ("1.2.0", "1.2.0-beta", NOT_SELECTED),
+    ("1.2.0", "1.2.1", NOT_SELECTED),
+    ("9.x", "1.2.0", NOT_SELECTED),
+    ("< 0.2.3", "0.2.3", NOT_SELECTED),
+    (">1.0.0 <2.0.0", "2.0.0", NOT_SELECTED),
+    (">=1.0.0", "1.0.0-a", NOT_SELECTED),
+    ("^1.0.0", "1.0.0", BAD_SELECTOR),
+    ("~1", "1.0.0", BAD_SELECTOR),
+    ("~>1", "1.0.0", BAD_SELECTOR),
+    ("1 - 2", "1.0.0", BAD_SELECTOR),
+    ("=1.x", "1.0.0", BAD_SELECTOR),
+    ("=*", "1.0.0", BAD_SELECTOR),
+    (">1", "1.0.0", BAD_SELECTOR),
+    ("<=1.2", "1.0.0", BAD_SELECTOR),
+    ("1.0.0 || ^2.0.0", "1.0.0", BAD_SELECTOR),
+    ("next", "1.0.0", BAD_SELECTOR),
+];
+
+fn selects(alloc: Global, case: &Selection) -> Told {
+    let (selector, version, _) = *case;
+    let version = Ver::parse(alloc, version)?;
+    Ok(Selector::parse(alloc, selector)?.selects(&version))
+}
+
+// Whether each selector is told, and else the first that isn't, and its version.
+fn all_selectors(alloc: Global) -> Result<(), (&'static str, &'static str)> {
+    for case in &SELECTORS {
+        if selects(alloc, case) != case.2 {
+            return Err((case.0, case.1));
+        }
+    }
+    Ok(())
+}
+
+#[test]
+fn selectors(rt: HostRuntime) -> Result<(), (&'static str, &'static str)> {
+    all_selectors(rt.alloc())
 }

@@ -7,150 +7,178 @@ use registry_access::{
 use registry_names::{Status, Text};
 use std::alloc::{AllocError, Global};
 
-fn texts(alloc: Global, of: &[&str]) -> Result<Vec<Text>, AllocError> {
-    let mut rows = Vec::new(alloc);
-    for text in of {
-        rows.push(Text::from_str(alloc, text)?)?;
-    }
-    Ok(rows)
+/// What a row says.
+enum Fact {
+    /// There is an organisation.
+    Organisation(&'static str),
+    /// A user is a member of an organisation.
+    Member(&'static str, &'static str, Role),
+    /// A user is in a team of an organisation.
+    TeamMember(&'static str, &'static str, &'static str),
+    /// A team of `lab` is granted a level on a package.
+    Grant(&'static str, &'static str, Level),
+    /// A package was published.
+    Package(&'static str, Status),
+    /// A user maintains a package.
+    Maintainer(&'static str, &'static str),
 }
 
-fn member(
+static FACTS: [Fact; 18] = [
+    Fact::Organisation("inc"),
+    Fact::Organisation("lab"),
+    Fact::Member("inc", "eve", Role::Owner),
+    Fact::Member("lab", "amy", Role::Admin),
+    Fact::Member("lab", "ann", Role::Owner),
+    Fact::Member("lab", "bob", Role::Developer),
+    Fact::Member("lab", "dan", Role::Developer),
+    Fact::TeamMember("inc", "ops", "eve"),
+    Fact::TeamMember("lab", "developers", "bob"),
+    Fact::TeamMember("lab", "ops", "bob"),
+    Fact::Grant("developers", "@lab/app", Level::Read),
+    Fact::Grant("developers", "@lab/kit", Level::Write),
+    Fact::Grant("ops", "@lab/app", Level::Write),
+    Fact::Grant("ops", "@lab/kit", Level::Read),
+    Fact::Package("@lab/app", Status::Public),
+    Fact::Package("@lab/kit", Status::Restricted),
+    Fact::Package("tool", Status::Public),
+    Fact::Maintainer("tool", "bob"),
+];
+
+fn add_organisation(
     alloc: Global,
+    rows: &mut Vec<Text>,
+    organisation: &str,
+) -> Result<(), AllocError> {
+    rows.push(Text::from_str(alloc, organisation)?)?;
+    Ok(())
+}
+
+fn add_member(
+    alloc: Global,
+    rows: &mut Vec<MemberRow>,
     organisation: &str,
     user: &str,
     role: Role,
-) -> Result<MemberRow, AllocError> {
-    let organisation = Text::from_str(alloc, organisation)?;
-    let user = Text::from_str(alloc, user)?;
-    Ok(MemberRow {
-        organisation,
-        user,
+) -> Result<(), AllocError> {
+    rows.push(MemberRow {
+        organisation: Text::from_str(alloc, organisation)?,
+        user: Text::from_str(alloc, user)?,
         role,
-    })
+    })?;
+    Ok(())
 }
 
-fn members(alloc: Global, of: &[(&str, &str, Role)]) -> Result<Vec<MemberRow>, AllocError> {
-    let mut rows = Vec::new(alloc);
-    for (organisation, user, role) in of {
-        rows.push(member(alloc, organisation, user, *role)?)?;
-    }
-    Ok(rows)
-}
-
-fn team_member(
+fn add_team_member(
     alloc: Global,
+    rows: &mut Vec<TeamMemberRow>,
     organisation: &str,
     team: &str,
     user: &str,
-) -> Result<TeamMemberRow, AllocError> {
-    let organisation = Text::from_str(alloc, organisation)?;
-    let team = Text::from_str(alloc, team)?;
-    let user = Text::from_str(alloc, user)?;
-    Ok(TeamMemberRow {
-        organisation,
-        team,
-        user,
-    })
+) -> Result<(), AllocError> {
+    rows.push(TeamMemberRow {
+        organisation: Text::from_str(alloc, organisation)?,
+        team: Text::from_str(alloc, team)?,
+        user: Text::from_str(alloc, user)?,
+    })?;
+    Ok(())
 }
 
-fn team_members(
+fn add_grant(
     alloc: Global,
-    of: &[(&str, &str, &str)],
-) -> Result<Vec<TeamMemberRow>, AllocError> {
-    let mut rows = Vec::new(alloc);
-    for (organisation, team, user) in of {
-        rows.push(team_member(alloc, organisation, team, user)?)?;
-    }
-    Ok(rows)
-}
-
-fn grant(alloc: Global, team: &str, package: &str, level: Level) -> Result<GrantRow, AllocError> {
-    let organisation = Text::from_str(alloc, "lab")?;
-    let team = Text::from_str(alloc, team)?;
-    let package = Text::from_str(alloc, package)?;
-    Ok(GrantRow {
-        organisation,
-        team,
-        package,
+    rows: &mut Vec<GrantRow>,
+    team: &str,
+    package: &str,
+    level: Level,
+) -> Result<(), AllocError> {
+    rows.push(GrantRow {
+        organisation: Text::from_str(alloc, "lab")?,
+        team: Text::from_str(alloc, team)?,
+        package: Text::from_str(alloc, package)?,
         level,
-    })
+    })?;
+    Ok(())
 }
 
-fn grants(alloc: Global, of: &[(&str, &str, Level)]) -> Result<Vec<GrantRow>, AllocError> {
-    let mut rows = Vec::new(alloc);
-    for (team, package, level) in of {
-        rows.push(grant(alloc, team, package, *level)?)?;
+fn add_package(
+    alloc: Global,
+    rows: &mut Vec<PackageRow>,
+    package: &str,
+    status: Status,
+) -> Result<(), AllocError> {
+    rows.push(PackageRow {
+        package: Text::from_str(alloc, package)?,
+        status,
+    })?;
+    Ok(())
+}
+
+fn add_maintainer(
+    alloc: Global,
+    rows: &mut Vec<MaintainerRow>,
+    package: &str,
+    user: &str,
+) -> Result<(), AllocError> {
+    rows.push(MaintainerRow {
+        package: Text::from_str(alloc, package)?,
+        user: Text::from_str(alloc, user)?,
+    })?;
+    Ok(())
+}
+
+fn add(alloc: Global, rows: &mut AccessRows, fact: &Fact) -> Result<(), AllocError> {
+    match *fact {
+        Fact::Organisation(name) => add_organisation(alloc, &mut rows.organisations, name),
+        Fact::Member(organisation, user, role) => {
+            add_member(alloc, &mut rows.members, organisation, user, role)
+        }
+        Fact::TeamMember(organisation, team, user) => {
+            add_team_member(alloc, &mut rows.team_members, organisation, team, user)
+        }
+        Fact::Grant(team, package, level) => {
+            add_grant(alloc, &mut rows.grants, team, package, level)
+        }
+        Fact::Package(package, status) => add_package(alloc, &mut rows.packages, package, status),
+        Fact::Maintainer(package, user) => {
+            add_maintainer(alloc, &mut rows.maintainers, package, user)
+        }
     }
-    Ok(rows)
 }
 
-fn package_rows(alloc: Global, of: &[(&str, Status)]) -> Result<Vec<PackageRow>, AllocError> {
-    let mut rows = Vec::new(alloc);
-    for (package, status) in of {
-        let package = Text::from_str(alloc, package)?;
-        rows.push(PackageRow {
-            package,
-            status: *status,
-        })?;
+fn no_rows(alloc: Global) -> AccessRows {
+    AccessRows {
+        organisations: Vec::new(alloc),
+        members: Vec::new(alloc),
+        teams: Vec::new(alloc),
+        team_members: Vec::new(alloc),
+        grants: Vec::new(alloc),
+        packages: Vec::new(alloc),
+        maintainers: Vec::new(alloc),
     }
-    Ok(rows)
 }
-
-fn maintainer(alloc: Global, package: &str, user: &str) -> Result<Vec<MaintainerRow>, AllocError> {
-    let package = Text::from_str(alloc, package)?;
-    let user = Text::from_str(alloc, user)?;
-    let mut rows = Vec::new(alloc);
-    rows.push(MaintainerRow { package, user })?;
-    Ok(rows)
-}
-
-const MEMBERS: [(&str, &str, Role); 5] = [
-    ("inc", "eve", Role::Owner),
-    ("lab", "amy", Role::Admin),
-    ("lab", "ann", Role::Owner),
-    ("lab", "bob", Role::Developer),
-    ("lab", "dan", Role::Developer),
-];
-
-const TEAM_MEMBERS: [(&str, &str, &str); 3] = [
-    ("inc", "ops", "eve"),
-    ("lab", "developers", "bob"),
-    ("lab", "ops", "bob"),
-];
-
-const GRANTS: [(&str, &str, Level); 4] = [
-    ("developers", "@lab/app", Level::Read),
-    ("developers", "@lab/kit", Level::Write),
-    ("ops", "@lab/app", Level::Write),
-    ("ops", "@lab/kit", Level::Read),
-];
-
-const PACKAGES: [(&str, Status); 3] = [
-    ("@lab/app", Status::Public),
-    ("@lab/kit", Status::Restricted),
-    ("tool", Status::Public),
-];
 
 pub(super) fn registry(alloc: Global) -> Result<AccessRows, AllocError> {
-    Ok(AccessRows {
-        organisations: texts(alloc, &["inc", "lab"])?,
-        members: members(alloc, &MEMBERS)?,
-        teams: Vec::new(alloc),
-        team_members: team_members(alloc, &TEAM_MEMBERS)?,
-        grants: grants(alloc, &GRANTS)?,
-        packages: package_rows(alloc, &PACKAGES)?,
-        maintainers: maintainer(alloc, "tool", "bob")?,
-    })
+    let mut rows = no_rows(alloc);
+    for fact in &FACTS {
+        add(alloc, &mut rows, fact)?;
+    }
+    Ok(rows)
 }
 
+// The members of `lab`.
+static LAB: [(&str, Role); 4] = [
+    ("amy", Role::Admin),
+    ("ann", Role::Owner),
+    ("bob", Role::Developer),
+    ("dan", Role::Developer),
+];
+
 fn role_in_lab(who: &str) -> Option<Role> {
-    match who {
-        "ann" => Some(Role::Owner),
-        "amy" => Some(Role::Admin),
-        "bob" | "dan" => Some(Role::Developer),
-        _ => None,
+    for (member, role) in &LAB {
+        if *member == who {
+            return Some(*role);
+        }
     }
+    None
 }
 
 fn status_of(package: &str) -> Option<Status> {

@@ -8,15 +8,14 @@ ghost use Rattle.registry_packument.specs.Sources.{version_entry, IsInOrder};
 ghost use Rattle.std.specs.FinMap.Entries.{below_all};
 
 use crate::packument::{TagCase, VersionCase, head, versions};
-use registry_names::{Fault, Text, ToWrite};
+use registry_names::{Fault, ToWrite};
 use registry_packument::{
-    PackFault, PackHead, VersionRow, VersionSource, packument_len, packument_text, write_packument,
+    PackFault, PackHead, VersionRow, VersionSource, packument_len, write_packument,
 };
 use std::alloc::{AllocError, Global};
 use std::collections::VecDeque;
 use std::io;
 use std::io::{ErrorKind, Write};
-use std::test::Fail;
 
 /// Rows in memory. The source answers so many calls, and then with a fault.
 #[derive(Drop)]
@@ -96,115 +95,137 @@ impl Write for Narrow {
     }
 }
 
-static KIT_TAGS: [TagCase; 1] = [("latest", "1.1.0")];
+pub(super) const KIT_TAGS: &[TagCase] = &[("latest", "1.1.0")];
 
-fn kit(alloc: Global) -> Result<PackHead, AllocError> {
-    head(alloc, "kit", &KIT_TAGS)
-}
-
-fn source(alloc: Global, cases: &[VersionCase], answers: u32) -> Result<Rows, Fault> {
-    Rows::new(versions(alloc, cases)?, answers).ok_or(Fault::Database)
-}
-
-fn write<W: Write>(alloc: Global, source: &mut Rows, writer: &mut W) -> Result<(), PackFault> {
-    write_packument(alloc, &kit(alloc)?, source, &mut ToWrite::new(writer))
-}
-
-fn text(alloc: Global, cases: &[VersionCase]) -> Result<Text, Fault> {
-    packument_text(alloc, &kit(alloc)?, &versions(alloc, cases)?)
-}
-
-fn count(alloc: Global, cases: &[VersionCase], answers: u32) -> Result<u64, Fault> {
-    packument_len(alloc, &kit(alloc)?, &mut source(alloc, cases, answers)?)
-}
-
-const KIT_VERSIONS: &[VersionCase] = &[
+pub(super) const KIT_VERSIONS: &[VersionCase] = &[
     ("1.0.0", r#"{"a":1}"#, ""),
     ("1.1.0", r#"{"a":1,"z":2}"#, "old"),
     ("2.0.0-b", "{}", ""),
 ];
 
-const KIT: &str =
+/// The packument of these tags and versions.
+pub(super) const KIT: &str =
     r#"{"_id":"kit","dist-tags":{"latest":"1.1.0"},"name":"kit","versions":{"1.0.0":{"a":1},"1.1.0":{"a":1,"deprecated":"old","z":2},"2.0.0-b":{}}}"#;
 
-// Rows, and the packument of them.
-static PACKUMENTS: [(&[VersionCase], &str); 2] = [
-    (KIT_VERSIONS, KIT),
-    (
-        &[],
-        r#"{"_id":"kit","dist-tags":{"latest":"1.1.0"},"name":"kit","versions":{}}"#,
-    ),
+pub(super) const KIT_WITHOUT_VERSIONS: &str =
+    r#"{"_id":"kit","dist-tags":{"latest":"1.1.0"},"name":"kit","versions":{}}"#;
+
+/// Versions, from a source that answers so many calls, to a writer that takes so many bytes; what
+/// is written where all of it has room; and how that ends.
+#[derive(Drop)]
+struct Case {
+    versions: &'static [VersionCase],
+    answers: u32,
+    room: usize,
+    text: &'static str,
+    end: Result<(), PackFault>,
+}
+
+fn is_told(alloc: Global, case: &Case) -> Result<bool, Fault> {
+    let head = head(alloc, "kit", KIT_TAGS)?;
+    is_told_of(alloc, &head, case)
+}
+
+fn is_told_of(alloc: Global, head: &PackHead, case: &Case) -> Result<bool, Fault> {
+    Ok(is_counted(alloc, head, case)? && is_written(alloc, head, case)?)
+}
+
+fn is_counted(alloc: Global, head: &PackHead, case: &Case) -> Result<bool, Fault> {
+    let mut source = source(alloc, case)?;
+    let len = match case.end {
+        Err(PackFault::Source(fault)) => Err(fault),
+        _ => Ok(case.text.len() as u64),
+    };
+    Ok(packument_len(alloc, head, &mut source) == len)
+}
+
+fn is_written(alloc: Global, head: &PackHead, case: &Case) -> Result<bool, Fault> {
+    let mut source = source(alloc, case)?;
+    Ok(writes(alloc, head, &mut source, case) && stays(alloc, &mut source))
+}
+
+fn source(alloc: Global, case: &Case) -> Result<Rows, Fault> {
+    Rows::new(versions(alloc, case.versions)?, case.answers).ok_or(Fault::Database)
+}
+
+fn writes(alloc: Global, head: &PackHead, source: &mut Rows, case: &Case) -> bool {
+    let mut narrow = Narrow {
+        taken: Vec::new(alloc),
+        room: case.room,
+    };
+    let end = write_packument(alloc, head, source, &mut ToWrite::new(&mut narrow));
+    let whole = case.text.as_bytes();
+    end == case.end && narrow.taken.as_slice() == whole.get(..case.room).unwrap_or(whole)
+}
+
+// Whether the source, where it failed, fails again.
+fn stays(alloc: Global, source: &mut Rows) -> bool {
+    source.answers > 0 || source.next(alloc).err() == Some(Fault::Database)
+}
+
+/// What a row shows, versions, how many calls their source answers, and what is written then.
+type Row = (&'static str, &'static [VersionCase], u32, &'static str);
+
+// Whether each row is told, and else what the first shows that isn't.
+fn all_told(
+    alloc: Global,
+    rows: &'static [Row],
+    end: Result<(), PackFault>,
+) -> Result<(), &'static str> {
+    for (shows, versions, answers, text) in rows {
+        let case = Case {
+            versions,
+            answers: *answers,
+            room: usize::MAX,
+            text,
+            end,
+        };
+        if is_told(alloc, &case) != Ok(true) {
+            return Err(shows);
+        }
+    }
+    Ok(())
+}
+
+static WHOLE: [Row; 2] = [
+    ("three versions", KIT_VERSIONS, 9, KIT),
+    ("no versions", &[], 9, KIT_WITHOUT_VERSIONS),
 ];
 
-fn written(alloc: Global, cases: &[VersionCase]) -> Result<Vec<u8>, PackFault> {
-    let mut source = source(alloc, cases, 9)?;
-    let mut out = Vec::new(alloc);
-    write(alloc, &mut source, &mut out)?;
-    Ok(out)
-}
-
-fn is_written(alloc: Global, cases: &[VersionCase], packument: &str) -> Result<bool, PackFault> {
-    let bytes = written(alloc, cases)?;
-    Ok(bytes.as_slice() == packument.as_bytes())
-}
-
-fn is_text(alloc: Global, cases: &[VersionCase], packument: &str) -> Result<bool, Fault> {
-    let text = text(alloc, cases)?;
-    Ok(text.as_str() == packument)
-}
-
 #[test]
-fn written_read_and_counted_alike(rt: HostRuntime) -> Result<(), Fail> {
-    for (cases, packument) in &PACKUMENTS {
-        assert!(rt; is_written(rt.alloc(), cases, packument)?);
-        assert!(rt; is_text(rt.alloc(), cases, packument)?);
-        assert_eq!(rt; count(rt.alloc(), cases, 9)?, packument.len() as u64);
-    }
-    Ok(())
-}
-
-#[test]
-fn a_failed_write_leaves_a_front(rt: HostRuntime) -> Result<(), Fail> {
-    let alloc = rt.alloc();
-    for room in 0..KIT.len() {
-        let mut source = source(alloc, KIT_VERSIONS, 9)?;
-        let mut narrow = Narrow {
-            taken: Vec::new(alloc),
-            room,
-        };
-        let end = write(alloc, &mut source, &mut narrow);
-        assert_eq!(rt; end, Err(PackFault::Write));
-        assert_eq!(rt; Some(narrow.taken.as_slice()), KIT.as_bytes().get(..room));
-    }
-    Ok(())
+fn written_and_counted_alike(rt: HostRuntime) -> Result<(), &'static str> {
+    all_told(rt.alloc(), &WHOLE, Ok(()))
 }
 
 const SOURCE_FAILED: Result<(), PackFault> = Err(PackFault::Source(Fault::Database));
 
-// Rows, how many calls the source answers, and what of the packument is written.
-static FRONTS: [(&[VersionCase], u32, &str); 5] = [
+static FRONTS: [Row; 5] = [
     (
+        "no answer",
         KIT_VERSIONS,
         0,
         r#"{"_id":"kit","dist-tags":{"latest":"1.1.0"},"name":"kit","versions":{"#,
     ),
     (
+        "one answer",
         KIT_VERSIONS,
         1,
         r#"{"_id":"kit","dist-tags":{"latest":"1.1.0"},"name":"kit","versions":{"1.0.0":{"a":1}"#,
     ),
     (
+        "two answers",
         KIT_VERSIONS,
         2,
         r#"{"_id":"kit","dist-tags":{"latest":"1.1.0"},"name":"kit","versions":{"1.0.0":{"a":1},"1.1.0":{"a":1,"deprecated":"old","z":2}"#,
     ),
     (
+        "three answers",
         KIT_VERSIONS,
         3,
         r#"{"_id":"kit","dist-tags":{"latest":"1.1.0"},"name":"kit","versions":{"1.0.0":{"a":1},"1.1.0":{"a":1,"deprecated":"old","z":2},"2.0.0-b":{}"#,
     ),
-    // The second has no document.
     (
+        "a version without a document",
         &[
             ("1.0.0", r#"{"a":1}"#, ""),
             ("1.1.0", "[1]", "old"),
@@ -216,29 +237,28 @@ static FRONTS: [(&[VersionCase], u32, &str); 5] = [
 ];
 
 #[test]
-fn a_fault_of_the_source_leaves_a_front(rt: HostRuntime) -> Result<(), Fail> {
-    let alloc = rt.alloc();
-    for (cases, answers, front) in &FRONTS {
-        let mut source = source(alloc, cases, *answers)?;
-        let mut out = Vec::new(alloc);
-        assert_eq!(rt; write(alloc, &mut source, &mut out), SOURCE_FAILED);
-        assert_eq!(rt; out.as_slice(), front.as_bytes());
-        assert_eq!(rt; count(alloc, cases, *answers), Err(Fault::Database));
+fn a_fault_of_the_source_leaves_a_front(rt: HostRuntime) -> Result<(), &'static str> {
+    all_told(rt.alloc(), &FRONTS, SOURCE_FAILED)
+}
+
+// Whether the example is cut where there is no more room, and else the first room where it isn't.
+fn all_rooms(alloc: Global) -> Result<(), usize> {
+    for room in 0..KIT.len() {
+        let case = Case {
+            versions: KIT_VERSIONS,
+            answers: 9,
+            room,
+            text: KIT,
+            end: Err(PackFault::Write),
+        };
+        if is_told(alloc, &case) != Ok(true) {
+            return Err(room);
+        }
     }
     Ok(())
 }
 
-// What the source answers where it is asked again after its fault.
-fn asked_again(alloc: Global, answers: u32) -> Result<Option<Fault>, PackFault> {
-    let mut source = source(alloc, KIT_VERSIONS, answers)?;
-    let mut out = Vec::new(alloc);
-    let _ = write(alloc, &mut source, &mut out);
-    Ok(source.next(alloc).err())
-}
-
 #[test]
-fn a_fault_of_the_source_stays(rt: HostRuntime) {
-    for answers in 0..4 {
-        assert_eq!(rt; asked_again(rt.alloc(), answers), Ok(Some(Fault::Database)));
-    }
+fn a_failed_write_leaves_a_front(rt: HostRuntime) -> Result<(), usize> {
+    all_rooms(rt.alloc())
 }

@@ -1,58 +1,92 @@
 //! The archives of bodies, and what the manifest says of them.
 
-use crate::publish::{BAD_BODY, BAD_INTEGRITY, stop_with};
-use registry_names::Stop;
-use std::alloc::Global;
+use crate::publish::case::Body::With;
+use crate::publish::case::{BAD_BODY, BAD_INTEGRITY, Case, Change, Told, all_told};
+use crate::publish::{ABC_INTEGRITY, EMPTY_INTEGRITY};
 
-// What stops the example's body with these members in its attachment.
-fn stop_with_archive(alloc: Global, members: &str) -> Option<Stop> {
-    stop_with(alloc, r#""data":"YWJj","length":3"#, members)
-}
+const DATA: &str = r#""data":"YWJj","length":3"#;
 
-static OUT_OF_FORM: [&str; 8] = [
-    r#""data":"YWJjZA""#,
-    r#""data":"YWJjZB==""#,
-    r#""data":"YWJj\n""#,
-    r#""data":null"#,
-    r#""length":3"#,
-    r#""data":"YWJj","length":4"#,
-    r#""data":"YWJj","length":"3""#,
-    r#""data":"YWJj","length":null"#,
+const INTEGRITY: &str = r#""integrity":"#;
+
+const DIST: &str = r#""dist":"#;
+
+static ARCHIVES: [Case; 9] = [
+    (
+        "no padding",
+        With(&[(DATA, r#""data":"YWJjZA""#)]),
+        BAD_BODY,
+    ),
+    (
+        "bits after the last byte",
+        With(&[(DATA, r#""data":"YWJjZB==""#)]),
+        BAD_BODY,
+    ),
+    (
+        "an end of a line",
+        With(&[(DATA, r#""data":"YWJj\n""#)]),
+        BAD_BODY,
+    ),
+    ("data of null", With(&[(DATA, r#""data":null"#)]), BAD_BODY),
+    ("no data", With(&[(DATA, r#""length":3"#)]), BAD_BODY),
+    (
+        "another length",
+        With(&[(DATA, r#""data":"YWJj","length":4"#)]),
+        BAD_BODY,
+    ),
+    (
+        "a length that is a text",
+        With(&[(DATA, r#""data":"YWJj","length":"3""#)]),
+        BAD_BODY,
+    ),
+    (
+        "a length of null",
+        With(&[(DATA, r#""data":"YWJj","length":null"#)]),
+        BAD_BODY,
+    ),
+    ("no length", With(&[(DATA, r#""data":"YWJj""#)]), Told::Form),
 ];
 
 #[test]
-fn archives_out_of_form(rt: HostRuntime) {
-    for members in &OUT_OF_FORM {
-        assert_eq!(rt;
-            stop_with_archive(rt.alloc(), members),
-            BAD_BODY,
-            "{members}"
-        );
-    }
-    assert_eq!(rt; stop_with_archive(rt.alloc(), r#""data":"YWJj""#), None);
+fn archives_out_of_form(rt: HostRuntime) -> Result<(), &'static str> {
+    all_told(rt.alloc(), &ARCHIVES)
 }
 
-static OF_OTHER_BYTES: [&str; 2] = [r#""data":"YWJjZA==","length":4"#, r#""data":"","length":0"#];
+const NOTHING: Change = (DATA, r#""data":"","length":0"#);
+
+const OF_NOTHING: Change = (ABC_INTEGRITY, EMPTY_INTEGRITY);
+
+static INTEGRITIES: [Case; 8] = [
+    (
+        "one byte more",
+        With(&[(DATA, r#""data":"YWJjZA==","length":4"#)]),
+        BAD_INTEGRITY,
+    ),
+    ("no bytes", With(&[NOTHING]), BAD_INTEGRITY),
+    (
+        "an integrity of null",
+        With(&[(INTEGRITY, r#""integrity":null,"x":"#)]),
+        BAD_INTEGRITY,
+    ),
+    ("no integrity", With(&[(INTEGRITY, r#""x":"#)]), Told::Form),
+    ("no dist", With(&[(DIST, r#""x":"#)]), Told::Form),
+    (
+        "a dist that is a text",
+        With(&[(DIST, r#""dist":"a","x":"#)]),
+        Told::Form,
+    ),
+    (
+        "an empty archive",
+        With(&[NOTHING, OF_NOTHING]),
+        Told::Archive(""),
+    ),
+    (
+        "the integrity of nothing",
+        With(&[NOTHING, OF_NOTHING]),
+        Told::Integrity(EMPTY_INTEGRITY),
+    ),
+];
 
 #[test]
-fn integrities_of_archives(rt: HostRuntime) {
-    for members in &OF_OTHER_BYTES {
-        assert_eq!(rt;
-            stop_with_archive(rt.alloc(), members),
-            BAD_INTEGRITY,
-            "{members}"
-        );
-    }
-    let none = stop_with(rt.alloc(), r#""integrity":"#, r#""integrity":null,"x":"#);
-    assert_eq!(rt; none, BAD_INTEGRITY);
-}
-
-#[test]
-fn manifests_without_integrity(rt: HostRuntime) {
-    assert_eq!(rt; stop_with(rt.alloc(), r#""integrity":"#, r#""x":"#), None);
-    assert_eq!(rt; stop_with(rt.alloc(), r#""dist":"#, r#""x":"#), None);
-    assert_eq!(rt;
-        stop_with(rt.alloc(), r#""dist":"#, r#""dist":"a","x":"#),
-        None
-    );
+fn integrities_of_archives(rt: HostRuntime) -> Result<(), &'static str> {
+    all_told(rt.alloc(), &INTEGRITIES)
 }

@@ -1,69 +1,94 @@
 //! The tags and the statuses that bodies ask for.
 
-use crate::publish::{BAD_BODY, read_with, stop_with};
-use registry_names::{Status, Stop};
-use std::alloc::Global;
-use std::test::Fail;
+use crate::publish::case::Body::With;
+use crate::publish::case::{BAD_BODY, Case, Told, all_told};
+use registry_names::Status;
 
 const TAGS: &str = r#""dist-tags":{"latest":"1.0.0"}"#;
 
 const ACCESS: &str = r#""access":null"#;
 
-// Whether the example's body with another member in place of its tags asks for this tag.
-fn asks_for_tag(alloc: Global, member: &str, tag: &str) -> Result<bool, Stop> {
-    let form = read_with(alloc, TAGS, member)?;
-    Ok(form.tag().text() == tag)
-}
+const LATEST: Told = Told::Tag("latest");
 
-// The status that the example's body asks for with another member in place of its `access`.
-fn status_asked(alloc: Global, member: &str) -> Result<Option<Status>, Stop> {
-    let form = read_with(alloc, ACCESS, member)?;
-    Ok(form.access())
-}
+const PUBLIC: Told = Told::Access(Some(Status::Public));
 
-#[test]
-fn tags_that_are_asked_for(rt: HostRuntime) -> Result<(), Fail> {
-    assert!(rt; asks_for_tag(rt.alloc(), r#""dist-tags":{"next":"1.0.0"}"#, "next")?);
-    assert!(rt; asks_for_tag(rt.alloc(), r#""dist-tags":{}"#, "latest")?);
-    assert!(rt; asks_for_tag(rt.alloc(), r#""x":0"#, "latest")?);
-    Ok(())
-}
+const RESTRICTED: Told = Told::Access(Some(Status::Restricted));
 
-static NO_TAGS: [&str; 5] = [
-    r#""dist-tags":{"latest":"1.0.0","next":"1.0.0"}"#,
-    r#""dist-tags":{"latest":"1.0.1"}"#,
-    r#""dist-tags":{"latest":null}"#,
-    r#""dist-tags":["latest"]"#,
-    r#""dist-tags":null"#,
+static ASKED_TAGS: [Case; 8] = [
+    (
+        "another tag",
+        With(&[(TAGS, r#""dist-tags":{"next":"1.0.0"}"#)]),
+        Told::Tag("next"),
+    ),
+    ("no tag", With(&[(TAGS, r#""dist-tags":{}"#)]), LATEST),
+    ("no tags", With(&[(TAGS, r#""x":0"#)]), LATEST),
+    (
+        "two tags",
+        With(&[(TAGS, r#""dist-tags":{"latest":"1.0.0","next":"1.0.0"}"#)]),
+        BAD_BODY,
+    ),
+    (
+        "a tag of another version",
+        With(&[(TAGS, r#""dist-tags":{"latest":"1.0.1"}"#)]),
+        BAD_BODY,
+    ),
+    (
+        "a tag of null",
+        With(&[(TAGS, r#""dist-tags":{"latest":null}"#)]),
+        BAD_BODY,
+    ),
+    (
+        "tags in an array",
+        With(&[(TAGS, r#""dist-tags":["latest"]"#)]),
+        BAD_BODY,
+    ),
+    (
+        "tags that are null",
+        With(&[(TAGS, r#""dist-tags":null"#)]),
+        BAD_BODY,
+    ),
 ];
 
 #[test]
-fn tags_out_of_form(rt: HostRuntime) {
-    for member in &NO_TAGS {
-        assert_eq!(rt; stop_with(rt.alloc(), TAGS, member), BAD_BODY, "{member}");
-    }
+fn tags_that_are_asked_for(rt: HostRuntime) -> Result<(), &'static str> {
+    all_told(rt.alloc(), &ASKED_TAGS)
 }
 
-#[test]
-fn statuses_that_are_asked_for(rt: HostRuntime) -> Result<(), Fail> {
-    let public = status_asked(rt.alloc(), r#""access":"public""#)?;
-    assert_eq!(rt; public, Some(Status::Public));
-    let restricted = status_asked(rt.alloc(), r#""access":"restricted""#)?;
-    assert_eq!(rt; restricted, Some(Status::Restricted));
-    assert_eq!(rt; status_asked(rt.alloc(), r#""x":0"#)?, None);
-    Ok(())
-}
-
-static NO_STATUSES: [&str; 4] = [
-    r#""access":"secret""#,
-    r#""access":"Public""#,
-    r#""access":["public"]"#,
-    r#""access":false"#,
+static ASKED_STATUSES: [Case; 7] = [
+    ("public", With(&[(ACCESS, r#""access":"public""#)]), PUBLIC),
+    (
+        "restricted",
+        With(&[(ACCESS, r#""access":"restricted""#)]),
+        RESTRICTED,
+    ),
+    (
+        "no status",
+        With(&[(ACCESS, r#""x":0"#)]),
+        Told::Access(None),
+    ),
+    (
+        "another word",
+        With(&[(ACCESS, r#""access":"secret""#)]),
+        BAD_BODY,
+    ),
+    (
+        "a capital",
+        With(&[(ACCESS, r#""access":"Public""#)]),
+        BAD_BODY,
+    ),
+    (
+        "a status in an array",
+        With(&[(ACCESS, r#""access":["public"]"#)]),
+        BAD_BODY,
+    ),
+    (
+        "a status that is false",
+        With(&[(ACCESS, r#""access":false"#)]),
+        BAD_BODY,
+    ),
 ];
 
 #[test]
-fn statuses_out_of_form(rt: HostRuntime) {
-    for member in &NO_STATUSES {
-        assert_eq!(rt; stop_with(rt.alloc(), ACCESS, member), BAD_BODY, "{member}");
-    }
+fn statuses_that_are_asked_for(rt: HostRuntime) -> Result<(), &'static str> {
+    all_told(rt.alloc(), &ASKED_STATUSES)
 }

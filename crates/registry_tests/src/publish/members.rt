@@ -1,46 +1,63 @@
 //! Bodies whose members are missing, or of another kind.
 
-use crate::publish::{BAD_BODY, stop_of, stop_with};
-use registry_publish::PublishForm;
+use crate::publish::case::Body::{Text, With};
+use crate::publish::case::{BAD_BODY, Case, all_told};
 
-static NO_BODIES: [&str; 5] = ["", "null", "[]", "{}", "{}}"];
+const VERSIONS: &str = r#""versions":"#;
 
-#[test]
-fn texts_that_are_no_bodies(rt: HostRuntime) {
-    for text in &NO_BODIES {
-        let stop = stop_of(PublishForm::read(rt.alloc(), text.as_bytes()));
-        assert_eq!(rt; stop, BAD_BODY, "{text}");
-    }
-}
+const ATTACHMENTS: &str = r#""_attachments":"#;
 
-static OUT_OF_FORM: [(&str, &str); 5] = [
-    (r#""@lab/kit","dist-tags":"#, r#"1,"dist-tags":"#),
-    (r#""versions":"#, r#""versions":{},"x":"#),
-    (r#""versions":"#, r#""versions":{"1.0.0":[]},"x":"#),
-    (r#""_attachments":"#, r#""x":"#),
-    (r#""_attachments":"#, r#""_attachments":{"x":"YWJj"},"x":"#),
+const DIST: &str = r#""dist":"#;
+
+static MEMBERS: [Case; 13] = [
+    ("no text", Text(""), BAD_BODY),
+    ("null", Text("null"), BAD_BODY),
+    ("an array", Text("[]"), BAD_BODY),
+    ("no members", Text("{}"), BAD_BODY),
+    ("a brace too many", Text("{}}"), BAD_BODY),
+    (
+        "a name that is a number",
+        With(&[(r#""@lab/kit","dist-tags":"#, r#"1,"dist-tags":"#)]),
+        BAD_BODY,
+    ),
+    (
+        "no version",
+        With(&[(VERSIONS, r#""versions":{},"x":"#)]),
+        BAD_BODY,
+    ),
+    (
+        "a version that is an array",
+        With(&[(VERSIONS, r#""versions":{"1.0.0":[]},"x":"#)]),
+        BAD_BODY,
+    ),
+    (
+        "no attachments",
+        With(&[(ATTACHMENTS, r#""x":"#)]),
+        BAD_BODY,
+    ),
+    (
+        "an attachment that is a text",
+        With(&[(ATTACHMENTS, r#""_attachments":{"x":"YWJj"},"x":"#)]),
+        BAD_BODY,
+    ),
+    (
+        "dependencies in an array",
+        With(&[(DIST, r#""dependencies":["@lab/base"],"dist":"#)]),
+        BAD_BODY,
+    ),
+    (
+        "a range that is a number",
+        With(&[(DIST, r#""optionalDependencies":{"@lab/base":1},"dist":"#)]),
+        BAD_BODY,
+    ),
+    (
+        "dependencies in a text",
+        With(&[(DIST, r#""peerDependencies":"@lab/base","dist":"#)]),
+        BAD_BODY,
+    ),
 ];
 
 #[test]
-fn members_out_of_form(rt: HostRuntime) {
-    for (from, to) in &OUT_OF_FORM {
-        assert_eq!(rt; stop_with(rt.alloc(), from, to), BAD_BODY, "{to}");
-    }
-}
-
-static NO_DEPENDENCIES: [&str; 3] = [
-    r#""dependencies":["@lab/base"],"dist":"#,
-    r#""optionalDependencies":{"@lab/base":1},"dist":"#,
-    r#""peerDependencies":"@lab/base","dist":"#,
-];
-
-#[test]
-fn dependencies_out_of_form(rt: HostRuntime) {
-    for member in &NO_DEPENDENCIES {
-        assert_eq!(rt;
-            stop_with(rt.alloc(), r#""dist":"#, member),
-            BAD_BODY,
-            "{member}"
-        );
-    }
+fn members_out_of_form(rt: HostRuntime) -> Result<(), &'static str> {
+    all_told(rt.alloc(), &MEMBERS)
 }

@@ -1,74 +1,73 @@
 //! What manifests depend on.
 
+use crate::publish::case::NeedCase;
 use registry_names::{Refusal, Stop};
 use registry_publish::{Need, needs_of};
 use std::alloc::Global;
-use std::test::Fail;
 
-// Each need as `target range,`.
-pub(super) fn listed(alloc: Global, needs: &[Need]) -> Result<String, Stop> {
-    let mut text = String::new(alloc);
-    for need in needs {
-        text.push_str(need.target.as_str())?;
-        text.push_str(" ")?;
-        text.push_str(need.range.as_str())?;
-        text.push_str(",")?;
+// Whether the needs are these, in this order.
+pub(super) fn are_needs(needs: &[Need], cases: &[NeedCase]) -> bool {
+    if needs.len() != cases.len() {
+        return false;
     }
-    Ok(text)
-}
-
-fn is_listed(alloc: Global, manifest: &str, list: &str) -> Result<bool, Stop> {
-    let needs = needs_of(alloc, manifest)?;
-    let text = listed(alloc, needs.as_slice())?;
-    Ok(text.as_str() == list)
-}
-
-fn refusal(alloc: Global, manifest: &str) -> Option<Refusal> {
-    match needs_of(alloc, manifest) {
-        Err(Stop::Refused(refusal)) => Some(refusal),
-        _ => None,
+    for index in 0..cases.len() {
+        if !is_need(&needs[index], &cases[index]) {
+            return false;
+        }
     }
+    true
 }
 
-#[test]
-fn needs_of_manifests(rt: HostRuntime) -> Result<(), Fail> {
-    let members =
-        r#"{"x":1.5,"peerDependencies":{"b":"2"},"dependencies":{"c":"","a":"file:../a","c":"1"}}"#;
-    assert!(rt; is_listed(rt.alloc(), members, "a file:../a,c 1,b 2,")?);
-    let others = r#"{"dependencies":{},"devDependencies":{"d":"*"},"bundleDependencies":null}"#;
-    assert!(rt; is_listed(rt.alloc(), others, "")?);
-    Ok(())
+fn is_need(need: &Need, (target, range): &NeedCase) -> bool {
+    need.target.as_str() == *target && need.range.as_str() == *range
 }
 
-#[test]
-fn the_order_of_needs(rt: HostRuntime) -> Result<(), Fail> {
-    let members =
-        r#"{"peerDependencies":{"b":"4","B":"5"},"optionalDependencies":{"a":"3"},"dependencies":{"d":"1","c":"2"},"devDependencies":{"e":"*"}}"#;
-    assert!(rt; is_listed(rt.alloc(), members, "c 2,d 1,a 3,B 5,b 4,")?);
-    assert!(rt; is_listed(rt.alloc(), "{}", "")?);
-    Ok(())
-}
-
-static NO_MANIFESTS: [&str; 5] = ["", "null", "1", "\"a\"", "[{}]"];
-
-#[test]
-fn texts_that_are_no_manifests(rt: HostRuntime) {
-    for text in &NO_MANIFESTS {
-        assert_eq!(rt; refusal(rt.alloc(), text), Some(Refusal::BadBody), "{text}");
-    }
-}
-
-static OUT_OF_FORM: [&str; 5] = [
-    "{}}",
-    "[]",
-    r#"{"dependencies":null}"#,
-    r#"{"optionalDependencies":["a"]}"#,
-    r#"{"peerDependencies":{"a":1}}"#,
+// A manifest, and its needs, or None where it is out of form.
+static MANIFESTS: [(&str, Option<&[NeedCase]>); 14] = [
+    (
+        r#"{"x":1.5,"peerDependencies":{"b":"2"},"dependencies":{"c":"","a":"file:../a","c":"1"}}"#,
+        Some(&[("a", "file:../a"), ("c", "1"), ("b", "2")]),
+    ),
+    (
+        r#"{"dependencies":{},"devDependencies":{"d":"*"},"bundleDependencies":null}"#,
+        Some(&[]),
+    ),
+    (
+        r#"{"peerDependencies":{"b":"4","B":"5"},"optionalDependencies":{"a":"3"},"dependencies":{"d":"1","c":"2"},"devDependencies":{"e":"*"}}"#,
+        Some(&[("c", "2"), ("d", "1"), ("a", "3"), ("B", "5"), ("b", "4")]),
+    ),
+    ("{}", Some(&[])),
+    ("", None),
+    ("null", None),
+    ("1", None),
+    ("\"a\"", None),
+    ("[{}]", None),
+    ("{}}", None),
+    ("[]", None),
+    (r#"{"dependencies":null}"#, None),
+    (r#"{"optionalDependencies":["a"]}"#, None),
+    (r#"{"peerDependencies":{"a":1}}"#, None),
 ];
 
-#[test]
-fn manifests_out_of_form(rt: HostRuntime) {
-    for text in &OUT_OF_FORM {
-        assert_eq!(rt; refusal(rt.alloc(), text), Some(Refusal::BadBody), "{text}");
+fn has_needs(alloc: Global, manifest: &str, cases: Option<&[NeedCase]>) -> bool {
+    match (needs_of(alloc, manifest), cases) {
+        (Ok(needs), Some(cases)) => are_needs(&needs, cases),
+        (Err(stop), None) => stop == Stop::Refused(Refusal::BadBody),
+        _ => false,
     }
+}
+
+// Whether each manifest has its needs, and else the first that has others.
+fn all_told(alloc: Global) -> Result<(), &'static str> {
+    for (manifest, cases) in &MANIFESTS {
+        if !has_needs(alloc, manifest, *cases) {
+            return Err(manifest);
+        }
+    }
+    Ok(())
+}
+
+#[test]
+fn needs_of_manifests(rt: HostRuntime) -> Result<(), &'static str> {
+    all_told(rt.alloc())
 }

@@ -1,68 +1,54 @@
 //! Which refusal is answered where more than one reason holds.
 
-use crate::publish::{BAD_BODY, BAD_INTEGRITY, BAD_NAME, BAD_TAG, BAD_VERSION, RANGE_TAG, stop_of};
-use registry_names::Stop;
-use registry_publish::PublishForm;
-use std::alloc::Global;
+use crate::publish::case::Body::Shape;
+use crate::publish::case::{
+    BAD_BODY, BAD_INTEGRITY, BAD_NAME, BAD_TAG, BAD_VERSION, Case, Change, RANGE_TAG, Told,
+    all_told,
+};
 
-/// A body whose manifest says the integrity of the bytes `abc`, which are `YWJj` in base64.
-const SHAPE: &str =
-    r#"{"name":"NAME","versions":{"VERSION":{"name":"NAME","version":"VERSION","dist":{"integrity":"sha512-3a81oZNherrMQXNJriBBMRLm+k6JqX6iCp7u5ktV05ohkpkqJ0/BqDa6PCOj/uu9RU1EI2Q86A4qmslPpUyknw=="}}},"dist-tags":{"TAG":"VERSION"},"_attachments":{"kit.tgz":{"data":"DATA"}}}"#;
+/// A body in form, whose archive is the bytes `abc`.
+pub(super) const SHAPE: &str =
+    r#"{"name":"kit","versions":{"1.0.0":{"name":"kit","version":"1.0.0","dist":{"integrity":"sha512-3a81oZNherrMQXNJriBBMRLm+k6JqX6iCp7u5ktV05ohkpkqJ0/BqDa6PCOj/uu9RU1EI2Q86A4qmslPpUyknw=="}}},"dist-tags":{"next":"1.0.0"},"_attachments":{"kit.tgz":{"data":"YWJj"}}}"#;
 
-fn read_shape(
-    alloc: Global,
-    name: &str,
-    version: &str,
-    tag: &str,
-    data: &str,
-) -> Result<PublishForm, Stop> {
-    let named = SHAPE.replace(alloc, "NAME", name)?;
-    let versioned = named.as_str().replace(alloc, "VERSION", version)?;
-    let tagged = versioned.as_str().replace(alloc, "TAG", tag)?;
-    let body = tagged.as_str().replace(alloc, "DATA", data)?;
-    PublishForm::read(alloc, body.as_bytes())
-}
+const NAME: Change = (r#""kit""#, r#""Kit""#);
 
-// What stops the body of these texts.
-fn stop(alloc: Global, name: &str, version: &str, tag: &str, data: &str) -> Option<Stop> {
-    stop_of(read_shape(alloc, name, version, tag, data))
-}
+const VERSION: Change = ("1.0.0", "1.0");
 
-// The name, the version, the tag and the data, and what stops their body.
-type Case = (
-    &'static str,
-    &'static str,
-    &'static str,
-    &'static str,
-    Option<Stop>,
-);
+const RANGE: Change = ("next", "1.x");
 
-static EACH_BEFORE_THE_NEXT: [Case; 6] = [
-    ("Kit", "1.0", "1.x", "YWJ", BAD_BODY),
-    ("Kit", "1.0", "1.x", "YWJk", BAD_NAME),
-    ("kit", "1.0", "1.x", "YWJk", BAD_VERSION),
-    ("kit", "1.0.0", "1.x", "YWJk", RANGE_TAG),
-    ("kit", "1.0.0", "next", "YWJk", BAD_INTEGRITY),
-    ("kit", "1.0.0", "next", "YWJj", None),
+const TAG: Change = ("next", "a/b");
+
+const ARCHIVE: Change = ("YWJj", "YWJk");
+
+const DATA: Change = ("YWJj", "YWJ");
+
+// Each part that a case names is bad.
+static REFUSALS: [Case; 10] = [
+    (
+        "data, name, version, range",
+        Shape(&[DATA, NAME, VERSION, RANGE]),
+        BAD_BODY,
+    ),
+    (
+        "name, version, range, archive",
+        Shape(&[NAME, VERSION, RANGE, ARCHIVE]),
+        BAD_NAME,
+    ),
+    (
+        "version, range, archive",
+        Shape(&[VERSION, RANGE, ARCHIVE]),
+        BAD_VERSION,
+    ),
+    ("range, archive", Shape(&[RANGE, ARCHIVE]), RANGE_TAG),
+    ("archive", Shape(&[ARCHIVE]), BAD_INTEGRITY),
+    ("none", Shape(&[]), Told::Form),
+    ("version, tag", Shape(&[VERSION, TAG]), BAD_VERSION),
+    ("tag, archive", Shape(&[TAG, ARCHIVE]), BAD_TAG),
+    ("tag", Shape(&[TAG]), BAD_TAG),
+    ("range", Shape(&[RANGE]), RANGE_TAG),
 ];
 
 #[test]
-fn each_refusal_before_the_next(rt: HostRuntime) {
-    for (name, version, tag, data, want) in &EACH_BEFORE_THE_NEXT {
-        assert_eq!(rt; stop(rt.alloc(), name, version, tag, data), *want);
-    }
-}
-
-static BAD_TAGS: [Case; 4] = [
-    ("kit", "1.0", "a/b", "YWJj", BAD_VERSION),
-    ("kit", "1.0.0", "a/b", "YWJk", BAD_TAG),
-    ("kit", "1.0.0", "a/b", "YWJj", BAD_TAG),
-    ("kit", "1.0.0", "1.x", "YWJj", RANGE_TAG),
-];
-
-#[test]
-fn bad_tags_among_the_refusals(rt: HostRuntime) {
-    for (name, version, tag, data, want) in &BAD_TAGS {
-        assert_eq!(rt; stop(rt.alloc(), name, version, tag, data), *want);
-    }
+fn each_refusal_before_the_next(rt: HostRuntime) -> Result<(), &'static str> {
+    all_told(rt.alloc(), &REFUSALS)
 }
