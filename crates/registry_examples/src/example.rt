@@ -30,8 +30,6 @@ pub enum Ask {
     /// The publication of a version whose manifest has its name and its version alone, with the
     /// archive `abc`.
     Publish(&'static str, &'static str),
-    /// The same under a tag other than `latest`: name, version and tag.
-    PublishUnder(&'static str, &'static str, &'static str),
     /// To let a tag name a version: package, tag and version.
     TagSet(&'static str, &'static str, &'static str),
     /// To remove a tag of a package.
@@ -53,6 +51,8 @@ pub enum Expected {
     Done,
     /// This document.
     Doc(&'static str),
+    /// Some document.
+    AnyDoc,
     /// The bytes of this text.
     Bytes(&'static str),
     /// A refusal.

@@ -12,4 +12,4 @@ mod table;
 mod tests;
 
 pub use crate::example::{Ask, Example, Expected, Step};
-pub use crate::table::EXAMPLES;
+pub use crate::table::{PUBLISHES, QUERIES, TAGS};

@@ -1,4 +1,4 @@
-//! The examples.
+//! The examples: of publishes, of queries and of tags.
 
 use crate::example::{Ask, Example, Expected, Step};
 use registry_names::Refusal;
@@ -19,8 +19,16 @@ const EMPTY_BODY: &str =
 const RESTRICTED_BODY: &str =
     r#"{"name":"tool","versions":{"1.0.0":{"name":"tool","version":"1.0.0"}},"access":"restricted","_attachments":{"a":{"data":"YWJj"}}}"#;
 
-/// All examples.
-pub static EXAMPLES: [Example; 10] = [
+/// The body of `kit` 1.0.0 under the tag `next`.
+const NEXT_BODY: &str =
+    r#"{"name":"kit","dist-tags":{"next":"1.0.0"},"versions":{"1.0.0":{"name":"kit","version":"1.0.0"}},"_attachments":{"a":{"data":"YWJj"}}}"#;
+
+/// The body of `kit` 1.1.0 under the same tag.
+const LATER_BODY: &str =
+    r#"{"name":"kit","dist-tags":{"next":"1.1.0"},"versions":{"1.1.0":{"name":"kit","version":"1.1.0"}},"_attachments":{"a":{"data":"YWJj"}}}"#;
+
+/// Versions are published, or refused.
+pub static PUBLISHES: [Example; 4] = [
     Example {
         shows: "the body of @lab/kit gives its packument byte for byte",
         steps: &[
@@ -93,6 +101,35 @@ pub static EXAMPLES: [Example; 10] = [
             },
         ],
     },
+    Example {
+        shows: "a package without a scope is always public, and a refusal leaves nothing",
+        steps: &[
+            Step {
+                at: 1,
+                ask: Ask::Body(RESTRICTED_BODY),
+                expected: Expected::Refused(Refusal::AlwaysPublic),
+            },
+            Step {
+                at: 2,
+                ask: Ask::Packument("tool"),
+                expected: Expected::Refused(Refusal::NotFound),
+            },
+            Step {
+                at: 2,
+                ask: Ask::Tags("tool"),
+                expected: Expected::Refused(Refusal::NotFound),
+            },
+            Step {
+                at: 2,
+                ask: Ask::Archive("tool", "1.0.0"),
+                expected: Expected::Refused(Refusal::NotFound),
+            },
+        ],
+    },
+];
+
+/// Queries answer with what was published.
+pub static QUERIES: [Example; 3] = [
     Example {
         shows: "latest follows the last publish, and versions stand in byte order of their texts",
         steps: &[
@@ -174,11 +211,50 @@ pub static EXAMPLES: [Example; 10] = [
         ],
     },
     Example {
+        shows: "an archive comes back as it was sent, one of no bytes too",
+        steps: &[
+            Step {
+                at: 100,
+                ask: Ask::Body(KIT_BODY),
+                expected: Expected::Created,
+            },
+            Step {
+                at: 100,
+                ask: Ask::Archive("@lab/kit", "1.0.0"),
+                expected: Expected::Bytes("abc"),
+            },
+            Step {
+                at: 100,
+                ask: Ask::Archive("@lab/kit", "1.0.1"),
+                expected: Expected::Refused(Refusal::NotFound),
+            },
+            Step {
+                at: 101,
+                ask: Ask::Body(EMPTY_BODY),
+                expected: Expected::Created,
+            },
+            Step {
+                at: 101,
+                ask: Ask::Archive("@lab/kit", "1.0.1"),
+                expected: Expected::Bytes(""),
+            },
+            Step {
+                at: 101,
+                ask: Ask::Archive("kit", "1.0.1"),
+                expected: Expected::Refused(Refusal::NotFound),
+            },
+        ],
+    },
+];
+
+/// Tags name versions.
+pub static TAGS: [Example; 3] = [
+    Example {
         shows: "a publish under another tag sets latest too where none stands, and only then",
         steps: &[
             Step {
                 at: 1,
-                ask: Ask::PublishUnder("kit", "1.0.0", "next"),
+                ask: Ask::Body(NEXT_BODY),
                 expected: Expected::Created,
             },
             Step {
@@ -188,7 +264,7 @@ pub static EXAMPLES: [Example; 10] = [
             },
             Step {
                 at: 2,
-                ask: Ask::PublishUnder("kit", "1.1.0", "next"),
+                ask: Ask::Body(LATER_BODY),
                 expected: Expected::Created,
             },
             Step {
@@ -285,66 +361,6 @@ pub static EXAMPLES: [Example; 10] = [
                 at: 10,
                 ask: Ask::Tags("kit"),
                 expected: Expected::Doc(r#"{"latest":"1.0.0"}"#),
-            },
-        ],
-    },
-    Example {
-        shows: "an archive comes back as it was sent, one of no bytes too",
-        steps: &[
-            Step {
-                at: 100,
-                ask: Ask::Body(KIT_BODY),
-                expected: Expected::Created,
-            },
-            Step {
-                at: 100,
-                ask: Ask::Archive("@lab/kit", "1.0.0"),
-                expected: Expected::Bytes("abc"),
-            },
-            Step {
-                at: 100,
-                ask: Ask::Archive("@lab/kit", "1.0.1"),
-                expected: Expected::Refused(Refusal::NotFound),
-            },
-            Step {
-                at: 101,
-                ask: Ask::Body(EMPTY_BODY),
-                expected: Expected::Created,
-            },
-            Step {
-                at: 101,
-                ask: Ask::Archive("@lab/kit", "1.0.1"),
-                expected: Expected::Bytes(""),
-            },
-            Step {
-                at: 101,
-                ask: Ask::Archive("kit", "1.0.1"),
-                expected: Expected::Refused(Refusal::NotFound),
-            },
-        ],
-    },
-    Example {
-        shows: "a package without a scope is always public, and a refusal leaves nothing",
-        steps: &[
-            Step {
-                at: 1,
-                ask: Ask::Body(RESTRICTED_BODY),
-                expected: Expected::Refused(Refusal::AlwaysPublic),
-            },
-            Step {
-                at: 2,
-                ask: Ask::Packument("tool"),
-                expected: Expected::Refused(Refusal::NotFound),
-            },
-            Step {
-                at: 2,
-                ask: Ask::Tags("tool"),
-                expected: Expected::Refused(Refusal::NotFound),
-            },
-            Step {
-                at: 2,
-                ask: Ask::Archive("tool", "1.0.0"),
-                expected: Expected::Refused(Refusal::NotFound),
             },
         ],
     },

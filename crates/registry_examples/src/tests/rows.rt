@@ -7,7 +7,6 @@ ghost use Rattle.registry_rows.specs.Columns.{text_in, number_in};
 use registry_rows::{FromRow, read_first, read_rows};
 use sqlite::{Connection, Error, Row};
 use std::alloc::Global;
-use std::test::Fail;
 
 #[derive(Drop)]
 struct Count {
@@ -29,6 +28,70 @@ impl FromRow for Count {
     }
 }
 
+/// A query of two rows, and what is read of its answer.
+struct Case {
+    /// What it shows.
+    shows: &'static str,
+    /// The query.
+    query: &'static str,
+    /// What is read.
+    read: Read,
+}
+
+/// What is read of an answer.
+#[derive(Clone, Copy)]
+enum Read {
+    /// Two rows of these words.
+    Both(&'static str, &'static str),
+    /// A first row with so many times, or none.
+    First(Option<u32>),
+    /// No rows, since they aren't of a word and its times.
+    Refused,
+}
+
+static CASES: [Case; 4] = [
+    Case {
+        shows: "rows are read in order",
+        query: "SELECT word, times FROM counts ORDER BY times DESC",
+        read: Read::Both("the", "and"),
+    },
+    Case {
+        shows: "the first row is read",
+        query: "SELECT word, times FROM counts WHERE word = 'the'",
+        read: Read::First(Some(9)),
+    },
+    Case {
+        shows: "no first row is read if there is none",
+        query: "SELECT word, times FROM counts WHERE word = 'of'",
+        read: Read::First(None),
+    },
+    Case {
+        shows: "a row of another type is refused",
+        query: "SELECT times, word FROM counts",
+        read: Read::Refused,
+    },
+];
+
+#[test]
+fn rows_are_read(rt: HostRuntime) -> Result<(), &'static str> {
+    all_are_read(rt.alloc(), &CASES)
+}
+
+// The error tells what the first case shows where something else is read.
+fn all_are_read(alloc: Global, cases: &[Case]) -> Result<(), &'static str> {
+    for case in cases {
+        if is_so(alloc, case) != Ok(true) {
+            return Err(case.shows);
+        }
+    }
+    Ok(())
+}
+
+fn is_so(alloc: Global, case: &Case) -> Result<bool, Error> {
+    let rows = answer(alloc, case.query)?;
+    is_read(alloc, &rows, case.read)
+}
+
 fn answer(alloc: Global, query: &str) -> Result<Vec<Row>, Error> {
     let mut conn = Connection::open_in_memory(alloc)?;
     conn.execute_batch(
@@ -37,46 +100,26 @@ fn answer(alloc: Global, query: &str) -> Result<Vec<Row>, Error> {
     conn.query_all(query, &[])
 }
 
-fn counts(alloc: Global, query: &str) -> Result<Vec<Count>, Error> {
-    let rows = answer(alloc, query)?;
-    read_rows(alloc, &rows)
+fn is_read(alloc: Global, rows: &[Row], read: Read) -> Result<bool, Error> {
+    match read {
+        Read::Both(word, other) => are_both(alloc, rows, word, other),
+        Read::First(times) => is_first(rows, times),
+        Read::Refused => Ok(counts(alloc, rows).is_err()),
+    }
 }
 
-fn first_times(alloc: Global, query: &str) -> Result<Option<u32>, Error> {
-    let rows = answer(alloc, query)?;
-    let first: Option<Count> = read_first(&rows)?;
-    Ok(first.map(|count| count.times))
+fn are_both(alloc: Global, rows: &[Row], word: &str, other: &str) -> Result<bool, Error> {
+    match counts(alloc, rows)?.as_slice() {
+        [first, second] => Ok(first.word.as_str() == word && second.word.as_str() == other),
+        _ => Ok(false),
+    }
 }
 
-fn are_of(counts: &[Count], words: &[&str]) -> bool {
-    counts.len() == words.len()
-        && counts
-            .iter()
-            .zip(words)
-            .all(|(count, word)| count.word.as_str() == *word)
+fn counts(alloc: Global, rows: &[Row]) -> Result<Vec<Count>, Error> {
+    read_rows(alloc, rows)
 }
 
-#[test]
-fn rows_are_read_in_order(rt: HostRuntime) -> Result<(), Fail> {
-    let counts = counts(
-        rt.alloc(),
-        "SELECT word, times FROM counts ORDER BY times DESC",
-    )?;
-    assert!(rt; are_of(&counts, &["the", "and"]));
-    Ok(())
-}
-
-#[test]
-fn the_first_row_is_read_if_there_is_one(rt: HostRuntime) -> Result<(), Fail> {
-    let of_the = "SELECT word, times FROM counts WHERE word = 'the'";
-    assert_eq!(rt; first_times(rt.alloc(), of_the)?, Some(9));
-    let of_another = "SELECT word, times FROM counts WHERE word = 'of'";
-    assert_eq!(rt; first_times(rt.alloc(), of_another)?, None);
-    Ok(())
-}
-
-#[test]
-fn a_row_of_another_type_is_refused(rt: HostRuntime) {
-    let turned = "SELECT times, word FROM counts";
-    assert!(rt; counts(rt.alloc(), turned).is_err());
+fn is_first(rows: &[Row], times: Option<u32>) -> Result<bool, Error> {
+    let first: Option<Count> = read_first(rows)?;
+    Ok(first.map(|count| count.times) == times)
 }

@@ -1,21 +1,21 @@
-//! Calls on made tables, one after another, and what is told by them.
+//! Calls on made tables, one after another, and what each tells.
 
 ghost use Rattle.std.specs.Prelude.{◌≡◌, OnOk};
 ghost use Rattle.sqlite.specs.Held.{state};
 ghost use Rattle.sqlite.specs.Steps.{IsEmpty};
 ghost use Rattle.registry_tables.specs.Effects.{InForm};
 
-use super::text::{
-    archive_line, body_of, body_with_needs, manifest_line, package_line, rows_text, stop_text,
-};
-use registry_names::{Moment, Name, Status, Stop};
+use super::text::{Body, form_of, package_text};
+use registry_names::{Blob, Fault, Moment, Name, Status, Stop, Text};
 use registry_publish::PublishForm;
+use registry_rules::PackageRows;
 use registry_tables::laws::first_publication;
 use registry_tables::{
-    AccessChange, TagChange, change_access, create, fault_of, load_archive, load_manifest,
-    load_package, put_version, set_tags,
+    AccessChange, TagChange, change_access, create, load_archive, load_manifest, load_package,
+    put_version, set_tags,
 };
-use sqlite::{Alter, Connection, Transaction};
+use sqlite::{Alter, Connection, Row, Transaction};
+use sqlite_value::value::ValueRef;
 use std::alloc::Global;
 
 /// Gives the name of its table for each row, and for what versions depend on the target and the
@@ -23,339 +23,312 @@ use std::alloc::Global;
 const TABLE_OF_EACH_ROW: &str =
     "SELECT 'users' FROM users UNION ALL SELECT 'tokens' FROM tokens UNION ALL SELECT 'orgs' FROM orgs UNION ALL SELECT 'members' FROM members UNION ALL SELECT 'teams' FROM teams UNION ALL SELECT 'team_members' FROM team_members UNION ALL SELECT 'packages' FROM packages UNION ALL SELECT 'grants' FROM grants UNION ALL SELECT 'owners' FROM owners UNION ALL SELECT 'versions' FROM versions UNION ALL SELECT 'spent' FROM spent UNION ALL SELECT 'tags' FROM tags UNION ALL SELECT 'needs' FROM needs UNION ALL SELECT 'meta' FROM meta UNION ALL SELECT target || ' ' || range FROM need_ranges ORDER BY 1";
 
-/// A call. Its first text is the package's name, and its second the version or the tag.
+/// Calls on an empty database, one after another.
+pub struct Case {
+    /// What they show.
+    pub shows: &'static str,
+    /// The calls, each with the name of its package. Each succeeds, and tells what it says.
+    pub calls: &'static [(&'static str, Call)],
+    /// What comes after them.
+    pub end: End,
+}
+
+/// A call on a package.
 #[derive(Clone, Copy)]
 pub enum Call {
-    /// Gives the package this status.
-    Status(&'static str, Status),
-    /// Puts a version with the archive `abc`, published at this second.
-    Version(&'static str, &'static str, i64),
-    /// Puts a version whose archive has the bytes `abc` so many times.
-    Archive(&'static str, &'static str, usize),
-    /// Puts a version that depends on `pad` in the range `^1`, by two members, and on `kid` in two
-    /// ranges.
-    Needs(&'static str, &'static str),
-    /// Names a version by the tag, or drops the tag.
-    Tag(&'static str, &'static str, Option<&'static str>),
-    /// Changes no tag.
-    NoTag(&'static str),
-    /// Publishes a restricted package's first version at this second, and tells what stands of it.
-    First(&'static str, &'static str, i64),
-    /// Tells what stands of the package.
-    TellPackage(&'static str),
-    /// Tells a version's manifest.
-    TellManifest(&'static str, &'static str),
-    /// Tells the length of a version's archive, and its last bytes.
-    TellArchive(&'static str, &'static str),
+    /// Gives it this status.
+    Status(Status),
+    /// Names a version by a tag of it, or drops the tag.
+    Tag(&'static str, Option<&'static str>),
+    /// Changes none of its tags.
+    NoTag,
+    /// Puts the version of this body, published at this second.
+    Publish(Body, i64),
+    /// Publishes this body as a restricted package's first, at this second. The text tells what
+    /// stands of the package then.
+    First(Body, i64, &'static str),
+    /// The text tells what stands of it.
+    Package(&'static str),
+    /// A version has this manifest, or there is none.
+    Manifest(&'static str, Option<&'static str>),
+    /// A version's archive has so many bytes, the last of which are these; or there is none.
+    Archive(&'static str, Option<(usize, &'static str)>),
 }
 
-/// What these calls tell on an empty database in memory, a line for each that tells something. The
-/// first call that fails ends them, and its fault is told last.
-pub fn told(alloc: Global, calls: &[Call]) -> Result<String, Stop> {
+/// What comes after the calls of a case.
+#[derive(Clone, Copy)]
+pub enum End {
+    /// Nothing.
+    Nothing,
+    /// A call that is a fault of the database.
+    Fault(&'static str, Call),
+    /// A look at every row that is there: these are their tables, and what versions depend on.
+    Rows(&'static [&'static str]),
+}
+
+/// Whether all cases come out as they say. The error tells what the first shows that doesn't.
+pub fn all_come_out(alloc: Global, cases: &[Case]) -> Result<(), &'static str> {
+    for case in cases {
+        if comes_out(alloc, case) != Ok(true) {
+            return Err(case.shows);
+        }
+    }
+    Ok(())
+}
+
+fn comes_out(alloc: Global, case: &Case) -> Result<bool, Stop> {
     let mut conn = Connection::open_in_memory(alloc)?;
-    told_on(alloc, &mut conn, calls)
+    comes_out_on(alloc, &mut conn, case)
 }
 
-/// What these calls tell, and then the name of its table for each row that is there.
-pub fn told_with_rows(alloc: Global, calls: &[Call]) -> Result<String, Stop> {
-    let mut conn = Connection::open_in_memory(alloc)?;
-    told_with_rows_on(alloc, &mut conn, calls)
-}
-
-fn told_on<S: Alter>(
+fn comes_out_on<S: Alter>(
     alloc: Global,
     conn: &mut Connection<S>,
-    calls: &[Call],
-) -> Result<String, Stop>
+    case: &Case,
+) -> Result<bool, Stop>
     requires empty { IsEmpty (state S.Store conn.old) }
 {
     let mut tx = conn.transaction();
     create(&mut tx)?;
-    told_inside(alloc, &mut tx, calls)
+    comes_out_inside(alloc, &mut tx, case)
 }
 
-fn told_with_rows_on<S: Alter>(
-    alloc: Global,
-    conn: &mut Connection<S>,
-    calls: &[Call],
-) -> Result<String, Stop>
-    requires empty { IsEmpty (state S.Store conn.old) }
-{
-    let mut tx = conn.transaction();
-    create(&mut tx)?;
-    told_with_rows_inside(alloc, &mut tx, calls)
-}
-
-fn told_with_rows_inside<S: Alter>(
+fn comes_out_inside<S: Alter>(
     alloc: Global,
     tx: &mut Transaction<'_, S>,
-    calls: &[Call],
-) -> Result<String, Stop>
+    case: &Case,
+) -> Result<bool, Stop>
     requires in_form { InForm S.Store tx.old.conn.now }
     ensures same_reference { tx.new.conn.ghost_name ≡ tx.old.conn.ghost_name }
 {
-    let mut lines = told_inside(alloc, tx, calls)?;
-    let rows = table_of_each_row(alloc, tx)?;
-    lines.push_str(rows.as_str())?;
-    Ok(lines)
+    Ok(are_so(alloc, tx, case.calls)? && ends(alloc, tx, case.end))
 }
 
-fn table_of_each_row<S: Alter>(alloc: Global, tx: &mut Transaction<'_, S>) -> Result<String, Stop>
+fn are_so<S: Alter>(
+    alloc: Global,
+    tx: &mut Transaction<'_, S>,
+    calls: &[(&'static str, Call)],
+) -> Result<bool, Stop>
+    requires in_form { InForm S.Store tx.old.conn.now }
+    ensures same_reference { tx.new.conn.ghost_name ≡ tx.old.conn.ghost_name }
+    ensures in_form { OnOk result (InForm S.Store tx.new.conn.now) }
+{
+    for (name, call) in calls {
+        if !is_so(alloc, tx, name, *call)? {
+            return Ok(false);
+        }
+    }
+    Ok(true)
+}
+
+fn ends<S: Alter>(alloc: Global, tx: &mut Transaction<'_, S>, end: End) -> bool
+    requires in_form { InForm S.Store tx.old.conn.now }
+    ensures same_reference { tx.new.conn.ghost_name ≡ tx.old.conn.ghost_name }
+{
+    match end {
+        End::Nothing => true,
+        End::Fault(name, call) => {
+            is_so(alloc, tx, name, call) == Err(Stop::Fault(Fault::Database))
+        }
+        End::Rows(words) => has_rows(tx, words),
+    }
+}
+
+fn has_rows<S: Alter>(tx: &mut Transaction<'_, S>, words: &[&str]) -> bool
     ensures same_reference { tx.new.conn.ghost_name ≡ tx.old.conn.ghost_name }
 {
     match tx.query_all(TABLE_OF_EACH_ROW, &[]) {
-        Ok(rows) => rows_text(alloc, &rows),
-        Err(error) => Err(Stop::Fault(fault_of(error))),
+        Ok(rows) => are_words(&rows, words),
+        Err(_) => false,
     }
 }
 
-fn told_inside<S: Alter>(
+fn are_words(rows: &[Row], words: &[&str]) -> bool {
+    rows.len() == words.len() && rows.iter().zip(words).all(|(row, word)| is_word(row, word))
+}
+
+fn is_word(row: &Row, word: &str) -> bool {
+    matches!(row.get_ref(0), Ok(ValueRef::Text(text)) if text == word.as_bytes())
+}
+
+fn is_so<S: Alter>(
     alloc: Global,
     tx: &mut Transaction<'_, S>,
-    calls: &[Call],
-) -> Result<String, Stop>
+    name: &str,
+    call: Call,
+) -> Result<bool, Stop>
     requires in_form { InForm S.Store tx.old.conn.now }
     ensures same_reference { tx.new.conn.ghost_name ≡ tx.old.conn.ghost_name }
+    ensures in_form { OnOk result (InForm S.Store tx.new.conn.now) }
 {
-    let mut lines = String::new(alloc);
-    for call in calls {
-        match answer(alloc, tx, *call) {
-            Ok(line) => lines.push_str(line.as_str())?,
-            Err(stop) => {
-                lines.push_str(stop_text(stop))?;
-                return Ok(lines);
-            }
-        }
-    }
-    Ok(lines)
+    let name = Name::parse(alloc, name)?;
+    is_so_of(alloc, tx, &name, call)
 }
 
-fn answer<S: Alter>(alloc: Global, tx: &mut Transaction<'_, S>, call: Call) -> Result<String, Stop>
+fn is_so_of<S: Alter>(
+    alloc: Global,
+    tx: &mut Transaction<'_, S>,
+    name: &Name,
+    call: Call,
+) -> Result<bool, Stop>
     requires in_form { InForm S.Store tx.old.conn.now }
     ensures same_reference { tx.new.conn.ghost_name ≡ tx.old.conn.ghost_name }
     ensures in_form { OnOk result (InForm S.Store tx.new.conn.now) }
 {
     match call {
-        Call::Status(name, status) => put_status(alloc, tx, name, status),
-        Call::Version(name, version, at) => publish(alloc, tx, name, version, at),
-        Call::Archive(name, version, times) => publish_archive(alloc, tx, name, version, times),
-        Call::Needs(name, version) => publish_needs(alloc, tx, name, version),
-        Call::Tag(name, tag, version) => change_tag(alloc, tx, name, tag, version),
-        Call::NoTag(name) => change_no_tag(alloc, tx, name),
-        Call::First(name, version, at) => publish_first(alloc, tx, name, version, at),
-        Call::TellPackage(name) => tell_package(alloc, tx, name),
-        Call::TellManifest(name, version) => tell_manifest(alloc, tx, name, version),
-        Call::TellArchive(name, version) => tell_archive(alloc, tx, name, version),
+        Call::Status(status) => put_status(tx, name, status),
+        Call::Tag(tag, version) => change_tag(tx, name, TagChange { tag, version }),
+        Call::NoTag => change_no_tag(tx, name),
+        Call::Publish(body, at) => publish(alloc, tx, name, body, at),
+        Call::First(body, at, told) => publish_first(alloc, tx, name, body, at, told),
+        Call::Package(told) => tells_package(alloc, tx, name, told),
+        Call::Manifest(version, told) => tells_manifest(tx, name, version, told),
+        Call::Archive(version, told) => tells_archive(tx, name, version, told),
     }
 }
 
 fn put_status<S: Alter>(
-    alloc: Global,
     tx: &mut Transaction<'_, S>,
-    name: &str,
+    name: &Name,
     status: Status,
-) -> Result<String, Stop>
+) -> Result<bool, Stop>
     requires in_form { InForm S.Store tx.old.conn.now }
     ensures same_reference { tx.new.conn.ghost_name ≡ tx.old.conn.ghost_name }
     ensures in_form { OnOk result (InForm S.Store tx.new.conn.now) }
 {
-    let name = Name::parse(alloc, name)?;
-    change_access(
-        tx,
-        &AccessChange::PutStatus {
-            name: &name,
-            status,
-        },
-    )?;
-    Ok(String::new(alloc))
+    change_access(tx, &AccessChange::PutStatus { name, status })?;
+    Ok(true)
+}
+
+fn change_tag<S: Alter>(
+    tx: &mut Transaction<'_, S>,
+    name: &Name,
+    change: TagChange<'_>,
+) -> Result<bool, Stop>
+    requires in_form { InForm S.Store tx.old.conn.now }
+    ensures same_reference { tx.new.conn.ghost_name ≡ tx.old.conn.ghost_name }
+    ensures in_form { OnOk result (InForm S.Store tx.new.conn.now) }
+{
+    set_tags(tx, name, &[change])?;
+    Ok(true)
+}
+
+fn change_no_tag<S: Alter>(tx: &mut Transaction<'_, S>, name: &Name) -> Result<bool, Stop>
+    requires in_form { InForm S.Store tx.old.conn.now }
+    ensures same_reference { tx.new.conn.ghost_name ≡ tx.old.conn.ghost_name }
+    ensures in_form { OnOk result (InForm S.Store tx.new.conn.now) }
+{
+    set_tags(tx, name, &[])?;
+    Ok(true)
 }
 
 fn publish<S: Alter>(
     alloc: Global,
     tx: &mut Transaction<'_, S>,
-    name: &str,
-    version: &str,
+    name: &Name,
+    body: Body,
     at: i64,
-) -> Result<String, Stop>
+) -> Result<bool, Stop>
     requires in_form { InForm S.Store tx.old.conn.now }
     ensures same_reference { tx.new.conn.ghost_name ≡ tx.old.conn.ghost_name }
     ensures in_form { OnOk result (InForm S.Store tx.new.conn.now) }
 {
-    let body = body_of(alloc, name, version, 1)?;
-    publish_body(alloc, tx, &body, at)
-}
-
-fn publish_archive<S: Alter>(
-    alloc: Global,
-    tx: &mut Transaction<'_, S>,
-    name: &str,
-    version: &str,
-    times: usize,
-) -> Result<String, Stop>
-    requires in_form { InForm S.Store tx.old.conn.now }
-    ensures same_reference { tx.new.conn.ghost_name ≡ tx.old.conn.ghost_name }
-    ensures in_form { OnOk result (InForm S.Store tx.new.conn.now) }
-{
-    let body = body_of(alloc, name, version, times)?;
-    publish_body(alloc, tx, &body, 0)
-}
-
-fn publish_needs<S: Alter>(
-    alloc: Global,
-    tx: &mut Transaction<'_, S>,
-    name: &str,
-    version: &str,
-) -> Result<String, Stop>
-    requires in_form { InForm S.Store tx.old.conn.now }
-    ensures same_reference { tx.new.conn.ghost_name ≡ tx.old.conn.ghost_name }
-    ensures in_form { OnOk result (InForm S.Store tx.new.conn.now) }
-{
-    let body = body_with_needs(alloc, name, version)?;
-    publish_body(alloc, tx, &body, 0)
-}
-
-fn publish_body<S: Alter>(
-    alloc: Global,
-    tx: &mut Transaction<'_, S>,
-    body: &str,
-    at: i64,
-) -> Result<String, Stop>
-    requires in_form { InForm S.Store tx.old.conn.now }
-    ensures same_reference { tx.new.conn.ghost_name ≡ tx.old.conn.ghost_name }
-    ensures in_form { OnOk result (InForm S.Store tx.new.conn.now) }
-{
-    let form = PublishForm::read(alloc, body.as_bytes())?;
-    publish_form(alloc, tx, &form, at)
-}
-
-fn publish_form<S: Alter>(
-    alloc: Global,
-    tx: &mut Transaction<'_, S>,
-    form: &PublishForm,
-    at: i64,
-) -> Result<String, Stop>
-    requires in_form { InForm S.Store tx.old.conn.now }
-    ensures same_reference { tx.new.conn.ghost_name ≡ tx.old.conn.ghost_name }
-    ensures in_form { OnOk result (InForm S.Store tx.new.conn.now) }
-{
-    put_version(tx, form, Moment::clamped(at))?;
-    Ok(String::new(alloc))
+    let form = form_of(alloc, name.text(), body)?;
+    put_version(tx, &form, Moment::clamped(at))?;
+    Ok(true)
 }
 
 fn publish_first<S: Alter>(
     alloc: Global,
     tx: &mut Transaction<'_, S>,
-    name: &str,
-    version: &str,
+    name: &Name,
+    body: Body,
     at: i64,
-) -> Result<String, Stop>
+    told: &str,
+) -> Result<bool, Stop>
     requires in_form { InForm S.Store tx.old.conn.now }
     ensures same_reference { tx.new.conn.ghost_name ≡ tx.old.conn.ghost_name }
     ensures in_form { OnOk result (InForm S.Store tx.new.conn.now) }
 {
-    let body = body_of(alloc, name, version, 1)?;
-    publish_first_body(alloc, tx, &body, at)
+    let form = form_of(alloc, name.text(), body)?;
+    tells_first(alloc, tx, &form, Moment::clamped(at), told)
 }
 
-fn publish_first_body<S: Alter>(
-    alloc: Global,
-    tx: &mut Transaction<'_, S>,
-    body: &str,
-    at: i64,
-) -> Result<String, Stop>
-    requires in_form { InForm S.Store tx.old.conn.now }
-    ensures same_reference { tx.new.conn.ghost_name ≡ tx.old.conn.ghost_name }
-    ensures in_form { OnOk result (InForm S.Store tx.new.conn.now) }
-{
-    let form = PublishForm::read(alloc, body.as_bytes())?;
-    publish_first_form(alloc, tx, &form, at)
-}
-
-fn publish_first_form<S: Alter>(
+fn tells_first<S: Alter>(
     alloc: Global,
     tx: &mut Transaction<'_, S>,
     form: &PublishForm,
-    at: i64,
-) -> Result<String, Stop>
+    at: Moment,
+    told: &str,
+) -> Result<bool, Stop>
     requires in_form { InForm S.Store tx.old.conn.now }
     ensures same_reference { tx.new.conn.ghost_name ≡ tx.old.conn.ghost_name }
     ensures in_form { OnOk result (InForm S.Store tx.new.conn.now) }
 {
-    let at = Moment::clamped(at);
     let rows = first_publication(alloc, tx, form, Status::Restricted, at)?;
-    package_line(alloc, &rows)
+    is_told(alloc, &rows, told)
 }
 
-fn change_tag<S: Alter>(
+fn tells_package<S: Alter>(
     alloc: Global,
     tx: &mut Transaction<'_, S>,
-    name: &str,
-    tag: &str,
-    version: Option<&str>,
-) -> Result<String, Stop>
+    name: &Name,
+    told: &str,
+) -> Result<bool, Stop>
     requires in_form { InForm S.Store tx.old.conn.now }
     ensures same_reference { tx.new.conn.ghost_name ≡ tx.old.conn.ghost_name }
     ensures in_form { OnOk result (InForm S.Store tx.new.conn.now) }
 {
-    let name = Name::parse(alloc, name)?;
-    set_tags(tx, &name, &[TagChange { tag, version }])?;
-    Ok(String::new(alloc))
+    let rows = load_package(alloc, tx, name)?;
+    is_told(alloc, &rows, told)
 }
 
-fn change_no_tag<S: Alter>(
-    alloc: Global,
-    tx: &mut Transaction<'_, S>,
-    name: &str,
-) -> Result<String, Stop>
-    requires in_form { InForm S.Store tx.old.conn.now }
-    ensures same_reference { tx.new.conn.ghost_name ≡ tx.old.conn.ghost_name }
-    ensures in_form { OnOk result (InForm S.Store tx.new.conn.now) }
-{
-    let name = Name::parse(alloc, name)?;
-    set_tags(tx, &name, &[])?;
-    Ok(String::new(alloc))
+fn is_told(alloc: Global, rows: &PackageRows, told: &str) -> Result<bool, Stop> {
+    Ok(package_text(alloc, rows)?.as_str() == told)
 }
 
-fn tell_package<S: Alter>(
-    alloc: Global,
+fn tells_manifest<S: Alter>(
     tx: &mut Transaction<'_, S>,
-    name: &str,
-) -> Result<String, Stop>
-    requires in_form { InForm S.Store tx.old.conn.now }
-    ensures same_reference { tx.new.conn.ghost_name ≡ tx.old.conn.ghost_name }
-    ensures in_form { OnOk result (InForm S.Store tx.new.conn.now) }
-{
-    let name = Name::parse(alloc, name)?;
-    let rows = load_package(alloc, tx, &name)?;
-    package_line(alloc, &rows)
-}
-
-fn tell_manifest<S: Alter>(
-    alloc: Global,
-    tx: &mut Transaction<'_, S>,
-    name: &str,
+    name: &Name,
     version: &str,
-) -> Result<String, Stop>
+    told: Option<&str>,
+) -> Result<bool, Stop>
     requires in_form { InForm S.Store tx.old.conn.now }
     ensures same_reference { tx.new.conn.ghost_name ≡ tx.old.conn.ghost_name }
     ensures in_form { OnOk result (InForm S.Store tx.new.conn.now) }
 {
-    let name = Name::parse(alloc, name)?;
-    let manifest = load_manifest(tx, &name, version)?;
-    manifest_line(alloc, &manifest)
+    let manifest = load_manifest(tx, name, version)?;
+    Ok(is_manifest(&manifest, told))
 }
 
-fn tell_archive<S: Alter>(
-    alloc: Global,
+fn is_manifest(manifest: &Option<Text>, told: Option<&str>) -> bool {
+    match (manifest, told) {
+        (Some(manifest), Some(told)) => manifest.as_str() == told,
+        (None, None) => true,
+        _ => false,
+    }
+}
+
+fn tells_archive<S: Alter>(
     tx: &mut Transaction<'_, S>,
-    name: &str,
+    name: &Name,
     version: &str,
-) -> Result<String, Stop>
+    told: Option<(usize, &str)>,
+) -> Result<bool, Stop>
     requires in_form { InForm S.Store tx.old.conn.now }
     ensures same_reference { tx.new.conn.ghost_name ≡ tx.old.conn.ghost_name }
     ensures in_form { OnOk result (InForm S.Store tx.new.conn.now) }
 {
-    let name = Name::parse(alloc, name)?;
-    let archive = load_archive(tx, &name, version)?;
-    archive_line(alloc, &archive)
+    let archive = load_archive(tx, name, version)?;
+    Ok(is_archive(&archive, told))
+}
+
+fn is_archive(archive: &Option<Blob>, told: Option<(usize, &str)>) -> bool {
+    match (archive, told) {
+        (Some(archive), Some((length, end))) => {
+            archive.as_slice().len() == length && archive.as_slice().ends_with(end.as_bytes())
+        }
+        (None, None) => true,
+        _ => false,
+    }
 }

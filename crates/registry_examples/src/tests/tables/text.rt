@@ -1,38 +1,53 @@
-//! Bodies of publications, and lines that tell what was loaded.
+//! Bodies of publications, and texts that tell what was loaded.
 
-use registry_names::{Blob, Fault, Status, Stop, Text};
-use registry_rules::PackageRows;
-use registry_tables::fault_of;
-use sqlite::Row;
+use crate::tests::body::{ABC, body_of};
+use registry_names::{DistTag, Status, Stop};
+use registry_publish::PublishForm;
+use registry_rules::{LiveVersion, PackageRows};
 use std::alloc::{AllocError, Global};
 
-/// A body whose manifest has its name and its version alone, and whose archive has the bytes
-/// `abc` so many times.
-pub fn body_of(
+/// The body of a publication.
+#[derive(Clone, Copy)]
+pub enum Body {
+    /// One of this version, whose manifest has its name and its version alone, with the archive
+    /// `abc`.
+    Plain(&'static str),
+    /// The same with an archive of the bytes `abc` so many times.
+    Archive(&'static str, usize),
+    /// This text.
+    Text(&'static str),
+}
+
+/// The form of a package's body.
+pub fn form_of(alloc: Global, name: &str, body: Body) -> Result<PublishForm, Stop> {
+    let text = text_of(alloc, name, body)?;
+    PublishForm::read(alloc, text.as_bytes())
+}
+
+fn text_of(alloc: Global, name: &str, body: Body) -> Result<String, AllocError> {
+    match body {
+        Body::Plain(version) => body_of(alloc, name, version, ABC),
+        Body::Archive(version, times) => archive_body(alloc, name, version, times),
+        Body::Text(text) => String::from_str(alloc, text),
+    }
+}
+
+fn archive_body(
     alloc: Global,
     name: &str,
     version: &str,
     times: usize,
 ) -> Result<String, AllocError> {
-    let data = "YWJj".repeat(alloc, times)?;
-    format!(in alloc;
-        "{{\"name\":\"{name}\",\"versions\":{{\"{version}\":{{\"name\":\"{name}\",\"version\":\"{version}\"}}}},\"_attachments\":{{\"a\":{{\"data\":\"{data}\"}}}}}}"
-    )
-}
-
-/// A body whose manifest names `pad` with the range `^1` in two members, and `kid` with two ranges.
-pub fn body_with_needs(alloc: Global, name: &str, version: &str) -> Result<String, AllocError> {
-    format!(in alloc;
-        "{{\"name\":\"{name}\",\"versions\":{{\"{version}\":{{\"name\":\"{name}\",\"version\":\"{version}\",\"dependencies\":{{\"kid\":\"~2\",\"pad\":\"^1\"}},\"devDependencies\":{{\"pod\":\"3\"}},\"optionalDependencies\":{{\"pad\":\"^1\"}},\"peerDependencies\":{{\"kid\":\"2.1\"}}}}}},\"_attachments\":{{\"a\":{{\"data\":\"YWJj\"}}}}}}"
-    )
+    let archive = ABC.repeat(alloc, times)?;
+    body_of(alloc, name, version, &archive)
 }
 
 /// The status of a package, its versions with the seconds when they were published, and its tags.
-pub fn package_line(alloc: Global, rows: &PackageRows) -> Result<String, Stop> {
-    let status = status_text(rows.status);
-    let versions = versions_text(alloc, rows)?;
-    let tags = tags_text(alloc, rows)?;
-    Ok(format!(in alloc; "{status}{versions}{tags}\n")?)
+pub fn package_text(alloc: Global, rows: &PackageRows) -> Result<String, AllocError> {
+    let mut text = String::from_str(alloc, status_text(rows.status))?;
+    push_versions(alloc, &mut text, &rows.live)?;
+    push_tags(alloc, &mut text, &rows.tags)?;
+    Ok(text)
 }
 
 fn status_text(status: Option<Status>) -> &'static str {
@@ -43,73 +58,33 @@ fn status_text(status: Option<Status>) -> &'static str {
     }
 }
 
-fn versions_text(alloc: Global, rows: &PackageRows) -> Result<String, AllocError> {
-    let mut text = String::new(alloc);
-    for live in &rows.live {
-        let version = live.version.as_str();
-        let at = live.published.seconds();
-        let message = live.message.as_str();
-        text.push_str(format!(in alloc; " {version}@{at}{message}")?.as_str())?;
+fn push_versions(
+    alloc: Global,
+    text: &mut String,
+    versions: &[LiveVersion],
+) -> Result<(), AllocError> {
+    for version in versions {
+        text.push_str(&version_text(alloc, version)?)?;
     }
-    Ok(text)
+    Ok(())
 }
 
-fn tags_text(alloc: Global, rows: &PackageRows) -> Result<String, AllocError> {
-    let mut text = String::new(alloc);
-    for named in &rows.tags {
-        let tag = named.tag.as_str();
-        let version = named.version.as_str();
-        text.push_str(format!(in alloc; " {tag}={version}")?.as_str())?;
-    }
-    Ok(text)
+fn version_text(alloc: Global, live: &LiveVersion) -> Result<String, AllocError> {
+    let version = live.version.as_str();
+    let at = live.published.seconds();
+    let message = live.message.as_str();
+    format!(in alloc; " {version}@{at}{message}")
 }
 
-/// The manifest, or `none`.
-pub fn manifest_line(alloc: Global, manifest: &Option<Text>) -> Result<String, Stop> {
-    match manifest {
-        Some(manifest) => Ok(format!(in alloc; "{}\n", manifest.as_str())?),
-        None => Ok(String::from_str(alloc, "none\n")?),
+fn push_tags(alloc: Global, text: &mut String, tags: &[DistTag]) -> Result<(), AllocError> {
+    for tag in tags {
+        text.push_str(&tag_text(alloc, tag)?)?;
     }
+    Ok(())
 }
 
-/// How many bytes the archive has, and its last three as a text; or `none`.
-pub fn archive_line(alloc: Global, archive: &Option<Blob>) -> Result<String, Stop> {
-    match archive {
-        Some(archive) => Ok(format!(in alloc;
-            "{}:{}\n",
-            archive.as_slice().len(),
-            end_of(archive.as_slice())
-        )?),
-        None => Ok(String::from_str(alloc, "none\n")?),
-    }
-}
-
-fn end_of(bytes: &[u8]) -> &str {
-    let end = bytes.get(bytes.len().saturating_sub(3)..).unwrap_or(bytes);
-    str::from_utf8(end).unwrap_or("no text")
-}
-
-/// The first column of each row, a line for each.
-pub fn rows_text(alloc: Global, rows: &[Row]) -> Result<String, Stop> {
-    let mut text = String::new(alloc);
-    for row in rows {
-        text.push_str(word_in(row)?.as_str())?;
-        text.push_str("\n")?;
-    }
-    Ok(text)
-}
-
-fn word_in(row: &Row) -> Result<String, Fault> {
-    match row.get(0) {
-        Ok(word) => Ok(word),
-        Err(error) => Err(fault_of(error)),
-    }
-}
-
-/// The name of what stopped a call.
-pub fn stop_text(stop: Stop) -> &'static str {
-    match stop {
-        Stop::Refused(refusal) => refusal.text(),
-        Stop::Fault(fault) => fault.text(),
-    }
+fn tag_text(alloc: Global, named: &DistTag) -> Result<String, AllocError> {
+    let tag = named.tag.as_str();
+    let version = named.version.as_str();
+    format!(in alloc; " {tag}={version}")
 }

@@ -1,9 +1,9 @@
 use Rattle.std.proofs.Common.{true}
 use Rattle.registry_tables.specs.Effects.{HasNoTables}
-use Rattle.registry_examples.proofs.tests.tables.call.told_on.Goals as goal
+use Rattle.registry_examples.proofs.tests.tables.call.comes_out_on.Goals as goal
 
-pub told_inside-requires : goal.told_inside-requires
-told_inside-requires g c = record {
+pub comes_out_inside-requires : goal.comes_out_inside-requires
+comes_out_inside-requires g c = record {
   in_form = λ clean on.
       let old = c.args.conn.now in
       let none : HasNoTables g.S.Store (record old { in_transaction = true }) = λ _ alive. record { schema_is = c.requires.empty.2; sound = (c.requires.empty.1 alive).0; rowids = tt } in
