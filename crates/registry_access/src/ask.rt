@@ -3,7 +3,7 @@
 use registry_names::{Ident, Name};
 
 /// What a caller asks to be allowed.
-#[derive(Clone, Copy, Debug)]
+#[derive(Clone, Copy)]
 pub enum Ask<'a> {
     /// To manage users, tokens and organisations.
     Operate,

@@ -4,7 +4,7 @@ use registry_names::Ident;
 
 /// Who asks: whom the registry knows by the credential that came with a request. A credential that
 /// names nobody makes no caller.
-#[derive(Debug, Drop)]
+#[derive(Drop)]
 pub enum Caller {
     /// Who runs the registry. He manages its users, tokens and organisations, and else has what
     /// everybody has.

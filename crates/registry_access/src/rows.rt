@@ -5,7 +5,7 @@ use crate::role::Role;
 use registry_names::{Status, Text};
 
 /// A user is a member of an organisation. Its key is organisation and user.
-#[derive(Debug, Drop)]
+#[derive(Drop)]
 pub struct MemberRow {
     /// The organisation's name.
     pub organisation: Text,
@@ -16,7 +16,7 @@ pub struct MemberRow {
 }
 
 /// An organisation has a team. All of it is key.
-#[derive(Debug, Drop)]
+#[derive(Drop)]
 pub struct TeamRow {
     /// The organisation's name.
     pub organisation: Text,
@@ -25,7 +25,7 @@ pub struct TeamRow {
 }
 
 /// A user is in a team of an organisation. All of it is key.
-#[derive(Debug, Drop)]
+#[derive(Drop)]
 pub struct TeamMemberRow {
     /// The organisation's name.
     pub organisation: Text,
@@ -36,7 +36,7 @@ pub struct TeamMemberRow {
 }
 
 /// A team of an organisation is granted a level on a package. Its key is all but the level.
-#[derive(Debug, Drop)]
+#[derive(Drop)]
 pub struct GrantRow {
     /// The organisation's name.
     pub organisation: Text,
@@ -49,7 +49,7 @@ pub struct GrantRow {
 }
 
 /// A package was published, now or once. Its key is the package.
-#[derive(Debug, Drop)]
+#[derive(Drop)]
 pub struct PackageRow {
     /// The package's name.
     pub package: Text,
@@ -58,7 +58,7 @@ pub struct PackageRow {
 }
 
 /// A user is a maintainer of a package. All of it is key.
-#[derive(Debug, Drop)]
+#[derive(Drop)]
 pub struct MaintainerRow {
     /// The package's name.
     pub package: Text,
@@ -68,7 +68,7 @@ pub struct MaintainerRow {
 
 /// Rows of the registry's tables, all of them or those that an ask concerns. Where a key stands
 /// twice in a list, its first row counts.
-#[derive(Debug, Drop)]
+#[derive(Drop)]
 pub struct AccessRows {
     /// The names of the organisations.
     pub organisations: Vec<Text>,

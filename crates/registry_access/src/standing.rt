@@ -5,7 +5,7 @@ use crate::role::Role;
 use registry_names::Status;
 
 /// How one caller stands to one package.
-#[derive(Debug, Drop)]
+#[derive(Drop)]
 pub struct Standing {
     /// Whether the organisation of the package's scope is there. False for a package without one.
     pub org: bool,

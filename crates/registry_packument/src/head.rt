@@ -3,7 +3,7 @@
 use registry_names::{DistTag, Text};
 
 /// The head of a packument: what it has beside its versions.
-#[derive(Debug, Drop)]
+#[derive(Drop)]
 pub struct PackHead {
     /// The package's name.
     pub name: Text,

@@ -32,7 +32,7 @@ impl MemberRole {
 }
 
 /// A member of an organisation.
-#[derive(Debug, PartialEq, Eq, Drop)]
+#[derive(Drop)]
 pub struct Member {
     /// The user's name.
     pub user: Text,
@@ -61,7 +61,7 @@ impl GrantLevel {
 }
 
 /// A grant to a team.
-#[derive(Debug, PartialEq, Eq, Drop)]
+#[derive(Drop)]
 pub struct Grant {
     /// The package's name.
     pub name: Text,
@@ -71,7 +71,7 @@ pub struct Grant {
 
 /// A list that the registry answers with. Its rows stand in byte order of their first text, each
 /// text once.
-#[derive(Debug, PartialEq, Eq, Drop)]
+#[derive(Drop)]
 pub enum List {
     /// The dist-tags of a package.
     Tags(Vec<DistTag>),

@@ -14,7 +14,6 @@ use registry_names::{Fault, Text};
 use std::alloc::{AllocError, Global};
 
 /// A version of a package, with its document.
-#[derive(Debug)]
 pub struct VersionRow {
     /// The text of the version, as `1.0.0`.
     pub version: Text,

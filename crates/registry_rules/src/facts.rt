@@ -27,7 +27,7 @@ pub struct PackageRows {
 }
 
 /// A version that was published and not withdrawn.
-#[derive(Debug, PartialEq, Eq, Drop)]
+#[derive(Drop)]
 pub struct LiveVersion {
     /// The version, as `1.0.0`.
     pub version: Text,
