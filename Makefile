@@ -12,7 +12,7 @@ BODY := $(EXAMPLE)
 help:
 	@echo 'make try    run the program before any proof: 2 minutes, and nothing is proved'
 	@echo 'make run    prove and build the program, publish $(BODY)'
-	@echo '            to an empty registry, and print its packument: 15 minutes at first'
+	@echo '            to an empty registry, and print its packument: 20 minutes at first'
 	@echo 'make build  the same, but for the publish: leave the program as out/registry'
 	@echo 'make test   the gate: prove every crate from nothing, and run every test: 40 minutes'
 	@echo 'make check  prove every crate over what earlier checks kept'
