@@ -1,6 +1,6 @@
 -- The names of packages.
-use Rattle.std.specs.Prelude.{◌≡◌, ◌≤◌, ℕ, ◌==◌, ◌&&◌, ◌||◌, not, Bool, List, ◌∷◌, ◌++◌, length, slice_index, codes, true, Option, Some, None}
-use Rattle.std.specs.List.{list_all}
+use Rattle.std.specs.Prelude.{◌≡◌, ◌≤◌, ℕ, ◌==◌, ◌&&◌, ◌||◌, not, Bool, List, [], ◌∷◌, ◌++◌, length, slice_index, codes, true, Option, Some, None, if◌then◌else◌}
+use Rattle.std.specs.List.{before_first, list_all}
 use Rattle.std.specs.Str.{bytes_eq}
 use Rattle.registry_names.specs.Idents.{is_alnum, is_ident, is_ident_char}
 
@@ -29,3 +29,8 @@ IsNameOf t (Some s) p = (t ≡ 64 ∷ (s ++ 47 ∷ p)) × (is_ident s ≡ true) 
 -- the text is a name
 abbrev pub IsName : List ℕ → Type 0
 IsName t = (s : Option (List ℕ)) × ((p : List ℕ) × IsNameOf t s p)
+
+-- the scope of a name: what stands between an @ at its front and the first slash
+abbrev pub scope_of : List ℕ → Option (List ℕ)
+scope_of [] = None
+scope_of (c ∷ rest) = if c == 64 then Some (before_first (λ d. d == 47) rest) else None

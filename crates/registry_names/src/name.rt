@@ -4,7 +4,7 @@ ghost use Rattle.std.specs.Prelude.{◌≡◌, ◌⊎◌, List, ℕ, string_byte
 ghost use Rattle.std.specs.List.{list_all};
 ghost use Rattle.std.specs.Str.{bytes_eq};
 ghost use Rattle.registry_names.specs.Names as spec;
-ghost use Rattle.registry_names.specs.Names.{is_name_char, IsNameOf, IsName};
+ghost use Rattle.registry_names.specs.Names.{is_name_char, scope_of, IsNameOf, IsName};
 
 use crate::ident::{is_ident, is_ident_byte, starts_alnum};
 use crate::refusal::Refusal;
@@ -120,7 +120,8 @@ impl Name {
 
     /// The scope without its `@`, which is an organisation's name. None where the name has none.
     pub fn scope(&self) -> Option<&str>
-        ensures { (p : List ℕ) × IsNameOf self.now (option_map (λ s. s.now) result) p }
+        ensures scope { option_map (λ s. s.now) result ≡ scope_of self.now }
+        ensures form { (p : List ℕ) × IsNameOf self.now (option_map (λ s. s.now) result) p }
     {
         match parts(self.text.as_str()) {
             Some((scope, _)) => scope,

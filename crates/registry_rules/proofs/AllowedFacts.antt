@@ -9,7 +9,8 @@ use Rattle.registry_names.specs.declared.refusal.Refusal.TheVariants.{NotFound, 
 use Rattle.registry_names.specs.declared.status.Status.{Status}
 use Rattle.registry_names.specs.declared.status.Status.TheVariants.{Public, Restricted}
 use Rattle.registry_names.proofs.KeyFacts.{text_key}
-use Rattle.registry_access.specs.Scopes.{scope_of}
+use Rattle.registry_names.proofs.PutFacts.{put_there}
+use Rattle.registry_names.specs.Names.{scope_of}
 use Rattle.registry_publish.specs.Form.{FormParts}
 use Rattle.registry_rules.specs.Actions.{version_of}
 use Rattle.registry_rules.specs.Kept.{IsReleaseOf}
@@ -17,7 +18,6 @@ use Rattle.registry_rules.specs.Refusals.{is_restricted, publish_refusal, refuse
 use Rattle.registry_rules.specs.Requests.{ArePartsInForm}
 use Rattle.registry_rules.specs.State.{State, Release}
 use Rattle.registry_rules.specs.Steps.{latest, new_status, release_of}
-use Rattle.registry_rules.proofs.PutFacts.{put_there}
 use Rattle.registry_rules.proofs.PublishedFacts.{statuses_after}
 
 pub record IsAllowed (S : State) (p v t : Text) (release : Release) (status : Option Status) (first : Bool) : Type 0 where

@@ -7,7 +7,7 @@ use Rattle.registry_names.specs.declared.refusal.Refusal.{Refusal}
 use Rattle.registry_names.specs.declared.refusal.Refusal.TheVariants.{NotFound, Published, KeepsLatest, AlwaysPublic}
 use Rattle.registry_names.specs.declared.status.Status.{Status}
 use Rattle.registry_names.specs.declared.status.Status.TheVariants.{Public, Restricted}
-use Rattle.registry_access.specs.Scopes.{scope_of}
+use Rattle.registry_names.specs.Names.{scope_of}
 use Rattle.registry_publish.specs.Form.{FormParts}
 use Rattle.registry_rules.specs.Actions.{version_of}
 use Rattle.registry_rules.specs.State.{State}

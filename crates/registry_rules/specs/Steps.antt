@@ -5,7 +5,7 @@ use Rattle.registry_names.specs.Maps.{at}
 use Rattle.registry_names.specs.Versions.{text_of_version}
 use Rattle.registry_names.specs.declared.status.Status.{Status}
 use Rattle.registry_names.specs.declared.status.Status.TheVariants.{Public, Restricted}
-use Rattle.registry_access.specs.Scopes.{scope_of}
+use Rattle.registry_names.specs.Names.{scope_of}
 use Rattle.registry_publish.specs.Form.{FormParts}
 use Rattle.registry_rules.specs.Actions.{version_of}
 use Rattle.registry_rules.specs.State.{State, Release}

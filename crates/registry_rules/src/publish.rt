@@ -1,7 +1,7 @@
 //! The decision on a publish.
 
 ghost use Rattle.std.specs.Prelude.{◌≡◌, is_some, IfOk};
-ghost use Rattle.registry_access.specs.Scopes.{scope_of};
+ghost use Rattle.registry_names.specs.Names.{scope_of};
 ghost use Rattle.registry_rules.specs.Rows as from_rows;
 ghost use Rattle.registry_rules.specs.Steps as steps;
 
