@@ -4,7 +4,7 @@ use Rattle.std.specs.List.{before_first, list_all}
 use Rattle.std.proofs.lemmas.Bool.{eqb-true}
 use Rattle.std.proofs.lemmas.List.Sums.{AllPass-from_list_all}
 use Rattle.std.proofs.lemmas.Str.Pattern.{IsSplitOnceResult, split_after}
-use Rattle.registry_names.specs.Idents.{is_alnum, is_ident, is_ident_char}
+use Rattle.registry_names.specs.Idents.{is_lower_alphanumeric, is_ident, is_ident_char}
 use Rattle.registry_names.specs.Names.{is_plain_part, is_scoped_part, IsName, IsNameOf, scope_of}
 
 pub and_left : (a b : Bool) → (a && b) ≡ true → a ≡ true
@@ -39,7 +39,7 @@ no_plain_name t bare bad (Some s, (p, h)) = bare _ h.0
 pub no_unsplit_name : (t rest : List ℕ) (r : Option (Bor (List ℕ) × Bor (List ℕ))) → t ≡ 64 ∷ rest → IsSplitOnceResult 47 rest r
     → MatchOption r (Unit {0}) (λ x. (is_ident x.0.now && is_scoped_part x.1.now) ≡ false) → ¬ (IsName t)
 no_unsplit_name t rest r at cut bad (None, (p, h)) =
-    let plain : is_alnum (slice_index t 0) ≡ true = and_left _ _ (and_left _ _ (and_left _ _ (rw (sym h.0) at h.1))) in
+    let plain : is_lower_alphanumeric (slice_index t 0) ≡ true = and_left _ _ (and_left _ _ (and_left _ _ (rw (sym h.0) at h.1))) in
     cc (rw at at plain)
 no_unsplit_name t rest r at cut bad (Some s, (p, h)) =
     let same : rest ≡ s ++ 47 ∷ p = cc (at, h.0) in
@@ -64,9 +64,9 @@ before_slash (c ∷ s) p h =
     ∙ ap (λ t. c ∷ t) (before_slash s p (and_right (is_ident_char c) _ h))
 
 -- a text that begins with a letter or digit has no scope
-scope_of-plain : (t : List ℕ) → is_alnum (slice_index t 0) ≡ true → scope_of t ≡ None
+scope_of-plain : (t : List ℕ) → is_lower_alphanumeric (slice_index t 0) ≡ true → scope_of t ≡ None
 scope_of-plain [] h = refl
-scope_of-plain (c ∷ rest) h = ap (λ b. if b then Some (before_first (λ d. d == 47) rest) else None) (not_code is_alnum c 64 _ refl h refl)
+scope_of-plain (c ∷ rest) h = ap (λ b. if b then Some (before_first (λ d. d == 47) rest) else None) (not_code is_lower_alphanumeric c 64 _ refl h refl)
 
 pub scope_of-name : (t : List ℕ) (s : Option (List ℕ)) (p : List ℕ) → IsNameOf t s p → s ≡ scope_of t
 scope_of-name t None p n = sym (scope_of-plain t (and_left _ _ (and_left _ _ (and_left _ _ (rw (sym n.0) at n.1)))))

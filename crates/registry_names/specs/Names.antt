@@ -2,7 +2,7 @@
 use Rattle.std.specs.Prelude.{◌≡◌, ◌≤◌, ℕ, ◌==◌, ◌&&◌, ◌||◌, not, Bool, List, [], ◌∷◌, ◌++◌, length, slice_index, codes, true, Option, Some, None, if◌then◌else◌}
 use Rattle.std.specs.List.{before_first, list_all}
 use Rattle.std.specs.Str.{bytes_eq}
-use Rattle.registry_names.specs.Idents.{is_alnum, is_ident, is_ident_char}
+use Rattle.registry_names.specs.Idents.{is_lower_alphanumeric, is_ident, is_ident_char}
 
 -- a-z 0-9 - _ .
 abbrev pub is_name_char : ℕ → Bool
@@ -10,7 +10,7 @@ is_name_char c = is_ident_char c || c == 46
 
 -- The part of a name without a scope begins with a letter or digit; two whole names are taken.
 abbrev pub is_plain_part : List ℕ → Bool
-is_plain_part p = is_alnum (slice_index p 0) && list_all is_name_char p
+is_plain_part p = is_lower_alphanumeric (slice_index p 0) && list_all is_name_char p
     && not (bytes_eq p (codes "node_modules")) && not (bytes_eq p (codes "favicon.ico"))
 
 -- The part of a name with a scope begins with any character of a name, and is neither . nor ..

@@ -34,6 +34,6 @@ pub use crate::name::Name;
 pub use crate::refusal::{Refusal, Rule};
 pub use crate::status::Status;
 pub use crate::stop::{Fault, Stop};
-pub use crate::tag::TagText;
+pub use crate::tag::{LATEST, TagText};
 pub use crate::text::Text;
-pub use crate::version::Ver;
+pub use crate::version::{GREATEST_NUMBER, Ver};

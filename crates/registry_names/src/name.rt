@@ -6,7 +6,7 @@ ghost use Rattle.std.specs.Str.{bytes_eq};
 ghost use Rattle.registry_names.specs.Names as spec;
 ghost use Rattle.registry_names.specs.Names.{is_name_char, scope_of, IsNameOf, IsName};
 
-use crate::ident::{is_ident, is_ident_byte, starts_alnum};
+use crate::ident::{is_ident, is_ident_byte, starts_lower_alphanumeric};
 use crate::refusal::Refusal;
 use crate::stop::{Fault, Stop};
 use std::alloc::Global;
@@ -35,7 +35,7 @@ fn is_same(text: &str, other: &str) -> bool
 fn is_plain_part(text: &str) -> bool
     ensures { result ≡ spec.is_plain_part text.now }
 {
-    starts_alnum(text.as_bytes())
+    starts_lower_alphanumeric(text.as_bytes())
         && all_name_bytes(text.as_bytes())
         && !is_same(text, "node_modules")
         && !is_same(text, "favicon.ico")

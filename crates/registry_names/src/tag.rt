@@ -10,6 +10,9 @@ use crate::stop::{Fault, Stop};
 use std::alloc::Global;
 use std::marker::Model;
 
+/// The tag that stands while a version lives.
+pub const LATEST: &str = "latest";
+
 const LONGEST: usize = 214;
 
 fn is_tag_byte(byte: u8) -> bool

@@ -15,8 +15,8 @@ use std::marker::Model;
 
 const LONGEST: usize = 256;
 
-/// 2^53 - 1, the greatest number that every JavaScript client reads as it is.
-const GREATEST_NUMBER: u64 = 9_007_199_254_740_991;
+/// The greatest number of a version, 2^53 - 1, which every JavaScript client reads as it is.
+pub const GREATEST_NUMBER: u64 = 9_007_199_254_740_991;
 
 // Whether reading stopped for want of memory.
 fn is_memory(error: Error) -> bool
@@ -35,7 +35,7 @@ fn in_profile(version: &Version) -> bool
 }
 
 /// A version of [SemVer 2.0.0](https://semver.org/spec/v2.0.0.html) without build metadata, of at
-/// most 256 characters, its numbers at most 9007199254740991. So two versions of one precedence
+/// most 256 characters, its numbers at most [`GREATEST_NUMBER`]. So two versions of one precedence
 /// are one version. Contracts see its parts.
 #[derive(Debug)]
 pub struct Ver {

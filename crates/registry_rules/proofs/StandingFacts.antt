@@ -1,6 +1,7 @@
 -- What the rows of a package decide is what every state decides that they stand for.
 use Rattle.std.proofs.Common.{◌≡◌, ℕ, Bool, true, false, not, ◌&&◌, ◌||◌, [], is_some, is_none, Option, Some, None, refl, sym, ap, ◌∙◌, subst, true≢false, if◌then◌else◌}
 use Rattle.std.specs.Prelude.{is_ok}
+use Rattle.registry_names.specs.Tags.{latest}
 use Rattle.registry_names.specs.Texts.{Text, is}
 use Rattle.registry_names.specs.Maps.{at}
 use Rattle.registry_names.specs.Versions.{text_of_version}
@@ -20,7 +21,7 @@ use Rattle.registry_rules.specs.Rows as from_rows
 use Rattle.registry_rules.specs.Rows.{has_tag, changes_with}
 use Rattle.registry_rules.specs.Standing.{AreRowsOf}
 use Rattle.registry_rules.specs.State.{State}
-use Rattle.registry_rules.specs.Steps.{latest, new_status, with_new_status, with_latest, release_of, published, step_of}
+use Rattle.registry_rules.specs.Steps.{new_status, with_new_status, with_latest, release_of, published, step_of}
 use Rattle.registry_rules.specs.declared.facts.PackageRows.{PackageRows}
 use Rattle.registry_rules.specs.declared.request.Action.{Action}
 use Rattle.registry_rules.specs.declared.request.Action.TheVariants.{Publish, TagSet, TagRemove, Packument, Archive, Tags}
