@@ -13,9 +13,13 @@ abbrev pub is_plain_part : List ℕ → Bool
 is_plain_part p = is_lower_alphanumeric (slice_index p 0) && list_all is_name_char p
     && not (bytes_eq p (codes "node_modules")) && not (bytes_eq p (codes "favicon.ico"))
 
--- The part of a name with a scope begins with any character of a name, and is neither . nor ..
+-- a-z 0-9 _ .
+abbrev pub is_scoped_start : ℕ → Bool
+is_scoped_start c = is_lower_alphanumeric c || c == 95 || c == 46
+
+-- The part of a name with a scope begins with a letter, a digit, _ or ., and is neither . nor ..
 abbrev pub is_scoped_part : List ℕ → Bool
-is_scoped_part p = not (length p == 0) && list_all is_name_char p
+is_scoped_part p = is_scoped_start (slice_index p 0) && list_all is_name_char p
     && not (bytes_eq p (codes ".")) && not (bytes_eq p (codes ".."))
 
 abbrev pub longest_name : ℕ

@@ -27,10 +27,8 @@ pub(crate) fn is_ident_byte(byte: u8) -> bool
 pub(crate) fn starts_lower_alphanumeric(text: &[u8]) -> bool
     ensures { result ≡ is_lower_alphanumeric (slice_index text.now 0) }
 {
-    match text.first() {
-        Some(byte) => is_lower_alphanumeric_byte(*byte),
-        None => false,
-    }
+    text.first()
+        .is_some_and(|byte| is_lower_alphanumeric_byte(*byte))
 }
 
 fn all_ident_bytes(text: &[u8]) -> bool

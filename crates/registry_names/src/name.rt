@@ -1,12 +1,14 @@
 //! The names of packages.
 
-ghost use Rattle.std.specs.Prelude.{◌≡◌, ◌⊎◌, List, ℕ, string_bytes, Option, option_map, IfOk, IfErr, MatchOption};
+ghost use Rattle.std.specs.Prelude.{◌≡◌, ◌⊎◌, List, ℕ, string_bytes, Option, option_map, slice_index, IfOk, IfErr, MatchOption};
 ghost use Rattle.std.specs.List.{list_all};
 ghost use Rattle.std.specs.Str.{bytes_eq};
 ghost use Rattle.registry_names.specs.Names as spec;
-ghost use Rattle.registry_names.specs.Names.{is_name_char, scope_of, IsNameOf, IsName};
+ghost use Rattle.registry_names.specs.Names.{is_name_char, is_scoped_start, scope_of, IsNameOf, IsName};
 
-use crate::ident::{is_ident, is_ident_byte, starts_lower_alphanumeric};
+use crate::ident::{
+    is_ident, is_ident_byte, is_lower_alphanumeric_byte, starts_lower_alphanumeric,
+};
 use crate::refusal::Refusal;
 use crate::stop::{Fault, Stop};
 use std::alloc::Global;
@@ -41,10 +43,22 @@ fn is_plain_part(text: &str) -> bool
         && !is_same(text, "favicon.ico")
 }
 
+fn is_scoped_start_byte(byte: u8) -> bool
+    ensures { result ≡ is_scoped_start byte }
+{
+    is_lower_alphanumeric_byte(byte) || byte == b'_' || byte == b'.'
+}
+
+fn starts_scoped(text: &[u8]) -> bool
+    ensures { result ≡ is_scoped_start (slice_index text.now 0) }
+{
+    text.first().is_some_and(|byte| is_scoped_start_byte(*byte))
+}
+
 fn is_scoped_part(text: &str) -> bool
     ensures { result ≡ spec.is_scoped_part text.now }
 {
-    !text.is_empty()
+    starts_scoped(text.as_bytes())
         && all_name_bytes(text.as_bytes())
         && !is_same(text, ".")
         && !is_same(text, "..")
@@ -76,7 +90,7 @@ fn parts(text: &str) -> Option<(Option<&str>, &str)>
 /// The name of a package, as npm has it: `part`, or `@scope/part`, of at most 214 characters.
 ///
 /// A part has characters of `a-z 0-9 - _ .`. Without a scope it begins with a letter or digit,
-/// and is neither `node_modules` nor `favicon.ico`; with one it may begin with any of them, and
+/// and is neither `node_modules` nor `favicon.ico`; with one it may begin with `_` or `.` too, and
 /// is neither `.` nor `..`. A scope is the name of an organisation ([`Ident`](crate::Ident)).
 /// Contracts see its text.
 #[derive(Debug, Drop)]

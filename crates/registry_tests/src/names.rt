@@ -49,7 +49,7 @@ static FORMS: [Form; 9] = [
     Form {
         kind: Kind::Name,
         told: READ,
-        texts: &["kit", "@lab/kit", "@lab/.x", "@lab/_x", "0.a-b_c"],
+        texts: &["kit", "@lab/kit", "@lab/.x", "@lab/_x", "@lab/9", "0.a-b_c"],
     },
     Form {
         kind: Kind::Name,
@@ -64,6 +64,9 @@ static FORMS: [Form; 9] = [
             "favicon.ico",
             "@lab/..",
             "@lab/.",
+            "@lab/-x",
+            "@lab/-",
+            "@lab/-.-",
             "@lab/",
             "@lab",
             "@/kit",
