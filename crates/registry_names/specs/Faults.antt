@@ -1,6 +1,7 @@
--- What is printed of a fault and of a stop, and the status code of a fault in HTTP.
-use Rattle.std.specs.Prelude.{ℕ, List, codes}
+-- What is printed of a fault and of a stop, the status code of a fault in HTTP, and why a text isn't read.
+use Rattle.std.specs.Prelude.{◌≡◌, ◌⊎◌, ℕ, List, codes}
 use Rattle.registry_names.specs.Refusals.{refusal_text}
+use Rattle.registry_names.specs.declared.refusal.Refusal.{Refusal}
 use Rattle.registry_names.specs.declared.stop.Fault.{Fault}
 use Rattle.registry_names.specs.declared.stop.Fault.TheVariants.{Memory, Database}
 use Rattle.registry_names.specs.declared.stop.Stop.{Stop}
@@ -18,3 +19,7 @@ fault_status Database = 500
 abbrev pub stop_text : Stop → List ℕ
 stop_text (Refused refusal) = refusal_text refusal
 stop_text (Faulted fault) = fault_text fault
+
+-- no memory is left, or what was to be read is refused so, of which this holds
+abbrev pub IsMemoryOr : Refusal → Type 0 → Stop → Type 0
+IsMemoryOr refusal P e = (e ≡ Faulted Memory) ⊎ ((e ≡ Refused refusal) × P)

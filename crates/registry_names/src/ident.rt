@@ -1,12 +1,14 @@
 //! The names of users, organisations and teams.
 
-ghost use Rattle.std.specs.Prelude.{◌≡◌, ◌⊎◌, List, ℕ, string_bytes, IfOk, IfErr, slice_index, true, false};
+ghost use Rattle.std.specs.Prelude.{◌≡◌, List, ℕ, string_bytes, IfOk, IfErr, slice_index, true, false};
 ghost use Rattle.std.specs.List.{list_all};
+ghost use Rattle.registry_names.specs.Faults.{IsMemoryOr};
 ghost use Rattle.registry_names.specs.Idents as spec;
 ghost use Rattle.registry_names.specs.Idents.{is_lower_alphanumeric, is_ident_char};
 
+use crate::form::kept_in_form;
 use crate::refusal::Refusal;
-use crate::stop::{Fault, Stop};
+use crate::stop::Stop;
 use std::alloc::Global;
 use std::marker::Model;
 
@@ -66,16 +68,11 @@ impl Ident {
     /// `BadName` comes exactly for a text that is none, and `Memory` where no memory is left.
     pub fn parse(alloc: Global, text: &str) -> Result<Ident, Stop>
         ensures ok { IfOk result (λ i. (i ≡ text.now) × (spec.is_ident text.now ≡ true)) }
-        ensures err { IfErr result (λ e. (e ≡ Stop.Fault Fault.Memory)
-            ⊎ ((e ≡ Stop.Refused Refusal.BadName) × (spec.is_ident text.now ≡ false))) }
+        ensures err { IfErr result (IsMemoryOr Refusal.BadName (spec.is_ident text.now ≡ false)) }
         ensures refused { spec.is_ident text.now ≡ false → result ≡ Err (Stop.Refused Refusal.BadName) }
     {
-        if !is_ident(text) {
-            return Err(Stop::Refused(Refusal::BadName));
-        }
-        Ok(Ident {
-            text: String::from_str(alloc, text)?,
-        })
+        let text = kept_in_form(alloc, text, is_ident(text), Refusal::BadName)?;
+        Ok(Ident { text })
     }
 
     /// The text that was read.

@@ -9,6 +9,7 @@
 mod blob;
 mod dist_tag;
 mod ends;
+mod form;
 mod ident;
 pub mod laws;
 mod message;

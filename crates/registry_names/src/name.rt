@@ -1,16 +1,18 @@
 //! The names of packages.
 
-ghost use Rattle.std.specs.Prelude.{◌≡◌, ◌⊎◌, List, ℕ, string_bytes, Option, option_map, slice_index, IfOk, IfErr, MatchOption};
+ghost use Rattle.std.specs.Prelude.{◌≡◌, List, ℕ, string_bytes, Option, option_map, slice_index, IfOk, IfErr, MatchOption};
 ghost use Rattle.std.specs.List.{list_all};
 ghost use Rattle.std.specs.Str.{bytes_eq};
+ghost use Rattle.registry_names.specs.Faults.{IsMemoryOr};
 ghost use Rattle.registry_names.specs.Names as spec;
 ghost use Rattle.registry_names.specs.Names.{is_name_char, is_scoped_start, scope_of, IsNameOf, IsName};
 
+use crate::form::kept_in_form;
 use crate::ident::{
     is_ident, is_ident_byte, is_lower_alphanumeric_byte, starts_lower_alphanumeric,
 };
 use crate::refusal::Refusal;
-use crate::stop::{Fault, Stop};
+use crate::stop::Stop;
 use std::alloc::Global;
 use std::marker::Model;
 
@@ -112,16 +114,11 @@ impl Name {
     /// `BadName` comes exactly for a text that is none, and `Memory` where no memory is left.
     pub fn parse(alloc: Global, text: &str) -> Result<Name, Stop>
         ensures ok { IfOk result (λ n. (n ≡ text.now) × IsName text.now) }
-        ensures err { IfErr result (λ e. (e ≡ Stop.Fault Fault.Memory)
-            ⊎ ((e ≡ Stop.Refused Refusal.BadName) × (¬ IsName text.now))) }
+        ensures err { IfErr result (IsMemoryOr Refusal.BadName (¬ IsName text.now)) }
         ensures refused { (¬ IsName text.now) → result ≡ Err (Stop.Refused Refusal.BadName) }
     {
-        if parts(text).is_none() {
-            return Err(Stop::Refused(Refusal::BadName));
-        }
-        Ok(Name {
-            text: String::from_str(alloc, text)?,
-        })
+        let text = kept_in_form(alloc, text, parts(text).is_some(), Refusal::BadName)?;
+        Ok(Name { text })
     }
 
     /// The text that was read.

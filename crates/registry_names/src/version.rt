@@ -1,8 +1,9 @@
 //! Versions.
 
-ghost use Rattle.std.specs.Prelude.{◌≡◌, ◌≢◌, ◌⊎◌, IfOk, IfErr, false};
+ghost use Rattle.std.specs.Prelude.{◌≡◌, ◌≢◌, IfOk, IfErr, false};
 ghost use Rattle.semver.specs.Identifiers.{parts_of};
 ghost use Rattle.semver.specs.Parse.{memory_error};
+ghost use Rattle.registry_names.specs.Faults.{IsMemoryOr};
 ghost use Rattle.registry_names.specs.VersionReading as spec;
 ghost use Rattle.registry_names.specs.Versions.{IsVersion, IsVersionOf, precedence, text_of_version, version_parts};
 
@@ -72,8 +73,7 @@ impl Ver {
     /// memory is left, which may be before such a text is read to its end.
     pub fn parse(alloc: Global, text: &str) -> Result<Ver, Stop>
         ensures ok { IfOk result (λ v. IsVersionOf text.now v) }
-        ensures err { IfErr result (λ e. (e ≡ Stop.Fault Fault.Memory)
-            ⊎ ((e ≡ Stop.Refused Refusal.BadVersion) × (¬ IsVersion text.now))) }
+        ensures err { IfErr result (IsMemoryOr Refusal.BadVersion (¬ IsVersion text.now)) }
     {
         if text.len() > LONGEST {
             return Err(Stop::Refused(Refusal::BadVersion));
