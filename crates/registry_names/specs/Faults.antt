@@ -1,5 +1,5 @@
 -- What is printed of a fault and of a stop, the status code of a fault in HTTP, and why a text isn't read.
-use Rattle.std.specs.Prelude.{◌≡◌, ◌⊎◌, ℕ, List, codes}
+use Rattle.std.specs.Prelude.{◌≡◌, ◌⊎◌, ℕ, List, codes, Result, Err}
 use Rattle.registry_names.specs.Refusals.{refusal_text}
 use Rattle.registry_names.specs.declared.refusal.Refusal.{Refusal}
 use Rattle.registry_names.specs.declared.stop.Fault.{Fault}
@@ -23,3 +23,7 @@ stop_text (Faulted fault) = fault_text fault
 -- no memory is left, or what was to be read is refused so, of which this holds
 abbrev pub IsMemoryOr : Refusal → Type 0 → Stop → Type 0
 IsMemoryOr refusal P e = (e ≡ Faulted Memory) ⊎ ((e ≡ Refused refusal) × P)
+
+-- the answer is this refusal
+abbrev pub IsRefused : {T : Type 0} → Result T Stop → Refusal → Type 0
+IsRefused answer refusal = answer ≡ Err (Refused refusal)

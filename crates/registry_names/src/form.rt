@@ -1,7 +1,7 @@
 //! Texts that are kept where they are in form.
 
 ghost use Rattle.std.specs.Prelude.{◌≡◌, string_bytes, IfOk, IfErr, true, false};
-ghost use Rattle.registry_names.specs.Faults.{IsMemoryOr};
+ghost use Rattle.registry_names.specs.Faults.{IsMemoryOr, IsRefused};
 
 use crate::refusal::Refusal;
 use crate::stop::Stop;
@@ -16,7 +16,7 @@ pub(crate) fn kept_in_form(
 ) -> Result<String, Stop>
     ensures ok { IfOk result (λ t. (string_bytes t ≡ text.now) × (is_form ≡ true)) }
     ensures err { IfErr result (IsMemoryOr refusal (is_form ≡ false)) }
-    ensures refused { is_form ≡ false → result ≡ Err (Stop.Refused refusal) }
+    ensures refused { is_form ≡ false → IsRefused result refusal }
 {
     if !is_form {
         return Err(Stop::Refused(refusal));

@@ -2,7 +2,7 @@
 
 ghost use Rattle.std.specs.Prelude.{◌≡◌, List, ℕ, string_bytes, IfOk, IfErr, slice_index, true, false};
 ghost use Rattle.std.specs.List.{list_all};
-ghost use Rattle.registry_names.specs.Faults.{IsMemoryOr};
+ghost use Rattle.registry_names.specs.Faults.{IsMemoryOr, IsRefused};
 ghost use Rattle.registry_names.specs.Idents as spec;
 ghost use Rattle.registry_names.specs.Idents.{is_lower_alphanumeric, is_ident_char};
 
@@ -69,7 +69,7 @@ impl Ident {
     pub fn parse(alloc: Global, text: &str) -> Result<Ident, Stop>
         ensures ok { IfOk result (λ i. (i ≡ text.now) × (spec.is_ident text.now ≡ true)) }
         ensures err { IfErr result (IsMemoryOr Refusal.BadName (spec.is_ident text.now ≡ false)) }
-        ensures refused { spec.is_ident text.now ≡ false → result ≡ Err (Stop.Refused Refusal.BadName) }
+        ensures refused { spec.is_ident text.now ≡ false → IsRefused result Refusal.BadName }
     {
         let text = kept_in_form(alloc, text, is_ident(text), Refusal::BadName)?;
         Ok(Ident { text })

@@ -1,7 +1,7 @@
 //! Messages of deprecation.
 
 ghost use Rattle.std.specs.Prelude.{◌≡◌, List, ℕ, string_bytes, IfOk, IfErr, true, false};
-ghost use Rattle.registry_names.specs.Faults.{IsMemoryOr};
+ghost use Rattle.registry_names.specs.Faults.{IsMemoryOr, IsRefused};
 ghost use Rattle.registry_names.specs.Messages.{is_message};
 
 use crate::form::kept_in_form;
@@ -34,7 +34,7 @@ impl Message {
     pub fn parse(alloc: Global, text: &str) -> Result<Message, Stop>
         ensures ok { IfOk result (λ m. (m ≡ text.now) × (is_message text.now ≡ true)) }
         ensures err { IfErr result (IsMemoryOr Refusal.BadBody (is_message text.now ≡ false)) }
-        ensures refused { is_message text.now ≡ false → result ≡ Err (Stop.Refused Refusal.BadBody) }
+        ensures refused { is_message text.now ≡ false → IsRefused result Refusal.BadBody }
     {
         let text = kept_in_form(alloc, text, text.len() <= LONGEST, Refusal::BadBody)?;
         Ok(Message { text })

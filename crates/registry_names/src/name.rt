@@ -3,7 +3,7 @@
 ghost use Rattle.std.specs.Prelude.{◌≡◌, List, ℕ, string_bytes, Option, option_map, slice_index, IfOk, IfErr, MatchOption};
 ghost use Rattle.std.specs.List.{list_all};
 ghost use Rattle.std.specs.Str.{bytes_eq};
-ghost use Rattle.registry_names.specs.Faults.{IsMemoryOr};
+ghost use Rattle.registry_names.specs.Faults.{IsMemoryOr, IsRefused};
 ghost use Rattle.registry_names.specs.Names as spec;
 ghost use Rattle.registry_names.specs.Names.{is_name_char, is_scoped_start, scope_of, IsNameOf, IsName};
 
@@ -115,7 +115,7 @@ impl Name {
     pub fn parse(alloc: Global, text: &str) -> Result<Name, Stop>
         ensures ok { IfOk result (λ n. (n ≡ text.now) × IsName text.now) }
         ensures err { IfErr result (IsMemoryOr Refusal.BadName (¬ IsName text.now)) }
-        ensures refused { (¬ IsName text.now) → result ≡ Err (Stop.Refused Refusal.BadName) }
+        ensures refused { (¬ IsName text.now) → IsRefused result Refusal.BadName }
     {
         let text = kept_in_form(alloc, text, parts(text).is_some(), Refusal::BadName)?;
         Ok(Name { text })

@@ -2,7 +2,7 @@
 
 ghost use Rattle.std.specs.Prelude.{◌≡◌, List, ℕ, string_bytes, IfOk, IfErr, true, false};
 ghost use Rattle.std.specs.List.{list_all};
-ghost use Rattle.registry_names.specs.Faults.{IsMemoryOr};
+ghost use Rattle.registry_names.specs.Faults.{IsMemoryOr, IsRefused};
 ghost use Rattle.registry_names.specs.Tags as spec;
 ghost use Rattle.registry_names.specs.Tags.{is_tag_char};
 
@@ -59,7 +59,7 @@ impl TagText {
     pub fn shape(alloc: Global, text: &str) -> Result<TagText, Stop>
         ensures ok { IfOk result (λ t. (t ≡ text.now) × (spec.is_tag text.now ≡ true)) }
         ensures err { IfErr result (IsMemoryOr Refusal.BadTag (spec.is_tag text.now ≡ false)) }
-        ensures refused { spec.is_tag text.now ≡ false → result ≡ Err (Stop.Refused Refusal.BadTag) }
+        ensures refused { spec.is_tag text.now ≡ false → IsRefused result Refusal.BadTag }
     {
         let text = kept_in_form(alloc, text, is_tag(text), Refusal::BadTag)?;
         Ok(TagText { text })

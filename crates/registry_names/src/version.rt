@@ -56,14 +56,13 @@ impl Drop for Ver {
 
 impl Model for Ver {
     ghost use Rattle.std.specs.Prelude.{string_bytes};
-    ghost use Rattle.semver.specs.Identifiers.{pre_text};
-    ghost use Rattle.registry_names.specs.Versions.{VersionParts, IsVersionOf};
+    ghost use Rattle.registry_names.specs.Versions.{VersionParts, IsVersionOf, version_parts};
 
     ghost Value = { VersionParts };
 
-    ghost view = { λ v. record { major = v.version.major; minor = v.version.minor; patch = v.version.patch; pre = pre_text v.version.pre } };
+    ghost view = { λ v. version_parts v.version };
 
-    ghost invariant = { λ v. IsVersionOf (string_bytes v.text) (record { major = v.version.major; minor = v.version.minor; patch = v.version.patch; pre = pre_text v.version.pre }) };
+    ghost invariant = { λ v. IsVersionOf (string_bytes v.text) (version_parts v.version) };
 }
 
 impl Ver {

@@ -32,7 +32,8 @@ impl fmt::Display for ReadFailed {
 impl Error for ReadFailed {}
 
 impl From<io::Error> for ReadFailed {
-    ghost from_gives = { λ error failed. (failed ≡ Interrupted) ↔ (error_kind error ≡ kinds.Interrupted) };
+    ghost from_gives = { λ error failed.
+        (failed ≡ Interrupted) ↔ (error_kind error ≡ kinds.Interrupted) };
 
     /// `Interrupted` for an error of that kind, and `Broken` for every other.
     fn from(error: io::Error) -> ReadFailed {
@@ -64,7 +65,8 @@ pub trait ByteIn {
     /// A failed read takes no byte, or leaves the end silent.
     fn read(&mut self, buf: &mut [u8]) -> Result<usize, ReadFailed>
         ensures bound { IfOk result (λ n. n ≤ length buf.new) }
-        ensures taken { is_silent self.new ≡ false → ReadConsumes (bytes self.old) (bytes self.new) result buf.new }
+        ensures taken { is_silent self.new ≡ false
+            → ReadConsumes (bytes self.old) (bytes self.new) result buf.new }
 
         ensures counted { failures self.new ≡ failures_after result (failures self.old) }
         ensures full { failures self.old ≡ full_count → IsErr result }
