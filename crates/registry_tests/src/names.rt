@@ -337,7 +337,7 @@ static PAIRS: [Pair; 4] = [
 ];
 
 #[test]
-fn texts_and_blobs(rt: HostRuntime) -> Result<(), Fail> {
+fn texts(rt: HostRuntime) -> Result<(), Fail> {
     let alloc = rt.alloc();
     for (text, other, are_one) in &PAIRS {
         let held = Text::from_str(alloc, text)?;
