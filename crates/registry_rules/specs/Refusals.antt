@@ -35,14 +35,14 @@ abbrev pub publish_refusal : State → FormParts → Option Refusal
 publish_refusal S f = refuse (is_live S f.name (version_of f)) Published (refuse (is_restricted f.access && is_none (scope_of f.name)) AlwaysPublic None)
 
 -- a tag that isn't there can't go, and `latest` never goes
-abbrev pub tag_remove_refusal : State → Text → Text → Option Refusal
-tag_remove_refusal S p t = refuse (not (stands S p t)) NotFound (refuse (is t latest) KeepsLatest None)
+abbrev pub tag_refusal : Bool → Text → Option Refusal
+tag_refusal there t = refuse (not there) NotFound (refuse (is t latest) KeepsLatest None)
 
 -- At this moment. A tag is set to a live version alone, and only such a one has an archive; a package without a live version has no packument and no tags
 abbrev pub state_refusal : State → ℕ → Action → Option Refusal
 state_refusal S now (Publish f) = publish_refusal S f
 state_refusal S now (TagSet p t v) = unless_there (is_live S p (text_of_version v))
-state_refusal S now (TagRemove p t) = tag_remove_refusal S p t
+state_refusal S now (TagRemove p t) = tag_refusal (stands S p t) t
 state_refusal S now (Packument p) = unless_there (has_live S p)
 state_refusal S now (Archive p v) = unless_there (is_live S p (text_of_version v))
 state_refusal S now (Tags p) = unless_there (has_live S p)

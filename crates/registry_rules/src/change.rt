@@ -3,6 +3,9 @@
 use registry_names::{Moment, Name, Status, Ver};
 use registry_publish::PublishForm;
 
+/// The tag that stands while a version lives.
+pub(crate) const LATEST: &str = "latest";
+
 /// Changes, which are made in their order.
 pub type Changes<'a> = Vec<Change<'a>>;
 
@@ -24,7 +27,7 @@ pub enum Change<'a> {
         /// What is published.
         form: &'a PublishForm,
         /// When it is published.
-        at: Moment,
+        at: &'a Moment,
     },
     /// The tag names the version.
     PutTag {
