@@ -1,1 +1,2 @@
+pub mod CallerFacts
 pub mod PutFacts
