@@ -1,6 +1,2 @@
-pub mod AllowedFacts
-pub mod KeptFacts
-pub mod PublishedFacts
+pub mod CallerFacts
 pub mod PutFacts
-pub mod RowFacts
-pub mod StandingFacts

@@ -9,9 +9,7 @@ use Rattle.registry_names.specs.Texts.{Text}
 use Rattle.registry_names.specs.Versions.{VersionParts, IsVersionOf}
 use Rattle.registry_access.specs.Hiding.{UnscopedArePublic}
 use Rattle.registry_publish.specs.Form.{IsManifestText}
-use Rattle.registry_rules.specs.State.{State, Release}
-use Rattle.registry_rules.specs.Refusals.{is_live}
-use Rattle.registry_rules.specs.Steps.{latest}
+use Rattle.registry_rules.specs.State.{State, Release, latest, is_live}
 
 -- the release may stand under this package and version
 pub record IsReleaseOf (p v : Text) (release : Release) : Type 0 where

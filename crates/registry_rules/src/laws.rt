@@ -6,7 +6,7 @@ ghost use Rattle.registry_rules.specs.Kept.{IsKept};
 ghost use Rattle.registry_rules.specs.Refusals.{refusal};
 ghost use Rattle.registry_rules.specs.Requests.{ArePartsInForm, IsActionInForm, IsInForm};
 ghost use Rattle.registry_rules.specs.State.{State, nothing};
-ghost use Rattle.registry_rules.specs.Steps.{step};
+ghost use Rattle.registry_rules.specs.Effects.{step};
 ghost use Rattle.registry_rules.specs.declared.request.Request.{Request};
 
 use crate::request::{Action, Request};
