@@ -1,2 +1,6 @@
+pub mod AllowedFacts
 pub mod CallerFacts
+pub mod KeptFacts
+pub mod MadeFacts
+pub mod PublishedFacts
 pub mod PutFacts

@@ -3,7 +3,7 @@ use Rattle.std.specs.Prelude.{ℕ, Bool, true, false, not, ◌&&◌, is_none, Op
 use Rattle.registry_names.specs.Texts.{Text, is}
 use Rattle.registry_names.specs.Versions.{text_of_version}
 use Rattle.registry_names.specs.declared.refusal.Refusal.{Refusal}
-use Rattle.registry_names.specs.declared.refusal.Refusal.TheVariants.{NoCaller, NotFound, Published, KeepsLatest, AlwaysPublic}
+use Rattle.registry_names.specs.declared.refusal.Refusal.TheVariants.{NoCaller, NotFound, Published, Spent, KeepsLatest, AlwaysPublic}
 use Rattle.registry_names.specs.declared.status.Status.{Status}
 use Rattle.registry_names.specs.declared.status.Status.TheVariants.{Public, Restricted}
 use Rattle.registry_access.specs.Scopes.{scope_of}
@@ -11,7 +11,7 @@ use Rattle.registry_access.specs.declared.caller.Caller.{Caller}
 use Rattle.registry_publish.specs.Form.{FormParts}
 use Rattle.registry_rules.specs.Actions.{version_of}
 use Rattle.registry_rules.specs.Callers.{caller_of}
-use Rattle.registry_rules.specs.State.{State, latest, is_live, has_live, stands}
+use Rattle.registry_rules.specs.State.{State, latest, is_live, is_spent, has_live, stands}
 use Rattle.registry_rules.specs.declared.request.Action.{Action}
 use Rattle.registry_rules.specs.declared.request.Action.TheVariants.{Publish, TagSet, TagRemove, Packument, Archive, Tags}
 use Rattle.registry_rules.specs.declared.request.Request.{Request}
@@ -30,9 +30,11 @@ unless_there found = refuse (not found) NotFound None
 
 -- ---- what stands in the way of an action
 
--- a live version is never published again, and a package without a scope is never restricted
+-- A live version is never published again, and neither is one that was withdrawn; a package without a scope is never restricted
 abbrev pub publish_refusal : State → FormParts → Option Refusal
-publish_refusal S f = refuse (is_live S f.name (version_of f)) Published (refuse (is_restricted f.access && is_none (scope_of f.name)) AlwaysPublic None)
+publish_refusal S f = refuse (is_live S f.name (version_of f)) Published
+    (refuse (is_spent S f.name (version_of f)) Spent
+    (refuse (is_restricted f.access && is_none (scope_of f.name)) AlwaysPublic None))
 
 -- a tag that isn't there can't go, and `latest` never goes
 abbrev pub tag_refusal : Bool → Text → Option Refusal

@@ -48,6 +48,10 @@ is_empty (x ∷ xs) = false
 abbrev pub is_live : State → Text → Text → Bool
 is_live S p v = is_some (at S.live (p, v))
 
+-- the version was withdrawn
+abbrev pub is_spent : State → Text → Text → Bool
+is_spent S p v = is_some (at S.spent (p, v))
+
 -- a version of the package lives
 abbrev pub has_live : State → Text → Bool
 has_live S p = not (is_empty (of S.live p))
