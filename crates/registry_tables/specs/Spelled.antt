@@ -44,3 +44,7 @@ document r = (r.manifest, r.message)
 -- a version that a tag names, alone
 abbrev pub named_spelled : Row → Text
 named_spelled r = text_in (column r 0)
+
+-- a number alone
+abbrev pub number_spelled : Row → ℕ
+number_spelled r = number_in (column r 0)

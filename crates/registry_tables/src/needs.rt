@@ -16,68 +16,68 @@ use sqlite::{Alter, Transaction, params};
 /// A version that doesn't live is a fault, but where nothing is listed.
 pub(crate) fn put_needs<S: Alter>(
     tx: &mut Transaction<'_, S>,
-    package: &str,
+    name: &str,
     version: &str,
     needs: &[Need],
 ) -> Result<(), Fault>
     requires under_way { IsUnderWay S.Store tx.old }
     ensures stays { Stays S.Store tx.old tx.new }
-    ensures makes { Makes S.Store tx.old tx.new result (λ c. record c { need_ranges = with_needs c.need_ranges package.now version.now needs.now }) }
+    ensures makes { Makes S.Store tx.old tx.new result (λ c. record c { need_ranges = with_needs c.need_ranges name.now version.now needs.now }) }
 {
     for need in needs {
-        put_need(tx, package, version, need)?;
+        put_need(tx, name, version, need)?;
     }
     Ok(())
 }
 
 fn put_need<S: Alter>(
     tx: &mut Transaction<'_, S>,
-    package: &str,
+    name: &str,
     version: &str,
     need: &Need,
 ) -> Result<(), Fault>
     requires under_way { IsUnderWay S.Store tx.old }
     ensures stays { Stays S.Store tx.old tx.new }
-    ensures makes { Makes S.Store tx.old tx.new result (λ c. record c { need_ranges = with_need c.need_ranges package.now version.now need.now }) }
+    ensures makes { Makes S.Store tx.old tx.new result (λ c. record c { need_ranges = with_need c.need_ranges name.now version.now need.now }) }
 {
-    if has_need(tx, package, version, need)? {
+    if has_need(tx, name, version, need)? {
         return Ok(());
     }
-    insert_need(tx, package, version, need)
+    insert_need(tx, name, version, need)
 }
 
 fn insert_need<S: Alter>(
     tx: &mut Transaction<'_, S>,
-    package: &str,
+    name: &str,
     version: &str,
     need: &Need,
 ) -> Result<(), Fault>
     requires in_form { InForm S.Store tx.old }
     ensures stays { Stays S.Store tx.old tx.new }
-    ensures makes { Makes S.Store tx.old tx.new result (λ c. record c { need_ranges = with_need c.need_ranges package.now version.now need.now }) }
+    ensures makes { Makes S.Store tx.old tx.new result (λ c. record c { need_ranges = with_need c.need_ranges name.now version.now need.now }) }
 {
     write(
         tx,
         "INSERT INTO need_ranges VALUES (?1, ?2, ?3, ?4)",
-        params![package, version, need.target.as_str(), need.range.as_str()],
+        params![name, version, need.target.as_str(), need.range.as_str()],
     )
 }
 
 // Whether the version has this need.
 fn has_need<S: Alter>(
     tx: &mut Transaction<'_, S>,
-    package: &str,
+    name: &str,
     version: &str,
     need: &Need,
 ) -> Result<bool, Fault>
     requires in_form { InForm S.Store tx.old }
     ensures stays { Stays S.Store tx.old tx.new }
-    ensures tells { Tells S.Store tx.old tx.new result (λ has c. has ≡ is_some (at c.need_ranges (need_key package.now version.now need.now))) }
+    ensures tells { Tells S.Store tx.old tx.new result (λ has c. has ≡ is_some (at c.need_ranges (need_key name.now version.now need.now))) }
 {
     let rows = read(
         tx,
         "SELECT target FROM need_ranges WHERE package = ?1 AND version = ?2 AND target = ?3 AND range = ?4",
-        params![package, version, need.target.as_str(), need.range.as_str()],
+        params![name, version, need.target.as_str(), need.range.as_str()],
     )?;
     Ok(!rows.is_empty())
 }

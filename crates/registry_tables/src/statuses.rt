@@ -15,16 +15,16 @@ use sqlite::{Alter, Error, Row, Transaction, params};
 /// The status of a package. None where it was never published.
 pub fn load_status<S: Alter>(
     tx: &mut Transaction<'_, S>,
-    package: &Name,
+    name: &Name,
 ) -> Result<Option<Status>, Fault>
     requires in_form { InForm S.Store tx.old }
     ensures stays { Stays S.Store tx.old tx.new }
-    ensures tells { Tells S.Store tx.old tx.new result (λ status c. status ≡ at c.packages package.now) }
+    ensures tells { Tells S.Store tx.old tx.new result (λ status c. status ≡ at c.packages name.now) }
 {
     let rows = read(
         tx,
         "SELECT status FROM packages WHERE name = ?1",
-        params![package.text()],
+        params![name.text()],
     )?;
     status_in(&rows)
 }
@@ -39,50 +39,50 @@ fn status_in(rows: &[Row]) -> Result<Option<Status>, Fault>
 /// Gives a package this status. `stands` says whether it has one already.
 pub(crate) fn put_status<S: Alter>(
     tx: &mut Transaction<'_, S>,
-    package: &str,
+    name: &str,
     status: Status,
     stands: bool,
 ) -> Result<(), Fault>
     requires in_form { InForm S.Store tx.old }
     ensures stays { Stays S.Store tx.old tx.new }
-    ensures makes { Makes S.Store tx.old tx.new result (λ c. record c { packages = with_row c.packages package.now status stands }) }
+    ensures makes { Makes S.Store tx.old tx.new result (λ c. record c { packages = with_row c.packages name.now status stands }) }
 {
     if stands {
-        update_status(tx, package, status)
+        update_status(tx, name, status)
     } else {
-        insert_status(tx, package, status)
+        insert_status(tx, name, status)
     }
 }
 
 fn insert_status<S: Alter>(
     tx: &mut Transaction<'_, S>,
-    package: &str,
+    name: &str,
     status: Status,
 ) -> Result<(), Fault>
     requires in_form { InForm S.Store tx.old }
     ensures stays { Stays S.Store tx.old tx.new }
-    ensures makes { Makes S.Store tx.old tx.new result (λ c. record c { packages = put c.packages package.now status }) }
+    ensures makes { Makes S.Store tx.old tx.new result (λ c. record c { packages = put c.packages name.now status }) }
 {
     write(
         tx,
         "INSERT INTO packages VALUES (?1, ?2)",
-        params![package, number_of(status)],
+        params![name, number_of(status)],
     )
 }
 
 fn update_status<S: Alter>(
     tx: &mut Transaction<'_, S>,
-    package: &str,
+    name: &str,
     status: Status,
 ) -> Result<(), Fault>
     requires in_form { InForm S.Store tx.old }
     ensures stays { Stays S.Store tx.old tx.new }
-    ensures makes { Makes S.Store tx.old tx.new result (λ c. record c { packages = amended c.packages package.now status }) }
+    ensures makes { Makes S.Store tx.old tx.new result (λ c. record c { packages = amended c.packages name.now status }) }
 {
     write(
         tx,
         "UPDATE packages SET status = ?2 WHERE name = ?1",
-        params![package, number_of(status)],
+        params![name, number_of(status)],
     )
 }
 

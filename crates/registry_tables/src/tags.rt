@@ -16,17 +16,17 @@ use std::alloc::Global;
 /// Whether the package has this tag.
 pub fn has_tag<S: Alter>(
     tx: &mut Transaction<'_, S>,
-    package: &Name,
+    name: &Name,
     tag: &str,
 ) -> Result<bool, Fault>
     requires in_form { InForm S.Store tx.old }
     ensures stays { Stays S.Store tx.old tx.new }
-    ensures tells { Tells S.Store tx.old tx.new result (λ has c. has ≡ is_some (at c.tags (package.now, tag.now))) }
+    ensures tells { Tells S.Store tx.old tx.new result (λ has c. has ≡ is_some (at c.tags (name.now, tag.now))) }
 {
     let rows = read(
         tx,
         "SELECT version FROM tags WHERE package = ?1 AND tag = ?2",
-        params![package.text(), tag],
+        params![name.text(), tag],
     )?;
     Ok(!rows.is_empty())
 }
@@ -35,16 +35,16 @@ pub fn has_tag<S: Alter>(
 pub fn load_tags<S: Alter>(
     alloc: Global,
     tx: &mut Transaction<'_, S>,
-    package: &Name,
+    name: &Name,
 ) -> Result<Vec<DistTag>, Fault>
     requires in_form { InForm S.Store tx.old }
     ensures stays { Stays S.Store tx.old tx.new }
-    ensures tells { Tells S.Store tx.old tx.new result (λ tags c. map tag_entry tags.items ≡ of c.tags package.now) }
+    ensures tells { Tells S.Store tx.old tx.new result (λ tags c. map tag_entry tags.items ≡ of c.tags name.now) }
 {
     let rows = read(
         tx,
         "SELECT tag, version FROM tags WHERE package = ?1 ORDER BY tag",
-        params![package.text()],
+        params![name.text()],
     )?;
     tags_in(alloc, &rows)
 }
@@ -58,72 +58,72 @@ fn tags_in(alloc: Global, rows: &[Row]) -> Result<Vec<DistTag>, Fault>
 }
 
 /// Lets a tag of a package name this version. `stands` says whether the tag is there already.
-pub fn put_tag<S: Alter>(
+pub(crate) fn put_tag<S: Alter>(
     tx: &mut Transaction<'_, S>,
-    package: &str,
+    name: &str,
     tag: &str,
     version: &str,
     stands: bool,
 ) -> Result<(), Fault>
     requires in_form { InForm S.Store tx.old }
     ensures stays { Stays S.Store tx.old tx.new }
-    ensures makes { Makes S.Store tx.old tx.new result (λ c. record c { tags = with_row c.tags (package.now, tag.now) version.now stands }) }
+    ensures makes { Makes S.Store tx.old tx.new result (λ c. record c { tags = with_row c.tags (name.now, tag.now) version.now stands }) }
 {
     if stands {
-        update_tag(tx, package, tag, version)
+        update_tag(tx, name, tag, version)
     } else {
-        insert_tag(tx, package, tag, version)
+        insert_tag(tx, name, tag, version)
     }
 }
 
 fn insert_tag<S: Alter>(
     tx: &mut Transaction<'_, S>,
-    package: &str,
+    name: &str,
     tag: &str,
     version: &str,
 ) -> Result<(), Fault>
     requires in_form { InForm S.Store tx.old }
     ensures stays { Stays S.Store tx.old tx.new }
-    ensures makes { Makes S.Store tx.old tx.new result (λ c. record c { tags = put c.tags (package.now, tag.now) version.now }) }
+    ensures makes { Makes S.Store tx.old tx.new result (λ c. record c { tags = put c.tags (name.now, tag.now) version.now }) }
 {
     write(
         tx,
         "INSERT INTO tags VALUES (?1, ?2, ?3)",
-        params![package, tag, version],
+        params![name, tag, version],
     )
 }
 
 fn update_tag<S: Alter>(
     tx: &mut Transaction<'_, S>,
-    package: &str,
+    name: &str,
     tag: &str,
     version: &str,
 ) -> Result<(), Fault>
     requires in_form { InForm S.Store tx.old }
     ensures stays { Stays S.Store tx.old tx.new }
-    ensures makes { Makes S.Store tx.old tx.new result (λ c. record c { tags = amended c.tags (package.now, tag.now) version.now }) }
+    ensures makes { Makes S.Store tx.old tx.new result (λ c. record c { tags = amended c.tags (name.now, tag.now) version.now }) }
 {
     write(
         tx,
         "UPDATE tags SET version = ?3 WHERE package = ?1 AND tag = ?2",
-        params![package, tag, version],
+        params![name, tag, version],
     )
 }
 
 /// Drops a tag of a package, if it is there.
-pub fn drop_tag<S: Alter>(
+pub(crate) fn drop_tag<S: Alter>(
     tx: &mut Transaction<'_, S>,
-    package: &str,
+    name: &str,
     tag: &str,
 ) -> Result<(), Fault>
     requires in_form { InForm S.Store tx.old }
     ensures stays { Stays S.Store tx.old tx.new }
-    ensures makes { Makes S.Store tx.old tx.new result (λ c. record c { tags = erase c.tags (package.now, tag.now) }) }
+    ensures makes { Makes S.Store tx.old tx.new result (λ c. record c { tags = erase c.tags (name.now, tag.now) }) }
 {
     write(
         tx,
         "DELETE FROM tags WHERE package = ?1 AND tag = ?2",
-        params![package, tag],
+        params![name, tag],
     )
 }
 

@@ -21,17 +21,17 @@ use std::alloc::Global;
 /// Whether the version of the package lives.
 pub fn has_version<S: Alter>(
     tx: &mut Transaction<'_, S>,
-    package: &Name,
+    name: &Name,
     version: &str,
 ) -> Result<bool, Fault>
     requires in_form { InForm S.Store tx.old }
     ensures stays { Stays S.Store tx.old tx.new }
-    ensures tells { Tells S.Store tx.old tx.new result (λ lives c. lives ≡ is_some (at c.versions (package.now, version.now))) }
+    ensures tells { Tells S.Store tx.old tx.new result (λ lives c. lives ≡ is_some (at c.versions (name.now, version.now))) }
 {
     let rows = read(
         tx,
         "SELECT published FROM versions WHERE package = ?1 AND version = ?2",
-        params![package.text(), version],
+        params![name.text(), version],
     )?;
     Ok(!rows.is_empty())
 }
@@ -41,16 +41,16 @@ pub fn has_version<S: Alter>(
 pub fn load_versions<S: Alter>(
     alloc: Global,
     tx: &mut Transaction<'_, S>,
-    package: &Name,
+    name: &Name,
 ) -> Result<Vec<VersionRow>, Fault>
     requires in_form { InForm S.Store tx.old }
     ensures stays { Stays S.Store tx.old tx.new }
-    ensures tells { Tells S.Store tx.old tx.new result (λ versions c. map row_entry versions.items ≡ map (seen document) (of c.versions package.now)) }
+    ensures tells { Tells S.Store tx.old tx.new result (λ versions c. map row_entry versions.items ≡ map (seen document) (of c.versions name.now)) }
 {
     let rows = read(
         tx,
         "SELECT version, manifest, deprecated FROM versions WHERE package = ?1 ORDER BY version",
-        params![package.text()],
+        params![name.text()],
     )?;
     versions_in(alloc, &rows)
 }
@@ -66,17 +66,17 @@ fn versions_in(alloc: Global, rows: &[Row]) -> Result<Vec<VersionRow>, Fault>
 /// The archive of a version. None where it doesn't live.
 pub fn load_archive<S: Alter>(
     tx: &mut Transaction<'_, S>,
-    package: &Name,
+    name: &Name,
     version: &str,
 ) -> Result<Option<Blob>, Fault>
     requires in_form { InForm S.Store tx.old }
     ensures stays { Stays S.Store tx.old tx.new }
-    ensures tells { Tells S.Store tx.old tx.new result (λ archive c. archive ≡ option_map (λ r. r.archive) (at c.versions (package.now, version.now))) }
+    ensures tells { Tells S.Store tx.old tx.new result (λ archive c. archive ≡ option_map (λ r. r.archive) (at c.versions (name.now, version.now))) }
 {
     let rows = read(
         tx,
         "SELECT archive FROM versions WHERE package = ?1 AND version = ?2",
-        params![package.text(), version],
+        params![name.text(), version],
     )?;
     archive_in(&rows)
 }
