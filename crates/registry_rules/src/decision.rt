@@ -98,22 +98,20 @@ fn changes<'a>(
             publish_changes(alloc, facts, form, &request.at)
         }
         (About::TagSet { tag_stands, .. }, Action::TagSet { name, tag, version }) => {
-            Ok(vec![in alloc;
-                Change::PutTag {
-                    package: name,
-                    tag: tag.text(),
-                    version,
-                    stands: *tag_stands,
-                },
-            ]?)
+            let change = Change::PutTag {
+                package: name,
+                tag: tag.text(),
+                version,
+                stands: *tag_stands,
+            };
+            Ok(vec![in alloc; change]?)
         }
         (About::TagRemove { .. }, Action::TagRemove { name, tag }) => {
-            Ok(vec![in alloc;
-                Change::DropTag {
-                    package: name,
-                    tag: tag.text()
-                },
-            ]?)
+            let change = Change::DropTag {
+                package: name,
+                tag: tag.text(),
+            };
+            Ok(vec![in alloc; change]?)
         }
         _ => Ok(Vec::new(alloc)),
     }
