@@ -1,5 +1,5 @@
 -- What is answered to a caller whom the registry knows.
-use Rattle.std.proofs.Common.{◌≡◌, ℕ, Bool, true, false, List, is_some, Option, Some, None, refl, sym, true≢false}
+use Rattle.std.proofs.Common.{◌≡◌, ℕ, true, List, is_some, Option, Some, None, refl, sym, true≢false}
 use Rattle.std.specs.Prelude.{is_ok}
 use Rattle.registry_names.specs.declared.refusal.Refusal.{Refusal}
 use Rattle.registry_access.specs.declared.caller.Caller.{Caller}

@@ -22,7 +22,8 @@ use std::alloc::{AllocError, Global};
 ///
 /// Facts that are told of another kind of action than the request's stand for no registry.
 pub fn may_ask(facts: &Facts, request: &Request) -> Result<(), Refusal>
-    ensures { (S : State) → StandsFor facts.now S request.now → result ≡ permitted (refusal S request.now) }
+    ensures { (S : State) → StandsFor facts.now S request.now
+        → result ≡ permitted (refusal S request.now) }
 {
     if facts.caller.is_none() {
         return Err(Refusal::NoCaller);
@@ -40,11 +41,14 @@ pub fn may_ask(facts: &Facts, request: &Request) -> Result<(), Refusal>
 /// no other fault comes.
 pub fn decide<'a>(alloc: Global, facts: &Facts, request: &'a Request) -> Result<Changes<'a>, Stop>
     ensures makes { IfOk result (λ changes. (S : State) → StandsFor facts.now S request.now
-        → (refusal S request.now ≡ None) × (map change_of changes.items ≡ effects_of S request.now)) }
-    ensures query { is_command request.now.what ≡ false → IfOk result (λ changes. changes.items ≡ []) }
+        → (refusal S request.now ≡ None)
+        × (map change_of changes.items ≡ effects_of S request.now)) }
+    ensures query { is_command request.now.what ≡ false
+        → IfOk result (λ changes. changes.items ≡ []) }
     ensures refused { (S : State) → StandsFor facts.now S request.now
         → (r : Refusal) → (refusal S request.now ≡ Some r) ↔ (result ≡ Err (Stop.Refused r)) }
-    ensures fault { IfErr result (λ stop. (fault : Fault) → stop ≡ Stop.Fault fault → fault ≡ Fault.Memory) }
+    ensures fault { IfErr result (λ stop. (fault : Fault) → stop ≡ Stop.Fault fault
+        → fault ≡ Fault.Memory) }
 {
     may_ask(facts, request).map_err(Stop::Refused)?;
     Ok(changes(alloc, &facts.about, request)?)
@@ -52,7 +56,8 @@ pub fn decide<'a>(alloc: Global, facts: &Facts, request: &'a Request) -> Result<
 
 // Why what an action asks for can't be had, whoever asks.
 fn state_refusal(about: &About, action: &Action) -> Option<Refusal>
-    ensures { (S : State) (now : ℕ) → StandsAbout about.now S action.now → result ≡ spec.state_refusal S now action.now }
+    ensures { (S : State) (now : ℕ) → StandsAbout about.now S action.now
+        → result ≡ spec.state_refusal S now action.now }
 {
     match (about, action) {
         (About::Publish(facts), Action::Publish { form }) => publish_refusal(facts, form),
@@ -82,31 +87,31 @@ fn changes<'a>(
     about: &About,
     request: &'a Request,
 ) -> Result<Changes<'a>, AllocError>
-    ensures command { IfOk result (λ changes. (S : State) (who : Caller) → StandsAbout about.now S request.now.what
+    ensures command { IfOk result (λ changes. (S : State) (who : Caller)
+        → StandsAbout about.now S request.now.what
         → map change_of changes.items ≡ effects S request.now.at who request.now.what) }
-    ensures query { is_command request.now.what ≡ false → IfOk result (λ changes. changes.items ≡ []) }
+    ensures query { is_command request.now.what ≡ false
+        → IfOk result (λ changes. changes.items ≡ []) }
 {
     match (about, &request.what) {
         (About::Publish(facts), Action::Publish { form }) => {
             publish_changes(alloc, facts, form, &request.at)
         }
         (About::TagSet { tag_stands, .. }, Action::TagSet { name, tag, version }) => {
-            Ok(vec![in alloc;
-                Change::PutTag {
-                    package: name,
-                    tag: tag.text(),
-                    version,
-                    stands: *tag_stands,
-                },
-            ]?)
+            let change = Change::PutTag {
+                package: name,
+                tag: tag.text(),
+                version,
+                stands: *tag_stands,
+            };
+            Ok(vec![in alloc; change]?)
         }
         (About::TagRemove { .. }, Action::TagRemove { name, tag }) => {
-            Ok(vec![in alloc;
-                Change::DropTag {
-                    package: name,
-                    tag: tag.text()
-                },
-            ]?)
+            let change = Change::DropTag {
+                package: name,
+                tag: tag.text(),
+            };
+            Ok(vec![in alloc; change]?)
         }
         _ => Ok(Vec::new(alloc)),
     }

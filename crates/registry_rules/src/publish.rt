@@ -19,7 +19,8 @@ use std::alloc::{AllocError, Global};
 /// Why the publish is turned away, if it is: a live version is never published again, and neither
 /// is one that was withdrawn; a package without a scope is never restricted.
 pub(crate) fn publish_refusal(facts: &PublishFacts, form: &PublishForm) -> Option<Refusal>
-    ensures { (S : State) → ArePublishFacts facts.now S form.now → result ≡ spec.publish_refusal S form.now }
+    ensures { (S : State) → ArePublishFacts facts.now S form.now
+        → result ≡ spec.publish_refusal S form.now }
 {
     if facts.version_lives {
         return Some(Refusal::Published);
