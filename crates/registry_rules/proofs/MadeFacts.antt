@@ -8,8 +8,9 @@ use Rattle.registry_names.proofs.KeyFacts.{pair_key}
 use Rattle.registry_rules.specs.Changes.{PutStatus, PutTag, made, all_made}
 use Rattle.registry_rules.specs.Effects.{put_tags}
 use Rattle.registry_rules.specs.Operations.{with_status, with_tag}
-use Rattle.registry_rules.specs.State.{State, latest, stands}
-use Rattle.registry_rules.proofs.PutFacts.{still_there}
+use Rattle.registry_rules.specs.State.{State, stands}
+use Rattle.registry_names.specs.Tags.{latest}
+use Rattle.registry_names.proofs.PutFacts.{still_there}
 
 chosen : {X : Type 0} (b : Bool) (x y : X) → b ≡ true → (if b then x else y) ≡ x
 chosen true x y e = refl

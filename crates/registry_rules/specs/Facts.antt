@@ -5,7 +5,8 @@ use Rattle.registry_names.specs.Versions.{text_of_version}
 use Rattle.registry_publish.specs.Form.{FormParts}
 use Rattle.registry_rules.specs.Actions.{version_of}
 use Rattle.registry_rules.specs.Callers.{caller_of}
-use Rattle.registry_rules.specs.State.{State, latest, is_live, is_spent, has_live, stands}
+use Rattle.registry_rules.specs.State.{State, is_live, is_spent, has_live, stands}
+use Rattle.registry_names.specs.Tags.{latest}
 use Rattle.registry_rules.specs.declared.facts.About.{About}
 use Rattle.registry_rules.specs.declared.facts.About.TheVariants as about
 use Rattle.registry_rules.specs.declared.facts.Facts.{Facts}

@@ -10,10 +10,11 @@ use Rattle.registry_names.specs.Texts.{Text}
 use Rattle.registry_names.specs.Versions.{VersionParts, IsVersion, IsVersionOf}
 use Rattle.registry_access.specs.Access.{Access}
 use Rattle.registry_access.specs.Hiding.{UnscopedArePublic}
-use Rattle.registry_access.specs.Scopes.{scope_of}
+use Rattle.registry_names.specs.Names.{scope_of}
 use Rattle.registry_access.specs.declared.role.Role.TheVariants.{Owner}
 use Rattle.registry_publish.specs.Form.{IsManifestText}
-use Rattle.registry_rules.specs.State.{State, Release, Withdrawal, latest, is_live}
+use Rattle.registry_rules.specs.State.{State, Release, Withdrawal, is_live}
+use Rattle.registry_names.specs.Tags.{latest}
 
 -- ---- packages
 
