@@ -1,7 +1,7 @@
 //! Laws of statements, over any schema and any store. Each function does nothing: what it ensures
 //! holds of the definitions themselves, and its proof is the law's.
 
-ghost use Rattle.registry_rows.specs.Laws.{CreateAddsEmpty, OfEachTable, OfEachPairTable, OfEachTripleTable, OneRowEach, RowsTellMap};
+ghost use Rattle.registry_rows.specs.Laws.{CreateAddsEmpty, CreateIndexKeeps, CreateIndexKeepsBlank, OfEachTable, OfEachPairTable, OfEachTripleTable, OneRowEach, RowsTellMap};
 ghost use Rattle.registry_rows.specs.Laws.{InsertPuts, DeleteErases, UpdateRevises, SelectFinds, SelectListsAll, SelectLists, SelectListsTwo};
 
 use sqlite::Alter;
@@ -11,6 +11,12 @@ use sqlite::Alter;
 pub fn rows_give_maps<S: Alter, C, X>()
     ensures once { OfEachTable C X (OneRowEach S.Store) }
     ensures tell { OfEachTable C X (RowsTellMap S.Store) }
+{}
+
+/// CREATE INDEX keeps the rows of every table, and so all that they give; empty tables stay empty.
+pub fn indexes_keep_rows<S: Alter, C>()
+    ensures keep { CreateIndexKeeps S.Store C }
+    ensures blank { CreateIndexKeepsBlank S.Store }
 {}
 
 /// A statement that writes by key makes one operation of its table's map, leaves the other tables
