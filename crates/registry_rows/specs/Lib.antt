@@ -1,7 +1,11 @@
 pub mod Columns
-pub mod Ready
-pub mod Rows
-pub mod Statements
 pub mod Tables
 pub mod TextKeys
+pub mod Rows
+pub mod Statements
+pub mod KeyKinds
+pub mod Ready
 pub mod Laws
+pub mod CreateLaws
+pub mod WriteLaws
+pub mod QueryLaws
