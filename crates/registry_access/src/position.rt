@@ -8,6 +8,7 @@ ghost use Rattle.registry_access.specs.RowMaps.{state_of};
 ghost use Rattle.registry_access.specs.Standings.{is_listed, position_of};
 
 use crate::caller::Caller;
+use crate::grant::Grant;
 use crate::levels::Level;
 use crate::role::Role;
 use crate::rows::AccessRows;
@@ -23,8 +24,8 @@ pub(crate) struct Position {
     pub role: Option<Role>,
     pub status: Option<Status>,
     pub maintainer: bool,
-    /// The greatest of what the caller's teams are granted.
-    pub grant: Level,
+    /// The greatest of what the caller's teams are granted, if they are granted anything.
+    pub grant: Option<Grant>,
 }
 
 pub(crate) fn is_owner_or_admin(role: Option<Role>) -> bool
@@ -33,31 +34,42 @@ pub(crate) fn is_owner_or_admin(role: Option<Role>) -> bool
     matches!(role, Some(Role::Owner | Role::Admin))
 }
 
-// The granted level, or the one that the status opens to everybody where that is greater.
-fn opened(status: Status, grant: Level) -> Level
-    ensures { result ≡ levels.larger (levels.open_level status) grant }
+// The level that is granted, if anything is.
+fn level_granted(grant: Option<Grant>) -> Level
+    ensures { result ≡ levels.level_granted grant }
 {
-    match (status, grant) {
-        (Status::Public, Level::Nothing) => Level::Read,
-        _ => grant,
+    match grant {
+        None => Level::Nothing,
+        Some(Grant::ReadOnly) => Level::Read,
+        Some(Grant::ReadWrite) => Level::Write,
     }
 }
 
-fn is_listed(grants: &[Level], level: Level) -> bool
-    ensures { result ≡ is_listed grants.now level }
+// The granted level, or the one that the status opens to everybody where that is greater.
+fn opened(status: Status, granted: Level) -> Level
+    ensures { result ≡ levels.larger (levels.open_level status) granted }
 {
-    grants.contains(&level)
+    match (status, granted) {
+        (Status::Public, Level::Nothing) => Level::Read,
+        _ => granted,
+    }
 }
 
-fn greatest_listed(grants: &[Level]) -> Level
+fn is_listed(grants: &[Grant], grant: Grant) -> bool
+    ensures { result ≡ is_listed grants.now grant }
+{
+    grants.contains(&grant)
+}
+
+fn greatest_listed(grants: &[Grant]) -> Option<Grant>
     ensures { result ≡ greatest (is_listed grants.now) }
 {
-    if is_listed(grants, Level::Write) {
-        Level::Write
-    } else if is_listed(grants, Level::Read) {
-        Level::Read
+    if is_listed(grants, Grant::ReadWrite) {
+        Some(Grant::ReadWrite)
+    } else if is_listed(grants, Grant::ReadOnly) {
+        Some(Grant::ReadOnly)
     } else {
-        Level::Nothing
+        None
     }
 }
 
@@ -95,7 +107,7 @@ impl Position {
                 role: None,
                 status,
                 maintainer: false,
-                grant: Level::Nothing,
+                grant: None,
             },
         }
     }
@@ -107,7 +119,7 @@ impl Position {
         match self.status {
             None => Level::Nothing,
             Some(_) if is_owner_or_admin(self.role) || self.maintainer => Level::Write,
-            Some(status) => opened(status, self.grant),
+            Some(status) => opened(status, level_granted(self.grant)),
         }
     }
 }

@@ -10,6 +10,7 @@ pub mod CreateFacts
 pub mod TypeFacts
 pub mod TextKeyFacts
 pub mod OneRowFacts
+pub mod KeyedFacts
 pub mod RowFacts
 pub mod ChangeFacts
 pub mod ReadyFacts
@@ -19,3 +20,4 @@ pub mod OrderFacts
 pub mod QueryFacts
 pub mod ListingFacts
 pub mod LookUpFacts
+pub mod QuietFacts

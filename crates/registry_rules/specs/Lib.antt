@@ -1,10 +1,11 @@
 pub mod Actions
+pub mod Callers
 pub mod Changes
+pub mod Effects
+pub mod Facts
 pub mod Kept
+pub mod Laws
 pub mod Operations
 pub mod Refusals
 pub mod Requests
-pub mod Rows
-pub mod Standing
 pub mod State
-pub mod Steps

@@ -1,12 +1,17 @@
--- The operations on what the registry holds, of which each step is made, and each statement on the tables makes one.
+-- The operations on what the registry holds. Each change is one of them.
+use Rattle.std.specs.Prelude.{is_some, if◌then◌else◌}
 use Rattle.registry_names.specs.Texts.{Text}
-use Rattle.registry_names.specs.Maps.{put, erase}
+use Rattle.registry_names.specs.Maps.{at, put, erase}
 use Rattle.registry_names.specs.declared.status.Status.{Status}
 use Rattle.registry_rules.specs.State.{State, Release}
 
 -- the package has this status
 abbrev pub with_status : State → Text → Status → State
 with_status S p status = record S { access = record S.access { statuses = put S.access.statuses p status } }
+
+-- a package that has a status has this one
+abbrev pub restated : State → Text → Status → State
+restated S p status = if is_some (at S.access.statuses p) then with_status S p status else S
 
 -- the version lives
 abbrev pub with_version : State → Text → Text → Release → State
@@ -15,6 +20,10 @@ with_version S p v release = record S { live = put S.live (p, v) release }
 -- the tag names the version
 abbrev pub with_tag : State → Text → Text → Text → State
 with_tag S p t v = record S { tags = put S.tags (p, t) v }
+
+-- a tag that stands names the version
+abbrev pub moved : State → Text → Text → Text → State
+moved S p t v = if is_some (at S.tags (p, t)) then with_tag S p t v else S
 
 -- the tag is gone
 abbrev pub without_tag : State → Text → Text → State

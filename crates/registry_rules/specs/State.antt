@@ -1,7 +1,7 @@
 -- What the registry holds: finite maps under names, and nothing of how they are kept.
-use Rattle.std.specs.Prelude.{ℕ, List}
+use Rattle.std.specs.Prelude.{ℕ, Bool, true, false, not, List, [], ◌∷◌, is_some}
 use Rattle.registry_names.specs.Texts.{Text}
-use Rattle.registry_names.specs.Maps.{PairMap, empty}
+use Rattle.registry_names.specs.Maps.{PairMap, empty, at, of}
 use Rattle.registry_access.specs.Access.{Access}
 
 -- a version that was published and not withdrawn
@@ -33,3 +33,25 @@ no_access = record { users = empty; tokens = empty; organisations = empty; roles
 -- a registry of which nothing was asked yet
 abbrev pub nothing : State
 nothing = record { access = no_access; live = empty; spent = empty; tags = empty }
+
+-- ---- what is asked of it
+
+abbrev pub is_empty : {X : Type 0} → List X → Bool
+is_empty [] = true
+is_empty (x ∷ xs) = false
+
+-- the version lives
+abbrev pub is_live : State → Text → Text → Bool
+is_live S p v = is_some (at S.live (p, v))
+
+-- the version was withdrawn
+abbrev pub is_spent : State → Text → Text → Bool
+is_spent S p v = is_some (at S.spent (p, v))
+
+-- a version of the package lives
+abbrev pub has_live : State → Text → Bool
+has_live S p = not (is_empty (of S.live p))
+
+-- the tag stands
+abbrev pub stands : State → Text → Text → Bool
+stands S p t = is_some (at S.tags (p, t))

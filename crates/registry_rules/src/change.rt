@@ -1,47 +1,47 @@
 //! What a decision changes.
 
-ghost use Rattle.std.specs.Prelude.{◌≡◌, option_map};
-ghost use Rattle.registry_rules.specs.Changes.{tag_of};
-
-use crate::request::Action;
-use registry_names::{LATEST, Status, TagText};
+use registry_names::{Moment, Name, Status, Ver};
+use registry_publish::PublishForm;
 
 /// Changes, which are made in their order.
-pub type Changes = Vec<Change>;
+pub type Changes<'a> = Vec<Change<'a>>;
 
-/// One change to what the registry holds. It repeats nothing of the request that it is made for:
-/// package, version, tag, manifest and archive are the request's.
-#[derive(Clone, Copy, Debug, PartialEq, Eq)]
-pub enum Change {
+/// One change to what the registry holds. It says all that it does, and borrows what it says of
+/// the request.
+#[derive(Clone, Copy)]
+pub enum Change<'a> {
     /// The package has this status.
-    PutStatus(Status),
-    /// The version lives, with the manifest, the archive and the moment of the request, and isn't
-    /// deprecated.
-    AddVersion,
+    PutStatus {
+        /// The package.
+        package: &'a Name,
+        /// Who may read it.
+        status: Status,
+        /// Whether it has a status already.
+        stands: bool,
+    },
+    /// The version of a form lives, with its manifest and its archive, and isn't deprecated.
+    AddVersion {
+        /// What is published.
+        form: &'a PublishForm,
+        /// When it is published.
+        at: &'a Moment,
+    },
     /// The tag names the version.
-    PutTag(SetTag),
+    PutTag {
+        /// The package.
+        package: &'a Name,
+        /// The tag.
+        tag: &'a str,
+        /// The version that it is to name.
+        version: &'a Ver,
+        /// Whether the tag stands already, and names another version or this one.
+        stands: bool,
+    },
     /// The tag is gone.
-    DropTag,
-}
-
-/// The tag that a change sets.
-#[derive(Clone, Copy, Debug, PartialEq, Eq)]
-pub enum SetTag {
-    /// `latest`.
-    Latest,
-    /// The tag that the request names.
-    Named,
-}
-
-impl SetTag {
-    /// The text of the tag, for a request that asks for this. None where it is the tag that the
-    /// request names, and the request names none.
-    pub fn text(self, what: &Action) -> Option<&str>
-        ensures { option_map (λ text. text.now) result ≡ tag_of self what.now }
-    {
-        match self {
-            SetTag::Latest => Some(LATEST),
-            SetTag::Named => what.tag().map(TagText::text),
-        }
-    }
+    DropTag {
+        /// The package.
+        package: &'a Name,
+        /// The tag.
+        tag: &'a str,
+    },
 }

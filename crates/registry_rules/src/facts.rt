@@ -1,58 +1,58 @@
 //! The facts that a decision rests on.
 
-ghost use Rattle.std.specs.Prelude.{◌≡◌};
-ghost use Rattle.registry_rules.specs.Rows as from_rows;
+use registry_access::Caller;
+use registry_names::Status;
 
-use crate::request::Caller;
-use registry_names::{DistTag, Moment, Status, Text};
-
-/// What the registry holds for the caller and the package of a request.
+/// What the registry holds of a request: who asks, and what stands of what he asks.
 #[derive(Drop)]
 pub struct Facts {
-    /// Who asks.
-    pub caller: Caller,
-    /// What stands of the package.
-    pub rows: PackageRows,
+    /// Who asks. None where the credential names nobody.
+    pub caller: Option<Caller>,
+    /// What stands of it.
+    pub about: About,
 }
 
-/// What the registry holds of one package.
+/// What the registry holds of what an action is about: of each kind of action what decides it, and
+/// no more.
 #[derive(Drop)]
-pub struct PackageRows {
-    /// Who may read it. None where it was never published.
+pub enum About {
+    /// Of a publish.
+    Publish(PublishFacts),
+    /// Of a tag that is to name a version.
+    TagSet {
+        /// Whether the version lives.
+        version_lives: bool,
+        /// Whether the tag stands.
+        tag_stands: bool,
+    },
+    /// Of a tag that is to go.
+    TagRemove {
+        /// Whether the tag stands.
+        tag_stands: bool,
+    },
+    /// Of a query about one version.
+    Version {
+        /// Whether it lives.
+        lives: bool,
+    },
+    /// Of a query about a package.
+    Package {
+        /// Whether a version of it lives.
+        lives: bool,
+    },
+}
+
+/// What decides a publish.
+#[derive(Clone, Copy, Debug, PartialEq, Eq)]
+pub struct PublishFacts {
+    /// Who may read the package. None where it was never published.
     pub status: Option<Status>,
-    /// Its live versions, in byte order of their texts.
-    pub live: Vec<LiveVersion>,
-    /// Its tags, in byte order.
-    pub tags: Vec<DistTag>,
-}
-
-/// A version that was published and not withdrawn.
-#[derive(Drop)]
-pub struct LiveVersion {
-    /// The version, as `1.0.0`.
-    pub version: Text,
-    /// When it was published.
-    pub published: Moment,
-    /// The message of its deprecation, which is empty where it isn't deprecated.
-    pub message: Text,
-}
-
-impl PackageRows {
-    /// Whether the version lives.
-    #[tactic(auto, unfolding(registry_names::specs::Texts::is))]
-    pub fn has_version(&self, version: &str) -> bool
-        ensures { result ≡ from_rows.has_version self.now version.now }
-    {
-        self.live
-            .iter()
-            .any(|live| live.version.as_str() == version)
-    }
-
-    /// Whether the tag stands.
-    #[tactic(auto, unfolding(registry_names::specs::Texts::is))]
-    pub fn has_tag(&self, tag: &str) -> bool
-        ensures { result ≡ from_rows.has_tag self.now tag.now }
-    {
-        self.tags.iter().any(|named| named.tag.as_str() == tag)
-    }
+    /// Whether the version that is published lives already.
+    pub version_lives: bool,
+    /// Whether the version was withdrawn.
+    pub version_spent: bool,
+    /// Whether the tag stands under which it is published.
+    pub tag_stands: bool,
+    /// Whether the tag `latest` stands.
+    pub latest_stands: bool,
 }

@@ -1,9 +1,5 @@
 //! What can be asked of the registry.
 
-ghost use Rattle.std.specs.Prelude.{◌≡◌, option_map};
-ghost use Rattle.registry_names.specs.Versions.{text_of_version};
-ghost use Rattle.registry_rules.specs.Actions.{name_of, tag_named, version_named};
-
 use registry_names::{Moment, Name, TagText, Ver};
 use registry_publish::PublishForm;
 
@@ -32,13 +28,6 @@ impl Drop for Request {
 #[derive(Clone, Copy, Debug, PartialEq, Eq)]
 pub enum Credential {
     /// Nothing.
-    Anonymous,
-}
-
-/// Who asks.
-#[derive(Clone, Copy, Debug, PartialEq, Eq)]
-pub enum Caller {
-    /// Anybody.
     Anonymous,
 }
 
@@ -84,42 +73,4 @@ pub enum Action {
         /// The package's name.
         name: Name,
     },
-}
-
-impl Action {
-    /// The package that it is about.
-    pub fn name(&self) -> &Name
-        ensures { result.now ≡ name_of self.now }
-    {
-        match self {
-            Action::Publish { form } => form.name(),
-            Action::TagSet { name, .. }
-            | Action::TagRemove { name, .. }
-            | Action::Packument { name }
-            | Action::Archive { name, .. }
-            | Action::Tags { name } => name,
-        }
-    }
-
-    /// The tag that it names. None for a query.
-    pub fn tag(&self) -> Option<&TagText>
-        ensures { option_map (λ tag. tag.now) result ≡ tag_named self.now }
-    {
-        match self {
-            Action::Publish { form } => Some(form.tag()),
-            Action::TagSet { tag, .. } | Action::TagRemove { tag, .. } => Some(tag),
-            Action::Packument { .. } | Action::Archive { .. } | Action::Tags { .. } => None,
-        }
-    }
-
-    /// The version that it names, if it names one.
-    pub fn version(&self) -> Option<&Ver>
-        ensures { option_map (λ version. text_of_version version.now) result ≡ version_named self.now }
-    {
-        match self {
-            Action::Publish { form } => Some(form.version()),
-            Action::TagSet { version, .. } | Action::Archive { version, .. } => Some(version),
-            Action::TagRemove { .. } | Action::Packument { .. } | Action::Tags { .. } => None,
-        }
-    }
 }

@@ -9,15 +9,15 @@ use Rattle.registry_names.proofs.MapFacts.{at-empty, at-put}
 use Rattle.registry_publish.specs.Form.{FormParts}
 use Rattle.registry_publish.specs.Needs.{needs_of}
 use Rattle.registry_publish.specs.declared.need.Need.{Need}
-use Rattle.registry_rules.specs.State.{State, Release}
+use Rattle.registry_rules.specs.State.{Release}
 use Rattle.registry_rules.specs.Actions.{version_of}
-use Rattle.registry_rules.specs.Refusals.{is_live}
-use Rattle.registry_rules.specs.Steps.{release_of}
+use Rattle.registry_rules.specs.Changes.{release_of}
 use Rattle.registry_rows.specs.TextKeys.{TextsMap}
 use Rattle.registry_rows.proofs.TextKeyFacts.{texts_key}
+use Rattle.registry_tables.specs.Changes.{version_put}
 use Rattle.registry_tables.specs.Contents.{Contents}
 use Rattle.registry_tables.specs.Fresh.{fresh}
-use Rattle.registry_tables.specs.Needs.{need_key, with_need, with_needs, version_put, names_range, names_if_any, HoldsNeeds}
+use Rattle.registry_tables.specs.Needs.{need_key, with_need, with_needs, names_range, names_if_any, HoldsNeeds}
 
 -- ---- what stands after a list of needs was put
 
@@ -58,21 +58,25 @@ or_false false = refl
 pub fresh_holds : HoldsNeeds fresh
 fresh_holds = record { stored = λ p v target range. ap is_some (at-empty (texts_key 3) (p, (v, (target, range)))) ∙ sym (ap (named_of target range) (at-empty pair_key (p, v))) }
 
-pub others_hold : (c : Contents) (S : State) → S.live ≡ c.registry.live → HoldsNeeds c → HoldsNeeds (record c { registry = S })
-others_hold c S same h = record { stored = λ p v target range. h.stored p v target range ∙ sym (ap (λ (live : PairMap Release). named_of target range (at live (p, v))) same) }
+pub others_hold : (c d : Contents) → d.versions ≡ c.versions → d.need_ranges ≡ c.need_ranges → HoldsNeeds c → HoldsNeeds d
+others_hold c d versions needs h = record {
+  stored = λ p v target range.
+      ap (λ (m : TextsMap 3 (Unit {0})). is_some (at m (p, (v, (target, range))))) needs ∙ h.stored p v target range
+      ∙ sym (ap (λ (live : PairMap Release). named_of target range (at live (p, v))) versions);
+}
 
-pub version_holds : (f : FormParts) (now : ℕ) (c : Contents) → needs_of f.manifest ≡ Some f.needs → is_live c.registry f.name (version_of f) ≡ false → HoldsNeeds c → HoldsNeeds (version_put f now c)
+pub version_holds : (f : FormParts) (now : ℕ) (c : Contents) → needs_of f.manifest ≡ Some f.needs → is_some (at c.versions (f.name, version_of f)) ≡ false → HoldsNeeds c → HoldsNeeds (version_put f now c)
 version_holds f now c needs new h = record {
   stored = λ p v target range.
       at-with_needs c.need_ranges f.name (version_of f) f.needs p v target range ∙ each p v target range (pair_is (f.name, version_of f) (p, v)) refl
-      ∙ sym (ap (named_of target range) (at-put pair_key c.registry.live (f.name, version_of f) (release_of f now) (p, v)));
+      ∙ sym (ap (named_of target range) (at-put pair_key c.versions (f.name, version_of f) (release_of f now) (p, v)));
 }
   where
     each : (p v target range : Text) (b : Bool) → pair_is (f.name, version_of f) (p, v) ≡ b
-        → ((b && names_range target range f.needs) || is_some (at c.need_ranges (p, (v, (target, range))))) ≡ named_of target range (cond b (Some (release_of f now)) (at c.registry.live (p, v)))
+        → ((b && names_range target range f.needs) || is_some (at c.need_ranges (p, (v, (target, range))))) ≡ named_of target range (cond b (Some (release_of f now)) (at c.versions (p, v)))
     each p v target range true same =
         ap (λ o. names_range target range f.needs || o)
-        (h.stored p v target range ∙ ap (λ (q : Pair). named_of target range (at c.registry.live q)) (sym (same_true pair_key (f.name, version_of f) (p, v) same))
-        ∙ ap (named_of target range) (none_live (at c.registry.live (f.name, version_of f)) new))
+        (h.stored p v target range ∙ ap (λ (q : Pair). named_of target range (at c.versions q)) (sym (same_true pair_key (f.name, version_of f) (p, v) same))
+        ∙ ap (named_of target range) (none_live (at c.versions (f.name, version_of f)) new))
         ∙ or_false (names_range target range f.needs) ∙ ap (names_if_any target range) (sym needs)
     each p v target range false same = h.stored p v target range

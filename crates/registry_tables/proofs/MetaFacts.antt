@@ -12,6 +12,7 @@ use Rattle.sqlite_tied.specs.Compute.{everything}
 use Rattle.registry_names.specs.Maps.{at}
 use Rattle.registry_rows.specs.Columns.{number_in}
 use Rattle.registry_rows.specs.Statements.{Means, MeansQuery, scan, by_texts}
+use Rattle.registry_rows.specs.Frames.{Wrote}
 use Rattle.registry_rows.specs.Ready.{Ready, Leaves, Reads, Executed, Queried, IsMapped}
 use Rattle.registry_rows.proofs.LookUpFacts.{first_listed, select_finds}
 use Rattle.registry_rows.proofs.StatementFacts.{insert_puts}
@@ -35,9 +36,9 @@ insert_means : Means schema insert_text (Insert 13 (Values (lit Null ∷ cells) 
 unfolding understood everything
 insert_means = (refl, (refl, refl))
 
-pub number_put : (number : ℕ) (old new : State) (count : ℕ) → Ready schema old → Executed insert_text (Int (pos number) ∷ []) old new (Ok count) → HasCleanDisk new
+pub number_put : (number : ℕ) (old new : State) → Ready schema old → Wrote insert_text (Int (pos number) ∷ []) old new → HasCleanDisk new
     → Leaves schema contents (with_number (stored old) number) new
-number_put number old new count form call clean = insert_puts meta_mapped insert_text cells insert_means (Int (pos number) ∷ []) refl old new (Ok count) form call clean
+number_put number old new form call = insert_puts meta_mapped insert_text cells insert_means (Int (pos number) ∷ []) refl old new (Ok call.0) form call.1
 
 -- ---- SELECT value FROM meta WHERE name = ?1
 

@@ -6,20 +6,20 @@
 //! other error by `Database`.
 #![tactic(auto)]
 
-mod error;
+mod change;
 pub mod laws;
 mod meta;
 mod needs;
-mod package;
-mod packages;
 mod schema;
+mod spent;
+mod statuses;
 mod tags;
 mod versions;
 
-pub use crate::error::fault_of;
+pub use crate::change::make;
 pub use crate::meta::opened;
-pub use crate::package::load_package;
-pub use crate::packages::{AccessChange, change_access};
 pub use crate::schema::create;
-pub use crate::tags::{TagChange, set_tags};
-pub use crate::versions::{load_archive, load_manifest, put_version};
+pub use crate::spent::is_spent;
+pub use crate::statuses::load_status;
+pub use crate::tags::{has_tag, load_tags};
+pub use crate::versions::{has_version, load_archive, load_versions, put_version};

@@ -6,19 +6,19 @@
 //! behind them.
 
 ghost use Rattle.std.specs.Prelude.{◌≡◌, IsErr, OnOk, map};
-ghost use Rattle.sqlite.specs.Held.{state};
 ghost use Rattle.sqlite.specs.State.{HasCleanDisk};
+ghost use Rattle.registry_rows.specs.Frames.{Stays};
 ghost use Rattle.registry_rows.specs.Ready.{Leaves};
 ghost use Rattle.registry_tables.specs.Schema.{schema};
 ghost use Rattle.registry_tables.specs.Contents.{contents};
 ghost use Rattle.registry_tables.specs.Creation.{creation};
-ghost use Rattle.registry_tables.specs.Effects.{AddsNoCrash, HasNoTables, InForm, KeepsCommitted};
+ghost use Rattle.registry_tables.specs.Effects.{HasNoTables, InForm, shown};
 ghost use Rattle.registry_tables.specs.Fresh.{HasMade, fresh};
 
-use crate::error::fault_of;
 use crate::meta::put_schema;
 use registry_names::Fault;
-use sqlite::{Alter, Error, Transaction};
+use registry_rows::write;
+use sqlite::{Alter, Transaction};
 
 // The texts that make the tables, in their order.
 const TABLES: [&str; 15] = [
@@ -42,37 +42,23 @@ const TABLES: [&str; 15] = [
 /// Makes the tables in a database that has none: all of them empty, but for the number of the
 /// schema. Where they are there already, the answer is `Database`.
 pub fn create<S: Alter>(tx: &mut Transaction<'_, S>) -> Result<(), Fault>
-    ensures same_reference { tx.new.conn.ghost_name ≡ tx.old.conn.ghost_name }
-    ensures made { HasNoTables S.Store tx.old.conn.now → HasCleanDisk (state S.Store tx.new.conn.now) → OnOk result (Leaves schema contents fresh (state S.Store tx.new.conn.now)) }
-    ensures refused { InForm S.Store tx.old.conn.now → HasCleanDisk (state S.Store tx.new.conn.now) → IsErr result }
-    ensures committed { KeepsCommitted S.Store tx.old.conn.now tx.new.conn.now }
-    ensures survives { AddsNoCrash S.Store tx.old.conn.now tx.new.conn.now }
-{
-    create_all(tx).map_err(fault_of)
-}
-
-fn create_all<S: Alter>(tx: &mut Transaction<'_, S>) -> Result<(), Error>
-    ensures same_reference { tx.new.conn.ghost_name ≡ tx.old.conn.ghost_name }
-    ensures made { HasNoTables S.Store tx.old.conn.now → HasCleanDisk (state S.Store tx.new.conn.now) → OnOk result (Leaves schema contents fresh (state S.Store tx.new.conn.now)) }
-    ensures refused { InForm S.Store tx.old.conn.now → HasCleanDisk (state S.Store tx.new.conn.now) → IsErr result }
-    ensures committed { KeepsCommitted S.Store tx.old.conn.now tx.new.conn.now }
-    ensures survives { AddsNoCrash S.Store tx.old.conn.now tx.new.conn.now }
+    ensures stays { Stays S.Store tx.old tx.new }
+    ensures made { HasNoTables S.Store tx.old → HasCleanDisk (shown S.Store tx.new) → OnOk result (Leaves schema contents fresh (shown S.Store tx.new)) }
+    ensures refused { InForm S.Store tx.old → HasCleanDisk (shown S.Store tx.new) → IsErr result }
 {
     create_tables(tx, &TABLES)?;
     put_schema(tx)
 }
 
 // Runs the texts that make the tables.
-fn create_tables<S: Alter>(tx: &mut Transaction<'_, S>, texts: &[&str]) -> Result<(), Error>
+fn create_tables<S: Alter>(tx: &mut Transaction<'_, S>, texts: &[&str]) -> Result<(), Fault>
     requires texts { map (λ text. text.now) texts.now ≡ creation }
-    ensures same_reference { tx.new.conn.ghost_name ≡ tx.old.conn.ghost_name }
-    ensures made { HasNoTables S.Store tx.old.conn.now → OnOk result (HasMade S.Store 15 tx.new.conn.now) }
-    ensures refused { InForm S.Store tx.old.conn.now → HasCleanDisk (state S.Store tx.new.conn.now) → IsErr result }
-    ensures committed { KeepsCommitted S.Store tx.old.conn.now tx.new.conn.now }
-    ensures survives { AddsNoCrash S.Store tx.old.conn.now tx.new.conn.now }
+    ensures stays { Stays S.Store tx.old tx.new }
+    ensures made { HasNoTables S.Store tx.old → OnOk result (HasMade S.Store 15 tx.new) }
+    ensures refused { InForm S.Store tx.old → HasCleanDisk (shown S.Store tx.new) → IsErr result }
 {
     for text in texts {
-        tx.execute(text, &[])?;
+        write(tx, text, &[])?;
     }
     Ok(())
 }

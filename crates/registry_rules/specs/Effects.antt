@@ -1,0 +1,67 @@
+-- What each command changes where nothing refuses it: one equation a command. A query changes nothing.
+use Rattle.std.specs.Prelude.{ℕ, List, [], ◌∷◌, ◌++◌, ◌||◌, false, is_some, Option, Some, None, if◌then◌else◌}
+use Rattle.registry_names.specs.Texts.{Text, is}
+use Rattle.registry_names.specs.Maps.{at}
+use Rattle.registry_names.specs.Versions.{text_of_version}
+use Rattle.registry_names.specs.declared.status.Status.{Status}
+use Rattle.registry_names.specs.declared.status.Status.TheVariants.{Public, Restricted}
+use Rattle.registry_names.specs.Names.{scope_of}
+use Rattle.registry_access.specs.declared.caller.Caller.{Caller}
+use Rattle.registry_publish.specs.Form.{FormParts}
+use Rattle.registry_rules.specs.Actions.{version_of}
+use Rattle.registry_rules.specs.Callers.{caller_of}
+use Rattle.registry_rules.specs.Changes.{Change, PutStatus, AddVersion, PutTag, DropTag, all_made}
+use Rattle.registry_rules.specs.State.{State, stands}
+use Rattle.registry_names.specs.Tags.{latest}
+use Rattle.registry_rules.specs.declared.request.Action.{Action}
+use Rattle.registry_rules.specs.declared.request.Action.TheVariants.{Publish, TagSet, TagRemove}
+use Rattle.registry_rules.specs.declared.request.Request.{Request}
+
+-- ---- a publish
+
+-- a package of an organisation is its own until it says otherwise
+abbrev pub first_status : Text → Status
+first_status p = if is_some (scope_of p) then Restricted else Public
+
+-- The status that a publish sets: the one that it asks for; else, where the package has none yet, the first; else none
+abbrev pub new_status : Option Status → Option Status → Text → Option Status
+new_status (Some asked) old p = Some asked
+new_status None (Some old) p = None
+new_status None None p = Some (first_status p)
+
+-- a status is put where there is one to put
+abbrev pub put_status : Text → Option Status → Option Status → List Change
+put_status p None old = []
+put_status p (Some status) old = PutStatus p status (is_some old) ∷ []
+
+-- The form's tag names the version, and so does `latest` where none stands
+abbrev pub put_tags : State → Text → Text → Text → List Change
+put_tags S p t v = (if stands S p latest || is t latest then [] else PutTag p latest v false ∷ []) ++ PutTag p t v (stands S p t) ∷ []
+
+abbrev pub publication : State → ℕ → FormParts → List Change
+publication S now f = put_status f.name (new_status f.access (at S.access.statuses f.name) f.name) (at S.access.statuses f.name)
+    ++ AddVersion f now ∷ put_tags S f.name f.tag (version_of f)
+
+-- ---- all commands
+
+abbrev pub effects : State → ℕ → Caller → Action → List Change
+effects S now who (Publish f) = publication S now f
+effects S now who (TagSet p t v) = PutTag p t (text_of_version v) (stands S p t) ∷ []
+effects S now who (TagRemove p t) = DropTag p t ∷ []
+effects S now who _ = []
+
+-- what a caller's action makes of what the registry holds
+abbrev pub step_by : State → ℕ → Caller → Action → State
+step_by S now who what = all_made S (effects S now who what)
+
+-- the changes of a request. One of nobody has none
+abbrev pub effects_for : State → ℕ → Option Caller → Action → List Change
+effects_for S now None what = []
+effects_for S now (Some who) what = effects S now who what
+
+abbrev pub effects_of : State → Request → List Change
+effects_of S r = effects_for S r.at (caller_of S r.who) r.what
+
+-- what a request makes that nothing refuses
+abbrev pub step : State → Request → State
+step S r = all_made S (effects_of S r)
