@@ -28,7 +28,7 @@ use Rattle.registry_rules.specs.Refusals.{publish_refusal, refusal, refusal_for,
 use Rattle.registry_rules.specs.Requests.{ArePartsInForm, IsInForm, IsActionInForm}
 use Rattle.registry_rules.specs.State.{State, Release, Withdrawal, nothing, latest, is_live, stands}
 use Rattle.registry_rules.specs.declared.request.Action.{Action}
-use Rattle.registry_rules.specs.declared.request.Action.TheVariants.{Publish, TagSet, TagRemove, Packument, Archive, Tags}
+use Rattle.registry_rules.specs.declared.request.Action.TheVariants.{Publish, TagSet, TagRemove}
 use Rattle.registry_rules.specs.declared.request.Request.{Request}
 use Rattle.registry_rules.proofs.AllowedFacts.{IsAllowed, allowed_publish, is_there, isnt_kept}
 use Rattle.registry_rules.proofs.MadeFacts.{latest_put, tag_put}
@@ -222,9 +222,7 @@ action_kept S now who (Publish f) moment form may kept = publish_kept S f now fo
 action_kept S now who (TagSet p t v) moment form may kept =
     subst IsKept (sym (tag_put S p t (text_of_version v) (stands S p t) (λ there. there))) (tag_set_kept S p t (text_of_version v) form.0 form.1 (is_there _ may) kept)
 action_kept S now who (TagRemove p t) moment form may kept = tag_removed_kept S p t (isnt_kept (stands S p t) (is t latest) may) kept
-action_kept S now who (Packument p) moment form may kept = kept
-action_kept S now who (Archive p v) moment form may kept = kept
-action_kept S now who (Tags p) moment form may kept = kept
+action_kept S now who _ moment form may kept = kept
 
 pub step_kept : (S : State) (r : Request) → IsInForm r → refusal S r ≡ None → IsKept S → IsKept (step S r)
 step_kept S r form may kept = by_caller (caller_of S r.who) may
