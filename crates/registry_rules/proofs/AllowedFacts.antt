@@ -9,7 +9,7 @@ use Rattle.registry_names.specs.declared.refusal.Refusal.TheVariants.{NotFound, 
 use Rattle.registry_names.specs.declared.status.Status.{Status}
 use Rattle.registry_names.specs.declared.status.Status.TheVariants.{Public, Restricted}
 use Rattle.registry_names.proofs.KeyFacts.{text_key}
-use Rattle.registry_access.specs.Scopes.{scope_of}
+use Rattle.registry_names.specs.Names.{scope_of}
 use Rattle.registry_publish.specs.Form.{FormParts}
 use Rattle.registry_rules.specs.Actions.{version_of}
 use Rattle.registry_rules.specs.Changes.{release_of}
@@ -18,7 +18,7 @@ use Rattle.registry_rules.specs.Kept.{IsReleaseOf}
 use Rattle.registry_rules.specs.Refusals.{is_restricted, publish_refusal, refuse, unless_there}
 use Rattle.registry_rules.specs.Requests.{ArePartsInForm}
 use Rattle.registry_rules.specs.State.{State, Release, is_spent}
-use Rattle.registry_rules.proofs.PutFacts.{put_there}
+use Rattle.registry_names.proofs.PutFacts.{put_there}
 use Rattle.registry_rules.proofs.PublishedFacts.{statuses_after, status_of}
 
 pub record IsAllowed (S : State) (p v t : Text) (release : Release) (status : Option Status) : Type 0 where

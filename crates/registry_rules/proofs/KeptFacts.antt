@@ -6,7 +6,7 @@ use Rattle.registry_names.specs.Keys.{Pair, pair_is}
 use Rattle.registry_names.specs.Maps.{TextMap, at, put}
 use Rattle.registry_names.specs.Moments.{last_second}
 use Rattle.registry_names.specs.Names.{IsName}
-use Rattle.registry_names.specs.Tags.{is_tag}
+use Rattle.registry_names.specs.Tags.{is_tag, latest}
 use Rattle.registry_names.specs.Texts.{Text, is}
 use Rattle.registry_names.specs.Versions.{text_of_version}
 use Rattle.registry_names.specs.declared.status.Status.{Status}
@@ -15,7 +15,7 @@ use Rattle.registry_names.proofs.KeyFacts.{text_key, pair_key, triple_key, same_
 use Rattle.registry_names.proofs.MapFacts.{at-empty, at-put, at-erase_other}
 use Rattle.registry_access.specs.Access.{Access}
 use Rattle.registry_access.specs.Hiding.{UnscopedArePublic}
-use Rattle.registry_access.specs.Scopes.{scope_of}
+use Rattle.registry_names.specs.Names.{scope_of}
 use Rattle.registry_access.specs.declared.caller.Caller.{Caller}
 use Rattle.registry_publish.specs.Form.{FormParts}
 use Rattle.registry_rules.specs.Actions.{version_of}
@@ -26,14 +26,14 @@ use Rattle.registry_rules.specs.Kept.{IsReleaseOf, IsWithdrawalOf, IsTagOf, IsAc
 use Rattle.registry_rules.specs.Operations.{with_tag, without_tag}
 use Rattle.registry_rules.specs.Refusals.{publish_refusal, refusal, refusal_for, state_refusal}
 use Rattle.registry_rules.specs.Requests.{ArePartsInForm, IsInForm, IsActionInForm}
-use Rattle.registry_rules.specs.State.{State, Release, Withdrawal, nothing, latest, is_live, stands}
+use Rattle.registry_rules.specs.State.{State, Release, Withdrawal, nothing, is_live, stands}
 use Rattle.registry_rules.specs.declared.request.Action.{Action}
 use Rattle.registry_rules.specs.declared.request.Action.TheVariants.{Publish, TagSet, TagRemove}
 use Rattle.registry_rules.specs.declared.request.Request.{Request}
 use Rattle.registry_rules.proofs.AllowedFacts.{IsAllowed, allowed_publish, is_there, isnt_kept}
 use Rattle.registry_rules.proofs.MadeFacts.{latest_put, tag_put}
 use Rattle.registry_rules.proofs.PublishedFacts.{statuses_after, status_of, after_publish, published_is}
-use Rattle.registry_rules.proofs.PutFacts.{each_put, each_left, some_before, put_there, still_there}
+use Rattle.registry_names.proofs.PutFacts.{each_put, each_left, some_before, put_there, still_there}
 
 -- ---- nothing
 

@@ -3,6 +3,7 @@ use Rattle.std.proofs.Common.{◌≡◌, ◌≢◌, ℕ, Bool, true, false, cond
 use Rattle.std.specs.Prelude.{IsSome}
 use Rattle.registry_names.specs.Keys.{IsKey, Pair, pair_is}
 use Rattle.registry_names.specs.Maps.{TextMap, PairMap, at, put}
+use Rattle.registry_names.specs.Tags.{latest}
 use Rattle.registry_names.specs.Texts.{Text, is}
 use Rattle.registry_names.specs.Versions.{text_of_version}
 use Rattle.registry_names.specs.declared.status.Status.{Status}
@@ -15,7 +16,7 @@ use Rattle.registry_rules.specs.Changes.{release_of}
 use Rattle.registry_rules.specs.Effects.{first_status, new_status}
 use Rattle.registry_rules.specs.Laws.{AddsVersion, SetsTags, SetsStatus, IsTagChange, IsSameOf, PublishesAddVersions, PublishesSetTags, PublishesSetStatuses, SetTagsName, RemovedTagsAreGone, QueriesChangeNothing, PackagesStandApart}
 use Rattle.registry_rules.specs.Operations.{with_tag, without_tag}
-use Rattle.registry_rules.specs.State.{State, latest, stands}
+use Rattle.registry_rules.specs.State.{State, stands}
 use Rattle.registry_rules.specs.declared.request.Action.TheVariants.{Publish, TagSet, TagRemove}
 use Rattle.registry_rules.proofs.MadeFacts.{latest_put, tag_put}
 use Rattle.registry_rules.proofs.PublishedFacts.{statuses_after, status_of, after_publish, published_is}

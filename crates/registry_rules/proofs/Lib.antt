@@ -4,4 +4,3 @@ pub mod KeptFacts
 pub mod LawFacts
 pub mod MadeFacts
 pub mod PublishedFacts
-pub mod PutFacts

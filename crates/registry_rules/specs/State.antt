@@ -1,5 +1,5 @@
 -- What the registry holds: finite maps under names, and nothing of how they are kept.
-use Rattle.std.specs.Prelude.{ℕ, Bool, true, false, not, List, [], ◌∷◌, codes, is_some}
+use Rattle.std.specs.Prelude.{ℕ, Bool, true, false, not, List, [], ◌∷◌, is_some}
 use Rattle.registry_names.specs.Texts.{Text}
 use Rattle.registry_names.specs.Maps.{PairMap, empty, at, of}
 use Rattle.registry_access.specs.Access.{Access}
@@ -35,10 +35,6 @@ abbrev pub nothing : State
 nothing = record { access = no_access; live = empty; spent = empty; tags = empty }
 
 -- ---- what is asked of it
-
--- the tag that stands while a version lives
-abbrev pub latest : Text
-latest = codes "latest"
 
 abbrev pub is_empty : {X : Type 0} → List X → Bool
 is_empty [] = true

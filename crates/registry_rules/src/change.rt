@@ -3,9 +3,6 @@
 use registry_names::{Moment, Name, Status, Ver};
 use registry_publish::PublishForm;
 
-/// The tag that stands while a version lives.
-pub(crate) const LATEST: &str = "latest";
-
 /// Changes, which are made in their order.
 pub type Changes<'a> = Vec<Change<'a>>;
 

@@ -1,7 +1,7 @@
 //! The decision on a publish.
 
 ghost use Rattle.std.specs.Prelude.{◌≡◌, is_some, map, IfOk};
-ghost use Rattle.registry_access.specs.Scopes.{scope_of};
+ghost use Rattle.registry_names.specs.Names.{scope_of};
 ghost use Rattle.registry_rules.specs.Changes.{change_of};
 ghost use Rattle.registry_rules.specs.Effects as effects;
 ghost use Rattle.registry_rules.specs.Effects.{publication};
@@ -9,10 +9,10 @@ ghost use Rattle.registry_rules.specs.Facts.{ArePublishFacts};
 ghost use Rattle.registry_rules.specs.Refusals as spec;
 ghost use Rattle.registry_rules.specs.State.{State};
 
-use crate::change::{Change, Changes, LATEST};
+use crate::change::{Change, Changes};
 use crate::facts::PublishFacts;
 use crate::tags::is_latest;
-use registry_names::{Moment, Name, Refusal, Status};
+use registry_names::{LATEST, Moment, Name, Refusal, Status};
 use registry_publish::PublishForm;
 use std::alloc::{AllocError, Global};
 

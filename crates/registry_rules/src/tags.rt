@@ -1,12 +1,11 @@
 //! The decision on a tag.
 
 ghost use Rattle.std.specs.Prelude.{◌≡◌};
+ghost use Rattle.registry_names.specs.Tags.{latest};
 ghost use Rattle.registry_names.specs.Texts.{is};
 ghost use Rattle.registry_rules.specs.Refusals as spec;
-ghost use Rattle.registry_rules.specs.State.{State, latest, stands};
 
-use crate::change::LATEST;
-use registry_names::{Refusal, TagText};
+use registry_names::{LATEST, Refusal, TagText};
 
 /// Whether the tag is `latest`.
 #[tactic(auto, unfolding(registry_names::specs::Texts::is))]
