@@ -6,7 +6,7 @@ use Rattle.registry_names.specs.Keys.{Pair, pair_is}
 use Rattle.registry_names.specs.Maps.{TextMap, at, put}
 use Rattle.registry_names.specs.Moments.{last_second}
 use Rattle.registry_names.specs.Names.{IsName}
-use Rattle.registry_names.specs.Tags.{is_tag}
+use Rattle.registry_names.specs.Tags.{is_tag, latest}
 use Rattle.registry_names.specs.Texts.{Text, is}
 use Rattle.registry_names.specs.Versions.{text_of_version}
 use Rattle.registry_names.specs.declared.status.Status.{Status}
@@ -27,9 +27,8 @@ use Rattle.registry_rules.specs.Operations.{with_tag, without_tag}
 use Rattle.registry_rules.specs.Refusals.{publish_refusal, refusal, refusal_for, state_refusal}
 use Rattle.registry_rules.specs.Requests.{ArePartsInForm, IsInForm, IsActionInForm}
 use Rattle.registry_rules.specs.State.{State, Release, Withdrawal, nothing, is_live, stands}
-use Rattle.registry_names.specs.Tags.{latest}
 use Rattle.registry_rules.specs.declared.request.Action.{Action}
-use Rattle.registry_rules.specs.declared.request.Action.TheVariants.{Publish, TagSet, TagRemove, Packument, Archive, Tags}
+use Rattle.registry_rules.specs.declared.request.Action.TheVariants.{Publish, TagSet, TagRemove}
 use Rattle.registry_rules.specs.declared.request.Request.{Request}
 use Rattle.registry_rules.proofs.AllowedFacts.{IsAllowed, allowed_publish, is_there, isnt_kept}
 use Rattle.registry_rules.proofs.MadeFacts.{latest_put, tag_put}
@@ -223,9 +222,7 @@ action_kept S now who (Publish f) moment form may kept = publish_kept S f now fo
 action_kept S now who (TagSet p t v) moment form may kept =
     subst IsKept (sym (tag_put S p t (text_of_version v) (stands S p t) (λ there. there))) (tag_set_kept S p t (text_of_version v) form.0 form.1 (is_there _ may) kept)
 action_kept S now who (TagRemove p t) moment form may kept = tag_removed_kept S p t (isnt_kept (stands S p t) (is t latest) may) kept
-action_kept S now who (Packument p) moment form may kept = kept
-action_kept S now who (Archive p v) moment form may kept = kept
-action_kept S now who (Tags p) moment form may kept = kept
+action_kept S now who _ moment form may kept = kept
 
 pub step_kept : (S : State) (r : Request) → IsInForm r → refusal S r ≡ None → IsKept S → IsKept (step S r)
 step_kept S r form may kept = by_caller (caller_of S r.who) may

@@ -3,6 +3,7 @@ use Rattle.std.proofs.Common.{◌≡◌, ◌≢◌, ℕ, Bool, true, false, cond
 use Rattle.std.specs.Prelude.{IsSome}
 use Rattle.registry_names.specs.Keys.{IsKey, Pair, pair_is}
 use Rattle.registry_names.specs.Maps.{TextMap, PairMap, at, put}
+use Rattle.registry_names.specs.Tags.{latest}
 use Rattle.registry_names.specs.Texts.{Text, is}
 use Rattle.registry_names.specs.Versions.{text_of_version}
 use Rattle.registry_names.specs.declared.status.Status.{Status}
@@ -16,8 +17,7 @@ use Rattle.registry_rules.specs.Effects.{first_status, new_status}
 use Rattle.registry_rules.specs.Laws.{AddsVersion, SetsTags, SetsStatus, IsTagChange, IsSameOf, PublishesAddVersions, PublishesSetTags, PublishesSetStatuses, SetTagsName, RemovedTagsAreGone, QueriesChangeNothing, PackagesStandApart}
 use Rattle.registry_rules.specs.Operations.{with_tag, without_tag}
 use Rattle.registry_rules.specs.State.{State, stands}
-use Rattle.registry_names.specs.Tags.{latest}
-use Rattle.registry_rules.specs.declared.request.Action.TheVariants.{Publish, TagSet, TagRemove, Packument, Archive, Tags}
+use Rattle.registry_rules.specs.declared.request.Action.TheVariants.{Publish, TagSet, TagRemove}
 use Rattle.registry_rules.proofs.MadeFacts.{latest_put, tag_put}
 use Rattle.registry_rules.proofs.PublishedFacts.{statuses_after, status_of, after_publish, published_is}
 
@@ -141,9 +141,7 @@ pub queries_change_nothing : QueriesChangeNothing
 queries_change_nothing S now who (Publish f) e = absurd (true≢false e)
 queries_change_nothing S now who (TagSet p t v) e = absurd (true≢false e)
 queries_change_nothing S now who (TagRemove p t) e = absurd (true≢false e)
-queries_change_nothing S now who (Packument p) e = refl
-queries_change_nothing S now who (Archive p v) e = refl
-queries_change_nothing S now who (Tags p) e = refl
+queries_change_nothing S now who _ e = refl
 
 same_of_itself : (S : State) (p : Text) → IsSameOf S S p
 same_of_itself S p = record { live = λ v. refl; spent = λ v. refl; tags = λ t. refl; status = refl; maintainers = λ u. refl; grants = λ o t. refl }
@@ -183,6 +181,4 @@ packages_stand_apart S now who (TagSet q t v) p other =
     (apart_from_tag S (with_tag S q t (text_of_version v)) p refl refl refl (λ u. at-put_other pair_key S.tags (q, t) (text_of_version v) (p, u) (elsewhere q p t u other)))
 packages_stand_apart S now who (TagRemove q t) p other =
     apart_from_tag S (without_tag S q t) p refl refl refl (λ u. at-erase_other pair_key S.tags (q, t) (p, u) (elsewhere q p t u other))
-packages_stand_apart S now who (Packument q) p other = same_of_itself S p
-packages_stand_apart S now who (Archive q v) p other = same_of_itself S p
-packages_stand_apart S now who (Tags q) p other = same_of_itself S p
+packages_stand_apart S now who _ p other = same_of_itself S p

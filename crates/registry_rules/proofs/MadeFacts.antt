@@ -2,6 +2,7 @@
 use Rattle.std.proofs.Common.{◌≡◌, Bool, true, false, [], ◌∷◌, ◌++◌, ◌||◌, is_some, refl, sym, true≢false, if◌then◌else◌}
 use Rattle.std.specs.Prelude.{IsSome}
 use Rattle.registry_names.specs.Maps.{PairMap, at, put}
+use Rattle.registry_names.specs.Tags.{latest}
 use Rattle.registry_names.specs.Texts.{Text, is}
 use Rattle.registry_names.specs.declared.status.Status.{Status}
 use Rattle.registry_names.proofs.KeyFacts.{pair_key}
@@ -9,7 +10,6 @@ use Rattle.registry_rules.specs.Changes.{PutStatus, PutTag, made, all_made}
 use Rattle.registry_rules.specs.Effects.{put_tags}
 use Rattle.registry_rules.specs.Operations.{with_status, with_tag}
 use Rattle.registry_rules.specs.State.{State, stands}
-use Rattle.registry_names.specs.Tags.{latest}
 use Rattle.registry_names.proofs.PutFacts.{still_there}
 
 chosen : {X : Type 0} (b : Bool) (x y : X) → b ≡ true → (if b then x else y) ≡ x

@@ -1,6 +1,7 @@
 -- What a publish leaves, each map apart.
 use Rattle.std.proofs.Common.{◌≡◌, ℕ, Bool, ◌∷◌, ◌++◌, ◌||◌, Option, Some, None, ap, ◌∙◌}
 use Rattle.registry_names.specs.Maps.{TextMap, at, put}
+use Rattle.registry_names.specs.Tags.{latest}
 use Rattle.registry_names.specs.Texts.{Text, is}
 use Rattle.registry_names.specs.declared.status.Status.{Status}
 use Rattle.registry_publish.specs.Form.{FormParts}
@@ -9,7 +10,6 @@ use Rattle.registry_rules.specs.Changes.{AddVersion, all_made, release_of}
 use Rattle.registry_rules.specs.Effects.{new_status, put_status, put_tags, publication}
 use Rattle.registry_rules.specs.Operations.{with_status, with_version}
 use Rattle.registry_rules.specs.State.{State, Release, stands}
-use Rattle.registry_names.specs.Tags.{latest}
 use Rattle.registry_rules.proofs.MadeFacts.{status_put, latest_put, tags_put}
 
 abbrev pub statuses_after : TextMap Status → Text → Option Status → TextMap Status

@@ -1,12 +1,12 @@
 -- When what a decision rests on is what the registry holds of a request.
 use Rattle.std.specs.Prelude.{◌≡◌}
 use Rattle.registry_names.specs.Maps.{at}
+use Rattle.registry_names.specs.Tags.{latest}
 use Rattle.registry_names.specs.Versions.{text_of_version}
 use Rattle.registry_publish.specs.Form.{FormParts}
 use Rattle.registry_rules.specs.Actions.{version_of}
 use Rattle.registry_rules.specs.Callers.{caller_of}
 use Rattle.registry_rules.specs.State.{State, is_live, is_spent, has_live, stands}
-use Rattle.registry_names.specs.Tags.{latest}
 use Rattle.registry_rules.specs.declared.facts.About.{About}
 use Rattle.registry_rules.specs.declared.facts.About.TheVariants as about
 use Rattle.registry_rules.specs.declared.facts.Facts.{Facts}

@@ -5,7 +5,7 @@ use Rattle.registry_names.specs.Maps.{at}
 use Rattle.registry_names.specs.Messages.{is_message}
 use Rattle.registry_names.specs.Moments.{last_second}
 use Rattle.registry_names.specs.Names.{IsName}
-use Rattle.registry_names.specs.Tags.{is_tag}
+use Rattle.registry_names.specs.Tags.{is_tag, latest}
 use Rattle.registry_names.specs.Texts.{Text}
 use Rattle.registry_names.specs.Versions.{VersionParts, IsVersion, IsVersionOf}
 use Rattle.registry_access.specs.Access.{Access}
@@ -14,7 +14,6 @@ use Rattle.registry_names.specs.Names.{scope_of}
 use Rattle.registry_access.specs.declared.role.Role.TheVariants.{Owner}
 use Rattle.registry_publish.specs.Form.{IsManifestText}
 use Rattle.registry_rules.specs.State.{State, Release, Withdrawal, is_live}
-use Rattle.registry_names.specs.Tags.{latest}
 
 -- ---- packages
 

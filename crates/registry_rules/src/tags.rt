@@ -1,10 +1,9 @@
 //! The decision on a tag.
 
 ghost use Rattle.std.specs.Prelude.{◌≡◌};
+ghost use Rattle.registry_names.specs.Tags.{latest};
 ghost use Rattle.registry_names.specs.Texts.{is};
 ghost use Rattle.registry_rules.specs.Refusals as spec;
-ghost use Rattle.registry_rules.specs.State.{State, stands};
-ghost use Rattle.registry_names.specs.Tags.{latest};
 
 use registry_names::{LATEST, Refusal, TagText};
 
