@@ -131,14 +131,6 @@ fn set_allows(ends: &[usize], comparators: &[Comparator], version: &Ver) -> bool
     false
 }
 
-// How many comparators the ranges of a text are likely to have: two for each word, and one for an
-// empty range.
-fn likely(text: &str) -> usize {
-    let words = text.as_bytes().split(|byte| matches!(byte, b' ' | b'|'));
-    let words = words.filter(|word| !word.is_empty()).count();
-    words.saturating_mul(2).saturating_add(1)
-}
-
 impl Range {
     // Reads a range: `None` for a text that is none, if the memory lasts so far.
     fn read(alloc: Global, text: &str) -> Result<Option<Range>, Fault>
@@ -147,7 +139,7 @@ impl Range {
         ensures none { result ≡ Ok None → ¬ IsRangeText text.now }
         ensures err { IfErr result (λ e. e ≡ Fault.Memory) }
     {
-        let mut comparators = Vec::with_capacity(alloc, likely(text))?;
+        let mut comparators = Vec::new(alloc);
         let mut ends = Vec::new(alloc);
         let mut reader = Reader::new(text.as_bytes());
         'steps: loop {
