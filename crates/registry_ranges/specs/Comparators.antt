@@ -124,9 +124,12 @@ meets is.Equal o = is_eq o
 abbrev pub holds : VersionParts → Comparator → Bool
 holds v c = meets c.relation (precedence v c.bound)
 
+abbrev pub has_numbers : VersionParts → ℕ → ℕ → ℕ → Bool
+has_numbers v a b c = (a == v.major) && (b == v.minor) && (c == v.patch)
+
 -- a comparator has a prerelease, and the version's three numbers
 abbrev pub is_near : VersionParts → Comparator → Bool
-is_near v c = not (length c.bound.pre == 0) && (c.bound.major == v.major) && (c.bound.minor == v.minor) && (c.bound.patch == v.patch)
+is_near v c = not (length c.bound.pre == 0) && has_numbers v c.bound.major c.bound.minor c.bound.patch
 
 -- each comparator holds, and a prerelease has a comparator near
 abbrev pub range_allows : VersionParts → List Comparator → Bool

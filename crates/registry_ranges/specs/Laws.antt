@@ -22,8 +22,11 @@ IsInForm v = is_pre_release v.pre ≡ true
 abbrev pub IsRelease : VersionParts → Type 0
 IsRelease v = v.pre ≡ []
 
+abbrev pub version : ℕ → ℕ → ℕ → List ℕ → VersionParts
+version a b c pre = record { major = a; minor = b; patch = c; pre = pre }
+
 abbrev pub release : ℕ → ℕ → ℕ → VersionParts
-release a b c = record { major = a; minor = b; patch = c; pre = [] }
+release a b c = version a b c []
 
 -- a version is the start, or above it by precedence
 abbrev pub IsFrom : VersionParts → VersionParts → Type 0
@@ -50,7 +53,7 @@ abbrev pub start_of : Prefix → VersionParts
 start_of any = release 0 0 0
 start_of (major a) = release a 0 0
 start_of (minor a b) = release a b 0
-start_of (full a b c pre) = record { major = a; minor = b; patch = c; pre = pre }
+start_of (full a b c pre) = version a b c pre
 
 -- how a version compares with it: by the numbers that it says, and by precedence where it says
 -- all three
@@ -58,7 +61,7 @@ abbrev pub compared : VersionParts → Prefix → Ordering
 compared v any = Equal
 compared v (major a) = nat_cmp v.major a
 compared v (minor a b) = ordering_then (nat_cmp v.major a) (nat_cmp v.minor b)
-compared v (full a b c pre) = precedence v (start_of (full a b c pre))
+compared v (full a b c pre) = precedence v (version a b c pre)
 
 -- it has a prerelease, and the version's three numbers
 abbrev pub NamesPrerelease : VersionParts → Prefix → Type 0
@@ -143,7 +146,7 @@ IsBetween = (low : List ℕ) (l : Prefix) (high : List ℕ) (h : Prefix) → Say
 -- three numbers allow that version alone
 abbrev pub AllowsItself : Type 0
 AllowsItself = (text : List ℕ) (a b c : ℕ) (pre : List ℕ) (v : VersionParts) → Says text (full a b c pre)
-    → Allows text v ↔ (v ≡ start_of (full a b c pre))
+    → Allows text v ↔ (v ≡ version a b c pre)
 
 -- a wildcard and the empty text allow every release, and no prerelease
 abbrev pub AllowsReleases : List ℕ → Type 0

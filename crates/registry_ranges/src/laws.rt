@@ -36,10 +36,14 @@ pub fn hyphens_have_two_ends()
     ensures between { IsBetween }
 {}
 
-/// Three numbers allow their version alone; a wildcard and the empty text every release; and
-/// nothing is above or below all versions.
-pub fn some_allow_one_or_all_or_none()
-    ensures itself { AllowsItself }
+/// Three numbers allow their own version alone.
+pub fn versions_allow_themselves()
+    ensures { AllowsItself }
+{}
+
+/// A wildcard and the empty text allow every release and no prerelease, and no version is above
+/// or below all others.
+pub fn wildcards_allow_releases()
     ensures wildcards { WildcardsAllowReleases }
     ensures empty { AllowsReleases [] }
     ensures above { AllowsNothing (codes ">") }
@@ -49,7 +53,7 @@ pub fn some_allow_one_or_all_or_none()
 /// `||` is the union of ranges, and a space the intersection of simples, up to prereleases: what
 /// both sides allow is allowed, and what is allowed is allowed by a side. Spaces at the ends of a
 /// range say nothing.
-pub fn ranges_are_combined()
+pub fn bars_and_spaces_combine()
     ensures bars { BarsAreUnions }
     ensures releases { OfSpaced ReleasesMeet }
     ensures prereleases { OfSpaced PrereleasesMeet }

@@ -1,5 +1,5 @@
 use Rattle.registry_ranges.proofs.CombinationFacts.{bars, padded, prereleases-meet, releases-meet}
-use Rattle.registry_ranges.proofs.laws.ranges_are_combined.Goals as goal
+use Rattle.registry_ranges.proofs.laws.bars_and_spaces_combine.Goals as goal
 
 pub returns-clause-bars : goal.returns-clause-bars
 returns-clause-bars c = bars

@@ -1,8 +1,5 @@
-use Rattle.registry_ranges.proofs.LawFacts.{empty-allows, itself, none-above, none-below, wildcards}
-use Rattle.registry_ranges.proofs.laws.some_allow_one_or_all_or_none.Goals as goal
-
-pub returns-clause-itself : goal.returns-clause-itself
-returns-clause-itself c = itself
+use Rattle.registry_ranges.proofs.LawFacts.{empty-allows, none-above, none-below, wildcards}
+use Rattle.registry_ranges.proofs.laws.wildcards_allow_releases.Goals as goal
 
 pub returns-clause-wildcards : goal.returns-clause-wildcards
 returns-clause-wildcards c = wildcards
