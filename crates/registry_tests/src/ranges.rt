@@ -1,8 +1,10 @@
 //! The tables of `docs/RANGES.md`, and texts of each kind.
 
+use crate::outcome::same;
 use registry_names::{Refusal, Stop, Ver};
 use registry_ranges::{Range, Selector, is_range, tag};
 use std::alloc::Global;
+use std::test::Fail;
 
 /// Whether a range allows a version. None where the text is no range.
 type Allowed = Option<bool>;
@@ -13,74 +15,6 @@ const NOT_ALLOWED: Allowed = Some(false);
 
 const NO_RANGE: Allowed = None;
 
-/// A range, a version, and whether it is allowed.
-type Case<'a> = (&'a str, &'a str, Allowed);
-
-static RANGES: [Case<'static>; 62] = [
-    ("^1.2.3", "1.2.3", ALLOWED),
-    ("^1.2.3", "1.9.0", ALLOWED),
-    ("^0.0.3", "0.0.3", ALLOWED),
-    ("^0.0", "0.0.9", ALLOWED),
-    ("~1.2", "1.2.9", ALLOWED),
-    ("1.2.3 - 2.3", "1.2.3", ALLOWED),
-    ("1.2.3 - 2.3", "2.3.9", ALLOWED),
-    (">1.2", "1.3.0", ALLOWED),
-    (">=1.2.3-beta.1 <1.3.0", "1.2.3-beta.2", ALLOWED),
-    (">=1.2.3-beta.1 <1.3.0", "1.2.4", ALLOWED),
-    ("1 || 3", "1.5.0", ALLOWED),
-    ("1 || 3", "3.1.0", ALLOWED),
-    ("*", "0.0.0", ALLOWED),
-    ("", "1.0.0", ALLOWED),
-    ("  || 9", "4.0.0", ALLOWED),
-    ("1.x.3-beta", "1.0.0", ALLOWED),
-    ("=v1", "1.0.0", ALLOWED),
-    (">= 1", "2.0.0", ALLOWED),
-    ("~> 1", "1.9.0", ALLOWED),
-    ("v1 - v2 ", "2.9.0", ALLOWED),
-    ("1.2.3+build", "1.2.3", ALLOWED),
-    ("<=9007199254740991", "9007199254740991.0.0", ALLOWED),
-    ("^1.2.3", "1.2.2", NOT_ALLOWED),
-    ("^1.2.3", "2.0.0-0", NOT_ALLOWED),
-    ("^1.2.3", "1.3.0-beta", NOT_ALLOWED),
-    ("^0.0.3", "0.0.4", NOT_ALLOWED),
-    ("^0.0", "0.1.0", NOT_ALLOWED),
-    ("~1.2", "1.3.0", NOT_ALLOWED),
-    ("1.2.3 - 2.3", "2.4.0", NOT_ALLOWED),
-    (">1.2", "1.2.9", NOT_ALLOWED),
-    (">=1.2.3-beta.1 <1.3.0", "1.2.4-beta", NOT_ALLOWED),
-    ("1 || 3", "2.0.0", NOT_ALLOWED),
-    ("*", "1.0.0-a", NOT_ALLOWED),
-    ("", "1.0.0-a", NOT_ALLOWED),
-    ("<*", "0.0.0", NOT_ALLOWED),
-    (">*", "9.0.0", NOT_ALLOWED),
-    ("1 2", "1.0.0", NOT_ALLOWED),
-    ("1.2.3 - 2.3", "1.2.3-a", NOT_ALLOWED),
-    ("v", "1.0.0", NO_RANGE),
-    ("1.2.3.4", "1.0.0", NO_RANGE),
-    ("1.2-beta", "1.0.0", NO_RANGE),
-    ("01.2.3", "1.0.0", NO_RANGE),
-    ("> =1", "1.0.0", NO_RANGE),
-    ("1.2.3-", "1.0.0", NO_RANGE),
-    ("1.2.3-01", "1.0.0", NO_RANGE),
-    ("9007199254740992", "1.0.0", NO_RANGE),
-    ("x.9007199254740992", "1.0.0", NO_RANGE),
-    ("x-y", "1.0.0", NO_RANGE),
-    ("1.2.3 -2.3", "1.0.0", NO_RANGE),
-    ("1.2.3- 2", "1.0.0", NO_RANGE),
-    ("1.2.3 - 2.3 4", "1.0.0", NO_RANGE),
-    ("1.2.3 - ", "1.0.0", NO_RANGE),
-    ("- 1", "1.0.0", NO_RANGE),
-    ("1|2", "1.0.0", NO_RANGE),
-    ("1|| |2", "1.0.0", NO_RANGE),
-    ("==1", "1.0.0", NO_RANGE),
-    ("~ > 1", "1.0.0", NO_RANGE),
-    ("1\t||2", "1.0.0", NO_RANGE),
-    ("1*.3.2", "1.0.0", NO_RANGE),
-    ("2.0.*1", "1.0.0", NO_RANGE),
-    ("vv1", "1.0.0", NO_RANGE),
-    ("latest", "1.0.0", NO_RANGE),
-];
-
 fn allowed(alloc: Global, range: &str, version: &str) -> Result<Allowed, Stop> {
     let version = Ver::parse(alloc, version)?;
     match Range::parse(alloc, range)? {
@@ -90,65 +24,212 @@ fn allowed(alloc: Global, range: &str, version: &str) -> Result<Allowed, Stop> {
 }
 
 // Whether both calls say of a range what is wanted.
-fn both_say(alloc: Global, case: &Case) -> Result<bool, Stop> {
-    let (range, version, wanted) = *case;
-    Ok(is_range(range) == wanted.is_some() && allowed(alloc, range, version)? == wanted)
+fn both_say(
+    alloc: Global,
+    shows: &str,
+    range: &str,
+    version: &str,
+    wanted: Allowed,
+) -> Result<(), Fail> {
+    let came_out = (is_range(range), allowed(alloc, range, version));
+    same((shows, version), came_out, (wanted.is_some(), Ok(wanted)))
 }
 
-// Whether all is said, and else the first range and version of which it isn't.
-fn all_ranges(alloc: Global) -> Result<(), (&'static str, &'static str)> {
-    for case in &RANGES {
-        if both_say(alloc, case) != Ok(true) {
-            return Err((case.0, case.1));
-        }
+/// A range, a version that it allows, and one that it doesn't.
+type Row = (&'static str, &'static str, &'static str);
+
+// Each row of the table of what is written, in its order.
+static TABLE: [Row; 53] = [
+    ("", "1.0.0", "1.0.0-a"),
+    ("*", "0.0.0", "0.0.0-a"),
+    ("=*", "1.0.0", "1.0.0-a"),
+    (">=x", "1.0.0", "1.0.0-a"),
+    ("<=X", "1.0.0", "1.0.0-a"),
+    ("~*", "1.0.0", "1.0.0-a"),
+    ("^*.2.3", "1.0.0", "1.0.0-a"),
+    ("1", "1.9.9", "2.0.0-a"),
+    ("=1", "1.0.0", "0.9.9"),
+    ("1.2", "1.2.9", "1.3.0-a"),
+    ("=1.2", "1.2.0", "1.1.9"),
+    ("1.2.3", "1.2.3", "1.2.4"),
+    ("=1.2.3", "1.2.3", "1.2.2"),
+    ("1.2.3-a", "1.2.3-a", "1.2.3"),
+    ("=1.2.3-a", "1.2.3-a", "1.2.3-b"),
+    ("~1", "1.9.0", "2.0.0-a"),
+    ("~1.2", "1.2.9", "1.3.0"),
+    ("~1.2.3", "1.2.9", "1.2.2"),
+    ("~1.2.3-b", "1.2.3-c", "1.2.3-a"),
+    ("^1.2.3", "1.9.0", "2.0.0-0"),
+    ("^1.2", "1.2.0", "1.1.9"),
+    ("^1", "1.9.0", "2.0.0"),
+    ("^0", "0.9.0", "1.0.0"),
+    ("^1.2.3-b", "1.2.3-c", "1.2.3-a"),
+    ("^0.2.3", "0.2.9", "0.3.0"),
+    ("^0.2", "0.2.0", "0.1.9"),
+    ("^0.0", "0.0.9", "0.1.0"),
+    ("^0.0.3", "0.0.3", "0.0.4"),
+    (">1", "2.0.0", "1.9.9"),
+    (">1.2", "1.3.0", "1.2.9"),
+    ("<=1", "1.9.9", "2.0.0"),
+    ("<=1.2", "1.2.9", "1.3.0"),
+    ("<1", "0.9.9", "1.0.0"),
+    ("<1.2", "1.1.9", "1.2.0"),
+    (">=1", "1.0.0", "0.9.9"),
+    (">=1.2", "1.2.0", "1.1.9"),
+    ("<1.2.3", "1.2.2", "1.2.3"),
+    ("<=1.2.3", "1.2.3", "1.2.4"),
+    (">1.2.3", "1.2.4", "1.2.3"),
+    (">=1.2.3", "1.2.3", "1.2.2"),
+    ("<1.2.3-b", "1.2.3-a", "1.2.3-b"),
+    (">1.2.3-a", "1.2.3-b", "1.2.3-a"),
+    ("1.2.3 - 2.3.4", "2.3.4", "2.3.5"),
+    ("1.2 - 2.3", "2.3.9", "2.4.0"),
+    ("1 - 2", "2.9.9", "3.0.0"),
+    ("1.2.3 - *", "9.0.0", "1.2.2"),
+    ("0.0.0-a - *", "0.0.0-a", "0.0.0-0"),
+    ("0.0.0-a - x", "0.0.0-b", "0.0.1-b"),
+    ("0.0.0-a - X.1", "0.0.0-b", "1.0.0-b"),
+    ("* - 1.2.3", "0.0.0", "1.2.4"),
+    ("x.1 - 2", "2.9.0", "3.0.0"),
+    ("* - 0.0.1-b", "0.0.1-a", "0.0.1-c"),
+    ("* - *", "1.0.0", "1.0.0-a"),
+];
+
+#[test]
+fn ranges_of_the_table(rt: HostRuntime) -> Result<(), Fail> {
+    for (range, inside, outside) in &TABLE {
+        both_say(rt.alloc(), range, range, inside, ALLOWED)?;
+        both_say(rt.alloc(), range, range, outside, NOT_ALLOWED)?;
     }
     Ok(())
 }
 
+/// A range, a version, and whether it is allowed.
+type Case = (&'static str, &'static str, Allowed);
+
+static SETS: [Case; 40] = [
+    ("^1.2.3", "1.2.3", ALLOWED),
+    ("1.2.3 - 2.3", "1.2.3", ALLOWED),
+    (">=1.2.3-beta.1 <1.3.0", "1.2.3-beta.2", ALLOWED),
+    (">=1.2.3-beta.1 <1.3.0", "1.2.4", ALLOWED),
+    ("1 || 3", "1.5.0", ALLOWED),
+    ("1 || 3", "3.1.0", ALLOWED),
+    ("  || 9", "4.0.0", ALLOWED),
+    ("||", "1.0.0", ALLOWED),
+    ("* || 1.0.0-a", "1.0.0-a", ALLOWED),
+    ("1.x.3-beta", "1.0.0", ALLOWED),
+    ("=v1", "1.0.0", ALLOWED),
+    (">= 1", "2.0.0", ALLOWED),
+    ("~> 1", "1.9.0", ALLOWED),
+    ("v1 - v2 ", "2.9.0", ALLOWED),
+    ("1.2.3+build", "1.2.3", ALLOWED),
+    ("<=9007199254740991", "9007199254740991.0.0", ALLOWED),
+    ("9007199254740991", "9007199254740991.0.0", ALLOWED),
+    ("1.2.3-9007199254740992", "1.2.3-9007199254740992", ALLOWED),
+    ("^1.2.3", "1.2.2", NOT_ALLOWED),
+    ("^1.2.3", "1.3.0-beta", NOT_ALLOWED),
+    ("^0.0.3-b", "0.0.4-a", NOT_ALLOWED),
+    ("1.2.3 - 2.3", "1.2.3-a", NOT_ALLOWED),
+    (">=1.2.3-beta.1 <1.3.0", "1.2.4-beta", NOT_ALLOWED),
+    ("1 || 3", "2.0.0", NOT_ALLOWED),
+    ("  || 9", "9.0.0-a", NOT_ALLOWED),
+    ("1 2", "1.0.0", NOT_ALLOWED),
+    ("~> 1", "2.0.0", NOT_ALLOWED),
+    ("<*", "0.0.0", NOT_ALLOWED),
+    ("<*", "0.0.0-0", NOT_ALLOWED),
+    (">*", "9.0.0", NOT_ALLOWED),
+    (">x.1", "9007199254740991.0.0", NOT_ALLOWED),
+    ("<x.1 || 1", "0.0.0", NOT_ALLOWED),
+    ("<1", "1.0.0-0", NOT_ALLOWED),
+    ("<=1", "2.0.0-0", NOT_ALLOWED),
+    ("1.2.3 - 2", "3.0.0-0", NOT_ALLOWED),
+    ("* >=0.0.0-0", "0.0.0-a", NOT_ALLOWED),
+    ("* - 0.0.0-a", "0.0.0-a", NOT_ALLOWED),
+    ("0.0.0-a <=*", "0.0.0-a", NOT_ALLOWED),
+    (
+        "1.2.3-9007199254740993",
+        "1.2.3-9007199254740992",
+        NOT_ALLOWED,
+    ),
+    (">1.2.3-beta.2", "1.2.3-beta.11.0", ALLOWED),
+];
+
 #[test]
-fn ranges(rt: HostRuntime) -> Result<(), (&'static str, &'static str)> {
-    all_ranges(rt.alloc())
+fn sets_of_ranges(rt: HostRuntime) -> Result<(), Fail> {
+    for (range, version, wanted) in &SETS {
+        both_say(rt.alloc(), range, range, version, *wanted)?;
+    }
+    Ok(())
+}
+
+static NO_RANGES: [&str; 27] = [
+    "v",
+    "vv1",
+    "latest",
+    "1.2.3.4",
+    "1.2-beta",
+    "01.2.3",
+    "1.2.3-",
+    "1.2.3-01",
+    "1.2.3+",
+    "9007199254740992",
+    "x.9007199254740992",
+    "x-y",
+    "==1",
+    "> =1",
+    "~ > 1",
+    "1*.3.2",
+    "2.0.*1",
+    "1.2.3 -2.3",
+    "1.2.3- 2",
+    "1.2.3 - 2.3 4",
+    "1.2.3 - ",
+    "- 1",
+    "1|2",
+    "1|| |2",
+    "v || 1",
+    "1\t||2",
+    "1\n",
+];
+
+#[test]
+fn texts_that_are_no_ranges(rt: HostRuntime) -> Result<(), Fail> {
+    for text in &NO_RANGES {
+        both_say(rt.alloc(), text, text, "1.0.0", NO_RANGE)?;
+    }
+    Ok(())
 }
 
 /// A part, how often it stands in a range, and whether 1.0.0 is allowed.
 type LongCase = (&'static str, usize, Allowed);
 
-static LONG_RANGES: [LongCase; 4] = [
+static LONG_RANGES: [LongCase; 5] = [
     ("1||", 100_000, ALLOWED),
     (" ", 1_000_000, ALLOWED),
     ("1", 1_000_000, NO_RANGE),
     ("1.", 500_000, NO_RANGE),
+    ("a ", 2_000_000, NO_RANGE),
 ];
 
-fn both_say_of_long(alloc: Global, case: &LongCase) -> Result<bool, Stop> {
-    let range = case.0.repeat(alloc, case.1)?;
-    both_say(alloc, &(&range, "1.0.0", case.2))
-}
-
-fn all_long_ranges(alloc: Global) -> Result<(), &'static str> {
-    for case in &LONG_RANGES {
-        if both_say_of_long(alloc, case) != Ok(true) {
-            return Err(case.0);
-        }
+#[test]
+fn long_ranges(rt: HostRuntime) -> Result<(), Fail> {
+    for (part, count, wanted) in &LONG_RANGES {
+        let range = part.repeat(rt.alloc(), *count)?;
+        both_say(rt.alloc(), part, &range, "1.0.0", *wanted)?;
     }
     Ok(())
 }
 
-#[test]
-fn long_ranges(rt: HostRuntime) -> Result<(), &'static str> {
-    all_long_ranges(rt.alloc())
-}
+/// Why a tag or a selector isn't read, if it isn't.
+type Stopped = Option<Stop>;
 
-/// Whether a tag is taken as it is, or a selector selects a version; or why the text is refused.
-type Told = Result<bool, Stop>;
+const TAKEN: Stopped = None;
 
-const TAKEN: Told = Ok(true);
+const RANGE_TAG: Stopped = Some(Stop::Refused(Refusal::RangeTag));
 
-const RANGE_TAG: Told = Err(Stop::Refused(Refusal::RangeTag));
+const BAD_TAG: Stopped = Some(Stop::Refused(Refusal::BadTag));
 
-const BAD_TAG: Told = Err(Stop::Refused(Refusal::BadTag));
-
-static TAGS: [(&str, Told); 14] = [
+static TAGS: [(&str, Stopped); 14] = [
     ("v", TAKEN),
     ("next", TAKEN),
     ("1.2.3.4", TAKEN),
@@ -165,33 +246,34 @@ static TAGS: [(&str, Told); 14] = [
     ("ü", BAD_TAG),
 ];
 
-fn tag_told(alloc: Global, text: &str) -> Told {
-    Ok(tag(alloc, text)?.text() == text)
+fn tag_given_back(alloc: Global, text: &str) -> Result<String, Stop> {
+    let tag = tag(alloc, text)?;
+    Ok(String::from_str(alloc, tag.text())?)
 }
 
-// Whether each text is told, and else the first that isn't.
-fn all_tags(alloc: Global) -> Result<(), &'static str> {
-    for (text, told) in &TAGS {
-        if tag_told(alloc, text) != *told {
-            return Err(text);
-        }
+#[test]
+fn tags(rt: HostRuntime) -> Result<(), Fail> {
+    for (text, stopped) in &TAGS {
+        let wanted = match stopped {
+            None => Ok(*text),
+            Some(stop) => Err(stop),
+        };
+        same(*text, tag_given_back(rt.alloc(), text).as_deref(), wanted)?;
     }
     Ok(())
 }
 
-#[test]
-fn tags(rt: HostRuntime) -> Result<(), &'static str> {
-    all_tags(rt.alloc())
-}
+/// Whether a selector selects a version; or why the text is refused.
+type Selected = Result<bool, Stop>;
 
-const SELECTED: Told = Ok(true);
+const SELECTED: Selected = Ok(true);
 
-const NOT_SELECTED: Told = Ok(false);
+const NOT_SELECTED: Selected = Ok(false);
 
-const BAD_SELECTOR: Told = Err(Stop::Refused(Refusal::BadSelector));
+const BAD_SELECTOR: Selected = Err(Stop::Refused(Refusal::BadSelector));
 
 /// A selector, a version, and whether it is selected.
-type Selection = (&'static str, &'static str, Told);
+type Selection = (&'static str, &'static str, Selected);
 
 static SELECTORS: [Selection; 29] = [
     ("1.x", "1.0.0-beta.0", SELECTED),
@@ -225,23 +307,16 @@ static SELECTORS: [Selection; 29] = [
     ("next", "1.0.0", BAD_SELECTOR),
 ];
 
-fn selects(alloc: Global, case: &Selection) -> Told {
-    let (selector, version, _) = *case;
+fn selects(alloc: Global, selector: &str, version: &str) -> Selected {
     let version = Ver::parse(alloc, version)?;
     Ok(Selector::parse(alloc, selector)?.selects(&version))
 }
 
-// Whether each selector is told, and else the first that isn't, and its version.
-fn all_selectors(alloc: Global) -> Result<(), (&'static str, &'static str)> {
-    for case in &SELECTORS {
-        if selects(alloc, case) != case.2 {
-            return Err((case.0, case.1));
-        }
+#[test]
+fn selectors(rt: HostRuntime) -> Result<(), Fail> {
+    for (selector, version, wanted) in &SELECTORS {
+        let came_out = selects(rt.alloc(), selector, version);
+        same((*selector, *version), came_out, *wanted)?;
     }
     Ok(())
-}
-
-#[test]
-fn selectors(rt: HostRuntime) -> Result<(), (&'static str, &'static str)> {
-    all_selectors(rt.alloc())
 }
