@@ -1,15 +1,17 @@
 -- The greatest grant counts, and who may do more may read.
-use Rattle.std.proofs.Common.{◌≡◌, ◌⊎◌, inl, inr, Bool, true, false, Option, Some, None, is_some, Ok, Err, refl, sym, ap, ◌∙◌, true≢false, if◌then◌else◌}
+use Rattle.std.proofs.Common.{◌≡◌, Bool, true, false, Option, Some, None, is_some, Ok, Err, refl, sym, ap, ◌∙◌, true≢false, if◌then◌else◌}
 use Rattle.registry_names.specs.Texts.{Text}
 use Rattle.registry_names.specs.declared.refusal.Rule.{Rule}
 use Rattle.registry_names.specs.declared.refusal.Rule.TheVariants.{A4, A5, A6, A8}
 use Rattle.registry_names.specs.declared.refusal.Refusal.TheVariants.{Denied}
 use Rattle.registry_access.specs.Access.{Access}
 use Rattle.registry_access.specs.Callers.{is_user, grants, granted, team_grant}
-use Rattle.registry_access.specs.Levels.{is_level, larger, reads, writes}
-use Rattle.registry_access.specs.Laws.{GreatestGrantCounts, WritersRead}
+use Rattle.registry_access.specs.Levels.{covers, is_grant, reads, writes}
+use Rattle.registry_access.specs.Laws.{IsGreatestOf, IsGreatestGrant, GreatestGrantCounts, WritersRead}
 use Rattle.registry_access.specs.Policy.{Verdict, for_known, where_found, by_rule, may_publish}
 use Rattle.registry_access.specs.Positions.{level_at}
+use Rattle.registry_access.specs.declared.grant.Grant.{Grant}
+use Rattle.registry_access.specs.declared.grant.Grant.TheVariants.{ReadOnly, ReadWrite}
 use Rattle.registry_access.specs.declared.levels.Level.{Level}
 use Rattle.registry_access.specs.declared.levels.Level.TheVariants.{Nothing, Read, Write}
 use Rattle.registry_access.specs.declared.caller.Caller.{Caller}
@@ -17,53 +19,51 @@ use Rattle.registry_access.specs.declared.caller.Caller.TheVariants.{Operator, U
 use Rattle.registry_access.specs.declared.position.Position.{Position}
 use Rattle.registry_access.proofs.GrantFacts.{granted_by, by_granted}
 
--- what passes the test is at most the greatest
-at_most : (w r : Bool) (l : Level) → (l ≡ Write → w ≡ true) → (l ≡ Read → r ≡ true) → larger (if w then Write else (if r then Read else Nothing)) l ≡ (if w then Write else (if r then Read else Nothing))
-at_most true r l fw fr = refl
-at_most false true Nothing fw fr = refl
-at_most false true Read fw fr = refl
-at_most false true Write fw fr = absurd (true≢false (sym (fw refl)))
-at_most false false Nothing fw fr = refl
-at_most false false Read fw fr = absurd (true≢false (sym (fr refl)))
-at_most false false Write fw fr = absurd (true≢false (sym (fw refl)))
+grant_self : (g : Grant) → is_grant g g ≡ true
+grant_self ReadOnly = refl
+grant_self ReadWrite = refl
 
-level_self : (l : Level) → is_level l l ≡ true
-level_self Nothing = refl
-level_self Read = refl
-level_self Write = refl
+grant_is : (o : Option Grant) (g : Grant) → grants o g ≡ true → o ≡ Some g
+grant_is None g h = absurd (true≢false (sym h))
+grant_is (Some ReadOnly) ReadOnly h = refl
+grant_is (Some ReadWrite) ReadWrite h = refl
+grant_is (Some ReadOnly) ReadWrite h = absurd (true≢false (sym h))
+grant_is (Some ReadWrite) ReadOnly h = absurd (true≢false (sym h))
 
-granted_is : (g : Option Level) (l k : Level) → g ≡ Some l → l ≡ k → grants g k ≡ true
-granted_is g l k e f = ap (λ o. grants o k) e ∙ ap (λ x. is_level x k) f ∙ level_self k
+module _ (S : Access) (caller : Caller) (p : Text) where
+  -- a team that grants it
+  by_team : (g : Grant) → granted S caller p g ≡ true → (o : Text) × ((t : Text) × (team_grant S caller o t p ≡ Some g))
+  by_team g h = let some = granted_by S caller p g h in (some.0, (some.1.0, grant_is _ g some.1.1))
 
-level_is : (g : Option Level) (l : Level) → grants g l ≡ true → g ≡ Some l
-level_is None l h = absurd (true≢false (sym h))
-level_is (Some Nothing) Nothing h = refl
-level_is (Some Read) Read h = refl
-level_is (Some Write) Write h = refl
-level_is (Some Nothing) Read h = absurd (true≢false (sym h))
-level_is (Some Nothing) Write h = absurd (true≢false (sym h))
-level_is (Some Read) Nothing h = absurd (true≢false (sym h))
-level_is (Some Read) Write h = absurd (true≢false (sym h))
-level_is (Some Write) Nothing h = absurd (true≢false (sym h))
-level_is (Some Write) Read h = absurd (true≢false (sym h))
+  is_granted : (o t : Text) (g : Grant) → team_grant S caller o t p ≡ Some g → granted S caller p g ≡ true
+  is_granted o t g e = by_granted S caller o t p g (ap (λ o. grants o g) e ∙ grant_self g)
 
-Given : Access → Caller → Text → Level → Type 0
-Given S caller p g = (g ≡ Nothing) ⊎ ((o : Text) × ((t : Text) × (team_grant S caller o t p ≡ Some g)))
+  write_greatest : granted S caller p ReadWrite ≡ true → IsGreatestOf S caller p ReadWrite
+  write_greatest write = record { given = by_team ReadWrite write; above = λ o t g e. refl }
 
-given_one : (w r : Bool) (P : Level → Type 0) → (w ≡ true → P Write) → (r ≡ true → P Read) → P Nothing → P (if w then Write else (if r then Read else Nothing))
-given_one true r P pw pr pn = pw refl
-given_one false true P pw pr pn = pr refl
-given_one false false P pw pr pn = pn
+  read_greatest : granted S caller p ReadWrite ≡ false → granted S caller p ReadOnly ≡ true → IsGreatestOf S caller p ReadOnly
+  read_greatest none read = record { given = by_team ReadOnly read; above = λ o t g e. covered g (is_granted o t g e) }
+    where
+      covered : (g : Grant) → granted S caller p g ≡ true → covers ReadOnly g ≡ true
+      covered ReadOnly h = refl
+      covered ReadWrite h = absurd (true≢false (sym h ∙ none))
+
+  no_grant : granted S caller p ReadWrite ≡ false → granted S caller p ReadOnly ≡ false → (o t : Text) → team_grant S caller o t p ≡ None
+  no_grant write read o t = nothing _ refl
+    where
+      nothing : (grant : Option Grant) → team_grant S caller o t p ≡ grant → grant ≡ None
+      nothing None e = refl
+      nothing (Some ReadOnly) e = absurd (true≢false (sym (is_granted o t ReadOnly e) ∙ read))
+      nothing (Some ReadWrite) e = absurd (true≢false (sym (is_granted o t ReadWrite e) ∙ write))
+
+  by_tests : (write read : Bool) → granted S caller p ReadWrite ≡ write → granted S caller p ReadOnly ≡ read
+      → IsGreatestGrant S caller p (if write then Some ReadWrite else (if read then Some ReadOnly else None))
+  by_tests true read w r = write_greatest w
+  by_tests false true w r = read_greatest w r
+  by_tests false false w r = no_grant w r
 
 pub greatest_counts : GreatestGrantCounts
-unfolding Given
-greatest_counts S caller p = record {
-  above = λ o t l e. at_most _ _ l (λ f. by_granted S caller o t p Write (granted_is _ l Write e f)) (λ f. by_granted S caller o t p Read (granted_is _ l Read e f));
-  given = given_one (granted S caller p Write) (granted S caller p Read) (Given S caller p)
-      (λ h. let some = granted_by S caller p Write h in inr (some.0, (some.1.0, level_is _ Write some.1.1)))
-      (λ h. let some = granted_by S caller p Read h in inr (some.0, (some.1.0, level_is _ Read some.1.1)))
-      (inl refl);
-}
+greatest_counts S caller p = by_tests S caller p (granted S caller p ReadWrite) (granted S caller p ReadOnly) refl refl
 
 -- ---- who may do more may read
 

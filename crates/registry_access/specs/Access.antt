@@ -3,7 +3,7 @@ use Rattle.registry_names.specs.Texts.{Text}
 use Rattle.registry_names.specs.Maps.{TextMap, PairMap, TripleMap}
 use Rattle.registry_names.specs.declared.status.Status.{Status}
 use Rattle.registry_access.specs.declared.role.Role.{Role}
-use Rattle.registry_access.specs.declared.levels.Level.{Level}
+use Rattle.registry_access.specs.declared.grant.Grant.{Grant}
 
 -- a set is a map to Unit
 pub record Access : Type 0 where
@@ -18,7 +18,7 @@ pub record Access : Type 0 where
   -- organisation, team and user
   pub team_members : TripleMap (Unit {0})
   -- what a team is granted, under organisation, team and package
-  pub grants : TripleMap Level
+  pub grants : TripleMap Grant
   -- of each package that was ever published
   pub statuses : TextMap Status
   -- package and user

@@ -4,9 +4,9 @@ use Rattle.std.specs.List.{list_any}
 use Rattle.registry_names.specs.Texts.{Text, is}
 use Rattle.registry_names.specs.Maps.{at, entries, keys}
 use Rattle.registry_access.specs.Access.{Access}
-use Rattle.registry_access.specs.Levels.{is_level}
+use Rattle.registry_access.specs.Levels.{is_grant}
 use Rattle.registry_access.specs.declared.role.Role.{Role}
-use Rattle.registry_access.specs.declared.levels.Level.{Level}
+use Rattle.registry_access.specs.declared.grant.Grant.{Grant}
 use Rattle.registry_access.specs.declared.caller.Caller.{Caller}
 use Rattle.registry_access.specs.declared.caller.Caller.TheVariants.{Operator, User, Anonymous}
 
@@ -44,20 +44,20 @@ in_team S (User u) o t = is_some (at S.team_members (o, (t, u)))
 in_team S Anonymous o t = false
 
 -- what a team grants him on a package, if he is in it
-abbrev pub team_grant : Access → Caller → Text → Text → Text → Option Level
+abbrev pub team_grant : Access → Caller → Text → Text → Text → Option Grant
 team_grant S caller o t p = if in_team S caller o t then at S.grants (o, (t, p)) else None
 
--- whether the level is what was granted, if anything was
-abbrev pub grants : Option Level → Level → Bool
-grants None l = false
-grants (Some g) l = is_level g l
+-- whether this is what was granted, if anything was
+abbrev pub grants : Option Grant → Grant → Bool
+grants None g = false
+grants (Some h) g = is_grant h g
 
--- whether a team that the user is in is granted this level on the package
-abbrev pub team_granted : Access → Text → Text → Level → Bool
-team_granted S u p l = list_any (λ k. is k.1.1 u && grants (at S.grants (k.0, (k.1.0, p))) l) (keys (entries S.team_members))
+-- whether a team that the user is in has this grant on the package
+abbrev pub team_granted : Access → Text → Text → Grant → Bool
+team_granted S u p g = list_any (λ k. is k.1.1 u && grants (at S.grants (k.0, (k.1.0, p))) g) (keys (entries S.team_members))
 
--- whether a team of his is granted this level on the package
-abbrev pub granted : Access → Caller → Text → Level → Bool
-granted S Operator p l = false
-granted S (User u) p l = team_granted S u p l
-granted S Anonymous p l = false
+-- whether a team of his has this grant on the package
+abbrev pub granted : Access → Caller → Text → Grant → Bool
+granted S Operator p g = false
+granted S (User u) p g = team_granted S u p g
+granted S Anonymous p g = false

@@ -1,26 +1,30 @@
 -- Laws of the policy.
-use Rattle.std.specs.Prelude.{◌≡◌, ◌⊎◌, Bool, Some, Ok}
+use Rattle.std.specs.Prelude.{◌≡◌, Bool, Option, Some, None, IsTrue, Ok}
 use Rattle.registry_names.specs.Texts.{Text}
 use Rattle.registry_names.specs.declared.refusal.Rule.{Rule}
 use Rattle.registry_names.specs.declared.refusal.Rule.TheVariants.{A6, A8}
 use Rattle.registry_access.specs.Access.{Access}
 use Rattle.registry_access.specs.Agreement.{SameFor}
 use Rattle.registry_access.specs.Callers.{team_grant}
-use Rattle.registry_access.specs.Levels.{larger}
+use Rattle.registry_access.specs.Levels.{covers}
 use Rattle.registry_access.specs.Policy.{allowed_in, may_read, may_write, may_manage_maintainers, may_publish}
 use Rattle.registry_access.specs.Positions.{position_in}
 use Rattle.registry_access.specs.RowsFor.{StandFor, StandForAll}
-use Rattle.registry_access.specs.declared.levels.Level.{Level}
-use Rattle.registry_access.specs.declared.levels.Level.TheVariants.{Nothing}
+use Rattle.registry_access.specs.declared.grant.Grant.{Grant}
 use Rattle.registry_access.specs.declared.caller.Caller.{Caller}
 use Rattle.registry_access.specs.declared.ask.Ask.{Ask}
 use Rattle.registry_access.specs.declared.position.Position.{Position}
 use Rattle.registry_access.specs.declared.rows.AccessRows.{AccessRows}
 
--- no team grants the caller more than this level, and a team grants it, unless it is nothing
-pub record IsGreatestGrant (S : Access) (caller : Caller) (p : Text) (greatest : Level) : Type 0 where
-  pub above : (o t : Text) (l : Level) → team_grant S caller o t p ≡ Some l → larger greatest l ≡ greatest
-  pub given : (greatest ≡ Nothing) ⊎ ((o : Text) × ((t : Text) × (team_grant S caller o t p ≡ Some greatest)))
+-- a team grants the caller this, and none grants him more
+pub record IsGreatestOf (S : Access) (caller : Caller) (p : Text) (greatest : Grant) : Type 0 where
+  pub given : (o : Text) × ((t : Text) × (team_grant S caller o t p ≡ Some greatest))
+  pub above : (o t : Text) (g : Grant) → team_grant S caller o t p ≡ Some g → IsTrue (covers greatest g)
+
+-- the greatest of what teams grant the caller, if one grants him anything
+abbrev pub IsGreatestGrant : Access → Caller → Text → Option Grant → Type 0
+IsGreatestGrant S caller p None = (o t : Text) → team_grant S caller o t p ≡ None
+IsGreatestGrant S caller p (Some greatest) = IsGreatestOf S caller p greatest
 
 -- the grant that counts is the greatest, in whatever order the teams stand
 abbrev pub GreatestGrantCounts : Type 0

@@ -1,7 +1,9 @@
--- Levels and roles.
-use Rattle.std.specs.Prelude.{Bool, true, false, Option, Some, if◌then◌else◌}
+-- Levels, grants and roles.
+use Rattle.std.specs.Prelude.{Bool, true, false, Option, Some, None, if◌then◌else◌}
 use Rattle.registry_names.specs.declared.status.Status.{Status}
 use Rattle.registry_names.specs.declared.status.Status.TheVariants.{Public, Restricted}
+use Rattle.registry_access.specs.declared.grant.Grant.{Grant}
+use Rattle.registry_access.specs.declared.grant.Grant.TheVariants.{ReadOnly, ReadWrite}
 use Rattle.registry_access.specs.declared.role.Role.{Role}
 use Rattle.registry_access.specs.declared.role.Role.TheVariants.{Admin, Owner}
 use Rattle.registry_access.specs.declared.levels.Level.{Level}
@@ -17,12 +19,6 @@ writes Nothing = false
 writes Read = false
 writes Write = true
 
-abbrev pub is_level : Level → Level → Bool
-is_level Nothing Nothing = true
-is_level Read Read = true
-is_level Write Write = true
-is_level _ _ = false
-
 abbrev pub larger : Level → Level → Level
 larger Nothing b = b
 larger Read Nothing = Read
@@ -30,9 +26,25 @@ larger Read Read = Read
 larger Read Write = Write
 larger Write b = Write
 
--- the greatest of the levels that pass a test
-abbrev pub greatest : (Level → Bool) → Level
-greatest test = if test Write then Write else (if test Read then Read else Nothing)
+-- the level that is granted, if anything is
+abbrev pub level_granted : Option Grant → Level
+level_granted None = Nothing
+level_granted (Some ReadOnly) = Read
+level_granted (Some ReadWrite) = Write
+
+abbrev pub is_grant : Grant → Grant → Bool
+is_grant ReadOnly ReadOnly = true
+is_grant ReadWrite ReadWrite = true
+is_grant _ _ = false
+
+-- whether the first grants all that the second does
+abbrev pub covers : Grant → Grant → Bool
+covers ReadWrite g = true
+covers ReadOnly g = is_grant ReadOnly g
+
+-- the greatest of the grants that pass a test, if one does
+abbrev pub greatest : (Grant → Bool) → Option Grant
+greatest test = if test ReadWrite then Some ReadWrite else (if test ReadOnly then Some ReadOnly else None)
 
 -- what everybody has on a package of this status
 abbrev pub open_level : Status → Level

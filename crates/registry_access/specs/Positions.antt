@@ -2,11 +2,12 @@
 use Rattle.std.specs.Prelude.{Bool, false, ◌||◌, is_some, Option, Some, None, if◌then◌else◌}
 use Rattle.registry_names.specs.Texts.{Text}
 use Rattle.registry_names.specs.Maps.{at}
+use Rattle.registry_names.specs.Names.{scope_of}
 use Rattle.registry_names.specs.declared.status.Status.{Status}
 use Rattle.registry_access.specs.Access.{Access}
 use Rattle.registry_access.specs.Callers.{role_of, is_maintainer, granted}
-use Rattle.registry_access.specs.Levels.{larger, greatest, open_level, is_owner_or_admin}
-use Rattle.registry_access.specs.Scopes.{scope_of}
+use Rattle.registry_access.specs.Levels.{larger, level_granted, greatest, open_level, is_owner_or_admin}
+use Rattle.registry_access.specs.declared.grant.Grant.{Grant}
 use Rattle.registry_access.specs.declared.role.Role.{Role}
 use Rattle.registry_access.specs.declared.levels.Level.{Level}
 use Rattle.registry_access.specs.declared.levels.Level.TheVariants.{Nothing, Write}
@@ -37,9 +38,9 @@ position_in S caller p = record {
 }
 
 -- Nothing on a package that was never published. Else what one who writes has, or the greater of what everybody has and what is granted
-abbrev pub level_by : Option Status → Bool → Level → Level
+abbrev pub level_by : Option Status → Bool → Option Grant → Level
 level_by None may_write grant = Nothing
-level_by (Some status) may_write grant = if may_write then Write else larger (open_level status) grant
+level_by (Some status) may_write grant = if may_write then Write else larger (open_level status) (level_granted grant)
 
 -- Owners and admins of its scope, and its maintainers, write a package
 abbrev pub level_at : Position → Level

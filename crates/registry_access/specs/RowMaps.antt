@@ -6,7 +6,7 @@ use Rattle.registry_names.specs.Maps.{empty, rows}
 use Rattle.registry_names.specs.declared.status.Status.{Status}
 use Rattle.registry_access.specs.Access.{Access}
 use Rattle.registry_access.specs.declared.role.Role.{Role}
-use Rattle.registry_access.specs.declared.levels.Level.{Level}
+use Rattle.registry_access.specs.declared.grant.Grant.{Grant}
 use Rattle.registry_access.specs.declared.rows.AccessRows.{AccessRows}
 use Rattle.registry_access.specs.declared.rows.GrantRow.{GrantRow}
 use Rattle.registry_access.specs.declared.rows.MaintainerRow.{MaintainerRow}
@@ -29,8 +29,8 @@ team_entry r = ((r.organisation, r.team), tt)
 abbrev pub team_member_entry : TeamMemberRow → Triple × Unit {0}
 team_member_entry r = ((r.organisation, (r.team, r.user)), tt)
 
-abbrev pub grant_entry : GrantRow → Triple × Level
-grant_entry r = ((r.organisation, (r.team, r.package)), r.level)
+abbrev pub grant_entry : GrantRow → Triple × Grant
+grant_entry r = ((r.organisation, (r.team, r.package)), r.grant)
 
 abbrev pub package_entry : PackageRow → Text × Status
 package_entry r = (r.package, r.status)

@@ -2,14 +2,14 @@
 use Rattle.std.specs.Prelude.{◌≡◌, Option, Some, None}
 use Rattle.registry_names.specs.Texts.{Text}
 use Rattle.registry_names.specs.Maps.{at}
+use Rattle.registry_names.specs.Names.{scope_of}
 use Rattle.registry_access.specs.Access.{Access}
 use Rattle.registry_access.specs.Agreement.{SamePackage, SameFor}
 use Rattle.registry_access.specs.Callers.{is_maintainer, granted}
 use Rattle.registry_access.specs.Positions.{has_scope, scope_role}
 use Rattle.registry_access.specs.RowMaps.{state_of}
-use Rattle.registry_access.specs.Scopes.{scope_of}
 use Rattle.registry_access.specs.Standings.{is_listed}
-use Rattle.registry_access.specs.declared.levels.Level.{Level}
+use Rattle.registry_access.specs.declared.grant.Grant.{Grant}
 use Rattle.registry_access.specs.declared.caller.Caller.{Caller}
 use Rattle.registry_access.specs.declared.ask.Ask.{Ask}
 use Rattle.registry_access.specs.declared.ask.Ask.TheVariants.{Operate, OrgMembers, OrgTeams, Publish, Write, Owners, Read, OrgRead}
@@ -28,13 +28,13 @@ StandFor rows S caller ask = SameFor (state_of rows) S caller ask
 abbrev pub StandForPackage : AccessRows → Access → Caller → Text → Type 0
 StandForPackage rows S caller p = SamePackage (state_of rows) S caller p
 
--- A standing stands for a state at a caller and a package. In `grants` neither the order counts nor how often a level stands there.
+-- A standing stands for a state at a caller and a package. In `grants` neither the order counts nor how often a grant stands there.
 pub record StandsFor (standing : Standing) (S : Access) (caller : Caller) (p : Text) : Type 0 where
   pub organisation : standing.org ≡ has_scope S (scope_of p)
   pub role : standing.role ≡ scope_role S caller (scope_of p)
   pub status : standing.status ≡ at S.statuses p
   pub maintainer : standing.maintainer ≡ is_maintainer S caller p
-  pub grants : (l : Level) → is_listed standing.grants.items l ≡ granted S caller p l
+  pub grants : (g : Grant) → is_listed standing.grants.items g ≡ granted S caller p g
 
 -- the package that is asked about
 abbrev pub asked_package : Ask → Option Text

@@ -1,20 +1,19 @@
 -- What a standing says of a caller.
 use Rattle.std.specs.Prelude.{Bool, false, List, None}
 use Rattle.std.specs.List.{list_any}
-use Rattle.registry_access.specs.Levels.{is_level, greatest}
-use Rattle.registry_access.specs.declared.levels.Level.{Level}
-use Rattle.registry_access.specs.declared.levels.Level.TheVariants.{Nothing}
+use Rattle.registry_access.specs.Levels.{is_grant, greatest}
+use Rattle.registry_access.specs.declared.grant.Grant.{Grant}
 use Rattle.registry_access.specs.declared.caller.Caller.{Caller}
 use Rattle.registry_access.specs.declared.caller.Caller.TheVariants.{Operator, User, Anonymous}
 use Rattle.registry_access.specs.declared.position.Position.{Position}
 use Rattle.registry_access.specs.declared.standing.Standing.{Standing}
 
-abbrev pub is_listed : List Level → Level → Bool
-is_listed ls l = list_any (λ g. is_level g l) ls
+abbrev pub is_listed : List Grant → Grant → Bool
+is_listed gs g = list_any (λ h. is_grant h g) gs
 
 -- of one who is no user
 abbrev pub outsider : Standing → Position
-outsider s = record { organisation = s.org; role = None; status = s.status; maintainer = false; grant = Nothing }
+outsider s = record { organisation = s.org; role = None; status = s.status; maintainer = false; grant = None }
 
 abbrev pub position_of : Standing → Caller → Position
 position_of s Operator = outsider s

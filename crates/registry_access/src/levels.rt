@@ -1,6 +1,6 @@
 //! What a caller may do with a package.
 
-/// What a caller may do with a package, in rising order. A team is granted `Read` or `Write`.
+/// What a caller may do with a package, in rising order.
 #[derive(Clone, Copy, Debug, PartialEq, Eq, PartialOrd, Ord)]
 pub enum Level {
     /// He can't tell it from a package that was never published.

@@ -9,6 +9,7 @@
 mod access;
 mod ask;
 mod caller;
+mod grant;
 pub mod laws;
 mod levels;
 mod lookup;
@@ -22,6 +23,7 @@ mod standing;
 pub use crate::access::{allowed, allowed_by, level, level_of};
 pub use crate::ask::Ask;
 pub use crate::caller::Caller;
+pub use crate::grant::Grant;
 pub use crate::levels::Level;
 pub use crate::role::Role;
 pub use crate::rows::{

@@ -10,16 +10,16 @@ ghost use Rattle.registry_access.specs.Levels.{greatest};
 ghost use Rattle.registry_access.specs.RowMaps.{state_of};
 
 use crate::caller::Caller;
-use crate::levels::Level;
+use crate::grant::Grant;
 use crate::role::Role;
 use crate::rows::{AccessRows, TeamMemberRow};
 use crate::search::{grant_of, has_maintainer, has_text, is, role_of, status_of};
 use registry_names::Status;
 
-fn grants(granted: Option<Level>, level: Level) -> bool
-    ensures { result ≡ spec.grants granted level }
+fn grants(granted: Option<Grant>, grant: Grant) -> bool
+    ensures { result ≡ spec.grants granted grant }
 {
-    granted == Some(level)
+    granted == Some(grant)
 }
 
 impl AccessRows {
@@ -55,7 +55,7 @@ impl AccessRows {
     }
 
     // What the team of a row is granted on the package.
-    fn team_grant(&self, team: &TeamMemberRow, name: &str) -> Option<Level>
+    fn team_grant(&self, team: &TeamMemberRow, name: &str) -> Option<Grant>
         ensures { result ≡ at (state_of self.now).grants (team.now.organisation, (team.now.team, name.now)) }
     {
         grant_of(
@@ -66,36 +66,36 @@ impl AccessRows {
         )
     }
 
-    // Whether a team that the user is in is granted this level on the package.
-    fn is_granted(&self, user: &str, name: &str, level: Level) -> bool
+    // Whether a team that the user is in has this grant on the package.
+    fn is_granted(&self, user: &str, name: &str, grant: Grant) -> bool
         ensures { result ≡ list_any (λ r. texts.is r.user user.now
-            && spec.grants (at (state_of self.now).grants (r.organisation, (r.team, name.now))) level)
+            && spec.grants (at (state_of self.now).grants (r.organisation, (r.team, name.now))) grant)
             self.now.team_members.items }
     {
         self.team_members.iter().any(|row| is(&row.user, user)
-            && grants(self.team_grant(row, name), level))
+            && grants(self.team_grant(row, name), grant))
     }
 
-    // The greatest level that the user's teams are granted on the package.
-    fn user_grant(&self, user: &str, name: &str) -> Level
+    // The greatest of what the user's teams are granted on the package.
+    fn user_grant(&self, user: &str, name: &str) -> Option<Grant>
         ensures { result ≡ greatest (team_granted (state_of self.now) user.now name.now) }
     {
-        if self.is_granted(user, name, Level::Write) {
-            Level::Write
-        } else if self.is_granted(user, name, Level::Read) {
-            Level::Read
+        if self.is_granted(user, name, Grant::ReadWrite) {
+            Some(Grant::ReadWrite)
+        } else if self.is_granted(user, name, Grant::ReadOnly) {
+            Some(Grant::ReadOnly)
         } else {
-            Level::Nothing
+            None
         }
     }
 
-    /// The greatest level that the caller's teams are granted on the package.
-    pub(crate) fn greatest_grant(&self, caller: &Caller, name: &str) -> Level
+    /// The greatest of what the caller's teams are granted on the package.
+    pub(crate) fn greatest_grant(&self, caller: &Caller, name: &str) -> Option<Grant>
         ensures { result ≡ greatest (granted (state_of self.now) caller.now name.now) }
     {
         match caller {
             Caller::User(user) => self.user_grant(user.text(), name),
-            Caller::Operator | Caller::Anonymous => Level::Nothing,
+            Caller::Operator | Caller::Anonymous => None,
         }
     }
 }

@@ -1,14 +1,14 @@
 //! How a caller stands to a package, and the level that follows from it.
 
-ghost use Rattle.std.specs.Prelude.{◌≡◌, option_map};
+ghost use Rattle.std.specs.Prelude.{◌≡◌};
 ghost use Rattle.registry_access.specs.Levels as levels;
 ghost use Rattle.registry_access.specs.Levels.{greatest};
 ghost use Rattle.registry_access.specs.Positions.{level_at, position_in};
 ghost use Rattle.registry_access.specs.RowMaps.{state_of};
-ghost use Rattle.registry_access.specs.Scopes as scopes;
 ghost use Rattle.registry_access.specs.Standings.{is_listed, position_of};
 
 use crate::caller::Caller;
+use crate::grant::Grant;
 use crate::levels::Level;
 use crate::role::Role;
 use crate::rows::AccessRows;
@@ -24,8 +24,8 @@ pub(crate) struct Position {
     pub role: Option<Role>,
     pub status: Option<Status>,
     pub maintainer: bool,
-    /// The greatest of what the caller's teams are granted.
-    pub grant: Level,
+    /// The greatest of what the caller's teams are granted, if they are granted anything.
+    pub grant: Option<Grant>,
 }
 
 pub(crate) fn is_owner_or_admin(role: Option<Role>) -> bool
@@ -34,38 +34,42 @@ pub(crate) fn is_owner_or_admin(role: Option<Role>) -> bool
     matches!(role, Some(Role::Owner | Role::Admin))
 }
 
-// The granted level, or the one that the status opens to everybody where that is greater.
-fn opened(status: Status, grant: Level) -> Level
-    ensures { result ≡ levels.larger (levels.open_level status) grant }
+// The level that is granted, if anything is.
+fn level_granted(grant: Option<Grant>) -> Level
+    ensures { result ≡ levels.level_granted grant }
 {
-    match (status, grant) {
-        (Status::Public, Level::Nothing) => Level::Read,
-        _ => grant,
+    match grant {
+        None => Level::Nothing,
+        Some(Grant::ReadOnly) => Level::Read,
+        Some(Grant::ReadWrite) => Level::Write,
     }
 }
 
-/// The scope of a name, which is an organisation's name.
-pub(crate) fn scope_of(name: &Name) -> Option<&str>
-    ensures { option_map (λ s. s.now) result ≡ scopes.scope_of name.now }
+// The granted level, or the one that the status opens to everybody where that is greater.
+fn opened(status: Status, granted: Level) -> Level
+    ensures { result ≡ levels.larger (levels.open_level status) granted }
 {
-    name.scope()
+    match (status, granted) {
+        (Status::Public, Level::Nothing) => Level::Read,
+        _ => granted,
+    }
 }
 
-fn is_listed(grants: &[Level], level: Level) -> bool
-    ensures { result ≡ is_listed grants.now level }
+fn is_listed(grants: &[Grant], grant: Grant) -> bool
+    ensures { result ≡ is_listed grants.now grant }
 {
-    grants.contains(&level)
+    grants.contains(&grant)
 }
 
-fn greatest_listed(grants: &[Level]) -> Level
+fn greatest_listed(grants: &[Grant]) -> Option<Grant>
     ensures { result ≡ greatest (is_listed grants.now) }
 {
-    if is_listed(grants, Level::Write) {
-        Level::Write
-    } else if is_listed(grants, Level::Read) {
-        Level::Read
+    if is_listed(grants, Grant::ReadWrite) {
+        Some(Grant::ReadWrite)
+    } else if is_listed(grants, Grant::ReadOnly) {
+        Some(Grant::ReadOnly)
     } else {
-        Level::Nothing
+        None
     }
 }
 
@@ -75,7 +79,7 @@ impl Position {
         ensures { result ≡ position_in (state_of rows.now) caller.now name.now }
     {
         let text = name.text();
-        let scope = scope_of(name);
+        let scope = name.scope();
         Position {
             organisation: scope.is_some_and(|scope| rows.has_organisation(scope)),
             role: scope.and_then(|scope| rows.role_of(caller, scope)),
@@ -103,7 +107,7 @@ impl Position {
                 role: None,
                 status,
                 maintainer: false,
-                grant: Level::Nothing,
+                grant: None,
             },
         }
     }
@@ -115,7 +119,7 @@ impl Position {
         match self.status {
             None => Level::Nothing,
             Some(_) if is_owner_or_admin(self.role) || self.maintainer => Level::Write,
-            Some(status) => opened(status, self.grant),
+            Some(status) => opened(status, level_granted(self.grant)),
         }
     }
 }

@@ -1,6 +1,6 @@
 //! Rows as they are loaded from the registry's tables.
 
-use crate::levels::Level;
+use crate::grant::Grant;
 use crate::role::Role;
 use registry_names::{Status, Text};
 
@@ -35,7 +35,7 @@ pub struct TeamMemberRow {
     pub user: Text,
 }
 
-/// A team of an organisation is granted a level on a package. Its key is all but the level.
+/// A team of an organisation is granted something on a package. Its key is all but the grant.
 #[derive(Drop)]
 pub struct GrantRow {
     /// The organisation's name.
@@ -45,7 +45,7 @@ pub struct GrantRow {
     /// The package's name.
     pub package: Text,
     /// What the team is granted.
-    pub level: Level,
+    pub grant: Grant,
 }
 
 /// A package was published, now or once. Its key is the package.

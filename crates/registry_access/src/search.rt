@@ -4,7 +4,7 @@ ghost use Rattle.std.specs.Prelude.{◌≡◌, ◌&&◌, find, option_map};
 ghost use Rattle.std.specs.List.{list_any};
 ghost use Rattle.registry_names.specs.Texts as spec;
 
-use crate::levels::Level;
+use crate::grant::Grant;
 use crate::role::Role;
 use crate::rows::{GrantRow, MaintainerRow, MemberRow, PackageRow};
 use registry_names::{Status, Text};
@@ -51,8 +51,8 @@ pub(crate) fn grant_of(
     organisation: &str,
     team: &str,
     name: &str,
-) -> Option<Level>
-    ensures { result ≡ option_map (λ r. r.level)
+) -> Option<Grant>
+    ensures { result ≡ option_map (λ r. r.grant)
         (find (λ r. spec.is r.organisation organisation.now && (spec.is r.team team.now && spec.is r.package name.now))
         rows.now) }
 {
@@ -60,5 +60,5 @@ pub(crate) fn grant_of(
         .find(|row| {
             is(&row.organisation, organisation) && is(&row.team, team) && is(&row.package, name)
         })
-        .map(|row| row.level)
+        .map(|row| row.grant)
 }

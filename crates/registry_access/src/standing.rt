@@ -1,6 +1,6 @@
 //! How one caller stands to one package.
 
-use crate::levels::Level;
+use crate::grant::Grant;
 use crate::role::Role;
 use registry_names::Status;
 
@@ -16,5 +16,5 @@ pub struct Standing {
     /// Whether the caller is a maintainer of the package.
     pub maintainer: bool,
     /// What the caller's teams are granted on the package, in any order.
-    pub grants: Vec<Level>,
+    pub grants: Vec<Grant>,
 }

@@ -19,3 +19,4 @@ pub mod OrderFacts
 pub mod QueryFacts
 pub mod ListingFacts
 pub mod LookUpFacts
+pub mod QuietFacts

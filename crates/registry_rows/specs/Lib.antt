@@ -1,4 +1,6 @@
 pub mod Columns
+pub mod Faults
+pub mod Frames
 pub mod Ready
 pub mod Rows
 pub mod Statements

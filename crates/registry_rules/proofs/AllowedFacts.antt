@@ -5,25 +5,26 @@ use Rattle.registry_names.specs.Maps.{TextMap, at}
 use Rattle.registry_names.specs.Moments.{last_second}
 use Rattle.registry_names.specs.Tags.{is_tag}
 use Rattle.registry_names.specs.Texts.{Text}
-use Rattle.registry_names.specs.declared.refusal.Refusal.TheVariants.{NotFound, Published, KeepsLatest, AlwaysPublic}
+use Rattle.registry_names.specs.declared.refusal.Refusal.TheVariants.{NotFound, Published, Spent, KeepsLatest, AlwaysPublic}
 use Rattle.registry_names.specs.declared.status.Status.{Status}
 use Rattle.registry_names.specs.declared.status.Status.TheVariants.{Public, Restricted}
 use Rattle.registry_names.proofs.KeyFacts.{text_key}
-use Rattle.registry_access.specs.Scopes.{scope_of}
+use Rattle.registry_names.specs.Names.{scope_of}
 use Rattle.registry_publish.specs.Form.{FormParts}
 use Rattle.registry_rules.specs.Actions.{version_of}
+use Rattle.registry_rules.specs.Changes.{release_of}
+use Rattle.registry_rules.specs.Effects.{new_status}
 use Rattle.registry_rules.specs.Kept.{IsReleaseOf}
 use Rattle.registry_rules.specs.Refusals.{is_restricted, publish_refusal, refuse, unless_there}
 use Rattle.registry_rules.specs.Requests.{ArePartsInForm}
-use Rattle.registry_rules.specs.State.{State, Release}
-use Rattle.registry_rules.specs.Steps.{latest, new_status, release_of}
-use Rattle.registry_rules.proofs.PutFacts.{put_there}
-use Rattle.registry_rules.proofs.PublishedFacts.{statuses_after}
+use Rattle.registry_rules.specs.State.{State, Release, is_spent}
+use Rattle.registry_names.proofs.PutFacts.{put_there}
+use Rattle.registry_rules.proofs.PublishedFacts.{statuses_after, status_of}
 
-pub record IsAllowed (S : State) (p v t : Text) (release : Release) (status : Option Status) (first : Bool) : Type 0 where
-  pub is_first : first ≡ is_none (at S.tags (p, latest))
+pub record IsAllowed (S : State) (p v t : Text) (release : Release) (status : Option Status) : Type 0 where
   pub is_release : IsReleaseOf p v release
   pub is_tagged : IsTrue (is_tag t)
+  pub is_new : is_spent S p v ≡ false
   pub has_status : IsSome (at (statuses_after S.access.statuses p status) p)
   pub is_public : scope_of p ≡ None → status ≢ Some Restricted
 
@@ -32,10 +33,12 @@ has_new_status m p (Some s) old e = put_there text_key m p s
 has_new_status m p None (Some s) e = ap is_some e
 has_new_status m p None None e = put_there text_key m p _
 
-not_restricted : (b c : Bool) → refuse b Published (refuse c AlwaysPublic None) ≡ None → c ≡ false
-not_restricted true c h = cc
-not_restricted false true h = cc
-not_restricted false false h = refl
+-- a version that may be published was never withdrawn, and its package isn't restricted where it has no scope
+may_publish : (live spent closed : Bool) → refuse live Published (refuse spent Spent (refuse closed AlwaysPublic None)) ≡ None → (spent ≡ false) × (closed ≡ false)
+may_publish true b c h = cc
+may_publish false true c h = cc
+may_publish false false true h = cc
+may_publish false false false h = (refl, refl)
 
 new_is_public : (p : Text) (asked old : Option Status) → (is_restricted asked && is_none (scope_of p)) ≡ false → scope_of p ≡ None → new_status asked old p ≢ Some Restricted
 new_is_public p (Some Restricted) old may u e = true≢false (sym (ap is_none u) ∙ may)
@@ -48,13 +51,13 @@ new_is_public p None None may u e = public (scope_of p) u e
     public (Some s) h e = cc
 
 pub allowed_publish : (S : State) (f : FormParts) (now : ℕ) → ArePartsInForm f → now ≤ last_second → publish_refusal S f ≡ None
-    → IsAllowed S f.name (version_of f) f.tag (release_of f now) (new_status f.access (at S.access.statuses f.name) f.name) (is_none (at S.tags (f.name, latest)))
-allowed_publish S f now form moment may = record {
-  is_first = refl;
+    → IsAllowed S f.name (version_of f) f.tag (release_of f now) (status_of S f)
+allowed_publish S f now form moment may = let passed = may_publish _ (is_spent S f.name (version_of f)) _ may in record {
   is_release = record { name = form.name; version = f.version; is_version = form.version; manifest = form.manifest; at = moment; message = refl };
   is_tagged = form.tag;
+  is_new = passed.0;
   has_status = has_new_status S.access.statuses f.name f.access _ refl;
-  is_public = new_is_public f.name f.access _ (not_restricted _ _ may);
+  is_public = new_is_public f.name f.access _ passed.1;
 }
 
 -- what is asked for is there

@@ -1,9 +1,9 @@
 -- A request in form that nothing refuses keeps what holds of all that the registry holds.
-use Rattle.std.proofs.Common.{◌≡◌, ◌≢◌, ℕ, ◌≤◌, Bool, true, false, is_none, is_some, Option, Some, None, refl, sym, ap, ◌∙◌, subst, true≢false}
+use Rattle.std.proofs.Common.{◌≡◌, ◌≢◌, ℕ, ◌≤◌, Bool, true, false, cond, ◌||◌, is_some, Option, Some, None, refl, sym, ap, ◌∙◌, subst, true≢false}
 use Rattle.std.proofs.lemmas.Bool.{and_right}
 use Rattle.std.specs.Prelude.{IsSome, IsTrue}
-use Rattle.registry_names.specs.Keys.{Pair}
-use Rattle.registry_names.specs.Maps.{at}
+use Rattle.registry_names.specs.Keys.{Pair, pair_is}
+use Rattle.registry_names.specs.Maps.{TextMap, at, put}
 use Rattle.registry_names.specs.Moments.{last_second}
 use Rattle.registry_names.specs.Names.{IsName}
 use Rattle.registry_names.specs.Tags.{is_tag}
@@ -11,43 +11,84 @@ use Rattle.registry_names.specs.Texts.{Text, is}
 use Rattle.registry_names.specs.Versions.{text_of_version}
 use Rattle.registry_names.specs.declared.status.Status.{Status}
 use Rattle.registry_names.specs.declared.status.Status.TheVariants.{Restricted}
-use Rattle.registry_names.proofs.KeyFacts.{text_key, pair_key}
-use Rattle.registry_names.proofs.MapFacts.{at-empty, at-erase_other}
-use Rattle.registry_access.specs.Scopes.{scope_of}
+use Rattle.registry_names.proofs.KeyFacts.{text_key, pair_key, triple_key, same_true}
+use Rattle.registry_names.proofs.MapFacts.{at-empty, at-put, at-erase_other}
+use Rattle.registry_access.specs.Access.{Access}
+use Rattle.registry_access.specs.Hiding.{UnscopedArePublic}
+use Rattle.registry_names.specs.Names.{scope_of}
+use Rattle.registry_access.specs.declared.caller.Caller.{Caller}
 use Rattle.registry_publish.specs.Form.{FormParts}
 use Rattle.registry_rules.specs.Actions.{version_of}
-use Rattle.registry_rules.specs.Kept.{IsReleaseOf, IsTagOf, IsKept}
-use Rattle.registry_rules.specs.Refusals.{is_live, stands, publish_refusal, refusal, refusal_of}
+use Rattle.registry_rules.specs.Callers.{caller_of}
+use Rattle.registry_rules.specs.Changes.{all_made, release_of}
+use Rattle.registry_rules.specs.Effects.{effects_for, publication, step, step_by}
+use Rattle.registry_rules.specs.Kept.{IsReleaseOf, IsWithdrawalOf, IsTagOf, IsAccessKept, IsKept}
 use Rattle.registry_rules.specs.Operations.{with_tag, without_tag}
+use Rattle.registry_rules.specs.Refusals.{publish_refusal, refusal, refusal_for, state_refusal}
 use Rattle.registry_rules.specs.Requests.{ArePartsInForm, IsInForm, IsActionInForm}
-use Rattle.registry_rules.specs.State.{State, Release, nothing}
-use Rattle.registry_rules.specs.Steps.{latest, new_status, release_of, published, step, step_of}
+use Rattle.registry_rules.specs.State.{State, Release, Withdrawal, nothing, is_live, stands}
+use Rattle.registry_names.specs.Tags.{latest}
 use Rattle.registry_rules.specs.declared.request.Action.{Action}
 use Rattle.registry_rules.specs.declared.request.Action.TheVariants.{Publish, TagSet, TagRemove, Packument, Archive, Tags}
 use Rattle.registry_rules.specs.declared.request.Request.{Request}
-use Rattle.registry_rules.proofs.PutFacts.{each_put, each_left, some_before, put_there, still_there}
-use Rattle.registry_rules.proofs.PublishedFacts.{statuses_after, tags_before, after_publish, published_is}
 use Rattle.registry_rules.proofs.AllowedFacts.{IsAllowed, allowed_publish, is_there, isnt_kept}
+use Rattle.registry_rules.proofs.MadeFacts.{latest_put, tag_put}
+use Rattle.registry_rules.proofs.PublishedFacts.{statuses_after, status_of, after_publish, published_is}
+use Rattle.registry_names.proofs.PutFacts.{each_put, each_left, some_before, put_there, still_there}
 
 -- ---- nothing
 
 none_there : {X : Type 0} (o : Option X) → o ≡ None → IsSome o → ⊥
 none_there o e h = true≢false (sym h ∙ ap is_some e)
 
+no_access_kept : IsAccessKept nothing.access
+no_access_kept = record {
+  users = λ u h. absurd (none_there _ (at-empty text_key u) h);
+  tokens = λ digest u h. absurd (none_there _ (at-empty text_key digest) (ap is_some h));
+  organisations = λ o h. absurd (none_there _ (at-empty text_key o) h);
+  roles = λ o u h. absurd (none_there _ (at-empty pair_key (o, u)) h);
+  teams = λ o t h. absurd (none_there _ (at-empty pair_key (o, t)) h);
+  team_members = λ o t u h. absurd (none_there _ (at-empty triple_key (o, (t, u))) h);
+  grants = λ o t p h. absurd (none_there _ (at-empty triple_key (o, (t, p))) h);
+  statuses = λ p h. absurd (none_there _ (at-empty text_key p) h);
+  maintainers = λ p u h. absurd (none_there _ (at-empty pair_key (p, u)) h);
+  unscoped = λ p u h. none_there _ (at-empty text_key p) (ap is_some h);
+}
+
 pub nothing_kept : IsKept nothing
 nothing_kept = record {
   live = λ p v release h. absurd (none_there _ (at-empty pair_key (p, v)) (ap is_some h));
+  spent = λ p v withdrawal h. absurd (none_there _ (at-empty pair_key (p, v)) (ap is_some h));
   tags = λ p t v h. absurd (none_there _ (at-empty pair_key (p, t)) (ap is_some h));
   status = λ p v h. absurd (none_there _ (at-empty pair_key (p, v)) h);
   latest = λ p v h. absurd (none_there _ (at-empty pair_key (p, v)) h);
-  unscoped = λ p u h. none_there _ (at-empty text_key p) (ap is_some h);
+  access = no_access_kept;
 }
 
 -- ---- a publish
 
-module _ (S : State) (p v t : Text) (release : Release) (status : Option Status) (first : Bool) (allowed : IsAllowed S p v t release status first) (kept : IsKept S) where
+-- where no package loses its status
+more_statuses_kept : (A : Access) (statuses : TextMap Status) → ((p : Text) → IsSome (at A.statuses p) → IsSome (at statuses p)) → ((p : Text) → IsSome (at statuses p) → IsName p)
+    → UnscopedArePublic (record A { statuses = statuses }) → IsAccessKept A → IsAccessKept (record A { statuses = statuses })
+more_statuses_kept A statuses still named unscoped kept = record {
+  users = kept.users;
+  tokens = kept.tokens;
+  organisations = λ o h. let has = kept.organisations o h in record { name = has.name; owner = has.owner; team = has.team };
+  roles = kept.roles;
+  teams = kept.teams;
+  team_members = kept.team_members;
+  grants = λ o t p h. let grant = kept.grants o t p h in record { team = grant.team; status = still p grant.status; scope = grant.scope };
+  statuses = named;
+  maintainers = λ p u h. let has = kept.maintainers p u h in (still p has.0, has.1);
+  unscoped = unscoped;
+}
+
+module _ (S : State) (p v t : Text) (release : Release) (status : Option Status) (allowed : IsAllowed S p v t release status) (kept : IsKept S) where
+  abbrev here : Bool
+  here = stands S p latest || is t latest
+
   abbrev T : State
-  T = after_publish S p v t release status first
+  T = after_publish S p v t release status here
 
   live_then : (q w : Text) → IsTrue (is_live S q w) → IsTrue (is_live T q w)
   live_then q w h = still_there pair_key S.live (p, v) release (q, w) h
@@ -61,12 +102,12 @@ module _ (S : State) (p v t : Text) (release : Release) (status : Option Status)
   tag_stays : (k : Pair) (w : Text) → at S.tags k ≡ Some w → IsTagThen k w
   tag_stays k w h = let tag = kept.tags k.0 k.1 w h in record { name = tag.name; tag = tag.tag; live = live_then k.0 w tag.live }
 
-  tags_before_are : (b : Bool) (k : Pair) (w : Text) → at (tags_before S.tags p v b) k ≡ Some w → IsTagThen k w
-  tags_before_are true = each_put pair_key S.tags (p, latest) v IsTagThen tag_stays (tag_then latest refl)
-  tags_before_are false = tag_stays
+  tags_before_are : (b : Bool) (k : Pair) (w : Text) → at (latest_put S.tags p v b) k ≡ Some w → IsTagThen k w
+  tags_before_are true = tag_stays
+  tags_before_are false = each_put pair_key S.tags (p, latest) v IsTagThen tag_stays (tag_then latest refl)
 
   tags_are : (k : Pair) (w : Text) → at T.tags k ≡ Some w → IsTagThen k w
-  tags_are = each_put pair_key (tags_before S.tags p v first) (p, t) v IsTagThen (tags_before_are first) (tag_then t allowed.is_tagged)
+  tags_are = each_put pair_key (latest_put S.tags p v here) (p, t) v IsTagThen (tags_before_are here) (tag_then t allowed.is_tagged)
 
   live_are : (k : Pair) (r : Release) → at T.live k ≡ Some r → IsReleaseOf k.0 k.1 r
   live_are = each_put pair_key S.live (p, v) release (λ k r. IsReleaseOf k.0 k.1 r) (λ k r. kept.live k.0 k.1 r) allowed.is_release
@@ -75,44 +116,67 @@ module _ (S : State) (p v t : Text) (release : Release) (status : Option Status)
   status_stays None q h = h
   status_stays (Some s) q h = still_there text_key S.access.statuses p s q h
 
+  statuses_named : (o : Option Status) (q : Text) → IsSome (at (statuses_after S.access.statuses p o) q) → IsName q
+  statuses_named None q h = kept.access.statuses q h
+  statuses_named (Some s) q h = some_before text_key S.access.statuses p s IsName kept.access.statuses allowed.is_release.name q h
+
   have_status : (k : Pair) → IsSome (at T.live k) → IsSome (at T.access.statuses k.0)
   have_status = some_before pair_key S.live (p, v) release (λ k. IsSome (at T.access.statuses k.0)) (λ k h. status_stays status k.0 (kept.status k.0 k.1 h)) allowed.has_status
 
-  latest_stays : (b : Bool) (q : Text) → IsSome (at S.tags (q, latest)) → IsSome (at (tags_before S.tags p v b) (q, latest))
-  latest_stays true q h = still_there pair_key S.tags (p, latest) v (q, latest) h
-  latest_stays false q h = h
+  -- what is live now and wasn't is what is published, and that was never withdrawn
+  stays_gone : (k : Pair) (w : Withdrawal) → at S.spent k ≡ Some w → is_some (at S.live k) ≡ false → is_some (at T.live k) ≡ false
+  stays_gone k w h gone = ap is_some (at-put pair_key S.live (p, v) release k) ∙ by_test (pair_is (p, v) k) refl
+    where
+      by_test : (b : Bool) → pair_is (p, v) k ≡ b → is_some (cond b (Some release) (at S.live k)) ≡ false
+      by_test true e = absurd (true≢false (sym (ap is_some h) ∙ ap (λ j. is_some (at S.spent j)) (sym (same_true pair_key (p, v) k e)) ∙ allowed.is_new))
+      by_test false e = gone
 
-  latest_here : (b : Bool) (o : Option Text) → at S.tags (p, latest) ≡ o → b ≡ is_none o → IsSome (at (tags_before S.tags p v b) (p, latest))
-  latest_here true o e f = put_there pair_key S.tags (p, latest) v
-  latest_here false None e f = absurd (true≢false (sym f))
-  latest_here false (Some w) e f = ap is_some e
+  spent_are : (q w : Text) (withdrawal : Withdrawal) → at S.spent (q, w) ≡ Some withdrawal → IsWithdrawalOf T q w withdrawal
+  spent_are q w withdrawal h = let was = kept.spent q w withdrawal h in record {
+    name = was.name;
+    version = was.version;
+    published = was.published;
+    withdrawn = was.withdrawn;
+    status = status_stays status q was.status;
+    gone = stays_gone (q, w) withdrawal h was.gone;
+  }
+
+  latest_stays : (b : Bool) (q : Text) → IsSome (at S.tags (q, latest)) → IsSome (at (latest_put S.tags p v b) (q, latest))
+  latest_stays true q h = h
+  latest_stays false q h = still_there pair_key S.tags (p, latest) v (q, latest) h
+
+  -- `latest` stands then: it stood, or it is the tag of the publish, or it is put
+  latest_here : (stood named : Bool) → stands S p latest ≡ stood → is t latest ≡ named → IsSome (at (put (latest_put S.tags p v (stood || named)) (p, t) v) (p, latest))
+  latest_here true named e f = still_there pair_key S.tags (p, t) v (p, latest) e
+  latest_here false true e f = subst (λ u. IsSome (at (put S.tags (p, t) v) (p, u))) (same_true text_key t latest f) (put_there pair_key S.tags (p, t) v)
+  latest_here false false e f = still_there pair_key (put S.tags (p, latest) v) (p, t) v (p, latest) (put_there pair_key S.tags (p, latest) v)
 
   have_latest : (k : Pair) → IsSome (at T.live k) → IsSome (at T.tags (k.0, latest))
-  have_latest k h =
-      still_there pair_key (tags_before S.tags p v first) (p, t) v (k.0, latest)
-      (some_before pair_key S.live (p, v) release (λ k. IsSome (at (tags_before S.tags p v first) (k.0, latest)))
-      (λ k h. latest_stays first k.0 (kept.latest k.0 k.1 h)) (latest_here first _ refl allowed.is_first) k h)
+  have_latest =
+      some_before pair_key S.live (p, v) release (λ k. IsSome (at T.tags (k.0, latest)))
+      (λ k h. still_there pair_key (latest_put S.tags p v here) (p, t) v (k.0, latest) (latest_stays here k.0 (kept.latest k.0 k.1 h)))
+      (latest_here (stands S p latest) (is t latest) refl refl)
 
   statuses_are : (o : Option Status) → (scope_of p ≡ None → o ≢ Some Restricted) → (q : Text) (s : Status) → at (statuses_after S.access.statuses p o) q ≡ Some s → scope_of q ≡ None → s ≢ Restricted
-  statuses_are None may = λ q s e u f. kept.unscoped q u (e ∙ ap (λ (x : Status). Some x) f)
+  statuses_are None may = λ q s e u f. kept.access.unscoped q u (e ∙ ap (λ (x : Status). Some x) f)
   statuses_are (Some status) may =
       each_put text_key S.access.statuses p status (λ q s. scope_of q ≡ None → s ≢ Restricted)
-      (λ q s e u f. kept.unscoped q u (e ∙ ap (λ (x : Status). Some x) f)) (λ u f. may u (ap (λ (x : Status). Some x) f))
+      (λ q s e u f. kept.access.unscoped q u (e ∙ ap (λ (x : Status). Some x) f)) (λ u f. may u (ap (λ (x : Status). Some x) f))
 
   all_kept : IsKept T
   all_kept = record {
     live = λ q w r h. live_are (q, w) r h;
+    spent = spent_are;
     tags = λ q u w h. tags_are (q, u) w h;
     status = λ q w h. have_status (q, w) h;
     latest = λ q w h. have_latest (q, w) h;
-    unscoped = λ q u h. statuses_are status allowed.is_public q Restricted h u refl;
+    access = more_statuses_kept S.access (statuses_after S.access.statuses p status) (status_stays status) (statuses_named status)
+        (λ q u h. statuses_are status allowed.is_public q Restricted h u refl) kept.access;
   }
 
-publish_kept : (S : State) (f : FormParts) (now : ℕ) → ArePartsInForm f → now ≤ last_second → publish_refusal S f ≡ None → IsKept S → IsKept (published S f now)
+publish_kept : (S : State) (f : FormParts) (now : ℕ) → ArePartsInForm f → now ≤ last_second → publish_refusal S f ≡ None → IsKept S → IsKept (all_made S (publication S now f))
 publish_kept S f now form moment may kept =
-    let status = new_status f.access (at S.access.statuses f.name) f.name in
-    subst IsKept (sym (published_is S f.name (version_of f) f.tag (release_of f now) status))
-    (all_kept S f.name (version_of f) f.tag (release_of f now) status _ (allowed_publish S f now form moment may) kept)
+    subst IsKept (sym (published_is S f now)) (all_kept S f.name (version_of f) f.tag (release_of f now) (status_of S f) (allowed_publish S f now form moment may) kept)
 
 -- ---- a tag
 
@@ -120,33 +184,52 @@ publish_kept S f now form moment may kept =
 still_tag : (S T : State) → T.live ≡ S.live → (p t v : Text) → IsTagOf S p t v → IsTagOf T p t v
 still_tag S T e p t v tag = record { name = tag.name; tag = tag.tag; live = ap (λ live. is_some (at live (p, v))) e ∙ tag.live }
 
+still_spent : (S T : State) → T.live ≡ S.live → T.access ≡ S.access → (p v : Text) (withdrawal : Withdrawal) → IsWithdrawalOf S p v withdrawal → IsWithdrawalOf T p v withdrawal
+still_spent S T e f p v withdrawal was = record {
+  name = was.name;
+  version = was.version;
+  published = was.published;
+  withdrawn = was.withdrawn;
+  status = ap (λ access. is_some (at access.statuses p)) f ∙ was.status;
+  gone = ap (λ live. is_some (at live (p, v))) e ∙ was.gone;
+}
+
 tag_set_kept : (S : State) (p t v : Text) → IsName p → IsTrue (is_tag t) → is_live S p v ≡ true → IsKept S → IsKept (with_tag S p t v)
 tag_set_kept S p t v name tag live kept = record {
   live = kept.live;
+  spent = λ q w withdrawal h. still_spent S (with_tag S p t v) refl refl q w withdrawal (kept.spent q w withdrawal h);
   tags = λ q u w h.
       still_tag S (with_tag S p t v) refl q u w
       (each_put pair_key S.tags (p, t) v (λ k w. IsTagOf S k.0 k.1 w) (λ k w e. kept.tags k.0 k.1 w e) (record { name = name; tag = tag; live = live }) (q, u) w h);
   status = kept.status;
   latest = λ q w h. still_there pair_key S.tags (p, t) v (q, latest) (kept.latest q w h);
-  unscoped = kept.unscoped;
+  access = kept.access;
 }
 
 tag_removed_kept : (S : State) (p t : Text) → is t latest ≡ false → IsKept S → IsKept (without_tag S p t)
 tag_removed_kept S p t other kept = record {
   live = kept.live;
+  spent = λ q w withdrawal h. still_spent S (without_tag S p t) refl refl q w withdrawal (kept.spent q w withdrawal h);
   tags = λ q u w h. still_tag S (without_tag S p t) refl q u w (kept.tags q u w (each_left pair_key S.tags (p, t) (q, u) w h));
   status = kept.status;
   latest = λ q w h. ap is_some (at-erase_other pair_key S.tags (p, t) (q, latest) (and_right (is p q) (is t latest) other)) ∙ kept.latest q w h;
-  unscoped = kept.unscoped;
+  access = kept.access;
 }
 
+-- ---- a request
+
+action_kept : (S : State) (now : ℕ) (who : Caller) (what : Action) → now ≤ last_second → IsActionInForm what → state_refusal S now what ≡ None → IsKept S → IsKept (step_by S now who what)
+action_kept S now who (Publish f) moment form may kept = publish_kept S f now form moment may kept
+action_kept S now who (TagSet p t v) moment form may kept =
+    subst IsKept (sym (tag_put S p t (text_of_version v) (stands S p t) (λ there. there))) (tag_set_kept S p t (text_of_version v) form.0 form.1 (is_there _ may) kept)
+action_kept S now who (TagRemove p t) moment form may kept = tag_removed_kept S p t (isnt_kept (stands S p t) (is t latest) may) kept
+action_kept S now who (Packument p) moment form may kept = kept
+action_kept S now who (Archive p v) moment form may kept = kept
+action_kept S now who (Tags p) moment form may kept = kept
+
 pub step_kept : (S : State) (r : Request) → IsInForm r → refusal S r ≡ None → IsKept S → IsKept (step S r)
-step_kept S r form may kept = by_action r.what form.what may
+step_kept S r form may kept = by_caller (caller_of S r.who) may
   where
-    by_action : (what : Action) → IsActionInForm what → refusal_of S what ≡ None → IsKept (step_of S r.at what)
-    by_action (Publish f) h may = publish_kept S f r.at h form.at may kept
-    by_action (TagSet p t v) h may = tag_set_kept S p t (text_of_version v) h.0 h.1 (is_there _ may) kept
-    by_action (TagRemove p t) h may = tag_removed_kept S p t (isnt_kept (stands S p t) (is t latest) may) kept
-    by_action (Packument p) h may = kept
-    by_action (Archive p v) h may = kept
-    by_action (Tags p) h may = kept
+    by_caller : (who : Option Caller) → refusal_for S r.at who r.what ≡ None → IsKept (all_made S (effects_for S r.at who r.what))
+    by_caller None may = kept
+    by_caller (Some who) may = action_kept S r.at who r.what form.at form.what may kept

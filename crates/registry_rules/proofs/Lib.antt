@@ -1,6 +1,6 @@
 pub mod AllowedFacts
+pub mod CallerFacts
 pub mod KeptFacts
+pub mod LawFacts
+pub mod MadeFacts
 pub mod PublishedFacts
-pub mod PutFacts
-pub mod RowFacts
-pub mod StandingFacts

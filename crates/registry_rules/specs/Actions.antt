@@ -1,6 +1,6 @@
 -- What an action is. A case that names its actions says so of these, and the last case of all others.
 use Rattle.std.specs.Prelude.{Bool, true, false}
-use Rattle.registry_names.specs.Texts.{Text}
+use Rattle.registry_names.specs.Texts.{Text, is}
 use Rattle.registry_names.specs.Versions.{text_of_version}
 use Rattle.registry_publish.specs.Form.{FormParts}
 use Rattle.registry_rules.specs.declared.request.Action.{Action}
@@ -16,3 +16,10 @@ is_command _ = false
 -- the text of the version that a form publishes
 abbrev pub version_of : FormParts → Text
 version_of f = text_of_version f.version
+
+-- whether it is a command about this package
+abbrev pub names : Action → Text → Bool
+names (Publish f) p = is f.name p
+names (TagSet q t v) p = is q p
+names (TagRemove q t) p = is q p
+names _ p = false

@@ -13,12 +13,12 @@ use Rattle.registry_rules.specs.declared.change.Change.TheVariants as change
 -- a change as values; the program's borrows them
 pub data Change : Type 0 where
   -- a package, its status, and whether it has one already
-  PutStatus : (package : Text) (status : Status) (stands : Bool) → Change
+  PutStatus : (name : Text) (status : Status) (stands : Bool) → Change
   -- the form that is published, and when, in seconds
   AddVersion : (form : FormParts) (at : ℕ) → Change
   -- a package, a tag, the version that it is to name, and whether the tag stands already
-  PutTag : (package tag version : Text) (stands : Bool) → Change
-  DropTag : (package tag : Text) → Change
+  PutTag : (name tag version : Text) (stands : Bool) → Change
+  DropTag : (name tag : Text) → Change
 
 -- what is published, at this moment and not deprecated
 abbrev pub release_of : FormParts → ℕ → Release
@@ -39,6 +39,6 @@ all_made S (c ∷ cs) = all_made (made S c) cs
 -- the values of a change of the program
 abbrev pub change_of : declared.Change → Change
 change_of (change.PutStatus p status stands) = PutStatus p.now status stands
-change_of (change.AddVersion f now) = AddVersion f.now now
+change_of (change.AddVersion f now) = AddVersion f.now now.now
 change_of (change.PutTag p t v stands) = PutTag p.now t.now (text_of_version v.now) stands
 change_of (change.DropTag p t) = DropTag p.now t.now

@@ -1,17 +1,18 @@
 -- What each command changes where nothing refuses it: one equation a command. A query changes nothing.
-use Rattle.std.specs.Prelude.{ℕ, List, [], ◌∷◌, ◌++◌, false, is_some, Option, Some, None, if◌then◌else◌}
+use Rattle.std.specs.Prelude.{ℕ, List, [], ◌∷◌, ◌++◌, ◌||◌, false, is_some, Option, Some, None, if◌then◌else◌}
 use Rattle.registry_names.specs.Texts.{Text, is}
 use Rattle.registry_names.specs.Maps.{at}
 use Rattle.registry_names.specs.Versions.{text_of_version}
 use Rattle.registry_names.specs.declared.status.Status.{Status}
 use Rattle.registry_names.specs.declared.status.Status.TheVariants.{Public, Restricted}
-use Rattle.registry_access.specs.Scopes.{scope_of}
+use Rattle.registry_names.specs.Names.{scope_of}
 use Rattle.registry_access.specs.declared.caller.Caller.{Caller}
 use Rattle.registry_publish.specs.Form.{FormParts}
 use Rattle.registry_rules.specs.Actions.{version_of}
 use Rattle.registry_rules.specs.Callers.{caller_of}
 use Rattle.registry_rules.specs.Changes.{Change, PutStatus, AddVersion, PutTag, DropTag, all_made}
-use Rattle.registry_rules.specs.State.{State, latest, stands}
+use Rattle.registry_rules.specs.State.{State, stands}
+use Rattle.registry_names.specs.Tags.{latest}
 use Rattle.registry_rules.specs.declared.request.Action.{Action}
 use Rattle.registry_rules.specs.declared.request.Action.TheVariants.{Publish, TagSet, TagRemove}
 use Rattle.registry_rules.specs.declared.request.Request.{Request}
@@ -35,9 +36,7 @@ put_status p (Some status) old = PutStatus p status (is_some old) ∷ []
 
 -- The form's tag names the version, and so does `latest` where none stands
 abbrev pub put_tags : State → Text → Text → Text → List Change
-put_tags S p t v = if is t latest
-    then PutTag p latest v (stands S p latest) ∷ []
-    else (if stands S p latest then [] else PutTag p latest v false ∷ []) ++ PutTag p t v (stands S p t) ∷ []
+put_tags S p t v = (if stands S p latest || is t latest then [] else PutTag p latest v false ∷ []) ++ PutTag p t v (stands S p t) ∷ []
 
 abbrev pub publication : State → ℕ → FormParts → List Change
 publication S now f = put_status f.name (new_status f.access (at S.access.statuses f.name) f.name) (at S.access.statuses f.name)

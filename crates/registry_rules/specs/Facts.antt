@@ -5,7 +5,8 @@ use Rattle.registry_names.specs.Versions.{text_of_version}
 use Rattle.registry_publish.specs.Form.{FormParts}
 use Rattle.registry_rules.specs.Actions.{version_of}
 use Rattle.registry_rules.specs.Callers.{caller_of}
-use Rattle.registry_rules.specs.State.{State, latest, is_live, has_live, stands}
+use Rattle.registry_rules.specs.State.{State, is_live, is_spent, has_live, stands}
+use Rattle.registry_names.specs.Tags.{latest}
 use Rattle.registry_rules.specs.declared.facts.About.{About}
 use Rattle.registry_rules.specs.declared.facts.About.TheVariants as about
 use Rattle.registry_rules.specs.declared.facts.Facts.{Facts}
@@ -17,6 +18,7 @@ use Rattle.registry_rules.specs.declared.request.Request.{Request}
 pub record ArePublishFacts (facts : PublishFacts) (S : State) (f : FormParts) : Type 0 where
   pub status : facts.status ≡ at S.access.statuses f.name
   pub version_lives : facts.version_lives ≡ is_live S f.name (version_of f)
+  pub version_spent : facts.version_spent ≡ is_spent S f.name (version_of f)
   pub tag_stands : facts.tag_stands ≡ stands S f.name f.tag
   pub latest_stands : facts.latest_stands ≡ stands S f.name latest
 

@@ -1,15 +1,22 @@
--- What holds of all that the registry comes to hold, from nothing on.
-use Rattle.std.specs.Prelude.{◌≡◌, ◌≤◌, Some, IsSome, IsTrue}
+-- What holds of all that the registry comes to hold, from nothing on: of each entry of each map, and of its key.
+use Rattle.std.specs.Prelude.{◌≡◌, ◌≤◌, false, length, codes, Some, IsSome, IsTrue}
+use Rattle.registry_names.specs.Idents.{is_ident}
 use Rattle.registry_names.specs.Maps.{at}
 use Rattle.registry_names.specs.Messages.{is_message}
 use Rattle.registry_names.specs.Moments.{last_second}
 use Rattle.registry_names.specs.Names.{IsName}
 use Rattle.registry_names.specs.Tags.{is_tag}
 use Rattle.registry_names.specs.Texts.{Text}
-use Rattle.registry_names.specs.Versions.{VersionParts, IsVersionOf}
+use Rattle.registry_names.specs.Versions.{VersionParts, IsVersion, IsVersionOf}
+use Rattle.registry_access.specs.Access.{Access}
 use Rattle.registry_access.specs.Hiding.{UnscopedArePublic}
+use Rattle.registry_names.specs.Names.{scope_of}
+use Rattle.registry_access.specs.declared.role.Role.TheVariants.{Owner}
 use Rattle.registry_publish.specs.Form.{IsManifestText}
-use Rattle.registry_rules.specs.State.{State, Release, latest, is_live}
+use Rattle.registry_rules.specs.State.{State, Release, Withdrawal, is_live}
+use Rattle.registry_names.specs.Tags.{latest}
+
+-- ---- packages
 
 -- the release may stand under this package and version
 pub record IsReleaseOf (p v : Text) (release : Release) : Type 0 where
@@ -20,16 +27,60 @@ pub record IsReleaseOf (p v : Text) (release : Release) : Type 0 where
   pub at : release.at ≤ last_second
   pub message : IsTrue (is_message release.message)
 
+-- The withdrawal may stand under this package and version, which was published and doesn't live
+pub record IsWithdrawalOf (S : State) (p v : Text) (withdrawal : Withdrawal) : Type 0 where
+  pub name : IsName p
+  pub version : IsVersion v
+  pub published : withdrawal.published ≤ last_second
+  pub withdrawn : withdrawal.withdrawn ≤ last_second
+  pub status : IsSome (at S.access.statuses p)
+  pub gone : is_live S p v ≡ false
+
 -- the tag may stand under this package, and names this version, which lives
 pub record IsTagOf (S : State) (p t v : Text) : Type 0 where
   pub name : IsName p
   pub tag : IsTrue (is_tag t)
   pub live : IsTrue (is_live S p v)
 
+-- ---- who is there, and what he may do
+
+-- the team that each organisation has
+abbrev pub developers : Text
+developers = codes "developers"
+
+-- the organisation has an owner, and its first team
+pub record IsOrganisation (A : Access) (o : Text) : Type 0 where
+  pub name : IsTrue (is_ident o)
+  pub owner : (u : Text) × (at A.roles (o, u) ≡ Some Owner)
+  pub team : IsSome (at A.teams (o, developers))
+
+-- the team may be granted something on the package, which is of its organisation's scope
+pub record IsGrant (A : Access) (o t p : Text) : Type 0 where
+  pub team : IsSome (at A.teams (o, t))
+  pub status : IsSome (at A.statuses p)
+  pub scope : scope_of p ≡ Some o
+
+pub record IsAccessKept (A : Access) : Type 0 where
+  pub users : (u : Text) → IsSome (at A.users u) → IsTrue (is_ident u)
+  -- a digest has 32 bytes
+  pub tokens : (digest u : Text) → at A.tokens digest ≡ Some u → (length digest ≡ 32) × IsSome (at A.users u)
+  pub organisations : (o : Text) → IsSome (at A.organisations o) → IsOrganisation A o
+  pub roles : (o u : Text) → IsSome (at A.roles (o, u)) → IsSome (at A.organisations o) × IsSome (at A.users u)
+  pub teams : (o t : Text) → IsSome (at A.teams (o, t)) → IsSome (at A.organisations o) × IsTrue (is_ident t)
+  -- who is in a team is a member of its organisation
+  pub team_members : (o t u : Text) → IsSome (at A.team_members (o, (t, u))) → IsSome (at A.teams (o, t)) × IsSome (at A.roles (o, u))
+  pub grants : (o t p : Text) → IsSome (at A.grants (o, (t, p))) → IsGrant A o t p
+  pub statuses : (p : Text) → IsSome (at A.statuses p) → IsName p
+  pub maintainers : (p u : Text) → IsSome (at A.maintainers (p, u)) → IsSome (at A.statuses p) × IsSome (at A.users u)
+  pub unscoped : UnscopedArePublic A
+
+-- ---- all of it
+
 pub record IsKept (S : State) : Type 0 where
   pub live : (p v : Text) (release : Release) → at S.live (p, v) ≡ Some release → IsReleaseOf p v release
+  pub spent : (p v : Text) (withdrawal : Withdrawal) → at S.spent (p, v) ≡ Some withdrawal → IsWithdrawalOf S p v withdrawal
   pub tags : (p t v : Text) → at S.tags (p, t) ≡ Some v → IsTagOf S p t v
   -- a package with a live version has a status and a tag `latest`
   pub status : (p v : Text) → IsTrue (is_live S p v) → IsSome (at S.access.statuses p)
   pub latest : (p v : Text) → IsTrue (is_live S p v) → IsSome (at S.tags (p, latest))
-  pub unscoped : UnscopedArePublic S.access
+  pub access : IsAccessKept S.access

@@ -4,6 +4,7 @@ pub mod Changes
 pub mod Effects
 pub mod Facts
 pub mod Kept
+pub mod Laws
 pub mod Operations
 pub mod Refusals
 pub mod Requests

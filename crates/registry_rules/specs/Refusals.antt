@@ -3,15 +3,16 @@ use Rattle.std.specs.Prelude.{ℕ, Bool, true, false, not, ◌&&◌, is_none, Op
 use Rattle.registry_names.specs.Texts.{Text, is}
 use Rattle.registry_names.specs.Versions.{text_of_version}
 use Rattle.registry_names.specs.declared.refusal.Refusal.{Refusal}
-use Rattle.registry_names.specs.declared.refusal.Refusal.TheVariants.{NoCaller, NotFound, Published, KeepsLatest, AlwaysPublic}
+use Rattle.registry_names.specs.declared.refusal.Refusal.TheVariants.{NoCaller, NotFound, Published, Spent, KeepsLatest, AlwaysPublic}
 use Rattle.registry_names.specs.declared.status.Status.{Status}
 use Rattle.registry_names.specs.declared.status.Status.TheVariants.{Public, Restricted}
-use Rattle.registry_access.specs.Scopes.{scope_of}
+use Rattle.registry_names.specs.Names.{scope_of}
 use Rattle.registry_access.specs.declared.caller.Caller.{Caller}
 use Rattle.registry_publish.specs.Form.{FormParts}
 use Rattle.registry_rules.specs.Actions.{version_of}
 use Rattle.registry_rules.specs.Callers.{caller_of}
-use Rattle.registry_rules.specs.State.{State, latest, is_live, has_live, stands}
+use Rattle.registry_rules.specs.State.{State, is_live, is_spent, has_live, stands}
+use Rattle.registry_names.specs.Tags.{latest}
 use Rattle.registry_rules.specs.declared.request.Action.{Action}
 use Rattle.registry_rules.specs.declared.request.Action.TheVariants.{Publish, TagSet, TagRemove, Packument, Archive, Tags}
 use Rattle.registry_rules.specs.declared.request.Request.{Request}
@@ -30,19 +31,21 @@ unless_there found = refuse (not found) NotFound None
 
 -- ---- what stands in the way of an action
 
--- a live version is never published again, and a package without a scope is never restricted
+-- A live version is never published again, and neither is one that was withdrawn; a package without a scope is never restricted
 abbrev pub publish_refusal : State → FormParts → Option Refusal
-publish_refusal S f = refuse (is_live S f.name (version_of f)) Published (refuse (is_restricted f.access && is_none (scope_of f.name)) AlwaysPublic None)
+publish_refusal S f = refuse (is_live S f.name (version_of f)) Published
+    (refuse (is_spent S f.name (version_of f)) Spent
+    (refuse (is_restricted f.access && is_none (scope_of f.name)) AlwaysPublic None))
 
 -- a tag that isn't there can't go, and `latest` never goes
-abbrev pub tag_remove_refusal : State → Text → Text → Option Refusal
-tag_remove_refusal S p t = refuse (not (stands S p t)) NotFound (refuse (is t latest) KeepsLatest None)
+abbrev pub tag_refusal : Bool → Text → Option Refusal
+tag_refusal there t = refuse (not there) NotFound (refuse (is t latest) KeepsLatest None)
 
 -- At this moment. A tag is set to a live version alone, and only such a one has an archive; a package without a live version has no packument and no tags
 abbrev pub state_refusal : State → ℕ → Action → Option Refusal
 state_refusal S now (Publish f) = publish_refusal S f
 state_refusal S now (TagSet p t v) = unless_there (is_live S p (text_of_version v))
-state_refusal S now (TagRemove p t) = tag_remove_refusal S p t
+state_refusal S now (TagRemove p t) = tag_refusal (stands S p t) t
 state_refusal S now (Packument p) = unless_there (has_live S p)
 state_refusal S now (Archive p v) = unless_there (is_live S p (text_of_version v))
 state_refusal S now (Tags p) = unless_there (has_live S p)

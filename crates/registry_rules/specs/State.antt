@@ -1,5 +1,5 @@
 -- What the registry holds: finite maps under names, and nothing of how they are kept.
-use Rattle.std.specs.Prelude.{ℕ, Bool, true, false, not, List, [], ◌∷◌, codes, is_some}
+use Rattle.std.specs.Prelude.{ℕ, Bool, true, false, not, List, [], ◌∷◌, is_some}
 use Rattle.registry_names.specs.Texts.{Text}
 use Rattle.registry_names.specs.Maps.{PairMap, empty, at, of}
 use Rattle.registry_access.specs.Access.{Access}
@@ -36,10 +36,6 @@ nothing = record { access = no_access; live = empty; spent = empty; tags = empty
 
 -- ---- what is asked of it
 
--- the tag that stands while a version lives
-abbrev pub latest : Text
-latest = codes "latest"
-
 abbrev pub is_empty : {X : Type 0} → List X → Bool
 is_empty [] = true
 is_empty (x ∷ xs) = false
@@ -47,6 +43,10 @@ is_empty (x ∷ xs) = false
 -- the version lives
 abbrev pub is_live : State → Text → Text → Bool
 is_live S p v = is_some (at S.live (p, v))
+
+-- the version was withdrawn
+abbrev pub is_spent : State → Text → Text → Bool
+is_spent S p v = is_some (at S.spent (p, v))
 
 -- a version of the package lives
 abbrev pub has_live : State → Text → Bool

@@ -24,7 +24,7 @@ pub enum Change<'a> {
         /// What is published.
         form: &'a PublishForm,
         /// When it is published.
-        at: Moment,
+        at: &'a Moment,
     },
     /// The tag names the version.
     PutTag {

@@ -49,6 +49,8 @@ pub struct PublishFacts {
     pub status: Option<Status>,
     /// Whether the version that is published lives already.
     pub version_lives: bool,
+    /// Whether the version was withdrawn.
+    pub version_spent: bool,
     /// Whether the tag stands under which it is published.
     pub tag_stands: bool,
     /// Whether the tag `latest` stands.

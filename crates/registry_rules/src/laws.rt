@@ -3,20 +3,43 @@
 
 ghost use Rattle.std.specs.Prelude.{◌≡◌, None};
 ghost use Rattle.registry_rules.specs.Kept.{IsKept};
+ghost use Rattle.registry_rules.specs.Laws.{PackagesStandApart, PublishesAddVersions, PublishesSetStatuses, PublishesSetTags, QueriesChangeNothing, RemovedTagsAreGone, SetTagsName};
 ghost use Rattle.registry_rules.specs.Refusals.{refusal};
 ghost use Rattle.registry_rules.specs.Requests.{ArePartsInForm, IsActionInForm, IsInForm};
 ghost use Rattle.registry_rules.specs.State.{State, nothing};
-ghost use Rattle.registry_rules.specs.Steps.{step};
+ghost use Rattle.registry_rules.specs.Effects.{step};
 ghost use Rattle.registry_rules.specs.declared.request.Request.{Request};
 
 use crate::request::{Action, Request};
 use registry_publish::PublishForm;
 
+/// A publish makes its version live, with its manifest, its archive and its moment; its tag names
+/// the version, and so does `latest` where none stood; and its package has a status. No other
+/// version, tag or status changes, and nothing else.
+pub fn publishes_say_what_they_make()
+    ensures versions { PublishesAddVersions }
+    ensures tags { PublishesSetTags }
+    ensures statuses { PublishesSetStatuses }
+{}
+
+/// A tag that is set names the version, and one that is removed is gone. Nothing else changes.
+pub fn tags_are_set_and_removed()
+    ensures set { SetTagsName }
+    ensures removed { RemovedTagsAreGone }
+{}
+
+/// A query changes nothing, and a command nothing of a package that it doesn't name.
+pub fn packages_stand_apart()
+    ensures queries { QueriesChangeNothing }
+    ensures packages { PackagesStandApart }
+{}
+
 /// What the registry holds is kept in form: nothing is, and each request in form that isn't turned
 /// away keeps it so.
 pub fn requests_keep_the_form()
     ensures nothing { IsKept nothing }
-    ensures step { (S : State) (r : Request) → IsInForm r → refusal S r ≡ None → IsKept S → IsKept (step S r) }
+    ensures step { (S : State) (r : Request) → IsInForm r → refusal S r ≡ None
+        → IsKept S → IsKept (step S r) }
 {}
 
 /// Each request is in form, as its parts say.

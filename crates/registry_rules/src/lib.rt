@@ -2,8 +2,8 @@
 //! answered, and the decision on a request from the facts that it rests on.
 //!
 //! A decision changes nothing itself. [`may_ask`] answers whether a request is turned away, and
-//! [`decide`] what one that isn't changes: the list of changes that make its step, which is empty
-//! for a query.
+//! [`decide`] what one that isn't changes: a list of changes, each of which says all that it does,
+//! and which is empty for a query.
 #![tactic(auto)]
 
 mod change;
@@ -15,8 +15,8 @@ mod reply;
 mod request;
 mod tags;
 
-pub use crate::change::{Change, Changes, SetTag};
+pub use crate::change::{Change, Changes};
 pub use crate::decision::{decide, may_ask};
-pub use crate::facts::{Facts, LiveVersion, PackageRows};
+pub use crate::facts::{About, Facts, PublishFacts};
 pub use crate::reply::Reply;
-pub use crate::request::{Action, Caller, Credential, Request};
+pub use crate::request::{Action, Credential, Request};

@@ -1,23 +1,32 @@
 //! The decision on a publish.
 
-ghost use Rattle.std.specs.Prelude.{◌≡◌, is_some, IfOk};
-ghost use Rattle.registry_access.specs.Scopes.{scope_of};
-ghost use Rattle.registry_rules.specs.Rows as from_rows;
-ghost use Rattle.registry_rules.specs.Steps as steps;
+ghost use Rattle.std.specs.Prelude.{◌≡◌, is_some, map, IfOk};
+ghost use Rattle.registry_names.specs.Names.{scope_of};
+ghost use Rattle.registry_rules.specs.Changes.{change_of};
+ghost use Rattle.registry_rules.specs.Effects as effects;
+ghost use Rattle.registry_rules.specs.Effects.{publication};
+ghost use Rattle.registry_rules.specs.Facts.{ArePublishFacts};
+ghost use Rattle.registry_rules.specs.Refusals as spec;
+ghost use Rattle.registry_rules.specs.State.{State};
 
-use crate::change::{Change, Changes, LATEST, SetTag};
-use crate::facts::PackageRows;
-use registry_names::{Name, Refusal, Status};
+use crate::change::{Change, Changes};
+use crate::facts::PublishFacts;
+use crate::tags::is_latest;
+use registry_names::{LATEST, Moment, Name, Refusal, Status};
 use registry_publish::PublishForm;
 use std::alloc::{AllocError, Global};
 
-/// Why the publish is turned away, if it is: a live version is never published again, and a
-/// package without a scope is never restricted.
-pub(crate) fn publish_refusal(rows: &PackageRows, form: &PublishForm) -> Option<Refusal>
-    ensures { result ≡ from_rows.publish_refusal rows.now form.now }
+/// Why the publish is turned away, if it is: a live version is never published again, and neither
+/// is one that was withdrawn; a package without a scope is never restricted.
+pub(crate) fn publish_refusal(facts: &PublishFacts, form: &PublishForm) -> Option<Refusal>
+    ensures { (S : State) → ArePublishFacts facts.now S form.now
+        → result ≡ spec.publish_refusal S form.now }
 {
-    if rows.has_version(form.version().text()) {
+    if facts.version_lives {
         return Some(Refusal::Published);
+    }
+    if facts.version_spent {
+        return Some(Refusal::Spent);
     }
     if form.access() == Some(Status::Restricted) && !has_scope(form.name()) {
         return Some(Refusal::AlwaysPublic);
@@ -27,30 +36,46 @@ pub(crate) fn publish_refusal(rows: &PackageRows, form: &PublishForm) -> Option<
 
 /// What a publish that isn't turned away changes. Its tag names the version, and so does `latest`
 /// where none stands.
-#[tactic(auto, unfolding(registry_names::specs::Texts::is))]
-pub(crate) fn publish_changes(
+pub(crate) fn publish_changes<'a>(
     alloc: Global,
-    rows: &PackageRows,
-    form: &PublishForm,
-) -> Result<Changes, AllocError>
-    ensures { IfOk result (λ changes. changes.items ≡ from_rows.publish_changes rows.now form.now) }
+    facts: &PublishFacts,
+    form: &'a PublishForm,
+    now: &'a Moment,
+) -> Result<Changes<'a>, AllocError>
+    ensures { IfOk result (λ changes. (S : State) → ArePublishFacts facts.now S form.now
+        → map change_of changes.items ≡ publication S now.now form.now) }
 {
+    let (package, version) = (form.name(), form.version());
     let mut changes = Vec::with_capacity(alloc, 4)?;
-    if let Some(status) = new_status(rows.status, form) {
-        changes.push(Change::PutStatus(status))?;
+    if let Some(status) = new_status(facts.status, form) {
+        changes.push(Change::PutStatus {
+            package,
+            status,
+            stands: facts.status.is_some(),
+        })?;
     }
-    changes.push(Change::AddVersion)?;
-    if !rows.has_tag(LATEST) && form.tag().text() != LATEST {
-        changes.push(Change::PutTag(SetTag::Latest))?;
+    changes.push(Change::AddVersion { form, at: now })?;
+    if !facts.latest_stands && !is_latest(form.tag()) {
+        changes.push(Change::PutTag {
+            package,
+            tag: LATEST,
+            version,
+            stands: false,
+        })?;
     }
-    changes.push(Change::PutTag(SetTag::Named))?;
+    changes.push(Change::PutTag {
+        package,
+        tag: form.tag().text(),
+        version,
+        stands: facts.tag_stands,
+    })?;
     Ok(changes)
 }
 
 // The status that a publish gives: the one that it asks for; else, for a first publication, what
 // the name's scope says; else none, and the old one stays.
 fn new_status(old: Option<Status>, form: &PublishForm) -> Option<Status>
-    ensures { result ≡ steps.new_status form.now.access old form.now.name }
+    ensures { result ≡ effects.new_status form.now.access old form.now.name }
 {
     match (form.access(), old) {
         (Some(status), _) => Some(status),
@@ -61,7 +86,7 @@ fn new_status(old: Option<Status>, form: &PublishForm) -> Option<Status>
 
 // A package of an organisation is its own until it says otherwise.
 fn first_status(name: &Name) -> Status
-    ensures { result ≡ steps.first_status name.now }
+    ensures { result ≡ effects.first_status name.now }
 {
     if has_scope(name) {
         Status::Restricted

@@ -9,22 +9,18 @@ use Rattle.registry_tables.specs.Fresh.{no_contents}
 
 pub contents_depend : DependsOn schema contents
 contents_depend old new (users, (tokens, (orgs, (members, (teams, (team_members, (packages, (grants, (owners, (versions, (spent, (tags, (needs, (meta, (need_ranges, none))))))))))))))) = λ i. record {
-  registry = record {
-    access = record {
-      users = map_of 0 nothing_in (users i);
-      tokens = tokens_in (tokens i);
-      organisations = map_of 0 nothing_in (orgs i);
-      roles = map_of 1 role_in (members i);
-      teams = map_of 1 nothing_in (teams i);
-      team_members = map_of 2 nothing_in (team_members i);
-      grants = map_of 2 level_in (grants i);
-      statuses = map_of 0 status_in (packages i);
-      maintainers = map_of 1 nothing_in (owners i);
-    };
-    live = map_of 1 release_in (versions i);
-    spent = map_of 1 withdrawal_in (spent i);
-    tags = map_of 1 named_in (tags i);
-  };
+  users = map_of 0 nothing_in (users i);
+  tokens = tokens_in (tokens i);
+  orgs = map_of 0 nothing_in (orgs i);
+  members = map_of 1 role_in (members i);
+  teams = map_of 1 nothing_in (teams i);
+  team_members = map_of 2 nothing_in (team_members i);
+  packages = map_of 0 status_in (packages i);
+  grants = map_of 2 level_in (grants i);
+  owners = map_of 1 nothing_in (owners i);
+  versions = map_of 1 release_in (versions i);
+  spent = map_of 1 withdrawal_in (spent i);
+  tags = map_of 1 named_in (tags i);
   needs = map_of 2 nothing_in (needs i);
   meta = map_of 0 number_named_in (meta i);
   need_ranges = map_of 3 nothing_in (need_ranges i);

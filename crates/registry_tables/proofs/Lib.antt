@@ -1,15 +1,8 @@
-pub mod CatalogFacts
 pub mod ContentsFacts
-pub mod CreationFacts
-pub mod FaultFacts
 pub mod FoundFacts
-pub mod HeldNeedFacts
 pub mod MappedFacts
-pub mod MetaFacts
 pub mod NeedFacts
-pub mod PackageFacts
-pub mod QuietFacts
 pub mod ReviseFacts
-pub mod SchemaFacts
+pub mod StatusFacts
 pub mod TagFacts
 pub mod VersionFacts

@@ -1,35 +1,32 @@
 -- What the statements on needs make and show.
-use Rattle.std.proofs.Common.{◌≡◌, ◌==◌, ℕ, List, [], ◌∷◌, ◌++◌, Bool, true, false, cond, not, Option, Some, None, is_some, take, get_or, length, ◌+◌, ◌<◌, Result, OnOk, refl, sym, ap, subst, ◌∙◌, codes}
+use Rattle.std.proofs.Common.{◌≡◌, ◌==◌, ℕ, List, [], ◌∷◌, ◌++◌, not, Bool, true, false, cond, Option, Some, None, is_some, take, get_or, length, ◌+◌, ◌<◌, Ok, refl, sym, ap, ◌∙◌, codes}
 use Rattle.std.proofs.lemmas.List.{take_more}
 use Rattle.std.proofs.lemmas.Iterator.Adapters.{option_map_id}
 use Rattle.sqlite.specs.declared.types.Value.TheVariants.{Null, Text as Stored}
-use Rattle.sqlite_value.specs.Order.{Row}
-use Rattle.sqlite_sql.specs.Term.{Term, lit, col}
-use Rattle.sqlite.specs.Source.TheVariants.{Values}
 use Rattle.sqlite.specs.Command.TheVariants.{Insert, Select}
+use Rattle.sqlite.specs.Source.TheVariants.{Values}
 use Rattle.sqlite.specs.Listing.{understood}
-use Rattle.sqlite.specs.declared.error.Error.{Error}
 use Rattle.sqlite.specs.State.{State as Shown, HasCleanDisk}
 use Rattle.sqlite_tied.specs.Compute.{everything}
+use Rattle.sqlite_value.specs.Order.{Row}
+use Rattle.sqlite_sql.specs.Term.{Term, lit, col}
 use Rattle.registry_names.specs.Texts.{Text}
+use Rattle.registry_rows.specs.Frames.{Wrote}
+use Rattle.registry_rows.specs.Ready.{Ready, Leaves, Reads, Queried}
+use Rattle.registry_tables.specs.Schema.{schema}
+use Rattle.registry_tables.specs.Contents.{contents}
+use Rattle.registry_tables.specs.Effects.{stored}
 use Rattle.registry_names.specs.Maps.{at, put}
 use Rattle.registry_names.proofs.KeyFacts.{same_true}
 use Rattle.registry_names.proofs.MapFacts.{at-put, same_map}
-use Rattle.registry_publish.specs.Form.{FormParts}
 use Rattle.registry_publish.specs.declared.need.Need.{Need}
-use Rattle.registry_rules.specs.Operations.{with_version}
-use Rattle.registry_rules.specs.Actions.{version_of}
-use Rattle.registry_rules.specs.Steps.{release_of}
-use Rattle.registry_rows.specs.TextKeys.{Texts, TextsMap, texts_are}
 use Rattle.registry_rows.specs.Statements.{Means, MeansQuery, scan, by_texts}
-use Rattle.registry_rows.specs.Ready.{Ready, Leaves, Reads, Executed, Queried}
+use Rattle.registry_rows.specs.TextKeys.{Texts, TextsMap, texts_are}
 use Rattle.registry_rows.proofs.TextKeyFacts.{texts_key}
 use Rattle.registry_rows.proofs.StatementFacts.{insert_puts}
 use Rattle.registry_rows.proofs.LookUpFacts.{select_finds}
-use Rattle.registry_tables.specs.Schema.{schema}
-use Rattle.registry_tables.specs.Contents.{Contents, contents, nothing_in, on_registry, on_need_ranges}
-use Rattle.registry_tables.specs.Needs.{need_key, with_need, with_needs, version_put}
-use Rattle.registry_tables.specs.Effects.{stored}
+use Rattle.registry_tables.specs.Contents.{Contents, nothing_in}
+use Rattle.registry_tables.specs.Needs.{need_key, with_need, with_needs}
 use Rattle.registry_tables.proofs.FoundFacts.{some_found}
 use Rattle.registry_tables.proofs.MappedFacts.{need_ranges_mapped}
 
@@ -45,9 +42,9 @@ put_means : Means schema put_text (Insert 14 (Values (lit Null ∷ put_cells) 5)
 unfolding understood everything
 put_means = (refl, (refl, refl))
 
-pub need_put : (p v : Text) (need : Need) (old new : Shown) (r : Result ℕ Error) → Ready schema old → Executed put_text (Stored p ∷ Stored v ∷ Stored need.target ∷ Stored need.range ∷ []) old new r → HasCleanDisk new
-    → OnOk r (Leaves schema contents (on_need_ranges (λ m. with_need m p v need) (stored old)) new)
-need_put p v need = insert_puts need_ranges_mapped put_text put_cells put_means (Stored p ∷ Stored v ∷ Stored need.target ∷ Stored need.range ∷ []) refl
+pub need_put : (p v : Text) (need : Need) (old new : Shown) → Ready schema old → Wrote put_text (Stored p ∷ Stored v ∷ Stored need.target ∷ Stored need.range ∷ []) old new → HasCleanDisk new
+    → Leaves schema contents (record (stored old) { need_ranges = with_need (stored old).need_ranges p v need }) new
+need_put p v need old new form call = insert_puts need_ranges_mapped put_text put_cells put_means (Stored p ∷ Stored v ∷ Stored need.target ∷ Stored need.range ∷ []) refl old new (Ok call.0) form call.1
 
 -- ---- SELECT
 
@@ -79,7 +76,7 @@ there_already m q there = same_map (texts_key 3) _ _ (λ k. at-put (texts_key 3)
     each k false t = refl
 
 -- a need that is there stands already
-pub stands_already : (p v : Text) (need : Need) (c : Contents) → is_some (at c.need_ranges (need_key p v need)) ≡ true → c ≡ on_need_ranges (λ m. with_need m p v need) c
+pub stands_already : (p v : Text) (need : Need) (c : Contents) → is_some (at c.need_ranges (need_key p v need)) ≡ true → c ≡ record c { need_ranges = with_need c.need_ranges p v need }
 stands_already p v need c there = λ i. record c { need_ranges = sym (there_already c.need_ranges (need_key p v need) there) i }
 
 with_needs-more : (p v : Text) (needs : List Need) (need : Need) (m : TextsMap 3 (Unit {0})) → with_needs m p v (needs ++ need ∷ []) ≡ with_need (with_needs m p v needs) p v need
@@ -87,14 +84,10 @@ with_needs-more p v [] need m = refl
 with_needs-more p v (first ∷ needs) need m = with_needs-more p v needs need (with_need m p v first)
 
 -- one more need of the list
-pub needs_next : (p v : Text) (needs : List Need) (i : ℕ) (need : Need) (first mid new : Contents) → i < length needs → need ≡ get_or needs i need → mid ≡ on_need_ranges (λ m. with_needs m p v (take i needs)) first
-    → new ≡ on_need_ranges (λ m. with_need m p v need) mid → new ≡ on_need_ranges (λ m. with_needs m p v (take (i + 1) needs)) first
+pub needs_next : (p v : Text) (needs : List Need) (i : ℕ) (need : Need) (first mid new : Contents) → i < length needs → need ≡ get_or needs i need → mid ≡ record first { need_ranges = with_needs first.need_ranges p v (take i needs) }
+    → new ≡ record mid { need_ranges = with_need mid.need_ranges p v need } → new ≡ record first { need_ranges = with_needs first.need_ranges p v (take (i + 1) needs) }
 needs_next p v needs i need first mid new within is_next so_far once =
     let more : take (i + 1) needs ≡ take i needs ++ need ∷ [] = take_more needs i need within ∙ ap (λ n. take i needs ++ n ∷ []) (sym is_next) in
-    once ∙ ap (on_need_ranges (λ m. with_need m p v need)) so_far
-    ∙ ap (λ m. on_need_ranges (λ _. m) first) (sym (ap (with_needs first.need_ranges p v) more ∙ with_needs-more p v (take i needs) need first.need_ranges))
+    once ∙ ap (λ (c : Contents). record c { need_ranges = with_need c.need_ranges p v need }) so_far
+    ∙ ap (λ m. record first { need_ranges = m }) (sym (ap (with_needs first.need_ranges p v) more ∙ with_needs-more p v (take i needs) need first.need_ranges))
 
--- the needs of a version after the version
-pub version_then_needs : (f : FormParts) (now : ℕ) (old mid new : Shown) (r : Result (Unit {0}) Error) → Leaves schema contents (on_registry (λ s. with_version s f.name (version_of f) (release_of f now)) (stored old)) mid
-    → OnOk r (Leaves schema contents (on_need_ranges (λ m. with_needs m f.name (version_of f) f.needs) (stored mid)) new) → OnOk r (Leaves schema contents (version_put f now (stored old)) new)
-version_then_needs f now old mid new r first second = subst (λ c. OnOk r (Leaves schema contents (on_need_ranges (λ m. with_needs m f.name (version_of f) f.needs) c) new)) first.holds second

@@ -1,27 +1,27 @@
 -- What the statements on versions make and show.
-use Rattle.std.proofs.Common.{◌≡◌, ℕ, List, [], ◌∷◌, map, pos, option_map, slice_get, Result, OnOk, refl, codes}
-use Rattle.sqlite.specs.declared.types.Value.TheVariants.{Null, Int, Blob, Text as Stored}
-use Rattle.sqlite_value.specs.Order.{Row}
-use Rattle.sqlite_sql.specs.Term.{Term, lit, col}
-use Rattle.sqlite.specs.Source.TheVariants.{Values}
+use Rattle.std.proofs.Common.{◌≡◌, ◌==◌, ℕ, List, [], ◌∷◌, pos, map, not, is_some, length, option_map, slice_get, Ok, refl, ap, ◌∙◌, codes}
+use Rattle.sqlite.specs.declared.types.Value.TheVariants.{Null, Int, Text as Stored, Blob}
 use Rattle.sqlite.specs.Command.TheVariants.{Insert, Select}
+use Rattle.sqlite.specs.Source.TheVariants.{Values}
 use Rattle.sqlite.specs.Listing.{understood}
-use Rattle.sqlite.specs.declared.error.Error.{Error}
 use Rattle.sqlite.specs.State.{State as Shown, HasCleanDisk}
 use Rattle.sqlite_tied.specs.Compute.{everything}
+use Rattle.sqlite_value.specs.Order.{Row}
+use Rattle.sqlite_sql.specs.Term.{Term, lit, col}
 use Rattle.registry_names.specs.Texts.{Text}
-use Rattle.registry_names.specs.Maps.{at, of, seen}
+use Rattle.registry_rows.specs.Frames.{Wrote}
+use Rattle.registry_rows.specs.Ready.{Ready, Leaves, Reads, Queried}
+use Rattle.registry_tables.specs.Schema.{schema}
+use Rattle.registry_tables.specs.Contents.{contents}
+use Rattle.registry_tables.specs.Effects.{stored}
+use Rattle.registry_names.specs.Maps.{at, of, put, seen}
 use Rattle.registry_rules.specs.State.{Release}
-use Rattle.registry_rules.specs.Operations.{with_version}
-use Rattle.registry_rules.specs.Standing.{sight}
+use Rattle.registry_rows.specs.Columns.{number_in}
 use Rattle.registry_rows.specs.Statements.{Means, MeansQuery, scan, by_texts, in_order}
-use Rattle.registry_rows.specs.Ready.{Ready, Leaves, Reads, Executed, Queried}
 use Rattle.registry_rows.proofs.StatementFacts.{insert_puts}
 use Rattle.registry_rows.proofs.LookUpFacts.{select_finds, select_lists, first_listed}
-use Rattle.registry_tables.specs.Schema.{schema}
-use Rattle.registry_tables.specs.Contents.{contents, on_registry}
-use Rattle.registry_tables.specs.Spelled.{text_spelled, bytes_spelled, live_spelled}
-use Rattle.registry_tables.specs.Effects.{stored, registry_in}
+use Rattle.registry_tables.specs.Spelled.{bytes_spelled, number_spelled, document, row_spelled}
+use Rattle.registry_tables.proofs.FoundFacts.{some_found, some_seen}
 use Rattle.registry_tables.proofs.MappedFacts.{versions_mapped}
 
 -- ---- INSERT
@@ -36,25 +36,25 @@ put_means : Means schema put_text (Insert 9 (Values (lit Null ∷ put_cells) 7))
 unfolding understood everything
 put_means = (refl, (refl, refl))
 
-pub version_inserted : (p v : Text) (published : ℕ) (manifest : Text) (archive : List ℕ) (old new : Shown) (r : Result ℕ Error) → Ready schema old
-    → Executed put_text (Stored p ∷ Stored v ∷ Int (pos published) ∷ Stored manifest ∷ Blob archive ∷ []) old new r → HasCleanDisk new
-    → OnOk r (Leaves schema contents (on_registry (λ s. with_version s p v (record { at = published; manifest = manifest; archive = archive; message = [] })) (stored old)) new)
-version_inserted p v published manifest archive = insert_puts versions_mapped put_text put_cells put_means (Stored p ∷ Stored v ∷ Int (pos published) ∷ Stored manifest ∷ Blob archive ∷ []) refl
+pub version_inserted : (p v : Text) (published : ℕ) (manifest : Text) (archive : List ℕ) (old new : Shown) → Ready schema old
+    → Wrote put_text (Stored p ∷ Stored v ∷ Int (pos published) ∷ Stored manifest ∷ Blob archive ∷ []) old new → HasCleanDisk new
+    → Leaves schema contents (record (stored old) { versions = put (stored old).versions (p, v) (record { at = published; manifest = manifest; archive = archive; message = [] }) }) new
+version_inserted p v published manifest archive old new form call = insert_puts versions_mapped put_text put_cells put_means (Stored p ∷ Stored v ∷ Int (pos published) ∷ Stored manifest ∷ Blob archive ∷ []) refl old new (Ok call.0) form call.1
 
 -- ---- SELECT by package and version
 
-abbrev manifest_text : List ℕ
-manifest_text = codes "SELECT manifest FROM versions WHERE package = ?1 AND version = ?2"
+abbrev find_text : List ℕ
+find_text = codes "SELECT published FROM versions WHERE package = ?1 AND version = ?2"
 
-manifest_means : MeansQuery schema manifest_text (Select (record { lets = []; body = scan 18 (by_texts 1 1 0) (col 1 4 ∷ []) [] }) (codes "manifest" ∷ []))
+find_means : MeansQuery schema find_text (Select (record { lets = []; body = scan 18 (by_texts 1 1 0) (col 1 3 ∷ []) [] }) (codes "published" ∷ []))
 unfolding understood everything
-manifest_means = ((refl, (refl, refl)), refl)
+find_means = ((refl, (refl, refl)), refl)
 
-pub manifest_found : (p v : Text) (old new : Shown) (rows : List Row) → Ready schema old → Queried manifest_text (Stored p ∷ Stored v ∷ []) old new rows → HasCleanDisk new
-    → Reads schema old new × (option_map text_spelled (slice_get rows 0) ≡ option_map (λ (r : Release). r.manifest) (at (registry_in old).live (p, v)))
-manifest_found p v old new rows form call clean =
-    let it = select_finds versions_mapped manifest_text (col 1 4 ∷ []) _ manifest_means (p, v) text_spelled (λ (r : Release). r.manifest) (λ id vs. refl) old new rows form call clean in
-    (it.0, first_listed text_spelled rows _ it.1)
+pub version_found : (p v : Text) (old new : Shown) (rows : List Row) → Ready schema old → Queried find_text (Stored p ∷ Stored v ∷ []) old new rows → HasCleanDisk new
+    → Reads schema old new × (not (length rows == 0) ≡ is_some (at (stored old).versions (p, v)))
+version_found p v old new rows form call clean =
+    let it = select_finds versions_mapped find_text (col 1 3 ∷ []) _ find_means (p, v) number_spelled (λ (r : Release). r.at) (λ id vs. refl) old new rows form call clean in
+    (it.0, some_found number_spelled rows _ it.1 ∙ some_seen (λ (r : Release). r.at) (at (stored old).versions (p, v)))
 
 abbrev archive_text : List ℕ
 archive_text = codes "SELECT archive FROM versions WHERE package = ?1 AND version = ?2"
@@ -64,7 +64,7 @@ unfolding understood everything
 archive_means = ((refl, (refl, refl)), refl)
 
 pub archive_found : (p v : Text) (old new : Shown) (rows : List Row) → Ready schema old → Queried archive_text (Stored p ∷ Stored v ∷ []) old new rows → HasCleanDisk new
-    → Reads schema old new × (option_map bytes_spelled (slice_get rows 0) ≡ option_map (λ (r : Release). r.archive) (at (registry_in old).live (p, v)))
+    → Reads schema old new × (option_map bytes_spelled (slice_get rows 0) ≡ option_map (λ (r : Release). r.archive) (at (stored old).versions (p, v)))
 archive_found p v old new rows form call clean =
     let it = select_finds versions_mapped archive_text (col 1 6 ∷ []) _ archive_means (p, v) bytes_spelled (λ (r : Release). r.archive) (λ id vs. refl) old new rows form call clean in
     (it.0, first_listed bytes_spelled rows _ it.1)
@@ -72,15 +72,15 @@ archive_found p v old new rows form call clean =
 -- ---- SELECT by package
 
 abbrev list_text : List ℕ
-list_text = codes "SELECT version, published, deprecated FROM versions WHERE package = ?1 ORDER BY version"
+list_text = codes "SELECT version, manifest, deprecated FROM versions WHERE package = ?1 ORDER BY version"
 
 abbrev list_columns : List Term
-list_columns = col 1 2 ∷ col 1 3 ∷ col 1 5 ∷ []
+list_columns = col 1 2 ∷ col 1 4 ∷ col 1 5 ∷ []
 
-list_means : MeansQuery schema list_text (Select (record { lets = []; body = scan 18 (by_texts 0 1 0) list_columns (in_order 0 2) }) (codes "version" ∷ codes "published" ∷ codes "deprecated" ∷ []))
+list_means : MeansQuery schema list_text (Select (record { lets = []; body = scan 18 (by_texts 0 1 0) list_columns (in_order 0 2) }) (codes "version" ∷ codes "manifest" ∷ codes "deprecated" ∷ []))
 unfolding understood everything
 list_means = ((refl, (refl, refl)), refl)
 
-pub live_listed : (p : Text) (old new : Shown) (rows : List Row) → Ready schema old → Queried list_text (Stored p ∷ []) old new rows → HasCleanDisk new
-    → Reads schema old new × (map live_spelled rows ≡ map (seen sight) (of (registry_in old).live p))
-live_listed p = select_lists versions_mapped list_text list_columns _ list_means p live_spelled sight (λ id vs. refl)
+pub versions_listed : (p : Text) (old new : Shown) (rows : List Row) → Ready schema old → Queried list_text (Stored p ∷ []) old new rows → HasCleanDisk new
+    → Reads schema old new × (map row_spelled rows ≡ map (seen document) (of (stored old).versions p))
+versions_listed p = select_lists versions_mapped list_text list_columns _ list_means p row_spelled document (λ id vs. refl)

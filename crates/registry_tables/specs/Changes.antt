@@ -1,44 +1,37 @@
--- What the changes that a caller asks for make of the registry's state, and of all that is stored.
-use Rattle.std.specs.Prelude.{ℕ, List, [], ◌∷◌, Option, Some, None, is_some, option_map, if◌then◌else◌}
+-- What a change makes of what is stored.
+use Rattle.std.specs.Prelude.{ℕ, Bool, List, [], ◌∷◌, is_some, if◌then◌else◌}
+use Rattle.std.specs.declared.cmp.Ordering.{Ordering}
 use Rattle.registry_names.specs.Texts.{Text}
-use Rattle.registry_names.specs.Maps.{at}
+use Rattle.registry_names.specs.Maps.{MapBy, at, put, erase}
 use Rattle.registry_names.specs.declared.status.Status.{Status}
 use Rattle.registry_publish.specs.Form.{FormParts}
-use Rattle.registry_rules.specs.State.{State}
-use Rattle.registry_rules.specs.Operations.{with_status, with_tag, without_tag}
 use Rattle.registry_rules.specs.Actions.{version_of}
-use Rattle.registry_tables.specs.Contents.{Contents, on_registry}
-use Rattle.registry_tables.specs.Needs.{version_put}
-use Rattle.registry_tables.specs.declared.packages.AccessChange.{AccessChange}
-use Rattle.registry_tables.specs.declared.packages.AccessChange.TheVariants.{PutStatus}
-use Rattle.registry_tables.specs.declared.tags.TagChange.{TagChange}
+use Rattle.registry_rules.specs.Changes.{Change, PutStatus, AddVersion, PutTag, DropTag, release_of}
+use Rattle.registry_tables.specs.Contents.{Contents}
+use Rattle.registry_tables.specs.Needs.{with_needs}
 
--- a change to who may do what
-abbrev pub access_changed : AccessChange → State → State
-access_changed (PutStatus name status) S = with_status S name.now status
+-- a key that is there has this value
+abbrev pub amended : {K X : Type 0} {cmp : K → K → Ordering} → MapBy cmp X → K → X → MapBy cmp X
+amended m k x = if is_some (at m k) then put m k x else m
 
--- a package that has a status has this one
-abbrev pub restated : State → Text → Status → State
-restated S p status = if is_some (at S.access.statuses p) then with_status S p status else S
+-- the row of a key: a new one, or what stands there already is amended
+abbrev pub with_row : {K X : Type 0} {cmp : K → K → Ordering} → MapBy cmp X → K → X → Bool → MapBy cmp X
+with_row m k x stands = if stands then amended m k x else put m k x
 
--- a tag that is there names this version
-abbrev pub moved : State → Text → Text → Text → State
-moved S p t v = if is_some (at S.tags (p, t)) then with_tag S p t v else S
+-- the version of a form, published at this moment, and its needs
+abbrev pub version_put : FormParts → ℕ → Contents → Contents
+version_put f now c = record c {
+  versions = put c.versions (f.name, version_of f) (release_of f now);
+  need_ranges = with_needs c.need_ranges f.name (version_of f) f.needs;
+}
 
--- the tag names this version, or is gone where there is none
-abbrev pub with_named : State → Text → Text → Option Text → State
-with_named S p t (Some v) = with_tag S p t v
-with_named S p t None = without_tag S p t
+abbrev pub stored_by : Change → Contents → Contents
+stored_by (PutStatus p status stands) c = record c { packages = with_row c.packages p status stands }
+stored_by (AddVersion f now) c = version_put f now c
+stored_by (PutTag p t v stands) c = record c { tags = with_row c.tags (p, t) v stands }
+stored_by (DropTag p t) c = record c { tags = erase c.tags (p, t) }
 
--- a change of a tag of a package
-abbrev pub retagged : Text → TagChange → State → State
-retagged p change S = with_named S p change.tag.now (option_map (λ v. v.now) change.version)
-
--- changes of tags of a package, made in their order
-abbrev pub tagged : Text → List TagChange → State → State
-tagged p [] S = S
-tagged p (change ∷ changes) S = tagged p changes (retagged p change S)
-
--- a first publication: the package has the status, the version lives with its needs, and the form's tag names it
-abbrev pub first_published : FormParts → Status → ℕ → Contents → Contents
-first_published f status now c = on_registry (λ S. with_tag S f.name f.tag (version_of f)) (version_put f now (on_registry (λ S. with_status S f.name status) c))
+-- changes, made in their order
+abbrev pub all_stored : List Change → Contents → Contents
+all_stored [] c = c
+all_stored (change ∷ changes) c = all_stored changes (stored_by change c)

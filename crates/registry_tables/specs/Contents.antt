@@ -1,9 +1,9 @@
--- What the rows of the tables say, and of that the registry's state. Where a row had a value of another type, it would say nothing there, 0 or the empty text.
+-- What the rows of the tables say, and the registry's state that follows from it. Where a row had a value of another type, it would say nothing there, 0 or the empty text.
 use Rattle.std.specs.Prelude.{◌==◌, ℕ, List, map, drop, if◌then◌else◌}
 use Rattle.sqlite_value.specs.Order.{Row, column}
 use Rattle.sqlite_trees.specs.Tree.{Trees}
 use Rattle.registry_names.specs.Texts.{Text, text_cmp}
-use Rattle.registry_names.specs.Maps.{TextMap, TripleMap, rows}
+use Rattle.registry_names.specs.Maps.{TextMap, PairMap, TripleMap, rows}
 use Rattle.registry_names.specs.declared.status.Status.{Status}
 use Rattle.registry_names.specs.declared.status.Status.TheVariants.{Public, Restricted}
 use Rattle.registry_access.specs.Access.{Access}
@@ -59,30 +59,29 @@ number_named_in vs = number_in (column vs 1)
 abbrev pub tokens_in : List Row → TextMap Text
 tokens_in rs = rows text_cmp (map (λ r. (blob_in (column (drop 1 r) 0), text_in (column (drop 1 r) 1))) rs)
 
-abbrev pub access_in : Trees → Access
-access_in db = record {
-  users = map_of 0 nothing_in (db table.users.tree);
-  tokens = tokens_in (db table.tokens.tree);
-  organisations = map_of 0 nothing_in (db table.orgs.tree);
-  roles = map_of 1 role_in (db table.members.tree);
-  teams = map_of 1 nothing_in (db table.teams.tree);
-  team_members = map_of 2 nothing_in (db table.team_members.tree);
-  grants = map_of 2 level_in (db table.grants.tree);
-  statuses = map_of 0 status_in (db table.packages.tree);
-  maintainers = map_of 1 nothing_in (db table.owners.tree);
-}
-
-abbrev pub state_in : Trees → State
-state_in db = record {
-  access = access_in db;
-  live = map_of 1 release_in (db table.versions.tree);
-  spent = map_of 1 withdrawal_in (db table.spent.tree);
-  tags = map_of 1 named_in (db table.tags.tree);
-}
-
--- all that is stored
+-- all that is stored: one map a table
 pub record Contents : Type 0 where
-  pub registry : State
+  pub users : TextMap (Unit {0})
+  -- the user of a token, under the bytes of its digest
+  pub tokens : TextMap Text
+  pub orgs : TextMap (Unit {0})
+  -- organisation and user
+  pub members : PairMap Role
+  -- organisation and team
+  pub teams : PairMap (Unit {0})
+  -- organisation, team and user
+  pub team_members : TripleMap (Unit {0})
+  pub packages : TextMap Status
+  -- organisation, team and package
+  pub grants : TripleMap Level
+  -- package and user
+  pub owners : PairMap (Unit {0})
+  -- package and version
+  pub versions : PairMap Release
+  -- package and version
+  pub spent : PairMap Withdrawal
+  -- the version that a tag names, under package and tag
+  pub tags : PairMap Text
   -- package, version and target. No call puts one: `need_ranges` has the ranges too
   pub needs : TripleMap (Unit {0})
   -- the number of the schema, under `schema`
@@ -92,16 +91,37 @@ pub record Contents : Type 0 where
 
 abbrev pub contents : Trees → Contents
 contents db = record {
-  registry = state_in db;
+  users = map_of 0 nothing_in (db table.users.tree);
+  tokens = tokens_in (db table.tokens.tree);
+  orgs = map_of 0 nothing_in (db table.orgs.tree);
+  members = map_of 1 role_in (db table.members.tree);
+  teams = map_of 1 nothing_in (db table.teams.tree);
+  team_members = map_of 2 nothing_in (db table.team_members.tree);
+  packages = map_of 0 status_in (db table.packages.tree);
+  grants = map_of 2 level_in (db table.grants.tree);
+  owners = map_of 1 nothing_in (db table.owners.tree);
+  versions = map_of 1 release_in (db table.versions.tree);
+  spent = map_of 1 withdrawal_in (db table.spent.tree);
+  tags = map_of 1 named_in (db table.tags.tree);
   needs = map_of 2 nothing_in (db table.needs.tree);
   meta = map_of 0 number_named_in (db table.meta.tree);
   need_ranges = map_of 3 nothing_in (db table.need_ranges.tree);
 }
 
--- the registry's state is changed by f, and nothing else
-abbrev pub on_registry : (State → State) → Contents → Contents
-on_registry f c = record c { registry = f c.registry }
+-- ---- the registry's state, of what is stored
 
--- the needs that are stored are changed by f, and nothing else
-abbrev pub on_need_ranges : (TextsMap 3 (Unit {0}) → TextsMap 3 (Unit {0})) → Contents → Contents
-on_need_ranges f c = record c { need_ranges = f c.need_ranges }
+abbrev pub access_of : Contents → Access
+access_of c = record {
+  users = c.users;
+  tokens = c.tokens;
+  organisations = c.orgs;
+  roles = c.members;
+  teams = c.teams;
+  team_members = c.team_members;
+  grants = c.grants;
+  statuses = c.packages;
+  maintainers = c.owners;
+}
+
+abbrev pub registry_of : Contents → State
+registry_of c = record { access = access_of c; live = c.versions; spent = c.spent; tags = c.tags }

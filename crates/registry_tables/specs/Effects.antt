@@ -1,13 +1,14 @@
--- What a call inside a transaction finds and leaves. `old` and `new` are the connection at its entry and at its exit.
+-- What a call inside a transaction finds, makes and tells. `old` and `new` are the transaction at its entry and at its exit.
 use Rattle.std.specs.Prelude.{Result, IfOk, IsTrue, OnOk}
-use Rattle.sqlite.specs.Held.{Held, state}
-use Rattle.sqlite.specs.State.{State as Shown, HasCleanDisk, KeepsCommit, Survives}
+use Rattle.sqlite.specs.Held.{state}
+use Rattle.sqlite.specs.State.{State as Shown, HasCleanDisk}
+use Rattle.sqlite.specs.declared.transaction.Transaction.{Transaction}
 use Rattle.sqlite_trees.specs.declared.store.Store.{Ghosts}
 use Rattle.registry_rules.specs.State.{State}
 use Rattle.registry_rows.specs.Ready.{Ready, Leaves, Reads}
 use Rattle.registry_rows.specs.Tables.{no_tables}
 use Rattle.registry_tables.specs.Schema.{schema}
-use Rattle.registry_tables.specs.Contents.{Contents, contents, on_registry}
+use Rattle.registry_tables.specs.Contents.{Contents, contents, registry_of}
 
 -- all that a connection sees in the tables
 abbrev pub stored : Shown → Contents
@@ -15,50 +16,34 @@ stored s = contents s.now.trees
 
 -- the state of the registry that it sees
 abbrev pub registry_in : Shown → State
-registry_in s = (stored s).registry
+registry_in s = registry_of (stored s)
 
 module _ {S : Type 0} (store : Ghosts S) where
+  -- what the transaction's connection shows
+  abbrev pub shown : Transaction S → Shown
+  shown tx = state store tx.conn.now
+
+  -- what the transaction sees in the tables
+  abbrev pub stored_in : Transaction S → Contents
+  stored_in tx = stored (shown tx)
+
   -- the tables are in form: the schema is ours, the database obeys it, and rowids rise. That is so as long as the disk is clean and the connection open
-  abbrev pub InForm : Held S → Type 0
-  InForm h = Ready schema (state store h)
+  abbrev pub InForm : Transaction S → Type 0
+  InForm tx = Ready schema (shown tx)
 
   -- the database has no table yet, as long as the disk is clean and the connection open
-  abbrev pub HasNoTables : Held S → Type 0
-  HasNoTables h = Ready no_tables (state store h)
-
-  -- the transaction wasn't ended
-  abbrev pub GoesOn : Held S → Type 0
-  GoesOn h = IsTrue (state store h).in_transaction
+  abbrev pub HasNoTables : Transaction S → Type 0
+  HasNoTables tx = Ready no_tables (shown tx)
 
   -- a statement has run in the transaction: it goes on, and the tables are in form, as long as the disk is clean
-  abbrev pub IsUnderWay : Held S → Type 0
-  IsUnderWay h = HasCleanDisk (state store h) → Leaves schema contents (stored (state store h)) (state store h)
+  abbrev pub IsUnderWay : Transaction S → Type 0
+  IsUnderWay tx = HasCleanDisk (shown tx) → Leaves schema contents (stored_in tx) (shown tx)
 
-  module _ {R E : Type 0} (old new : Held S) (result : Result R E) where
-    -- what is stored is changed by f; the tables are in form, and the transaction goes on
-    abbrev pub Stores : (Contents → Contents) → Type 0
-    Stores f = HasCleanDisk (state store new) → OnOk result (Leaves schema contents (f (stored (state store old))) (state store new))
+  module _ {R E : Type 0} (old new : Transaction S) (result : Result R E) where
+    -- an answer leaves what is stored changed by f, the tables in form, and the transaction going on
+    abbrev pub Makes : (Contents → Contents) → Type 0
+    Makes f = HasCleanDisk (shown new) → OnOk result (Leaves schema contents (f (stored_in old)) (shown new))
 
-    -- the same, where f changes the registry's state and no other row
-    abbrev pub Makes : (State → State) → Type 0
-    Makes f = Stores (on_registry f)
-
-    -- the answer is told by what is stored
+    -- an answer is told by what is stored, and leaves everything as it was
     abbrev pub Tells : (R → Contents → Type 0) → Type 0
-    Tells is_told = HasCleanDisk (state store new) → IfOk result (λ answer. is_told answer (stored (state store old)))
-
-    -- an answer leaves everything as it was
-    abbrev pub LeavesAll : Type 0
-    LeavesAll = HasCleanDisk (state store new) → OnOk result (Reads schema (state store old) (state store new))
-
-    -- an answer leaves a database without tables as it was
-    abbrev pub LeavesNone : Type 0
-    LeavesNone = HasCleanDisk (state store new) → OnOk result (Reads no_tables (state store old) (state store new))
-
-  -- whatever the answer, what was committed stays so
-  abbrev pub KeepsCommitted : Held S → Held S → Type 0
-  KeepsCommitted old new = HasCleanDisk (state store new) → KeepsCommit (state store old) (state store new)
-
-  -- a crash leaves only what it could have left at the entry
-  abbrev pub AddsNoCrash : Held S → Held S → Type 0
-  AddsNoCrash old new = Survives (state store old) (state store new) (λ _. ⊥)
+    Tells is_told = HasCleanDisk (shown new) → IfOk result (λ answer. Reads schema (shown old) (shown new) × is_told answer (stored_in old))

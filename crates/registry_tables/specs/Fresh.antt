@@ -2,15 +2,15 @@
 use Rattle.std.specs.Prelude.{ℕ, [], map, take, codes}
 use Rattle.sqlite_schema.specs.declared.schema.Schema.{Schema}
 use Rattle.sqlite_trees.specs.declared.store.Store.{Ghosts}
-use Rattle.sqlite.specs.Held.{Held, state}
 use Rattle.sqlite.specs.State.{HasCleanDisk}
+use Rattle.sqlite.specs.declared.transaction.Transaction.{Transaction}
 use Rattle.registry_names.specs.Texts.{Text}
 use Rattle.registry_names.specs.Maps.{empty, put}
-use Rattle.registry_rules.specs.State.{nothing}
 use Rattle.registry_rows.specs.Tables.{key_index}
 use Rattle.registry_rows.specs.Ready.{Blank}
 use Rattle.registry_tables.specs.Schema.{tables}
 use Rattle.registry_tables.specs.Contents.{Contents}
+use Rattle.registry_tables.specs.Effects.{shown}
 
 -- a schema of the first so many of the tables
 abbrev pub first_tables : ℕ → Schema
@@ -28,12 +28,12 @@ with_number c n = record c { meta = put c.meta schema_key n }
 
 -- what no rows say
 abbrev pub no_contents : Contents
-no_contents = record { registry = nothing; needs = empty; meta = empty; need_ranges = empty }
+no_contents = record { users = empty; tokens = empty; orgs = empty; members = empty; teams = empty; team_members = empty; packages = empty; grants = empty; owners = empty; versions = empty; spent = empty; tags = empty; needs = empty; meta = empty; need_ranges = empty }
 
 -- a registry of which nothing was asked yet
 abbrev pub fresh : Contents
 fresh = with_number no_contents schema_number
 
 -- the first so many tables are there and empty, and the transaction goes on, as long as the disk is clean
-abbrev pub HasMade : {S : Type 0} → Ghosts S → ℕ → Held S → Type 0
-HasMade store n h = HasCleanDisk (state store h) → Blank (first_tables n) (state store h)
+abbrev pub HasMade : {S : Type 0} → Ghosts S → ℕ → Transaction S → Type 0
+HasMade store n tx = HasCleanDisk (shown store tx) → Blank (first_tables n) (shown store tx)

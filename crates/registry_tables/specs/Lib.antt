@@ -2,7 +2,6 @@ pub mod Changes
 pub mod Contents
 pub mod Creation
 pub mod Effects
-pub mod Faults
 pub mod Fresh
 pub mod Needs
 pub mod Schema

@@ -2,14 +2,10 @@
 use Rattle.std.specs.Prelude.{◌≡◌, ℕ, Bool, false, ◌&&◌, List, [], ◌∷◌, Option, Some, None, is_some, option_and_then}
 use Rattle.std.specs.List.{list_any}
 use Rattle.registry_names.specs.Texts.{Text, is}
-use Rattle.registry_names.specs.Maps.{at, put}
-use Rattle.registry_publish.specs.Form.{FormParts}
+use Rattle.registry_names.specs.Maps.{PairMap, at, put}
 use Rattle.registry_publish.specs.Needs.{needs_of}
 use Rattle.registry_publish.specs.declared.need.Need.{Need}
-use Rattle.registry_rules.specs.State.{State}
-use Rattle.registry_rules.specs.Operations.{with_version}
-use Rattle.registry_rules.specs.Actions.{version_of}
-use Rattle.registry_rules.specs.Steps.{release_of}
+use Rattle.registry_rules.specs.State.{Release}
 use Rattle.registry_rows.specs.TextKeys.{Texts, TextsMap}
 use Rattle.registry_tables.specs.Contents.{Contents}
 
@@ -28,10 +24,6 @@ abbrev pub with_needs : TextsMap 3 (Unit {0}) → Text → Text → List Need �
 with_needs m p v [] = m
 with_needs m p v (need ∷ needs) = with_needs (with_need m p v need) p v needs
 
--- the version of a form, published at this moment, lives, and its needs stand
-abbrev pub version_put : FormParts → ℕ → Contents → Contents
-version_put f now c = record c { registry = with_version c.registry f.name (version_of f) (release_of f now); need_ranges = with_needs c.need_ranges f.name (version_of f) f.needs }
-
 -- ---- whose they are
 
 -- one of the needs is the target with this range
@@ -43,9 +35,9 @@ names_if_any target range None = false
 names_if_any target range (Some needs) = names_range target range needs
 
 -- the manifest of the live version names the target with this range. False where the version doesn't live
-abbrev pub is_needed : State → Text → Text → Text → Text → Bool
-is_needed S p v target range = names_if_any target range (option_and_then (λ release. needs_of release.manifest) (at S.live (p, v)))
+abbrev pub is_needed : PairMap Release → Text → Text → Text → Text → Bool
+is_needed live p v target range = names_if_any target range (option_and_then (λ release. needs_of release.manifest) (at live (p, v)))
 
 -- the needs that are stored are exactly those of live manifests
 pub record HoldsNeeds (c : Contents) : Type 0 where
-  pub stored : (p v target range : Text) → is_some (at c.need_ranges (p, (v, (target, range)))) ≡ is_needed c.registry p v target range
+  pub stored : (p v target range : Text) → is_some (at c.need_ranges (p, (v, (target, range)))) ≡ is_needed c.versions p v target range

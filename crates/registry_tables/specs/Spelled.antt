@@ -2,14 +2,13 @@
 use Rattle.std.specs.Prelude.{ℕ, List}
 use Rattle.sqlite_value.specs.Order.{Row, column}
 use Rattle.registry_names.specs.Texts.{Text}
+use Rattle.registry_names.specs.declared.dist_tag.DistTag.{DistTag}
 use Rattle.registry_names.specs.declared.status.Status.{Status}
 use Rattle.registry_names.specs.declared.status.Status.TheVariants.{Public, Restricted}
+use Rattle.registry_packument.specs.declared.packument.VersionRow.{VersionRow}
+use Rattle.registry_rules.specs.State.{Release}
 use Rattle.registry_rows.specs.Columns.{text_in, number_in, blob_in}
 use Rattle.registry_tables.specs.Contents.{status_of}
-
--- a text alone
-abbrev pub text_spelled : Row → Text
-text_spelled r = text_in (column r 0)
 
 -- bytes alone
 abbrev pub bytes_spelled : Row → List ℕ
@@ -28,6 +27,24 @@ status_spelled r = status_of (number_in (column r 0))
 abbrev pub tag_spelled : Row → Text × Text
 tag_spelled r = (text_in (column r 0), text_in (column r 1))
 
--- a version, its moment and its message
-abbrev pub live_spelled : Row → Text × (ℕ × Text)
-live_spelled r = (text_in (column r 0), (number_in (column r 1), text_in (column r 2)))
+abbrev pub tag_entry : DistTag → Text × Text
+tag_entry t = (t.tag, t.version)
+
+-- a version, its manifest and its message
+abbrev pub row_spelled : Row → Text × (Text × Text)
+row_spelled r = (text_in (column r 0), (text_in (column r 1), text_in (column r 2)))
+
+abbrev pub row_entry : VersionRow → Text × (Text × Text)
+row_entry v = (v.version, (v.manifest, v.message))
+
+-- of a live version, its manifest and its message
+abbrev pub document : Release → Text × Text
+document r = (r.manifest, r.message)
+
+-- a version that a tag names, alone
+abbrev pub named_spelled : Row → Text
+named_spelled r = text_in (column r 0)
+
+-- a number alone
+abbrev pub number_spelled : Row → ℕ
+number_spelled r = number_in (column r 0)

@@ -2,27 +2,27 @@
 
 ghost use Rattle.std.specs.Prelude.{◌≡◌, is_some};
 ghost use Rattle.registry_names.specs.Maps.{at};
-ghost use Rattle.registry_tables.specs.Contents.{on_need_ranges};
+ghost use Rattle.registry_rows.specs.Frames.{Stays};
 ghost use Rattle.registry_tables.specs.Needs.{need_key, with_need, with_needs};
-ghost use Rattle.registry_tables.specs.Effects.{InForm, IsUnderWay, Stores, Tells, LeavesAll, KeepsCommitted, AddsNoCrash};
+ghost use Rattle.registry_tables.specs.Effects.{InForm, IsUnderWay, Makes, Tells};
 
+use registry_names::Fault;
 use registry_publish::Need;
-use sqlite::{Alter, Error, Transaction, params};
+use registry_rows::{read, write};
+use sqlite::{Alter, Transaction, params};
 
 /// Puts what a version depends on. A pair of a target and a range that is named twice is put once.
 ///
-/// A version that doesn't live is an error, but where nothing is listed.
+/// A version that doesn't live is a fault, but where nothing is listed.
 pub(crate) fn put_needs<S: Alter>(
     tx: &mut Transaction<'_, S>,
     name: &str,
     version: &str,
     needs: &[Need],
-) -> Result<(), Error>
-    requires under_way { IsUnderWay S.Store tx.old.conn.now }
-    ensures same_reference { tx.new.conn.ghost_name ≡ tx.old.conn.ghost_name }
-    ensures stores { Stores S.Store tx.old.conn.now tx.new.conn.now result (on_need_ranges (λ m. with_needs m name.now version.now needs.now)) }
-    ensures committed { KeepsCommitted S.Store tx.old.conn.now tx.new.conn.now }
-    ensures survives { AddsNoCrash S.Store tx.old.conn.now tx.new.conn.now }
+) -> Result<(), Fault>
+    requires under_way { IsUnderWay S.Store tx.old }
+    ensures stays { Stays S.Store tx.old tx.new }
+    ensures makes { Makes S.Store tx.old tx.new result (λ c. record c { need_ranges = with_needs c.need_ranges name.now version.now needs.now }) }
 {
     for need in needs {
         put_need(tx, name, version, need)?;
@@ -35,12 +35,10 @@ fn put_need<S: Alter>(
     name: &str,
     version: &str,
     need: &Need,
-) -> Result<(), Error>
-    requires under_way { IsUnderWay S.Store tx.old.conn.now }
-    ensures same_reference { tx.new.conn.ghost_name ≡ tx.old.conn.ghost_name }
-    ensures stores { Stores S.Store tx.old.conn.now tx.new.conn.now result (on_need_ranges (λ m. with_need m name.now version.now need.now)) }
-    ensures committed { KeepsCommitted S.Store tx.old.conn.now tx.new.conn.now }
-    ensures survives { AddsNoCrash S.Store tx.old.conn.now tx.new.conn.now }
+) -> Result<(), Fault>
+    requires under_way { IsUnderWay S.Store tx.old }
+    ensures stays { Stays S.Store tx.old tx.new }
+    ensures makes { Makes S.Store tx.old tx.new result (λ c. record c { need_ranges = with_need c.need_ranges name.now version.now need.now }) }
 {
     if has_need(tx, name, version, need)? {
         return Ok(());
@@ -53,18 +51,16 @@ fn insert_need<S: Alter>(
     name: &str,
     version: &str,
     need: &Need,
-) -> Result<(), Error>
-    requires in_form { InForm S.Store tx.old.conn.now }
-    ensures same_reference { tx.new.conn.ghost_name ≡ tx.old.conn.ghost_name }
-    ensures stores { Stores S.Store tx.old.conn.now tx.new.conn.now result (on_need_ranges (λ m. with_need m name.now version.now need.now)) }
-    ensures committed { KeepsCommitted S.Store tx.old.conn.now tx.new.conn.now }
-    ensures survives { AddsNoCrash S.Store tx.old.conn.now tx.new.conn.now }
+) -> Result<(), Fault>
+    requires in_form { InForm S.Store tx.old }
+    ensures stays { Stays S.Store tx.old tx.new }
+    ensures makes { Makes S.Store tx.old tx.new result (λ c. record c { need_ranges = with_need c.need_ranges name.now version.now need.now }) }
 {
-    tx.execute(
+    write(
+        tx,
         "INSERT INTO need_ranges VALUES (?1, ?2, ?3, ?4)",
         params![name, version, need.target.as_str(), need.range.as_str()],
-    )?;
-    Ok(())
+    )
 }
 
 // Whether the version has this need.
@@ -73,15 +69,13 @@ fn has_need<S: Alter>(
     name: &str,
     version: &str,
     need: &Need,
-) -> Result<bool, Error>
-    requires in_form { InForm S.Store tx.old.conn.now }
-    ensures same_reference { tx.new.conn.ghost_name ≡ tx.old.conn.ghost_name }
-    ensures tells { Tells S.Store tx.old.conn.now tx.new.conn.now result (λ has c. has ≡ is_some (at c.need_ranges (need_key name.now version.now need.now))) }
-    ensures leaves { LeavesAll S.Store tx.old.conn.now tx.new.conn.now result }
-    ensures committed { KeepsCommitted S.Store tx.old.conn.now tx.new.conn.now }
-    ensures survives { AddsNoCrash S.Store tx.old.conn.now tx.new.conn.now }
+) -> Result<bool, Fault>
+    requires in_form { InForm S.Store tx.old }
+    ensures stays { Stays S.Store tx.old tx.new }
+    ensures tells { Tells S.Store tx.old tx.new result (λ has c. has ≡ is_some (at c.need_ranges (need_key name.now version.now need.now))) }
 {
-    let rows = tx.query_all(
+    let rows = read(
+        tx,
         "SELECT target FROM need_ranges WHERE package = ?1 AND version = ?2 AND target = ?3 AND range = ?4",
         params![name, version, need.target.as_str(), need.range.as_str()],
     )?;

@@ -1,7 +1,7 @@
 //! The rows of the registry of these tests, and the standings in it.
 
 use registry_access::{
-    AccessRows, GrantRow, Level, MaintainerRow, MemberRow, PackageRow, Role, Standing,
+    AccessRows, Grant, GrantRow, MaintainerRow, MemberRow, PackageRow, Role, Standing,
     TeamMemberRow,
 };
 use registry_names::{Status, Text};
@@ -15,8 +15,8 @@ enum Fact {
     Member(&'static str, &'static str, Role),
     /// A user is in a team of an organisation.
     TeamMember(&'static str, &'static str, &'static str),
-    /// A team of `lab` is granted a level on a package.
-    Grant(&'static str, &'static str, Level),
+    /// A team of `lab` is granted something on a package.
+    Granted(&'static str, &'static str, Grant),
     /// A package was published.
     Package(&'static str, Status),
     /// A user maintains a package.
@@ -34,10 +34,10 @@ static FACTS: [Fact; 18] = [
     Fact::TeamMember("inc", "ops", "eve"),
     Fact::TeamMember("lab", "developers", "bob"),
     Fact::TeamMember("lab", "ops", "bob"),
-    Fact::Grant("developers", "@lab/app", Level::Read),
-    Fact::Grant("developers", "@lab/kit", Level::Write),
-    Fact::Grant("ops", "@lab/app", Level::Write),
-    Fact::Grant("ops", "@lab/kit", Level::Read),
+    Fact::Granted("developers", "@lab/app", Grant::ReadOnly),
+    Fact::Granted("developers", "@lab/kit", Grant::ReadWrite),
+    Fact::Granted("ops", "@lab/app", Grant::ReadWrite),
+    Fact::Granted("ops", "@lab/kit", Grant::ReadOnly),
     Fact::Package("@lab/app", Status::Public),
     Fact::Package("@lab/kit", Status::Restricted),
     Fact::Package("tool", Status::Public),
@@ -88,13 +88,13 @@ fn add_grant(
     rows: &mut Vec<GrantRow>,
     team: &str,
     package: &str,
-    level: Level,
+    grant: Grant,
 ) -> Result<(), AllocError> {
     rows.push(GrantRow {
         organisation: Text::from_str(alloc, "lab")?,
         team: Text::from_str(alloc, team)?,
         package: Text::from_str(alloc, package)?,
-        level,
+        grant,
     })?;
     Ok(())
 }
@@ -134,8 +134,8 @@ fn add(alloc: Global, rows: &mut AccessRows, fact: &Fact) -> Result<(), AllocErr
         Fact::TeamMember(organisation, team, user) => {
             add_team_member(alloc, &mut rows.team_members, organisation, team, user)
         }
-        Fact::Grant(team, package, level) => {
-            add_grant(alloc, &mut rows.grants, team, package, level)
+        Fact::Granted(team, package, grant) => {
+            add_grant(alloc, &mut rows.grants, team, package, grant)
         }
         Fact::Package(package, status) => add_package(alloc, &mut rows.packages, package, status),
         Fact::Maintainer(package, user) => {
@@ -189,10 +189,10 @@ fn status_of(package: &str) -> Option<Status> {
     }
 }
 
-fn grants_to(alloc: Global, who: &str, package: &str) -> Result<Vec<Level>, AllocError> {
+fn grants_to(alloc: Global, who: &str, package: &str) -> Result<Vec<Grant>, AllocError> {
     match (who, package) {
-        ("bob", "@lab/kit") => Vec::from_slice(alloc, &[Level::Write, Level::Read]),
-        ("bob", "@lab/app") => Vec::from_slice(alloc, &[Level::Read, Level::Write]),
+        ("bob", "@lab/kit") => Vec::from_slice(alloc, &[Grant::ReadWrite, Grant::ReadOnly]),
+        ("bob", "@lab/app") => Vec::from_slice(alloc, &[Grant::ReadOnly, Grant::ReadWrite]),
         _ => Ok(Vec::new(alloc)),
     }
 }

@@ -1,21 +1,14 @@
-use Rattle.std.proofs.Common.{◌==◌, ap, not, ◌∙◌}
-use Rattle.sqlite.specs.Held.{state}
-use Rattle.registry_rows.proofs.QueryFacts.{failed_keeps}
+use Rattle.std.proofs.Common.{◌==◌, ◌∙◌, ap, not}
+use Rattle.registry_rows.proofs.QuietFacts.{read_stays}
+use Rattle.registry_tables.specs.Effects.{shown}
 use Rattle.registry_tables.proofs.NeedFacts.{need_found}
 use Rattle.registry_tables.proofs.needs.has_need.Goals as goal
 
-pub returns-in_err-rows-clause-committed : goal.returns-in_err-rows-clause-committed
-returns-in_err-rows-clause-committed g c clean = failed_keeps _ _ _ _ _ (c.in_err-rows.ensures.err clean)
-
-pub returns-clause-tells : goal.returns-clause-tells
-returns-clause-tells g c clean =
-    ap not (c.is_empty.ensures ∙ ap (λ n. n == 0) c.in_ok-rows.rows.ok.0) ∙ (need_found c.args.name.now c.args.version.now c.args.need.now (state g.S.Store c.args.tx.now.conn.now) (state g.S.Store c.query_all.new.self.conn.now) _ c.requires.in_form
-    (record { shown = rw (c.params-to_sql.ensures, c.params-to_sql-2.ensures, c.params-to_sql-3.ensures, c.params-to_sql-4.ensures, c.as_str.ensures.text, c.as_str-2.ensures.text) at c.in_ok-rows.ensures.ok; survives = c.in_ok-rows.ensures.survives }) clean).1
-
-pub returns-clause-leaves : goal.returns-clause-leaves
-returns-clause-leaves g c clean = (need_found c.args.name.now c.args.version.now c.args.need.now (state g.S.Store c.args.tx.now.conn.now) (state g.S.Store c.query_all.new.self.conn.now) _ c.requires.in_form
-    (record { shown = rw (c.params-to_sql.ensures, c.params-to_sql-2.ensures, c.params-to_sql-3.ensures, c.params-to_sql-4.ensures, c.as_str.ensures.text, c.as_str-2.ensures.text) at c.in_ok-rows.ensures.ok; survives = c.in_ok-rows.ensures.survives }) clean).0
-
-pub returns-clause-committed : goal.returns-clause-committed
-returns-clause-committed g c clean = (need_found c.args.name.now c.args.version.now c.args.need.now (state g.S.Store c.args.tx.now.conn.now) (state g.S.Store c.query_all.new.self.conn.now) _ c.requires.in_form
-    (record { shown = rw (c.params-to_sql.ensures, c.params-to_sql-2.ensures, c.params-to_sql-3.ensures, c.params-to_sql-4.ensures, c.as_str.ensures.text, c.as_str-2.ensures.text) at c.in_ok-rows.ensures.ok; survives = c.in_ok-rows.ensures.survives }) clean).0.committed
+pub returns : goal.returns
+returns g c =
+    let call = rw (c.params-to_sql.ensures, c.params-to_sql-2.ensures, c.params-to_sql-3.ensures, c.params-to_sql-4.ensures, c.as_str.ensures.text, c.as_str-2.ensures.text) at c.in_ok-rows.ensures.shown in
+    let it = need_found c.args.name.now c.args.version.now c.args.need.now (shown g.S.Store c.args.tx.now) (shown g.S.Store c.read.new.tx) _ c.requires.in_form call in
+    record {
+      stays = read_stays g.S.Store _ _ _ c.args.tx.now c.read.new.tx _ c.in_ok-rows.ensures.same_reference call (λ clean. (it clean).0);
+      tells = λ clean. ((it clean).0, ap not (c.is_empty.ensures ∙ ap (λ n. n == 0) c.in_ok-rows.rows.ok.0) ∙ (it clean).1);
+    }

@@ -1,19 +1,9 @@
-use Rattle.std.proofs.Common.{Ok}
-use Rattle.sqlite.specs.Held.{state}
-use Rattle.registry_tables.proofs.QuietFacts.{executed_quiet}
+use Rattle.registry_rows.proofs.QuietFacts.{on_answer}
+use Rattle.registry_tables.specs.Effects.{shown}
 use Rattle.registry_tables.proofs.NeedFacts.{need_put}
 use Rattle.registry_tables.proofs.needs.insert_need.Goals as goal
 
-pub returns-clause-stores : goal.returns-clause-stores
-returns-clause-stores g c clean =
-    need_put c.args.name.now c.args.version.now c.args.need.now (state g.S.Store c.args.tx.now.conn.now) (state g.S.Store c.execute.new.self.conn.now) (Ok _) c.requires.in_form (record {
-      ended = λ off. (_, (c.in_ok-execute.ensures.ended off).0);
-      runs = rw (c.params-to_sql.ensures, c.params-to_sql-2.ensures, c.params-to_sql-3.ensures, c.params-to_sql-4.ensures, c.as_str.ensures.text, c.as_str-2.ensures.text) at c.in_ok-execute.ensures.runs;
-      survives = c.in_ok-execute.ensures.survives;
-    }) clean
-
-pub returns-in_err-execute-clause-committed : goal.returns-in_err-execute-clause-committed
-returns-in_err-execute-clause-committed g c = (executed_quiet g.S.Store _ _ c.args.tx.now.conn.now c.execute.new.self.conn.now _ _ c.execute.ensures.ended c.execute.ensures.runs c.execute.ensures.survives).committed
-
-pub returns-clause-committed : goal.returns-clause-committed
-returns-clause-committed g c = (executed_quiet g.S.Store _ _ c.args.tx.now.conn.now c.execute.new.self.conn.now _ _ c.execute.ensures.ended c.execute.ensures.runs c.execute.ensures.survives).committed
+pub returns-clause-makes : goal.returns-clause-makes
+returns-clause-makes g c clean = on_answer c.write.result
+    (λ wrote. need_put c.args.name.now c.args.version.now c.args.need.now (shown g.S.Store c.args.tx.now) (shown g.S.Store c.write.new.tx) c.requires.in_form wrote clean)
+    (rw (c.params-to_sql.ensures, c.params-to_sql-2.ensures, c.params-to_sql-3.ensures, c.params-to_sql-4.ensures, c.as_str.ensures.text, c.as_str-2.ensures.text) at c.write.ensures.wrote)

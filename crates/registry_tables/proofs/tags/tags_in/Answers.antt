@@ -1,6 +1,6 @@
 use Rattle.std.proofs.Common.{◌≡◌, ◌∙◌, ap, map, rules}
 use Rattle.std.proofs.lemmas.Simd.{map-map}
-use Rattle.registry_rules.specs.Standing.{tag_entry}
+use Rattle.registry_tables.specs.Spelled.{tag_entry}
 use Rattle.registry_tables.specs.declared.tags.TagRow.{TagRow}
 use Rattle.registry_tables.proofs.tags.tags_in.Goals as goal
 

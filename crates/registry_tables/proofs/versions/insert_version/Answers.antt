@@ -1,22 +1,14 @@
-use Rattle.std.proofs.Common.{Ok, SFits, w64, rules}
+use Rattle.std.proofs.Common.{SFits, w64, rules}
 use Rattle.std.proofs.lemmas.Int.{to_z-of_z}
-use Rattle.sqlite.specs.Held.{state}
 use Rattle.registry_rules.specs.Actions.{version_of}
-use Rattle.registry_tables.proofs.QuietFacts.{executed_quiet}
+use Rattle.registry_rows.proofs.QuietFacts.{on_answer}
+use Rattle.registry_tables.specs.Effects.{shown}
 use Rattle.registry_tables.proofs.VersionFacts.{version_inserted}
 use Rattle.registry_tables.proofs.versions.insert_version.Goals as goal
 
 pub returns-clause-makes : goal.returns-clause-makes
 returns-clause-makes g c clean =
     let fits : SFits w64 c.seconds.result = search rules in
-    version_inserted c.args.form.now.name (version_of c.args.form.now) c.args.published c.args.form.now.manifest c.args.form.now.archive (state g.S.Store c.args.tx.now.conn.now) (state g.S.Store c.execute.new.self.conn.now) (Ok _) c.requires.in_form (record {
-      ended = λ off. (_, (c.in_ok-execute.ensures.ended off).0);
-      runs = rw (c.params-to_sql.ensures, c.params-to_sql-2.ensures, c.params-to_sql-3.ensures, c.params-to_sql-4.ensures, c.params-to_sql-5.ensures, c.text.ensures.text, c.name.ensures.value, c.text-2.ensures.text, c.version.ensures.value, to_z-of_z w64 c.seconds.result fits, c.seconds.ensures.seconds, c.manifest_text.ensures.value, c.archive.ensures) at c.in_ok-execute.ensures.runs;
-      survives = c.in_ok-execute.ensures.survives;
-    }) clean
-
-pub returns-in_err-execute-clause-committed : goal.returns-in_err-execute-clause-committed
-returns-in_err-execute-clause-committed g c = (executed_quiet g.S.Store _ _ c.args.tx.now.conn.now c.execute.new.self.conn.now _ _ c.execute.ensures.ended c.execute.ensures.runs c.execute.ensures.survives).committed
-
-pub returns-clause-committed : goal.returns-clause-committed
-returns-clause-committed g c = (executed_quiet g.S.Store _ _ c.args.tx.now.conn.now c.execute.new.self.conn.now _ _ c.execute.ensures.ended c.execute.ensures.runs c.execute.ensures.survives).committed
+    on_answer c.write.result
+    (λ wrote. version_inserted c.args.form.now.name (version_of c.args.form.now) c.args.published c.args.form.now.manifest c.args.form.now.archive (shown g.S.Store c.args.tx.now) (shown g.S.Store c.write.new.tx) c.requires.in_form wrote clean)
+    (rw (c.params-to_sql.ensures, c.params-to_sql-2.ensures, c.params-to_sql-3.ensures, c.params-to_sql-4.ensures, c.params-to_sql-5.ensures, c.text.ensures.text, c.name.ensures.value, c.text-2.ensures.text, c.version.ensures.value, to_z-of_z w64 c.seconds.result fits, c.seconds.ensures.seconds, c.manifest_text.ensures.value, c.archive.ensures) at c.write.ensures.wrote)

@@ -1,7 +1,7 @@
 use Rattle.registry_access.specs.Callers.{team_granted}
 use Rattle.registry_access.specs.RowMaps.{state_of}
 use Rattle.registry_access.proofs.GrantFacts.{granted_is}
-use Rattle.registry_access.proofs.LevelFacts.{greatest_write, greatest_read, greatest_nothing}
+use Rattle.registry_access.proofs.LevelFacts.{greatest_write, greatest_read, greatest_none}
 use Rattle.registry_access.proofs.rows.AccessRows.user_grant.Goals as goal
 
 pub returns-then-is_granted : goal.returns-then-is_granted
@@ -17,6 +17,6 @@ returns-then-is_granted-2 c =
 
 pub returns-else-is_granted-2 : goal.returns-else-is_granted-2
 returns-else-is_granted-2 c =
-    greatest_nothing (team_granted (state_of c.args.self.now) c.args.user.now c.args.name.now)
+    greatest_none (team_granted (state_of c.args.self.now) c.args.user.now c.args.name.now)
     (granted_is c.args.self.now _ _ _ _ _ c.is_granted.ensures c.if-is_granted.false)
     (granted_is c.args.self.now _ _ _ _ _ c.is_granted-else-is_granted.ensures c.if-is_granted-2.false)

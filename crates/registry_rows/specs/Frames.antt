@@ -1,0 +1,21 @@
+-- What each call inside a transaction leaves alone, and what it asks and gets.
+use Rattle.std.specs.Prelude.{◌≡◌, ℕ, List, Ok}
+use Rattle.sqlite_value.specs.Order.{Row}
+use Rattle.sqlite_trees.specs.declared.store.Store.{Ghosts}
+use Rattle.sqlite.specs.Held.{state}
+use Rattle.sqlite.specs.State.{State, HasCleanDisk, KeepsCommit, Survives}
+use Rattle.sqlite.specs.declared.transaction.Transaction.{Transaction}
+use Rattle.registry_rows.specs.Ready.{Executed}
+
+-- Whatever it answers. `old` and `new` are the transaction at its entry and at its exit
+pub record Stays {S : Type 0} (store : Ghosts S) (old new : Transaction S) : Type 0 where
+  -- it is the transaction of the same connection
+  pub same_reference : new.conn.ghost_name ≡ old.conn.ghost_name
+  -- what was committed stays so
+  pub committed : HasCleanDisk (state store new.conn.now) → KeepsCommit (state store old.conn.now) (state store new.conn.now)
+  -- a crash leaves only what it could have left at the entry
+  pub survives : Survives (state store old.conn.now) (state store new.conn.now) (λ _. ⊥)
+
+-- a statement that writes was run with these parameters
+abbrev pub Wrote : List ℕ → Row → State → State → Type 0
+Wrote sql params old new = (n : ℕ) × Executed sql params old new (Ok n)

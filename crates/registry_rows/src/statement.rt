@@ -1,0 +1,76 @@
+//! Statements inside a transaction. An error of the database is answered as a fault.
+
+ghost use Rattle.std.specs.Prelude.{◌≡◌, IfOk, OnErr, OnOk, map, option_map, slice_get};
+ghost use Rattle.sqlite.specs.Held.{state};
+ghost use Rattle.sqlite.specs.Values.{bound};
+ghost use Rattle.registry_rows.specs.Faults.{as_fault};
+ghost use Rattle.registry_rows.specs.Frames.{Stays, Wrote};
+ghost use Rattle.registry_rows.specs.Ready.{Queried};
+
+use crate::from_row::{FromRow, read_first, read_rows};
+use registry_names::Fault;
+use sqlite::types::ValueRef;
+use sqlite::{Alter, Error, ErrorCode, Row, Transaction};
+use std::alloc::Global;
+
+/// The fault that is answered where the database answers this error: `Memory` where it had no
+/// memory left, and else `Database`.
+pub fn fault_of(error: Error) -> Fault
+    ensures { result ≡ as_fault error }
+{
+    match error {
+        Error::SqliteFailure(ErrorCode::OutOfMemory) => Fault::Memory,
+        _ => Fault::Database,
+    }
+}
+
+/// Runs a statement that writes, with these parameters.
+pub fn write<S: Alter>(
+    tx: &mut Transaction<'_, S>,
+    text: &str,
+    params: &[ValueRef<'_>],
+) -> Result<(), Fault>
+    ensures stays { Stays S.Store tx.old tx.new }
+    ensures wrote { OnOk result (Wrote text.now (bound params.now) (state S.Store tx.old.conn.now) (state S.Store tx.new.conn.now)) }
+{
+    match tx.execute(text, params) {
+        Ok(_) => Ok(()),
+        Err(error) => Err(fault_of(error)),
+    }
+}
+
+/// Runs a query with these parameters, and gives its rows.
+pub fn read<S: Alter>(
+    tx: &mut Transaction<'_, S>,
+    text: &str,
+    params: &[ValueRef<'_>],
+) -> Result<Vec<Row>, Fault>
+    ensures same_reference { tx.new.conn.ghost_name ≡ tx.old.conn.ghost_name }
+    ensures shown { IfOk result (λ rows. Queried text.now (bound params.now) (state S.Store tx.old.conn.now) (state S.Store tx.new.conn.now) rows.items) }
+    ensures failed { OnErr result (Stays S.Store tx.old tx.new) }
+{
+    match tx.query_all(text, params) {
+        Ok(rows) => Ok(rows),
+        Err(error) => Err(fault_of(error)),
+    }
+}
+
+/// The values that the rows spell, in the order of the rows.
+pub fn values_in<T: FromRow>(alloc: Global, rows: &[Row]) -> Result<Vec<T>, Fault>
+    ensures { IfOk result (λ values. map T.seen values.items ≡ map T.spelled rows.now) }
+{
+    match read_rows(alloc, rows) {
+        Ok(values) => Ok(values),
+        Err(error) => Err(fault_of(error)),
+    }
+}
+
+/// The value that the first row spells, if there is a row.
+pub fn first_in<T: FromRow>(rows: &[Row]) -> Result<Option<T>, Fault>
+    ensures { IfOk result (λ value. option_map T.seen value ≡ option_map T.spelled (slice_get rows.now 0)) }
+{
+    match read_first(rows) {
+        Ok(value) => Ok(value),
+        Err(error) => Err(fault_of(error)),
+    }
+}

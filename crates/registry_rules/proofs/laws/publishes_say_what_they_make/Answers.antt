@@ -1,0 +1,11 @@
+use Rattle.registry_rules.proofs.LawFacts.{publishes_add_versions, publishes_set_statuses, publishes_set_tags}
+use Rattle.registry_rules.proofs.laws.publishes_say_what_they_make.Goals as goal
+
+pub returns-clause-versions : goal.returns-clause-versions
+returns-clause-versions c = publishes_add_versions
+
+pub returns-clause-tags : goal.returns-clause-tags
+returns-clause-tags c = publishes_set_tags
+
+pub returns-clause-statuses : goal.returns-clause-statuses
+returns-clause-statuses c = publishes_set_statuses

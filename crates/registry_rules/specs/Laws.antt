@@ -1,0 +1,87 @@
+-- What commands make of what the registry holds, told of each map apart.
+use Rattle.std.specs.Prelude.{◌≡◌, ◌≢◌, ℕ, false, [], Some, None, IsSome}
+use Rattle.registry_names.specs.Keys.{Pair}
+use Rattle.registry_names.specs.Maps.{at}
+use Rattle.registry_names.specs.Texts.{Text}
+use Rattle.registry_names.specs.Versions.{VersionParts, text_of_version}
+use Rattle.registry_names.specs.declared.status.Status.{Status}
+use Rattle.registry_names.specs.declared.status.Status.TheVariants.{Public, Restricted}
+use Rattle.registry_names.specs.Names.{scope_of}
+use Rattle.registry_access.specs.declared.caller.Caller.{Caller}
+use Rattle.registry_publish.specs.Form.{FormParts}
+use Rattle.registry_rules.specs.Actions.{is_command, version_of, names}
+use Rattle.registry_rules.specs.Effects.{step_by}
+use Rattle.registry_rules.specs.State.{State}
+use Rattle.registry_names.specs.Tags.{latest}
+use Rattle.registry_rules.specs.declared.request.Action.{Action}
+use Rattle.registry_rules.specs.declared.request.Action.TheVariants.{Publish, TagSet, TagRemove}
+
+-- ---- a publish
+
+-- its version lives, with its manifest, its archive and its moment, and no other version changes
+pub record AddsVersion (S T : State) (now : ℕ) (f : FormParts) : Type 0 where
+  pub version : at T.live (f.name, version_of f) ≡ Some (record { at = now; manifest = f.manifest; archive = f.archive; message = [] })
+  pub versions : (k : Pair) → k ≢ (f.name, version_of f) → at T.live k ≡ at S.live k
+  pub spent : T.spent ≡ S.spent
+
+-- its tag names the version, and so does `latest` where none stood; no other tag changes
+pub record SetsTags (S T : State) (f : FormParts) : Type 0 where
+  pub tag : at T.tags (f.name, f.tag) ≡ Some (version_of f)
+  pub first_latest : at S.tags (f.name, latest) ≡ None → at T.tags (f.name, latest) ≡ Some (version_of f)
+  pub latest_stays : IsSome (at S.tags (f.name, latest)) → f.tag ≢ latest → at T.tags (f.name, latest) ≡ at S.tags (f.name, latest)
+  pub tags : (k : Pair) → k ≢ (f.name, f.tag) → k ≢ (f.name, latest) → at T.tags k ≡ at S.tags k
+
+-- Its package has the status that it asks for; else the one that it had; else, with a scope, it is restricted, and without one public. Nobody else is let in or shut out
+pub record SetsStatus (S T : State) (f : FormParts) : Type 0 where
+  pub asked : (status : Status) → f.access ≡ Some status → at T.access.statuses f.name ≡ Some status
+  pub later : f.access ≡ None → IsSome (at S.access.statuses f.name) → at T.access.statuses f.name ≡ at S.access.statuses f.name
+  pub first_scoped : f.access ≡ None → at S.access.statuses f.name ≡ None → IsSome (scope_of f.name) → at T.access.statuses f.name ≡ Some Restricted
+  pub first_unscoped : f.access ≡ None → at S.access.statuses f.name ≡ None → scope_of f.name ≡ None → at T.access.statuses f.name ≡ Some Public
+  pub statuses : (p : Text) → p ≢ f.name → at T.access.statuses p ≡ at S.access.statuses p
+  pub access : T.access ≡ record S.access { statuses = T.access.statuses }
+
+abbrev pub PublishesAddVersions : Type 0
+PublishesAddVersions = (S : State) (now : ℕ) (who : Caller) (f : FormParts) → AddsVersion S (step_by S now who (Publish f)) now f
+
+abbrev pub PublishesSetTags : Type 0
+PublishesSetTags = (S : State) (now : ℕ) (who : Caller) (f : FormParts) → SetsTags S (step_by S now who (Publish f)) f
+
+abbrev pub PublishesSetStatuses : Type 0
+PublishesSetStatuses = (S : State) (now : ℕ) (who : Caller) (f : FormParts) → SetsStatus S (step_by S now who (Publish f)) f
+
+-- ---- a tag
+
+-- the tags of this package alone have changed, and of them this one
+pub record IsTagChange (S T : State) (p t : Text) : Type 0 where
+  pub tags : (k : Pair) → k ≢ (p, t) → at T.tags k ≡ at S.tags k
+  pub live : T.live ≡ S.live
+  pub spent : T.spent ≡ S.spent
+  pub access : T.access ≡ S.access
+
+-- a tag that is set names the version, whether it named another or none
+abbrev pub SetTagsName : Type 0
+SetTagsName = (S : State) (now : ℕ) (who : Caller) (p t : Text) (v : VersionParts) → let T = step_by S now who (TagSet p t v) in
+    (at T.tags (p, t) ≡ Some (text_of_version v)) × IsTagChange S T p t
+
+-- a tag that is removed is gone
+abbrev pub RemovedTagsAreGone : Type 0
+RemovedTagsAreGone = (S : State) (now : ℕ) (who : Caller) (p t : Text) → let T = step_by S now who (TagRemove p t) in
+    (at T.tags (p, t) ≡ None) × IsTagChange S T p t
+
+-- ---- all actions
+
+abbrev pub QueriesChangeNothing : Type 0
+QueriesChangeNothing = (S : State) (now : ℕ) (who : Caller) (what : Action) → is_command what ≡ false → step_by S now who what ≡ S
+
+-- all that is held of the package is the same
+pub record IsSameOf (S T : State) (p : Text) : Type 0 where
+  pub live : (v : Text) → at T.live (p, v) ≡ at S.live (p, v)
+  pub spent : (v : Text) → at T.spent (p, v) ≡ at S.spent (p, v)
+  pub tags : (t : Text) → at T.tags (p, t) ≡ at S.tags (p, t)
+  pub status : at T.access.statuses p ≡ at S.access.statuses p
+  pub maintainers : (u : Text) → at T.access.maintainers (p, u) ≡ at S.access.maintainers (p, u)
+  pub grants : (o t : Text) → at T.access.grants (o, (t, p)) ≡ at S.access.grants (o, (t, p))
+
+-- an action changes nothing of a package that it doesn't name
+abbrev pub PackagesStandApart : Type 0
+PackagesStandApart = (S : State) (now : ℕ) (who : Caller) (what : Action) (p : Text) → names what p ≡ false → IsSameOf S (step_by S now who what) p

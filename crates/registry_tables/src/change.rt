@@ -1,0 +1,40 @@
+//! Changes, made in the tables.
+
+ghost use Rattle.registry_rows.specs.Frames.{Stays};
+ghost use Rattle.registry_rules.specs.Changes.{change_of};
+ghost use Rattle.registry_tables.specs.Changes.{stored_by};
+ghost use Rattle.registry_tables.specs.Effects.{InForm, Makes};
+
+use crate::statuses::put_status;
+use crate::tags::{drop_tag, put_tag};
+use crate::versions::put_version;
+use registry_names::Fault;
+use registry_rules::Change;
+use sqlite::{Alter, Transaction};
+
+/// Makes one change. Nothing else that is stored is changed.
+///
+/// A new row of a key that is there already is a fault, and so is a row of which the tables lack
+/// what it refers to: a version of a package without a status, or a tag of a version that doesn't
+/// live.
+pub fn make<S: Alter>(tx: &mut Transaction<'_, S>, change: &Change<'_>) -> Result<(), Fault>
+    requires in_form { InForm S.Store tx.old }
+    ensures stays { Stays S.Store tx.old tx.new }
+    ensures makes { Makes S.Store tx.old tx.new result (stored_by (change_of change.now)) }
+{
+    match *change {
+        Change::PutStatus {
+            package,
+            status,
+            stands,
+        } => put_status(tx, package.text(), status, stands),
+        Change::AddVersion { form, at } => put_version(tx, form, *at),
+        Change::PutTag {
+            package,
+            tag,
+            version,
+            stands,
+        } => put_tag(tx, package.text(), tag, version.text(), stands),
+        Change::DropTag { package, tag } => drop_tag(tx, package.text(), tag),
+    }
+}

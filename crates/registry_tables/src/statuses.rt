@@ -1,0 +1,127 @@
+//! The table `packages`: every name that was ever published, and who may read it.
+
+ghost use Rattle.std.specs.Prelude.{◌≡◌, IfOk, option_map, pos, slice_get};
+ghost use Rattle.registry_names.specs.Maps.{at, put};
+ghost use Rattle.registry_names.specs.declared.status.Status.{Status as Readers};
+ghost use Rattle.registry_rows.specs.Frames.{Stays};
+ghost use Rattle.registry_tables.specs.Changes.{amended, with_row};
+ghost use Rattle.registry_tables.specs.Effects.{InForm, Makes, Tells};
+ghost use Rattle.registry_tables.specs.Spelled.{status_number, status_spelled};
+
+use registry_names::{Fault, Name, Status};
+use registry_rows::{FromRow, first_in, read, write};
+use sqlite::{Alter, Error, Row, Transaction, params};
+
+/// The status of a package. None where it was never published.
+pub fn load_status<S: Alter>(
+    tx: &mut Transaction<'_, S>,
+    name: &Name,
+) -> Result<Option<Status>, Fault>
+    requires in_form { InForm S.Store tx.old }
+    ensures stays { Stays S.Store tx.old tx.new }
+    ensures tells { Tells S.Store tx.old tx.new result (λ status c. status ≡ at c.packages name.now) }
+{
+    let rows = read(
+        tx,
+        "SELECT status FROM packages WHERE name = ?1",
+        params![name.text()],
+    )?;
+    status_in(&rows)
+}
+
+fn status_in(rows: &[Row]) -> Result<Option<Status>, Fault>
+    ensures { IfOk result (λ status. status ≡ option_map status_spelled (slice_get rows.now 0)) }
+{
+    let found: Option<StatusRow> = first_in(rows)?;
+    Ok(found.map(|row| row.status))
+}
+
+/// Gives a package this status. `stands` says whether it has one already.
+pub(crate) fn put_status<S: Alter>(
+    tx: &mut Transaction<'_, S>,
+    name: &str,
+    status: Status,
+    stands: bool,
+) -> Result<(), Fault>
+    requires in_form { InForm S.Store tx.old }
+    ensures stays { Stays S.Store tx.old tx.new }
+    ensures makes { Makes S.Store tx.old tx.new result (λ c. record c { packages = with_row c.packages name.now status stands }) }
+{
+    if stands {
+        update_status(tx, name, status)
+    } else {
+        insert_status(tx, name, status)
+    }
+}
+
+fn insert_status<S: Alter>(
+    tx: &mut Transaction<'_, S>,
+    name: &str,
+    status: Status,
+) -> Result<(), Fault>
+    requires in_form { InForm S.Store tx.old }
+    ensures stays { Stays S.Store tx.old tx.new }
+    ensures makes { Makes S.Store tx.old tx.new result (λ c. record c { packages = put c.packages name.now status }) }
+{
+    write(
+        tx,
+        "INSERT INTO packages VALUES (?1, ?2)",
+        params![name, number_of(status)],
+    )
+}
+
+fn update_status<S: Alter>(
+    tx: &mut Transaction<'_, S>,
+    name: &str,
+    status: Status,
+) -> Result<(), Fault>
+    requires in_form { InForm S.Store tx.old }
+    ensures stays { Stays S.Store tx.old tx.new }
+    ensures makes { Makes S.Store tx.old tx.new result (λ c. record c { packages = amended c.packages name.now status }) }
+{
+    write(
+        tx,
+        "UPDATE packages SET status = ?2 WHERE name = ?1",
+        params![name, number_of(status)],
+    )
+}
+
+#[derive(Drop)]
+struct StatusRow {
+    status: Status,
+}
+
+impl FromRow for StatusRow {
+    ghost Seen = { Readers };
+
+    ghost seen = { λ row. row.status };
+
+    ghost spelled = { status_spelled };
+
+    fn from_row(row: &Row) -> Result<StatusRow, Error> {
+        let number: i64 = row.get(0)?;
+        Ok(StatusRow {
+            status: status_of(number)?,
+        })
+    }
+}
+
+fn number_of(status: Status) -> i64
+    ensures { result ≡ pos (status_number status) }
+{
+    match status {
+        Status::Restricted => 0,
+        Status::Public => 1,
+    }
+}
+
+// No other number is ever written.
+fn status_of(number: i64) -> Result<Status, Error>
+    ensures { IfOk result (λ status. number ≡ pos (status_number status)) }
+{
+    match number {
+        0 => Ok(Status::Restricted),
+        1 => Ok(Status::Public),
+        _ => Err(Error::IntegralValueOutOfRange(0)),
+    }
+}
