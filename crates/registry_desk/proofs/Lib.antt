@@ -1,9 +1,3 @@
-mod CommitFacts
-mod EffectFacts
-mod KeepingFacts
-mod MakingFacts
-mod SettlingFacts
-pub mod AnswerFacts
 pub mod PublishFacts
 pub mod RunFacts
 pub mod StatusFacts
