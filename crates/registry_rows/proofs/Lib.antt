@@ -10,6 +10,7 @@ pub mod CreateFacts
 pub mod TypeFacts
 pub mod TextKeyFacts
 pub mod OneRowFacts
+pub mod KeyedFacts
 pub mod RowFacts
 pub mod ChangeFacts
 pub mod ReadyFacts

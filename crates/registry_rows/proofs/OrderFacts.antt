@@ -40,7 +40,7 @@ module _ {R Y : Type 0} {cmp : R → R → Ordering} {same : R → R → Bool} (
   found_here k y e es later true t h = inl (ap₂ (λ (a : R) (b : Y). (a, b)) (sym (same_true rest e.0 k t)) (sym (some_same h)))
   found_here k y e es later false t h = inr (later h)
 
-  found_has : (k : R) (y : Y) (es : List (R × Y)) → first_at same es k ≡ Some y → Has es (k, y)
+  pub found_has : (k : R) (y : Y) (es : List (R × Y)) → first_at same es k ≡ Some y → Has es (k, y)
   found_has k y [] h = absurd (never_some h)
   found_has k y (e ∷ es) h = found_here k y e es (found_has k y es) (same e.0 k) refl h
 

@@ -51,3 +51,7 @@ on_answer (Err e) f h = tt
 pub read_stays : {S : Type 0} (store : Ghosts S) (sql : List ℕ) (params : Row) (schema : Schema) (a b : Transaction S) (found : List Row) → b.conn.ghost_name ≡ a.conn.ghost_name
     → Queried sql params (state store a.conn.now) (state store b.conn.now) found → (HasCleanDisk (state store b.conn.now) → Reads schema (state store a.conn.now) (state store b.conn.now)) → Stays store a b
 read_stays store sql params schema a b found same call reads = record { same_reference = same; committed = λ clean. (reads clean).committed; survives = call.survives }
+
+-- a query after a query
+pub reads_then : (s : Schema) (a b c : State) → Reads s a b → Reads s b c → Reads s a c
+reads_then s a b c one two = record { was_open = one.was_open; ready = two.ready; same = two.same ∙ one.same; mode = two.mode ∙ one.mode; committed = keeps_then a b c one.committed two.committed }

@@ -1,10 +1,10 @@
 -- Statements that keep the tables ready.
-use Rattle.std.proofs.Common.{◌≡◌, ◌==◌, ◌/◌, ◌<◌, inl, inr, ℕ, zero, List, [], ◌∷◌, length, drop, slice_get, true, false, Some, Ok, Err, Result, OnOk, refl, sym, ap, subst, ◌∙◌, arith}
+use Rattle.std.proofs.Common.{◌≡◌, ◌==◌, ◌/◌, ◌<◌, inl, inr, ℕ, ℤ, zero, List, [], ◌∷◌, length, drop, slice_get, true, false, Some, Ok, Err, Result, OnOk, refl, sym, ap, subst, ◌∙◌, arith}
 use Rattle.std.specs.List.{AllByRecursion}
 use Rattle.std.proofs.lemmas.Bool.{cases_Bool, eqb-true}
 use Rattle.std.proofs.Math.Nat.{div_self}
 use Rattle.std.proofs.Math.Seq.{take-length}
-use Rattle.sqlite.specs.declared.types.Value.TheVariants.{Null}
+use Rattle.sqlite.specs.declared.types.Value.TheVariants.{Null, Int}
 use Rattle.sqlite_value.specs.Order.{Row}
 use Rattle.sqlite_trees.specs.Tree.{Trees}
 use Rattle.sqlite_sql.specs.Term.{Term, lit, col, eval_all}
@@ -21,7 +21,7 @@ use Rattle.sqlite.specs.State.{State, HasCleanDisk, Executes}
 use Rattle.registry_rows.specs.Columns.{are_exact}
 use Rattle.registry_rows.specs.Tables.{keyed_table}
 use Rattle.registry_rows.specs.Rows.{HasRowids}
-use Rattle.registry_rows.specs.Statements.{Means, IsUncascaded, ignores_updates, KeepsOthers, Inserts, Deletes, Updates, scan, is_wanted, shown_by}
+use Rattle.registry_rows.specs.Statements.{Means, IsUncascaded, ignores_updates, KeepsOthers, Adds, Deletes, Updates, scan, is_wanted, shown_by}
 use Rattle.registry_rows.specs.Ready.{IsReady, Ready, Executed}
 use Rattle.registry_rows.proofs.WriteFacts.{written_sound}
 use Rattle.registry_rows.proofs.InsertFacts.{inserts}
@@ -37,7 +37,12 @@ inside Q schema sql params old new (Ok count) ready call clean then_ = elim (cas
   | inr off ↦ absurd (let e = (call.ended off).1 in cc)
 ]
 
-rowids_after : (schema : Schema) (tree : ℕ) (old new : Trees) → KeepsOthers schema tree old new → (HasRowids (old tree) → HasRowids (new tree)) → AllByRecursion (λ (t : Table). HasRowids (old t.tree)) schema.tables
+-- what follows of an answer
+pub ok_then : {R E A B : Type 0} (r : Result R E) → (A → B) → OnOk r A → OnOk r B
+ok_then (Ok x) f h = f h
+ok_then (Err e) f h = tt
+
+pub rowids_after : (schema : Schema) (tree : ℕ) (old new : Trees) → KeepsOthers schema tree old new → (HasRowids (old tree) → HasRowids (new tree)) → AllByRecursion (λ (t : Table). HasRowids (old t.tree)) schema.tables
     → AllByRecursion (λ (t : Table). HasRowids (new t.tree)) schema.tables
 rowids_after schema tree old new others kept was = all_from _ schema.tables (λ t h. each t h (all_has _ schema.tables t was h) (all_has _ schema.tables t others h))
   where
@@ -48,19 +53,19 @@ rowids_after schema tree old new others kept was = all_from _ schema.tables (λ 
     ]
 
 -- a row of VALUES
-one_row : (params : Row) (t : Term) (ts : List Term) → value_rows params (length (t ∷ ts)) (length (t ∷ ts) / length (t ∷ ts)) (t ∷ ts) ≡ eval_all (t ∷ ts) (params ∷ []) ∷ []
+pub one_row : (params : Row) (t : Term) (ts : List Term) → value_rows params (length (t ∷ ts)) (length (t ∷ ts) / length (t ∷ ts)) (t ∷ ts) ≡ eval_all (t ∷ ts) (params ∷ []) ∷ []
 one_row params t ts = let some : zero < length (t ∷ ts) = omega arith in rw (div_self some) (ap (λ l. eval_all l (params ∷ []) ∷ []) (take-length (t ∷ ts)))
 
 module _ (schema : Schema) (place : ℕ) (table : Table) (found : slice_get schema.tables place ≡ Some table) (sql : List ℕ) (params : Row) (old new : State) (count : ℕ) (ready : IsReady schema old) (ran : Executes sql params old new (Ok count)) where
   pub insert_ready : (primary : List ℕ) → table ≡ keyed_table table.name table.tree table.columns primary table.references → (cells : List Term) → Means schema sql (Insert place (Values (lit Null ∷ cells) (length (lit Null ∷ cells))))
-      → are_exact table.columns (eval_all cells (params ∷ [])) ≡ true → IsReady schema new × Inserts schema table.tree (eval_all cells (params ∷ [])) old.now.trees new.now.trees
+      → are_exact table.columns (eval_all cells (params ∷ [])) ≡ true → IsReady schema new × ((id : ℤ) × Adds schema table.tree (Int id ∷ eval_all cells (params ∷ [])) old.now.trees new.now.trees)
   insert_ready primary shape cells means exact =
       let it = inserts schema place table.name table.tree table.columns primary table.references (found ∙ ap (λ (t : Table). Some t) shape) sql (lit Null ∷ cells) (length (lit Null ∷ cells)) params
       (eval_all cells (params ∷ [])) old new ready.schema_is means.0 means.1 (one_row params (lit Null) cells) exact count ran in (
         record {
           schema_is = it.0;
           sound = written_sound schema place sql params old new ready.schema_is _ means.0 means.1 count ran refl;
-          rowids = rowids_after schema table.tree old.now.trees new.now.trees it.1.others it.1.rowids ready.rowids;
+          rowids = rowids_after schema table.tree old.now.trees new.now.trees it.1.1.others it.1.1.rowids ready.rowids;
         },
         it.1,
       )

@@ -22,13 +22,11 @@ use Rattle.sqlite_schema.specs.declared.schema.Column.{Column}
 use Rattle.sqlite_schema.specs.Rules.{agree}
 use Rattle.registry_names.specs.Texts.{Text as Name, text_cmp, is}
 use Rattle.registry_names.specs.Keys.{IsKey, by_first}
-use Rattle.registry_names.proofs.TextFacts.{is_same}
-use Rattle.registry_names.proofs.TextFacts as text
 use Rattle.registry_names.proofs.KeyFacts.{text_key, first_key as with_first}
 use Rattle.registry_rows.specs.Columns.{text_in, AreOf, IsOf}
 use Rattle.registry_rows.specs.TextKeys.{Texts, texts_cmp, texts_are, texts_from, texts_row, places_from, is_text, begin_with_texts}
 use Rattle.registry_rows.specs.Statements.{by_texts, in_order, is_wanted}
-use Rattle.registry_rows.proofs.TypeFacts.{text_eq, text_same}
+use Rattle.registry_rows.proofs.TypeFacts.{text_test, text_same}
 
 -- texts are a key, however many
 pub texts_key : (more : ℕ) → IsKey (texts_cmp more) (texts_are more)
@@ -63,13 +61,6 @@ has_texts (suc more) (c ∷ cs) (v ∷ vs) t h = let both = and_parts _ _ t in (
 
 -- ---- WHERE
 
--- SQL's = on texts is the test of the maps
-pub text_test : (a t : Name) → is_true (binary (Compare Eq Binary) (Text a) (Text t)) ≡ is t a
-text_test a t = elim (cases_Bool (is t a)) [
-  | inl same ↦ subst (λ (x : Name). is_true (binary (Compare Eq Binary) (Text a) (Text x)) ≡ true) (sym (text.is_true t a same)) (text_same a) ∙ sym same
-  | inr differ ↦ false_from_ne_true _ (λ h. let e = text_eq (Text a) t h in let f : a ≡ t = cc in true≢false (sym (is_same t a (sym f)) ∙ differ)) ∙ sym differ
-]
-
 -- the parameters from this place on are the key
 abbrev Gives : (more given : ℕ) → Texts more → Row → Type 0
 Gives zero given q params = column params given ≡ Text q
@@ -86,7 +77,7 @@ gives (suc more) q rest = (refl, given_later more 0 q.1 (Text q.0) _ (gives more
 one_test : (v w : Value) (a t : Name) → v ≡ Text a → w ≡ Text t → is_true (binary (Compare Eq Binary) v w) ≡ is t a
 one_test v w a t e f = subst₂ (λ x y. is_true (binary (Compare Eq Binary) x y) ≡ is t a) (sym e) (sym f) (text_test a t)
 
-and_true : (b : Bool) → (b && true) ≡ b
+pub and_true : (b : Bool) → (b && true) ≡ b
 and_true true = refl
 and_true false = refl
 
@@ -121,7 +112,7 @@ later_keys at (k ∷ ks) u w x y = ap (ordering_then _) (later_keys (suc at) ks 
 text_order : (v w : Value) (s t : Name) → v ≡ Text s → w ≡ Text t → value_cmp v w ≡ text_cmp s t
 text_order v w s t e f = subst₂ (λ x y. value_cmp x y ≡ text_cmp s t) (sym e) (sym f) (value_cmp-Text s t)
 
-then_equal : (o : Ordering) → ordering_then o Equal ≡ o
+pub then_equal : (o : Ordering) → ordering_then o Equal ≡ o
 then_equal Less = refl
 then_equal Equal = refl
 then_equal Greater = refl

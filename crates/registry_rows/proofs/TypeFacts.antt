@@ -1,15 +1,14 @@
 -- SQL's = on texts, blobs and integers, and the types of the columns.
-use Rattle.std.proofs.Common.{◌≡◌, ◌+◌, ℕ, List, [], ◌∷◌, drop, get_or, Bool, true, false, not, ◌&&◌, ◌||◌, Some, None, Ordering, Less, Equal, Greater, refl, sym, ap, subst, ◌∙◌, true≢false, arith}
-use Rattle.std.specs.Ordering.{is_eq, nat_cmp}
-use Rattle.std.proofs.lemmas.Cmp.{tied_itself}
-use Rattle.std.proofs.lemmas.Map.Lookups.{exact_bytes}
+use Rattle.std.proofs.Common.{◌≡◌, ◌+◌, ◌≤◌, ℕ, ℤ, List, [], ◌∷◌, drop, get_or, Bool, true, false, cond, not, ◌&&◌, ◌||◌, Option, Some, None, refl, sym, ap, subst, ◌∙◌, true≢false, ne_eqb, arith}
+use Rattle.std.specs.Ordering.{is_eq, int_eq}
+use Rattle.std.proofs.lemmas.Cmp.{int_cmp_total, eq_by_cmp_equiv}
 use Rattle.std.proofs.lemmas.Bool.{and_parts, not-true}
 use Rattle.std.proofs.lemmas.List.{get_or-drop, drop-drop}
 use Rattle.sqlite.specs.declared.types.Value.{Value}
 use Rattle.sqlite.specs.declared.types.Value.TheVariants.{Null, Int, Real, Text, Blob}
-use Rattle.sqlite_value.specs.Order.{Row, column, value_cmp, class}
+use Rattle.sqlite_value.specs.Order.{Row, column, value_cmp}
 use Rattle.sqlite_value.specs.declared.keys.Collation.TheVariants.{Binary}
-use Rattle.sqlite_value.proofs.OrderLemmas.{value_cmp_total, value_cmp-Text, value_cmp-apart}
+use Rattle.sqlite_value.proofs.OrderLemmas.{value_cmp-Int, value_cmp-Text, value_cmp-Blob}
 use Rattle.sqlite_sql.specs.declared.ops.BinaryOp.TheVariants.{Compare}
 use Rattle.sqlite_sql.specs.declared.ops.CompareOp.TheVariants.{Eq}
 use Rattle.sqlite_sql.specs.Ops.{binary, is_true, is_null, from_truth}
@@ -19,37 +18,47 @@ use Rattle.sqlite_schema.specs.declared.schema.Column.{Column}
 use Rattle.sqlite_schema.specs.declared.schema.Schema.{Schema}
 use Rattle.sqlite_schema.specs.declared.schema.Table.{Table}
 use Rattle.sqlite_schema.specs.declared.schema.Constraint.TheVariants.{Datatype, NotNull}
+use Rattle.sqlite_schema.specs.Names.{is_key}
 use Rattle.sqlite_schema.specs.Rules.{suits, are_typed, are_present, is_of}
 use Rattle.sqlite_rules.specs.Lists.{Has}
 use Rattle.sqlite_rules.proofs.ListLemmas.{all_has}
 use Rattle.sqlite.specs.Effect.{Database, IsDatabase}
-use Rattle.registry_rows.specs.Columns.{is_plain_kind, are_plain, IsOf, AreOf}
+use Rattle.registry_names.specs.Texts.{is}
+use Rattle.registry_names.proofs.TextFacts.{is_tie, is_sym, is_self}
+use Rattle.registry_rows.specs.Columns.{is_plain_kind, are_plain, is_exact, equals, IsOf, AreOf}
 
--- a text that equals a text in SQL is that text
-eq_is : (o : Ordering) → is_eq o ≡ true → o ≡ Equal
-eq_is Less h = absurd cc
-eq_is Equal h = refl
-eq_is Greater h = absurd cc
+-- ---- SQL's =
 
-tested : (b : Bool) → is_true (from_truth (Some b)) ≡ true → b ≡ true
-tested true h = refl
-tested false h = h
+truth_is : (b : Bool) → is_true (from_truth (Some b)) ≡ b
+truth_is true = refl
+truth_is false = refl
 
-apart : (v w : Value) (o : Ordering) → nat_cmp (class v) (class w) ≡ o → is_eq o ≡ false → (class v ≡ class w → ⊥) → is_true (from_truth (Some (is_eq (value_cmp v w)))) ≡ true → ⊥
-apart v w o is other differ h = true≢false (sym (tested _ h) ∙ ap is_eq (value_cmp-apart v w differ ∙ is) ∙ other)
-
--- a value that equals a text in SQL is that text
-pub text_eq : (v : Value) (t : List ℕ) → is_true (binary (Compare Eq Binary) v (Text t)) ≡ true → v ≡ Text t
+pub text_test : (s t : List ℕ) → is_true (binary (Compare Eq Binary) (Text s) (Text t)) ≡ is t s
 unfolding binary
-text_eq Null t h = absurd (true≢false (sym h))
-text_eq (Int n) t h = absurd (apart (Int n) (Text t) _ refl refl (λ e. omega (arith, e)) h)
-text_eq (Real x) t h = absurd (apart (Real x) (Text t) _ refl refl (λ e. omega (arith, e)) h)
-text_eq (Text s) t h = ap Text (exact_bytes s t (sym (value_cmp-Text s t) ∙ eq_is _ (tested _ h)))
-text_eq (Blob b) t h = absurd (apart (Blob b) (Text t) _ refl refl (λ e. omega (arith, e)) h)
+text_test s t = truth_is (is_eq (value_cmp (Text s) (Text t))) ∙ ap is_eq (value_cmp-Text s t) ∙ sym (is_tie s t) ∙ is_sym s t
+
+pub bytes_test : (s t : List ℕ) → is_true (binary (Compare Eq Binary) (Blob s) (Blob t)) ≡ is t s
+unfolding binary
+bytes_test s t = truth_is (is_eq (value_cmp (Blob s) (Blob t))) ∙ ap is_eq (value_cmp-Blob s t) ∙ sym (is_tie s t) ∙ is_sym s t
+
+pub number_test : (m n : ℤ) → is_true (binary (Compare Eq Binary) (Int m) (Int n)) ≡ int_eq n m
+unfolding binary
+number_test m n = truth_is (is_eq (value_cmp (Int m) (Int n))) ∙ ap is_eq (value_cmp-Int m n) ∙ (eq_by_cmp_equiv int_cmp_total).symm m n
 
 pub text_same : (t : List ℕ) → is_true (binary (Compare Eq Binary) (Text t) (Text t)) ≡ true
-unfolding binary
-text_same t = rw (tied_itself value_cmp_total (Text t)) refl
+text_same t = text_test t t ∙ is_self t
+
+pub bytes_same : (t : List ℕ) → is_true (binary (Compare Eq Binary) (Blob t) (Blob t)) ≡ true
+bytes_same t = bytes_test t t ∙ is_self t
+
+-- a value of the column's type is tested by what it is read as
+pub equals_is : (k : Kind) (v q : Value) → IsOf k v → is_exact k q ≡ true → is_true (binary (Compare Eq Binary) v q) ≡ equals q v
+equals_is kind.Integer v (Int n) h e = subst (λ w. is_true (binary (Compare Eq Binary) w (Int n)) ≡ equals (Int n) w) (sym h.1) (number_test h.0 n)
+equals_is kind.Text v (Text t) h e = subst (λ w. is_true (binary (Compare Eq Binary) w (Text t)) ≡ equals (Text t) w) (sym h.1) (text_test h.0 t)
+equals_is kind.Blob v (Blob b) h e = subst (λ w. is_true (binary (Compare Eq Binary) w (Blob b)) ≡ equals (Blob b) w) (sym h.1) (bytes_test h.0 b)
+equals_is _ v q h e = absurd (true≢false (sym e))
+
+-- ---- the types of the columns
 
 drop_more : (n : ℕ) (row : Row) (v : Value) (vs : Row) → drop n row ≡ v ∷ vs → (drop (n + 1) row ≡ vs) × (column row n ≡ v)
 drop_more n row v vs e = (sym (drop-drop 1 n row) ∙ ap (drop 1) e, let z : n + 0 ≡ n = omega arith in subst (λ i. column row i ≡ v) z (sym (get_or-drop n row 0 Null) ∙ ap (λ l. get_or l 0 Null) e))
@@ -72,27 +81,55 @@ there c v must h null = true≢false (sym null ∙ there_is c v must h)
 strict_is : (c : Column) (v : Value) → c.is_strict ≡ true → suits c v ≡ true → is_of c.kind v ≡ true
 strict_is c v strict h = rw strict at h
 
-typed_from : (cs : List Column) (at : ℕ) (row vs : Row) → drop (at + 1) row ≡ vs → are_plain cs ≡ true → are_typed None at cs vs ≡ true → are_present None at cs row ≡ true → AreOf cs vs
-typed_from [] at row [] e p t h = tt
-typed_from [] at row (v ∷ vs) e p t h = absurd (true≢false (sym t))
-typed_from (c ∷ cs) at row [] e p t h =
+or_after : (b x y : Bool) → b ≡ false → ((b || x) || y) ≡ true → (x || y) ≡ true
+or_after true x y out h = absurd (true≢false out)
+or_after false x y out h = h
+
+else_of : (b x y : Bool) → b ≡ false → cond b x y ≡ true → y ≡ true
+else_of true x y out h = absurd (true≢false out)
+else_of false x y out h = h
+
+-- the types of the columns from one on, where none of them is the rowid
+typed_from : (key : Option ℕ) (cs : List Column) (at : ℕ) (row vs : Row) → ((j : ℕ) → at ≤ j → is_key key j ≡ false) → drop (at + 1) row ≡ vs → are_plain cs ≡ true
+    → are_typed key at cs vs ≡ true → are_present key at cs row ≡ true → AreOf cs vs
+typed_from key [] at row [] free e p t h = tt
+typed_from key [] at row (v ∷ vs) free e p t h = absurd (true≢false (sym t))
+typed_from key (c ∷ cs) at row [] free e p t h =
     let own = and_parts (c.is_strict && c.not_null) (is_plain_kind c.kind) (and_parts _ (are_plain cs) p).0 in
     let both = and_parts c.is_strict c.not_null own.0 in
-    absurd (there c (column row (at + 1)) both.1 (and_parts _ _ h).0 (ap is_null (drop_none (at + 1) row e)))
-typed_from (c ∷ cs) at row (v ∷ vs) e p t h =
+    absurd (there c (column row (at + 1)) both.1 (or_after _ _ _ (free at (omega arith)) (and_parts _ _ h).0) (ap is_null (drop_none (at + 1) row e)))
+typed_from key (c ∷ cs) at row (v ∷ vs) free e p t h =
     let own = and_parts (c.is_strict && c.not_null) (is_plain_kind c.kind) (and_parts _ (are_plain cs) p).0 in
     let both = and_parts c.is_strict c.not_null own.0 in
     let more = drop_more (at + 1) row v vs e in
-    let some = there_is c (column row (at + 1)) both.1 (and_parts _ _ h).0 in (
-      of_kind c.kind v own.1 (strict_is c v both.0 (and_parts _ _ t).0) (subst (λ x. is_null x ≡ false) more.1 some),
-      typed_from cs (at + 1) row vs more.0 (and_parts _ _ p).1 (and_parts _ _ t).1 (and_parts _ _ h).1,
+    let some = there_is c (column row (at + 1)) both.1 (or_after _ _ _ (free at (omega arith)) (and_parts _ _ h).0) in (
+      of_kind c.kind v own.1 (strict_is c v both.0 (else_of _ _ _ (free at (omega arith)) (and_parts _ _ t).0)) (subst (λ x. is_null x ≡ false) more.1 some),
+      typed_from key cs (at + 1) row vs (λ j low. free j (omega arith)) more.0 (and_parts _ _ p).1 (and_parts _ _ t).1 (and_parts _ _ h).1,
     )
 
--- what the schema says of the rows of a table
-pub typed : (schema : Schema) (db : Database) (table : Table) (r : Row) → IsDatabase db → db.schema ≡ schema → Has schema.tables table → table.key ≡ None → are_plain table.columns ≡ true
-    → Has (db.trees table.tree) r → AreOf table.columns (drop 1 r)
-typed schema db table r sound is listed key plain h =
-    let at = subst (λ s. Has s.tables table) (sym is) listed in
-    let t = all_has _ (db.trees table.tree) r (all_has _ db.schema.tables table (sound.obeys.rules Datatype) at) h in
-    let n = all_has _ (db.trees table.tree) r (all_has _ db.schema.tables table (sound.obeys.rules NotNull) at) h in
-    typed_from table.columns 0 r (drop 1 r) refl plain (and_parts _ _ (rw key at t)).0 (rw key at n)
+module _ (schema : Schema) (db : Database) (table : Table) (r : Row) (sound : IsDatabase db) (is : db.schema ≡ schema) (listed : Has schema.tables table) (h : Has (db.trees table.tree) r) where
+  own_table : Has db.schema.tables table
+  own_table = subst (λ s. Has s.tables table) (sym is) listed
+
+  typed_row : are_typed table.key 0 table.columns (drop 1 r) ≡ true
+  typed_row = (and_parts _ _ (all_has _ (db.trees table.tree) r (all_has _ db.schema.tables table (sound.obeys.rules Datatype) own_table) h)).0
+
+  present_row : are_present table.key 0 table.columns r ≡ true
+  present_row = all_has _ (db.trees table.tree) r (all_has _ db.schema.tables table (sound.obeys.rules NotNull) own_table) h
+
+  -- what the schema says of the rows of a table
+  pub typed : table.key ≡ None → are_plain table.columns ≡ true → AreOf table.columns (drop 1 r)
+  typed key plain = typed_from None table.columns 0 r (drop 1 r) (λ j low. refl) refl plain (rw key at typed_row) (rw key at present_row)
+
+  -- the same, where the first column is the rowid
+  pub typed_after_id : (id : Column) (cs : List Column) → table.key ≡ Some 0 → table.columns ≡ id ∷ cs → are_plain cs ≡ true → AreOf cs (drop 2 r)
+  typed_after_id id cs key columns plain =
+      let there : are_present (Some 0) 0 (id ∷ cs) r ≡ true = rw (key, columns) at present_row in
+      go (drop 1 r) refl (rw (key, columns) at typed_row) there
+    where
+      free : (j : ℕ) → 1 ≤ j → is_key (Some 0) j ≡ false
+      free j low = ne_eqb 0 j (omega arith)
+
+      go : (vs : Row) → drop 1 r ≡ vs → are_typed (Some 0) 0 (id ∷ cs) vs ≡ true → are_present (Some 0) 1 cs r ≡ true → AreOf cs (drop 2 r)
+      go [] e t p = let none : drop 2 r ≡ [] = sym (drop-drop 1 1 r) ∙ ap (drop 1) e in subst (AreOf cs) (sym none) (typed_from (Some 0) cs 1 r [] free none plain (and_parts _ _ t).1 p)
+      go (v ∷ vs) e t p = let rest : drop 2 r ≡ vs = sym (drop-drop 1 1 r) ∙ ap (drop 1) e in subst (AreOf cs) (sym rest) (typed_from (Some 0) cs 1 r vs free rest plain (and_parts _ _ t).1 p)

@@ -1,9 +1,13 @@
 pub mod Columns
+pub mod CreateLaws
 pub mod Faults
 pub mod Frames
+pub mod KeyKinds
+pub mod Laws
+pub mod QueryLaws
 pub mod Ready
 pub mod Rows
 pub mod Statements
 pub mod Tables
 pub mod TextKeys
-pub mod Laws
+pub mod WriteLaws

@@ -1,10 +1,21 @@
 //! Laws of statements, over any schema and any store. Each function does nothing: what it ensures
 //! holds of the definitions themselves, and its proof is the law's.
 
-ghost use Rattle.registry_rows.specs.Laws.{CreateAddsEmpty, OfEachTable, OfEachPairTable, OfEachTripleTable, OneRowEach, RowsTellMap};
-ghost use Rattle.registry_rows.specs.Laws.{InsertPuts, DeleteErases, UpdateRevises, SelectFinds, SelectListsAll, SelectLists, SelectListsTwo};
+ghost use Rattle.registry_rows.specs.Laws.{OfEachTable, OfEachBytesTable, OfEachNumberedTable, OfEachPairTable, OfEachTripleTable};
+ghost use Rattle.registry_rows.specs.CreateLaws.{CreateAddsEmpty, CreateAddsCounter, IndexKeepsEmpty, IndexKeepsRows};
+ghost use Rattle.registry_rows.specs.WriteLaws.{OneRowEach, RowsTellMap, InsertPuts, InsertMeetsNone, DeleteErases, UpdateRevises, UpdatePuts};
+ghost use Rattle.registry_rows.specs.QueryLaws.{SelectFinds, SelectListsAll, SelectLists, SelectListsTwo};
 
 use sqlite::Alter;
+
+/// A table that is made is empty and leaves the others empty, and the first that counts makes the
+/// table that counts beside it. An index leaves every table's rows, and so all that they give.
+pub fn creations_add_empty_tables<S: Alter, C>()
+    ensures create { CreateAddsEmpty S.Store }
+    ensures counter { CreateAddsCounter S.Store }
+    ensures index { IndexKeepsEmpty S.Store }
+    ensures rows { IndexKeepsRows S.Store C }
+{}
 
 /// The map that a ready table's rows give has at each key what the row of that key says, and no
 /// two rows have one key.
@@ -16,10 +27,11 @@ pub fn rows_give_maps<S: Alter, C, X>()
 /// A statement that writes by key makes one operation of its table's map, leaves the other tables
 /// as they are, and keeps all of them ready.
 pub fn writes_change_maps<S: Alter, C, X>()
-    ensures create { CreateAddsEmpty S.Store }
     ensures insert { OfEachTable C X (InsertPuts S.Store) }
+    ensures insert_new { OfEachTable C X (InsertMeetsNone S.Store) }
     ensures delete { OfEachTable C X (DeleteErases S.Store) }
     ensures update { OfEachTable C X (UpdateRevises S.Store) }
+    ensures update_known { OfEachTable C X (UpdatePuts S.Store) }
 {}
 
 /// A query by key, or in the order of the key, shows exactly what its table's map has, and changes
@@ -29,4 +41,24 @@ pub fn queries_show_maps<S: Alter, C, X, Y>()
     ensures all { OfEachTable C X (SelectListsAll S.Store Y) }
     ensures list { OfEachPairTable C X (SelectLists S.Store Y) }
     ensures list_two { OfEachTripleTable C X (SelectListsTwo S.Store Y) }
+{}
+
+/// The same of a table whose key is bytes.
+pub fn bytes_are_keys<S: Alter, C, X, Y>()
+    ensures once { OfEachBytesTable C X (OneRowEach S.Store) }
+    ensures tell { OfEachBytesTable C X (RowsTellMap S.Store) }
+    ensures insert { OfEachBytesTable C X (InsertPuts S.Store) }
+    ensures insert_new { OfEachBytesTable C X (InsertMeetsNone S.Store) }
+    ensures delete { OfEachBytesTable C X (DeleteErases S.Store) }
+    ensures find { OfEachBytesTable C X (SelectFinds S.Store Y) }
+    ensures all { OfEachBytesTable C X (SelectListsAll S.Store Y) }
+{}
+
+/// The same of a table whose key is the rowid.
+pub fn numbers_are_keys<S: Alter, C, X, Y>()
+    ensures once { OfEachNumberedTable C X (OneRowEach S.Store) }
+    ensures tell { OfEachNumberedTable C X (RowsTellMap S.Store) }
+    ensures delete { OfEachNumberedTable C X (DeleteErases S.Store) }
+    ensures find { OfEachNumberedTable C X (SelectFinds S.Store Y) }
+    ensures all { OfEachNumberedTable C X (SelectListsAll S.Store Y) }
 {}

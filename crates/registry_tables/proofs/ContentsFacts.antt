@@ -4,7 +4,7 @@ use Rattle.registry_names.specs.Maps.{rows, empty}
 use Rattle.registry_rows.specs.Rows.{map_of}
 use Rattle.registry_rows.specs.Ready.{DependsOn}
 use Rattle.registry_tables.specs.Schema.{schema}
-use Rattle.registry_tables.specs.Contents.{contents, nothing_in, tokens_in, role_in, level_in, status_in, release_in, withdrawal_in, named_in, number_named_in}
+use Rattle.registry_tables.specs.Contents.{contents, nothing_in, tokens_in, role_in, grant_in, status_in, release_in, withdrawal_in, named_in, number_named_in}
 use Rattle.registry_tables.specs.Fresh.{no_contents}
 
 pub contents_depend : DependsOn schema contents
@@ -16,7 +16,7 @@ contents_depend old new (users, (tokens, (orgs, (members, (teams, (team_members,
   teams = map_of 1 nothing_in (teams i);
   team_members = map_of 2 nothing_in (team_members i);
   packages = map_of 0 status_in (packages i);
-  grants = map_of 2 level_in (grants i);
+  grants = map_of 2 grant_in (grants i);
   owners = map_of 1 nothing_in (owners i);
   versions = map_of 1 release_in (versions i);
   spent = map_of 1 withdrawal_in (spent i);

@@ -1,8 +1,15 @@
+pub mod CatalogFacts
 pub mod ContentsFacts
+pub mod CreationFacts
 pub mod FoundFacts
+pub mod HeldNeedFacts
 pub mod MappedFacts
+pub mod MetaFacts
 pub mod NeedFacts
 pub mod ReviseFacts
+pub mod SchemaFacts
+pub mod SpentFacts
 pub mod StatusFacts
+pub mod StepFacts
 pub mod TagFacts
 pub mod VersionFacts

@@ -3,7 +3,7 @@ use Rattle.std.proofs.Common.{refl}
 use Rattle.registry_rows.specs.Ready.{IsMapped}
 use Rattle.registry_tables.specs.Schema.{schema}
 use Rattle.registry_tables.specs.Schema as table
-use Rattle.registry_tables.specs.Contents.{contents, nothing_in, status_in, release_in, named_in}
+use Rattle.registry_tables.specs.Contents.{contents, nothing_in, status_in, release_in, withdrawal_in, named_in}
 use Rattle.registry_tables.proofs.ContentsFacts.{contents_depend}
 
 pub packages_mapped : IsMapped schema contents 6 table.packages 0 status_in (λ c m. record c { packages = m })
@@ -17,3 +17,6 @@ tags_mapped = record { found = refl; shape = refl; indexed = refl; plain = refl;
 
 pub need_ranges_mapped : IsMapped schema contents 14 table.need_ranges 3 nothing_in (λ c m. record c { need_ranges = m })
 need_ranges_mapped = record { found = refl; shape = refl; indexed = refl; plain = refl; texts = refl; depends = contents_depend; alone = λ db rows. refl }
+
+pub spent_mapped : IsMapped schema contents 10 table.spent 1 withdrawal_in (λ c m. record c { spent = m })
+spent_mapped = record { found = refl; shape = refl; indexed = refl; plain = refl; texts = refl; depends = contents_depend; alone = λ db rows. refl }

@@ -9,8 +9,8 @@ use Rattle.registry_names.specs.declared.status.Status.TheVariants.{Public, Rest
 use Rattle.registry_access.specs.Access.{Access}
 use Rattle.registry_access.specs.declared.role.Role.{Role}
 use Rattle.registry_access.specs.declared.role.Role.TheVariants.{Developer, Admin, Owner}
-use Rattle.registry_access.specs.declared.levels.Level.{Level}
-use Rattle.registry_access.specs.declared.levels.Level.TheVariants.{Nothing, Read, Write}
+use Rattle.registry_access.specs.declared.grant.Grant.{Grant}
+use Rattle.registry_access.specs.declared.grant.Grant.TheVariants.{ReadOnly, ReadWrite}
 use Rattle.registry_rules.specs.State.{State, Release, Withdrawal}
 use Rattle.registry_rows.specs.Columns.{text_in, blob_in, number_in}
 use Rattle.registry_rows.specs.Rows.{map_of}
@@ -34,11 +34,11 @@ role_of n = if n == 2 then Owner else (if n == 1 then Admin else Developer)
 abbrev pub role_in : Row → Role
 role_in vs = role_of (number_in (column vs 2))
 
-abbrev pub level_of : ℕ → Level
-level_of n = if n == 2 then Write else (if n == 1 then Read else Nothing)
+abbrev pub grant_of : ℕ → Grant
+grant_of n = if n == 2 then ReadWrite else ReadOnly
 
-abbrev pub level_in : Row → Level
-level_in vs = level_of (number_in (column vs 3))
+abbrev pub grant_in : Row → Grant
+grant_in vs = grant_of (number_in (column vs 3))
 
 abbrev pub release_in : Row → Release
 release_in vs = record { at = number_in (column vs 2); manifest = text_in (column vs 3); archive = blob_in (column vs 5); message = text_in (column vs 4) }
@@ -73,7 +73,7 @@ pub record Contents : Type 0 where
   pub team_members : TripleMap (Unit {0})
   pub packages : TextMap Status
   -- organisation, team and package
-  pub grants : TripleMap Level
+  pub grants : TripleMap Grant
   -- package and user
   pub owners : PairMap (Unit {0})
   -- package and version
@@ -98,7 +98,7 @@ contents db = record {
   teams = map_of 1 nothing_in (db table.teams.tree);
   team_members = map_of 2 nothing_in (db table.team_members.tree);
   packages = map_of 0 status_in (db table.packages.tree);
-  grants = map_of 2 level_in (db table.grants.tree);
+  grants = map_of 2 grant_in (db table.grants.tree);
   owners = map_of 1 nothing_in (db table.owners.tree);
   versions = map_of 1 release_in (db table.versions.tree);
   spent = map_of 1 withdrawal_in (db table.spent.tree);

@@ -47,3 +47,11 @@ module _ {S : Type 0} (store : Ghosts S) where
     -- an answer is told by what is stored, and leaves everything as it was
     abbrev pub Tells : (R → Contents → Type 0) → Type 0
     Tells is_told = HasCleanDisk (shown new) → IfOk result (λ answer. Reads schema (shown old) (shown new) × is_told answer (stored_in old))
+
+    -- the same of a database without tables
+    abbrev pub TellsNone : (R → Type 0) → Type 0
+    TellsNone is_told = HasCleanDisk (shown new) → IfOk result (λ answer. Reads no_tables (shown old) (shown new) × is_told answer)
+
+  -- the transaction wasn't ended
+  abbrev pub GoesOn : Transaction S → Type 0
+  GoesOn tx = IsTrue (shown tx).in_transaction

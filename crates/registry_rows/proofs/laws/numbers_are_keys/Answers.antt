@@ -1,0 +1,22 @@
+use Rattle.sqlite.specs.Held.{state}
+use Rattle.registry_rows.proofs.KeyedFacts.{by_number_given}
+use Rattle.registry_rows.proofs.StatementFacts.{rows_tell_by, delete_erases_by}
+use Rattle.registry_rows.proofs.LookUpFacts.{select_finds_by, select_all_by}
+use Rattle.registry_rows.proofs.laws.numbers_are_keys.Goals as goal
+
+pub returns-clause-once : goal.returns-clause-once
+returns-clause-once g c = λ schema contents place table value change t h. (by_number_given t).keyed.once (state g.S.Store h)
+
+pub returns-clause-tell : goal.returns-clause-tell
+returns-clause-tell g c = λ schema contents place table value change t h. rows_tell_by (by_number_given t) (state g.S.Store h)
+
+pub returns-clause-delete : goal.returns-clause-delete
+returns-clause-delete g c = λ schema contents place table value change t sql means quiet q old new. delete_erases_by (by_number_given t) sql means quiet q (state g.S.Store old) (state g.S.Store new)
+
+pub returns-clause-find : goal.returns-clause-find
+returns-clause-find g c = λ schema contents place table value change t sql project names means q read see shows old new.
+    select_finds_by (by_number_given t) sql project names means q read see shows (state g.S.Store old) (state g.S.Store new)
+
+pub returns-clause-all : goal.returns-clause-all
+returns-clause-all g c = λ schema contents place table value change t sql project names means read see shows old new.
+    select_all_by (by_number_given t) sql project names means read see shows (state g.S.Store old) (state g.S.Store new)

@@ -1,0 +1,60 @@
+-- The tables made one after another, each of them empty.
+use Rattle.std.proofs.Common.{◌≡◌, ℕ, zero, suc, ◌+◌, ◌<◌, List, [], length, get_or, refl, Result, OnOk, Ok, Err, arith, sym, ap, subst, ◌∙◌}
+use Rattle.sqlite_trees.specs.declared.store.Store.{Ghosts}
+use Rattle.sqlite.specs.State.{State, HasCleanDisk, ExecutesIn}
+use Rattle.sqlite.specs.declared.transaction.Transaction.{Transaction}
+use Rattle.sqlite.specs.Listing.{understood}
+use Rattle.sqlite_resolve.specs.declared.error.CompileError.{CompileError}
+use Rattle.sqlite_resolve.specs.declared.error.CompileError.TheVariants.{Exists}
+use Rattle.sqlite_schema.specs.declared.schema.Schema.{Schema}
+use Rattle.registry_rows.specs.Tables.{no_tables}
+use Rattle.registry_rows.specs.Frames.{Wrote}
+use Rattle.registry_rows.specs.Ready.{Ready, Blank, Leaves, Executed}
+use Rattle.registry_rows.proofs.ReadyFacts.{inside}
+use Rattle.registry_rows.proofs.CreateFacts.{create_adds, creates_ready, blank_holds}
+use Rattle.registry_tables.specs.Schema.{schema}
+use Rattle.registry_tables.specs.Contents.{contents}
+use Rattle.registry_tables.specs.Creation.{creation}
+use Rattle.registry_tables.specs.Effects.{HasNoTables, InForm, Makes, shown, stored_in}
+use Rattle.registry_tables.specs.Fresh.{HasMade, first_tables, fresh, no_contents, schema_number, with_number}
+use Rattle.registry_tables.proofs.ContentsFacts.{contents_depend, no_rows}
+use Rattle.registry_tables.proofs.SchemaFacts.{AddsTable, adds, users_exists}
+
+add_first : (sql : List ℕ) → AddsTable 0 sql → (old new : State) (count : ℕ) → Ready no_tables old → Executed sql [] old new (Ok count) → HasCleanDisk new → Blank (first_tables 1) new
+add_first sql it old new count form call clean = inside (Blank (first_tables 1) new) no_tables sql [] old new (Ok count) form call clean (λ n ready ran on.
+    let made = creates_ready no_tables sql it.table old new it.means ready n ran in
+    subst (λ s. Blank s new) it.next (record { ready = made.0; empty = (made.2, tt); mode = on }))
+
+add_table : (n : ℕ) (sql : List ℕ) → AddsTable n sql → (old new : State) (count : ℕ) → (HasCleanDisk old → Blank (first_tables n) old) → Executed sql [] old new (Ok count) → HasCleanDisk new → Blank (first_tables (suc n)) new
+add_table n sql it old new count made call clean = subst (λ s. Blank s new) it.next (create_adds (first_tables n) sql it.table it.means old new (Ok count) made call clean)
+
+-- a text that isn't understood isn't run
+never_run : (schema : Schema) (sql : List ℕ) (e : CompileError) → understood schema sql ≡ Err e → (old new : State) (count : ℕ) → Ready schema old → Executed sql [] old new (Ok count) → ¬ HasCleanDisk new
+unfolding ExecutesIn
+never_run schema sql e refused old new count form call clean = inside ⊥ schema sql [] old new (Ok count) form call clean (λ n ready ran on.
+    absurd (let both = sym (ap (λ s. understood s sql) ready.schema_is ∙ refused) ∙ ran.1.is in cc))
+
+module _ {S : Type 0} (store : Ghosts S) where
+  -- the next text, after those so far
+  pub makes_next : (i : ℕ) (first old new : Transaction S) → i < length creation → (i ≡ 0 → old ≡ first) → (0 < i → HasNoTables store first → HasMade store i old)
+      → Wrote (get_or creation i []) [] (shown store old) (shown store new) → HasNoTables store first → HasMade store (i + 1) new
+  makes_next zero first old new within idle made call none =
+      add_first (get_or creation 0 []) (adds 0 within) (shown store old) (shown store new) call.0 (subst (HasNoTables store) (sym (idle refl)) none) call.1
+  makes_next (suc n) first old new within idle made call none =
+      let same : suc (suc n) ≡ suc n + 1 = omega arith in
+      subst (λ k. HasMade store k new) same (add_table (suc n) (get_or creation (suc n) []) (adds (suc n) within) (shown store old) (shown store new) call.0 (made (omega arith) none) call.1)
+
+  -- where the tables were there, no text is run
+  pub refuses_next : (i : ℕ) (first old new : Transaction S) → (i ≡ 0 → old ≡ first) → (0 < i → InForm store first → ¬ HasCleanDisk (shown store old))
+      → Wrote (get_or creation i []) [] (shown store old) (shown store new) → InForm store first → ¬ HasCleanDisk (shown store new)
+  refuses_next zero first old new idle refused call form =
+      never_run schema (get_or creation 0 []) Exists users_exists (shown store old) (shown store new) call.0 (subst (InForm store) (sym (idle refl)) form) call.1
+  refuses_next (suc n) first old new idle refused call form = λ clean. refused (omega arith) form (omega (arith, call.1.survives.clean, clean))
+
+  -- the number of the schema is put when all tables are there
+  pub numbered : {E : Type 0} (old new : Transaction S) (r : Result (Unit {0}) E) → HasMade store 15 old → (HasCleanDisk (shown store new) → HasCleanDisk (shown store old))
+      → (InForm store old → Makes store old new r (λ c. with_number c schema_number)) → HasCleanDisk (shown store new) → OnOk r (Leaves schema contents fresh (shown store new))
+  numbered old new r made before put clean =
+      let blank : Blank schema (shown store old) = made (before clean) in
+      let none : stored_in store old ≡ no_contents = blank_holds schema contents (shown store old) contents_depend blank ∙ no_rows in
+      subst (λ c. OnOk r (Leaves schema contents (with_number c schema_number) (shown store new))) none (put (λ _ _. blank.ready) clean)

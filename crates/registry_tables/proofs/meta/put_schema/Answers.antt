@@ -1,0 +1,10 @@
+use Rattle.registry_rows.proofs.QuietFacts.{on_answer}
+use Rattle.registry_tables.specs.Effects.{shown}
+use Rattle.registry_tables.specs.Fresh.{schema_number}
+use Rattle.registry_tables.proofs.MetaFacts.{number_put}
+use Rattle.registry_tables.proofs.meta.put_schema.Goals as goal
+
+pub returns-clause-makes : goal.returns-clause-makes
+returns-clause-makes g c form clean = on_answer c.write.result
+    (λ wrote. number_put schema_number (shown g.S.Store c.args.tx.now) (shown g.S.Store c.write.new.tx) form wrote clean)
+    (rw (c.params-to_sql.ensures) at c.write.ensures.wrote)

@@ -1,0 +1,64 @@
+//! The tables of schema 1.
+//!
+//! Each has one primary key of its first columns, no column may be null, and every value has its
+//! column's type (`STRICT`). A foreign key names rows that must be there; where it cascades, a
+//! row goes with the one that it names. Tables are made in this order, and later ones are added
+//! behind them.
+
+ghost use Rattle.std.specs.Prelude.{◌≡◌, IsErr, OnOk, map};
+ghost use Rattle.sqlite.specs.State.{HasCleanDisk};
+ghost use Rattle.registry_rows.specs.Frames.{Stays};
+ghost use Rattle.registry_rows.specs.Ready.{Leaves};
+ghost use Rattle.registry_tables.specs.Schema.{schema};
+ghost use Rattle.registry_tables.specs.Contents.{contents};
+ghost use Rattle.registry_tables.specs.Creation.{creation};
+ghost use Rattle.registry_tables.specs.Effects.{HasNoTables, InForm, shown};
+ghost use Rattle.registry_tables.specs.Fresh.{HasMade, fresh};
+
+use crate::meta::put_schema;
+use registry_names::Fault;
+use registry_rows::write;
+use sqlite::{Alter, Transaction};
+
+// The texts that make the tables, in their order.
+const TABLES: [&str; 15] = [
+    "CREATE TABLE users (name TEXT NOT NULL, PRIMARY KEY (name)) STRICT",
+    "CREATE TABLE tokens (digest BLOB NOT NULL, user TEXT NOT NULL, PRIMARY KEY (digest), FOREIGN KEY (user) REFERENCES users) STRICT",
+    "CREATE TABLE orgs (name TEXT NOT NULL, PRIMARY KEY (name)) STRICT",
+    "CREATE TABLE members (org TEXT NOT NULL, user TEXT NOT NULL, role INTEGER NOT NULL, PRIMARY KEY (org, user), FOREIGN KEY (org) REFERENCES orgs, FOREIGN KEY (user) REFERENCES users) STRICT",
+    "CREATE TABLE teams (org TEXT NOT NULL, team TEXT NOT NULL, PRIMARY KEY (org, team), FOREIGN KEY (org) REFERENCES orgs) STRICT",
+    "CREATE TABLE team_members (org TEXT NOT NULL, team TEXT NOT NULL, user TEXT NOT NULL, PRIMARY KEY (org, team, user), FOREIGN KEY (org, team) REFERENCES teams ON DELETE CASCADE, FOREIGN KEY (org, user) REFERENCES members ON DELETE CASCADE) STRICT",
+    "CREATE TABLE packages (name TEXT NOT NULL, status INTEGER NOT NULL, PRIMARY KEY (name)) STRICT",
+    "CREATE TABLE grants (org TEXT NOT NULL, team TEXT NOT NULL, package TEXT NOT NULL, level INTEGER NOT NULL, PRIMARY KEY (org, team, package), FOREIGN KEY (org, team) REFERENCES teams ON DELETE CASCADE, FOREIGN KEY (package) REFERENCES packages) STRICT",
+    "CREATE TABLE owners (package TEXT NOT NULL, user TEXT NOT NULL, PRIMARY KEY (package, user), FOREIGN KEY (package) REFERENCES packages, FOREIGN KEY (user) REFERENCES users) STRICT",
+    "CREATE TABLE versions (package TEXT NOT NULL, version TEXT NOT NULL, published INTEGER NOT NULL, manifest TEXT NOT NULL, deprecated TEXT NOT NULL, archive BLOB NOT NULL, PRIMARY KEY (package, version), FOREIGN KEY (package) REFERENCES packages) STRICT",
+    "CREATE TABLE spent (package TEXT NOT NULL, version TEXT NOT NULL, published INTEGER NOT NULL, withdrawn INTEGER NOT NULL, PRIMARY KEY (package, version), FOREIGN KEY (package) REFERENCES packages) STRICT",
+    "CREATE TABLE tags (package TEXT NOT NULL, tag TEXT NOT NULL, version TEXT NOT NULL, PRIMARY KEY (package, tag), FOREIGN KEY (package, version) REFERENCES versions) STRICT",
+    "CREATE TABLE needs (package TEXT NOT NULL, version TEXT NOT NULL, target TEXT NOT NULL, PRIMARY KEY (package, version, target), FOREIGN KEY (package, version) REFERENCES versions ON DELETE CASCADE) STRICT",
+    "CREATE TABLE meta (name TEXT NOT NULL, value INTEGER NOT NULL, PRIMARY KEY (name)) STRICT",
+    "CREATE TABLE need_ranges (package TEXT NOT NULL, version TEXT NOT NULL, target TEXT NOT NULL, range TEXT NOT NULL, PRIMARY KEY (package, version, target, range), FOREIGN KEY (package, version) REFERENCES versions ON DELETE CASCADE) STRICT",
+];
+
+/// Makes the tables in a database that has none: all of them empty, but for the number of the
+/// schema. Where they are there already, the answer is `Database`.
+pub fn create<S: Alter>(tx: &mut Transaction<'_, S>) -> Result<(), Fault>
+    ensures stays { Stays S.Store tx.old tx.new }
+    ensures made { HasNoTables S.Store tx.old → HasCleanDisk (shown S.Store tx.new) → OnOk result (Leaves schema contents fresh (shown S.Store tx.new)) }
+    ensures refused { InForm S.Store tx.old → HasCleanDisk (shown S.Store tx.new) → IsErr result }
+{
+    create_tables(tx, &TABLES)?;
+    put_schema(tx)
+}
+
+// Runs the texts that make the tables.
+fn create_tables<S: Alter>(tx: &mut Transaction<'_, S>, texts: &[&str]) -> Result<(), Fault>
+    requires texts { map (λ text. text.now) texts.now ≡ creation }
+    ensures stays { Stays S.Store tx.old tx.new }
+    ensures made { HasNoTables S.Store tx.old → OnOk result (HasMade S.Store 15 tx.new) }
+    ensures refused { InForm S.Store tx.old → HasCleanDisk (shown S.Store tx.new) → IsErr result }
+{
+    for text in texts {
+        write(tx, text, &[])?;
+    }
+    Ok(())
+}
