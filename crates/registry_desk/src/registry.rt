@@ -100,7 +100,7 @@ impl<S: Alter> Registry<S> {
         ensures needs { Keeps (state S.Store self.old) (state S.Store self.new) HoldsNeeds }
         ensures survives { SurvivesOne (state S.Store self.old) (state S.Store self.new)
             request.now }
-        ensures stays { Stays (state S.Store self.old) (state S.Store self.new) result }
+        ensures stays { Stays (state S.Store self.new) result }
     {
         requests_are_in_form(request);
         answered(alloc, &mut self.conn, request)
@@ -128,8 +128,8 @@ impl<S: Alter> Registry<S> {
         ensures needs { Keeps (state S.Store self.old) (state S.Store self.new) HoldsNeeds }
         ensures survives { IfOk result (λ outcomes. SurvivesRun (state S.Store self.old)
             (state S.Store self.new) requests.now outcomes.items) }
-        ensures stays { IfOk result (λ outcomes. StaysRun (state S.Store self.old)
-            (state S.Store self.new) requests.now outcomes.items) }
+        ensures stays { IfOk result (λ outcomes.
+            StaysRun (state S.Store self.new) outcomes.items) }
         ensures not_run { OnErr result (self.new ≡ self.old) }
         ensures memory { IfErr result (λ fault. fault ≡ Fault.Memory) }
     {
@@ -179,7 +179,7 @@ fn answered<S: Alter>(
     ensures opened { WasOpen (state S.Store conn.old) (state S.Store conn.new) }
     ensures step { Stepped (state S.Store conn.old) (state S.Store conn.new) request.now result }
     ensures survives { SurvivesOne (state S.Store conn.old) (state S.Store conn.new) request.now }
-    ensures stays { Stays (state S.Store conn.old) (state S.Store conn.new) result }
+    ensures stays { Stays (state S.Store conn.new) result }
 {
     let mut tx = conn.transaction();
     let reply = answered_inside(alloc, &mut tx, request)?;

@@ -1,6 +1,6 @@
 //! The reply to a request that isn't turned away.
 
-ghost use Rattle.std.specs.Prelude.{◌≡◌, IfOk, map};
+ghost use Rattle.std.specs.Prelude.{◌≡◌, ℕ, List as Sequence, IfOk, map};
 ghost use Rattle.registry_names.specs.Maps.{of, seen};
 ghost use Rattle.registry_rules.specs.State.{State};
 ghost use Rattle.registry_tables.specs.Spelled.{document, row_entry, tag_entry};
@@ -49,7 +49,7 @@ fn packument(
 
 // The text of a package's tags.
 fn tags_of(alloc: Global, tags: Vec<DistTag>) -> Result<Text, Fault>
-    ensures { IfOk result (λ text. (S : State) (p : List ℕ) → map tag_entry tags.items ≡ of S.tags p
+    ensures { IfOk result (λ text. (S : State) (p : Sequence ℕ) → map tag_entry tags.items ≡ of S.tags p
         → text ≡ tags_in S p) }
 {
     Ok(list_text(alloc, &List::Tags(tags))?)

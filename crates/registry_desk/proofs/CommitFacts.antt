@@ -1,0 +1,75 @@
+-- The first tables, and what a commit leaves.
+use Rattle.std.proofs.Common.{◌≡◌, ◌⊎◌, ◌∙◌, ◌+◌, ◌-◌, ◌^◌, ◌≤◌, Bool, min, arith, inl, inr, IsTrue, true, false, true≢false, sym, ap, subst}
+use Rattle.std.specs.List.{AllByRecursion}
+use Rattle.sqlite.specs.Effect.{Database, IsDatabase}
+use Rattle.sqlite.specs.Held.{Held, state}
+use Rattle.sqlite.specs.State.{State as Shown, HasCleanDisk, IsRolledBack, KeepsCommit, Shows}
+use Rattle.sqlite.specs.Steps.{FailsToCommit, IsEmpty}
+use Rattle.sqlite.specs.declared.error.Error.{Error}
+use Rattle.sqlite_trees.specs.declared.store.Store.{Ghosts}
+use Rattle.registry_rows.specs.Ready.{IsReady, Leaves, Ready}
+use Rattle.registry_rows.specs.Rows.{HasRowids}
+use Rattle.registry_tables.specs.Contents.{Contents, contents}
+use Rattle.registry_rows.specs.Tables.{no_tables}
+use Rattle.registry_tables.specs.Effects.{stored}
+use Rattle.registry_tables.specs.Schema.{schema}
+use Rattle.registry_desk.specs.Resting.{Rests}
+
+-- an empty database has no tables, also once a transaction is begun
+pub empty_begun : {S : Type 0} (store : Ghosts S) (h : Held S) → IsEmpty (state store h) → Ready no_tables (state store (record h { in_transaction = true }))
+empty_begun store h empty clean on = record { schema_is = empty.2; sound = (empty.1 on).0; rowids = tt }
+
+ready_again : (mid new : Shown) → new.now ≡ mid.now → IsReady schema mid → IsReady schema new
+ready_again mid new same ready = record {
+  schema_is = ap (λ (d : Database). d.schema) same ∙ ready.schema_is;
+  sound = subst IsDatabase (sym same) ready.sound;
+  rowids = subst (λ (d : Database). AllByRecursion (λ t. HasRowids (d.trees t.tree)) schema.tables) (sym same) ready.rowids;
+}
+
+-- what a commit leaves, however the disk is
+pub commit_rests : (left : Contents) (mid new : Shown) → new.in_transaction ≡ false → (HasCleanDisk new → Leaves schema contents left mid) → (HasCleanDisk new → Shows mid new mid.now mid.now false) → Rests new
+commit_rests left mid new ended leaves shows = record {
+  idle = ended;
+  in_form = λ clean _. ready_again mid new (shows clean).now_is (leaves clean).ready;
+  settled = λ clean _. (shows clean).now_is ∙ sym (shows clean).committed_is;
+}
+
+pub committed_rests : (left : Contents) (mid new : Shown) → Leaves schema contents left mid → Shows mid new mid.now mid.now false → Rests new
+committed_rests left mid new leaves shows = commit_rests left mid new shows.mode (λ _. leaves) (λ _. shows)
+
+-- ---- what is left where nothing was committed
+
+-- a commit that fails in a transaction rolls back
+pub failed_undone : (mid new : Shown) (e : Error) → mid.in_transaction ≡ true → FailsToCommit mid new e → IsRolledBack mid new
+failed_undone mid new e mode (inl fails) = fails.3
+failed_undone mid new e mode (inr ended) = absurd (true≢false (sym mode ∙ ended.1))
+
+module _ (old mid new : Shown) where
+  undone : KeepsCommit old mid → IsRolledBack mid new → IsTrue new.is_open → IsTrue old.is_open × (new.now ≡ old.committed) × (new.committed ≡ old.committed)
+  undone keeps back on =
+      let same = keeps.committed (back.was_open on) in
+      (keeps.was_open (back.was_open on), (back.undone on).0 ∙ same, (back.undone on).1 ∙ same)
+
+  pub undone_open : KeepsCommit old mid → IsRolledBack mid new → IsTrue new.is_open → IsTrue old.is_open
+  undone_open keeps back on = (undone keeps back on).0
+
+  undone_now : Rests old → HasCleanDisk old → KeepsCommit old mid → IsRolledBack mid new → IsTrue new.is_open → new.now ≡ old.now
+  undone_now rests clean keeps back on = let left = undone keeps back on in left.1 ∙ sym (rests.settled clean left.0)
+
+  pub undone_stored : Rests old → HasCleanDisk old → KeepsCommit old mid → IsRolledBack mid new → IsTrue new.is_open → stored new ≡ stored old
+  undone_stored rests clean keeps back on = ap (λ (d : Database). contents d.trees) (undone_now rests clean keeps back on)
+
+  pub undone_rests : Rests old → new.in_transaction ≡ false → (HasCleanDisk new → HasCleanDisk old × KeepsCommit old mid × IsRolledBack mid new) → Rests new
+  undone_rests rests ended back = record {
+    idle = ended;
+    in_form = λ clean on. let b = back clean in
+        ready_again old new (undone_now rests b.0 b.1 b.2 on) (rests.in_form b.0 (undone b.1 b.2 on).0);
+    settled = λ clean on. let b = back clean in let left = undone b.1 b.2 on in left.1 ∙ sym left.2;
+  }
+
+-- ---- a store without faults
+
+-- where no fault may come, nothing shuts the registry
+pub stays_open : (is : Bool) → IsTrue is ⊎ (min (0 + 1) (2 ^ 64 - 1) ≤ 0) → IsTrue is
+stays_open is (inl on) = on
+stays_open is (inr more) = absurd (omega arith)
