@@ -8,7 +8,7 @@ use Rattle.registry_ranges.specs.declared.component.Component.TheVariants.{Wildc
 use Rattle.registry_ranges.specs.declared.simple.Operator.{Operator}
 use Rattle.registry_ranges.specs.declared.simple.Operator.TheVariants.{Bare, Less, Greater, LessEq, GreaterEq, Equal, Tilde, TildeGreater, Caret}
 use Rattle.registry_ranges.specs.Bounds.{bound_view, second_view, has_pre, IsPart}
-use Rattle.registry_ranges.specs.Comparators.{Comparator, below, lower, same, tilde, caret_end, caret, greater, less, at_most, comparators_of_simple, comparators_of_part}
+use Rattle.registry_ranges.specs.Comparators.{Comparator, below, lower, same, tilde, caret_end, caret, greater, less, at_most, high_end, comparators_of_simple, comparators_of_part}
 use Rattle.registry_ranges.specs.Grammar.{Partial, one, two, three, IsPartial}
 use Rattle.registry_ranges.specs.Values.{Part, simple, hyphen, nothing}
 use Rattle.registry_ranges.specs.Prefixes.{Prefix, any, major, minor, full, prefix_of, IsPrefix}
@@ -71,6 +71,12 @@ at_most-pre (major a) v = refl
 at_most-pre (minor a b) v = refl
 at_most-pre (full a b c pre) v = v.3
 
+high_end-pre : (p : Prefix) → IsPrefix p → list_all has_pre (high_end p) ≡ true
+high_end-pre any v = refl
+high_end-pre (major a) v = refl
+high_end-pre (minor a b) v = refl
+high_end-pre (full a b c pre) v = rw v.3 refl
+
 simple-pre : (o : Operator) (p : Prefix) → IsPrefix p → list_all has_pre (comparators_of_simple o p) ≡ true
 simple-pre Bare p v = same-pre p v
 simple-pre Equal p v = same-pre p v
@@ -84,7 +90,7 @@ simple-pre GreaterEq p v = rw (lower-pre p v) refl
 
 pub part-pre : (p : Part) → IsPart p → list_all has_pre (comparators_of_part p) ≡ true
 part-pre nothing v = refl
-part-pre (hyphen low high) v = rw (lower-pre low v.0, at_most-pre high v.1) refl
+part-pre (hyphen low high) v = rw (lower-pre low v.0) (high_end-pre high v.1)
 part-pre (simple o p) v = simple-pre o p v
 
 pub ruleset bound_facts = (prefix-valid)

@@ -6,6 +6,11 @@ pub mod RangeTextFacts
 pub mod BoundFacts
 pub mod BelowFacts
 pub mod ComparatorFacts
+pub mod OrderFacts
+pub mod SpellingFacts
+pub mod FormFacts
+pub mod LawFacts
+pub mod CombinationFacts
 pub mod PieceFacts
 pub mod RangeFacts
 pub mod SelectorFacts

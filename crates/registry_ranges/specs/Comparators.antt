@@ -72,12 +72,19 @@ less (major a) = below a 0 0
 less (minor a b) = below a b 0
 less (full a b c pre) = comparator is.Less a b c pre
 
--- a prefix behind `<=`, or at the high end of a hyphen range
+-- a prefix behind `<=`
 abbrev pub at_most : Prefix → Comparator
 at_most any = lower any
 at_most (major a) = below (a + 1) 0 0
 at_most (minor a b) = below a (b + 1) 0
 at_most (full a b c pre) = comparator is.LessEq a b c pre
+
+-- the high end of a hyphen range, which a wildcard leaves open
+abbrev pub high_end : Prefix → List Comparator
+high_end any = []
+high_end (major a) = at_most (major a) ∷ []
+high_end (minor a b) = at_most (minor a b) ∷ []
+high_end (full a b c pre) = at_most (full a b c pre) ∷ []
 
 abbrev pub comparators_of_simple : Operator → Prefix → List Comparator
 comparators_of_simple Bare p = same p
@@ -92,7 +99,7 @@ comparators_of_simple GreaterEq p = lower p ∷ []
 
 abbrev pub comparators_of_part : Part → List Comparator
 comparators_of_part nothing = lower any ∷ []
-comparators_of_part (hyphen low high) = lower low ∷ at_most high ∷ []
+comparators_of_part (hyphen low high) = lower low ∷ high_end high
 comparators_of_part (simple o p) = comparators_of_simple o p
 
 abbrev pub comparators_of_range : List Part → List Comparator
@@ -117,9 +124,12 @@ meets is.Equal o = is_eq o
 abbrev pub holds : VersionParts → Comparator → Bool
 holds v c = meets c.relation (precedence v c.bound)
 
+abbrev pub has_numbers : VersionParts → ℕ → ℕ → ℕ → Bool
+has_numbers v a b c = (a == v.major) && (b == v.minor) && (c == v.patch)
+
 -- a comparator has a prerelease, and the version's three numbers
 abbrev pub is_near : VersionParts → Comparator → Bool
-is_near v c = not (length c.bound.pre == 0) && (c.bound.major == v.major) && (c.bound.minor == v.minor) && (c.bound.patch == v.patch)
+is_near v c = not (length c.bound.pre == 0) && has_numbers v c.bound.major c.bound.minor c.bound.patch
 
 -- each comparator holds, and a prerelease has a comparator near
 abbrev pub range_allows : VersionParts → List Comparator → Bool

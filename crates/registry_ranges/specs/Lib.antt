@@ -9,3 +9,4 @@ pub mod RangeViews
 pub mod Tags
 pub mod Selectors
 pub mod SelectorViews
+pub mod Laws

@@ -2,7 +2,7 @@
 use Rattle.std.specs.Prelude.{ℕ, Bool, ◌==◌, ◌||◌, ◌&&◌, nat_le, nat_lt, length, drop, take_while, List, [], ◌∷◌, Option, Some, None, Result, Ok, Err, if◌then◌else◌}
 use Rattle.std.specs.Borrow.{Bor}
 use Rattle.semver.specs.Grammar.{is_identifier_byte, is_pre_release, is_build}
-use Rattle.semver.specs.Parse.{numeric}
+use Rattle.semver.specs.Parse.{numeric, digits_end}
 use Rattle.semver.specs.declared.error.Error.{Error}
 use Rattle.registry_names.specs.Versions.{greatest_number}
 use Rattle.semver.specs.declared.error.Position.TheVariants as place
@@ -33,6 +33,10 @@ answered (Err e) = None
 abbrev pub within_limit : Option (ℕ × List ℕ) → Read ℕ
 within_limit None = None
 within_limit (Some p) = if nat_le p.0 greatest_number then Some p else None
+
+-- the number of these digits, and the text after them
+abbrev pub number_to : List ℕ → ℕ → ℕ → Read ℕ
+number_to xs len value = within_limit (answered (digits_end place.Major value len (drop len xs)))
 
 unfoldable pub number_at : List ℕ → Read ℕ
 number_at xs = within_limit (answered (numeric place.Major xs))

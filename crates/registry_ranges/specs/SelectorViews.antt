@@ -1,12 +1,14 @@
 -- The conditions that a program keeps of a selector, as the definitions see them.
-use Rattle.std.specs.Prelude.{List, map, Bool, true, Option, Some, None}
+use Rattle.std.specs.Prelude.{◌≡◌, List, [], ◌∷◌, ◌++◌, map, Bool, true, Option, Some, None}
+use Rattle.std.specs.List.{list_all}
 use Rattle.std.specs.declared.vec.Vec.{Vec}
 use Rattle.std.specs.declared.alloc.Global.{Global}
+use Rattle.registry_names.specs.Versions.{VersionParts}
 use Rattle.registry_ranges.specs.declared.condition as Code
 use Rattle.registry_ranges.specs.declared.condition.Question.TheVariants as code_question
 use Rattle.registry_ranges.specs.declared.condition.Condition.TheVariants as code
 use Rattle.registry_ranges.specs.Bounds.{bound_view, comparator_view, has_pre}
-use Rattle.registry_ranges.specs.Selectors.{Condition, all, has_major, has_minor, compared}
+use Rattle.registry_ranges.specs.Selectors.{Condition, all, has_major, has_minor, compared, meets_condition}
 
 -- a condition whose prerelease is in the text
 abbrev pub question_view : Code.Question.Question → Condition
@@ -38,3 +40,19 @@ conditions_view v = map condition_view v.items
 
 abbrev pub selector_view : Vec (Vec Code.Condition.Condition Global) Global → List (List Condition)
 selector_view v = map conditions_view v.items
+
+-- a version meets what was kept
+
+abbrev pub meets_kept : VersionParts → Code.Condition.Condition → Bool
+meets_kept v c = meets_condition v (condition_view c)
+
+abbrev pub meets_all_kept : VersionParts → Vec Code.Condition.Condition Global → Bool
+meets_all_kept v range = list_all (meets_condition v) (conditions_view range)
+
+-- a condition is kept behind the others
+abbrev pub AddsCondition : Vec Code.Condition.Condition Global → Vec Code.Condition.Condition Global → Condition → Type 0
+AddsCondition old new more = conditions_view new ≡ conditions_view old ++ more ∷ []
+
+-- a range is
+abbrev pub AddsRange : Vec (Vec Code.Condition.Condition Global) Global → Vec (Vec Code.Condition.Condition Global) Global → Vec Code.Condition.Condition Global → Type 0
+AddsRange old new more = selector_view new ≡ selector_view old ++ conditions_view more ∷ []

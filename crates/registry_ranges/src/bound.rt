@@ -1,7 +1,7 @@
 //! The comparators that each form of a range stands for, with no memory taken.
 
 ghost use Rattle.std.specs.Prelude.{◌≡◌, ◌<◌, ◌-◌, ◌^◌, []};
-ghost use Rattle.registry_ranges.specs.Bounds.{bound_view, bounds_view, IsPart};
+ghost use Rattle.registry_ranges.specs.Bounds.{bound_view, bounds_view, second_view, IsPart};
 ghost use Rattle.registry_ranges.specs.Comparators as spec;
 ghost use Rattle.registry_ranges.specs.Prefixes.{IsPrefix, prefix_view};
 ghost use Rattle.registry_ranges.specs.Steps.{part_view};
@@ -181,7 +181,7 @@ fn less(prefix: Prefix<'_>) -> Bound<'_>
     }
 }
 
-// A prefix behind `<=`, or at the high end of a hyphen range.
+// A prefix behind `<=`.
 fn at_most(prefix: Prefix<'_>) -> Bound<'_>
     requires { IsPrefix (prefix_view prefix) }
     ensures { bound_view result ≡ spec.at_most (prefix_view prefix.entry) }
@@ -199,6 +199,17 @@ fn at_most(prefix: Prefix<'_>) -> Bound<'_>
                 pre,
             }
         }
+    }
+}
+
+// The high end of a hyphen range, which a wildcard leaves open.
+fn high_end(prefix: Prefix<'_>) -> Option<Bound<'_>>
+    requires { IsPrefix (prefix_view prefix) }
+    ensures { second_view result ≡ spec.high_end (prefix_view prefix.entry) }
+{
+    match prefix {
+        Prefix::Any => None,
+        Prefix::Major(_) | Prefix::Minor(_, _) | Prefix::Full(_, _, _, _) => Some(at_most(prefix)),
     }
 }
 
@@ -225,7 +236,7 @@ pub fn bounds_of(part: Part<'_>) -> Bounds<'_>
 {
     match part {
         Part::Empty => (lower(Prefix::Any), None),
-        Part::Hyphen(low, high) => (lower(low), Some(at_most(high))),
+        Part::Hyphen(low, high) => (lower(low), high_end(high)),
         Part::Simple(simple) => simple_bounds(simple.operator, simple.prefix),
     }
 }

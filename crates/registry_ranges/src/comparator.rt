@@ -1,6 +1,6 @@
 //! Comparators that are kept.
 
-ghost use Rattle.std.specs.Prelude.{◌≡◌, ◌==◌, ◌&&◌, true, IfOk, IfErr};
+ghost use Rattle.std.specs.Prelude.{◌≡◌, true, IfOk, IfErr};
 ghost use Rattle.semver.specs.Grammar.{is_pre_release};
 ghost use Rattle.semver.specs.Identifiers.{pre_text};
 ghost use Rattle.registry_names.specs.Versions.{version_parts};
@@ -74,7 +74,7 @@ fn is_below(version: &Ver, major: u64, minor: u64, patch: u64) -> bool
 }
 
 fn has_numbers(version: &Ver, major: u64, minor: u64, patch: u64) -> bool
-    ensures { result ≡ ((major == version.now.major) && (minor == version.now.minor) && (patch == version.now.patch)) }
+    ensures { result ≡ spec.has_numbers version.now major minor patch }
 {
     let version = version.as_semver();
     major == version.major && minor == version.minor && patch == version.patch

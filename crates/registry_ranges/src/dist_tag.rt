@@ -1,9 +1,8 @@
 //! Which texts are dist-tags.
 
-ghost use Rattle.std.specs.Prelude.{◌≡◌, ◌↔◌, ◌⊎◌, Err, false, IfOk, IfErr};
-ghost use Rattle.registry_names.specs.Tags.{is_tag};
+ghost use Rattle.std.specs.Prelude.{◌≡◌, ◌↔◌, ◌⊎◌, Err, IfOk, IfErr};
 ghost use Rattle.registry_ranges.specs.Grammar.{IsRangeText};
-ghost use Rattle.registry_ranges.specs.Tags.{IsTag};
+ghost use Rattle.registry_ranges.specs.Tags.{IsNeither, IsTag};
 
 use crate::range_text::is_range;
 use registry_names::{Fault, Refusal, Stop, TagText};
@@ -18,10 +17,10 @@ use std::alloc::Global;
 pub fn tag(alloc: Global, text: &str) -> Result<TagText, Stop>
     ensures ok { IfOk result (λ t. (t ≡ text.now) × IsTag text.now) }
     ensures range { (result ≡ Err (Stop.Refused Refusal.RangeTag)) ↔ IsRangeText text.now }
-    ensures bad { (result ≡ Err (Stop.Refused Refusal.BadTag)) ↔ ((is_tag text.now ≡ false) × ¬ IsRangeText text.now) }
+    ensures bad { (result ≡ Err (Stop.Refused Refusal.BadTag)) ↔ IsNeither text.now }
     ensures fault { result ≡ Err (Stop.Fault Fault.Memory) → IsTag text.now }
-    ensures err { IfErr result (λ e. (e ≡ Stop.Fault Fault.Memory) ⊎ ((e ≡ Stop.Refused Refusal.RangeTag)
-        ⊎ (e ≡ Stop.Refused Refusal.BadTag))) }
+    ensures err { IfErr result (λ e. (e ≡ Stop.Fault Fault.Memory)
+        ⊎ ((e ≡ Stop.Refused Refusal.RangeTag) ⊎ (e ≡ Stop.Refused Refusal.BadTag))) }
 {
     if is_range(text) {
         return Err(Stop::Refused(Refusal::RangeTag));

@@ -12,6 +12,7 @@ mod comparator;
 mod component;
 mod condition;
 mod dist_tag;
+pub mod laws;
 mod number;
 mod partial;
 mod prefix;

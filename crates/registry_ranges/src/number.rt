@@ -1,8 +1,7 @@
 //! Numbers at the front of a text.
 
-ghost use Rattle.std.specs.Prelude.{◌≡◌, ◌<◌, ◌≤◌, ◌+◌, ◌-◌, ◌*◌, ◌^◌, drop, length, IfNone, IfSome};
+ghost use Rattle.std.specs.Prelude.{◌≡◌, ◌<◌, ◌≤◌, ◌+◌, ◌-◌, ◌*◌, ◌^◌, length, IfNone, IfSome};
 ghost use Rattle.semver.specs.Parse as parse;
-ghost use Rattle.semver.specs.declared.error.Position.TheVariants as place;
 ghost use Rattle.registry_ranges.specs.Reading as spec;
 ghost use Rattle.registry_ranges.specs.Reading.{read_view};
 
@@ -28,7 +27,7 @@ fn is_leading_zero(value: u64, len: usize) -> bool
 // The digits ended at `len`.
 fn number_end(bytes: &[u8], len: usize, value: u64) -> Option<(u64, &[u8])>
     requires { len ≤ length bytes.now }
-    ensures { read_view result ≡ spec.within_limit (spec.answered (parse.digits_end place.Major value len (drop len bytes.now))) }
+    ensures { read_view result ≡ spec.number_to bytes.now len value }
 {
     if len > 0 && value <= GREATEST_NUMBER {
         Some((value, &bytes[len..]))

@@ -1,13 +1,14 @@
 //! Ranges of versions.
 
-ghost use Rattle.std.specs.Prelude.{◌≡◌, ◌≤◌, ◌↔◌, ◌++◌, ◌∷◌, [], length, slice_range, Ok, None, IfOk, IfErr, IfSome, is_ok, if◌then◌else◌, true};
+ghost use Rattle.std.specs.Prelude.{◌≡◌, ◌≤◌, ◌↔◌, ◌∷◌, [], length, slice_range, Ok, None, IfOk, IfErr, IfSome, OnOk, true};
 ghost use Rattle.std.specs.List.{list_all, list_any};
 ghost use Rattle.registry_ranges.specs.Bounds.{bound_view, bounds_view, comparator_view, has_pre, IsPart};
 ghost use Rattle.registry_ranges.specs.Comparators as spec;
 ghost use Rattle.registry_ranges.specs.Comparators.{HasComparators, Means};
 ghost use Rattle.registry_ranges.specs.Grammar.{IsRangeText};
 ghost use Rattle.registry_ranges.specs.Values.{IsUnambiguous};
-ghost use Rattle.registry_ranges.specs.RangeViews.{AreEnds, comparators_view, pieces};
+ghost use Rattle.registry_ranges.specs.RangeViews.{Adds, AddsEnd, AddsPart, AreEnds};
+ghost use Rattle.registry_ranges.specs.RangeViews.{comparators_view, count_of, ranges_in};
 ghost use Rattle.registry_ranges.specs.Steps.{part_view};
 
 use crate::bound::{Bound, Bounds, bounds_of};
@@ -29,21 +30,21 @@ pub struct Range {
 }
 
 impl Model for Range {
-    ghost use Rattle.std.specs.Prelude.{List, length};
+    ghost use Rattle.std.specs.Prelude.{List};
     ghost use Rattle.registry_ranges.specs.Comparators.{Comparator};
 
     ghost Value = { List (List Comparator) };
 
-    ghost use Rattle.registry_ranges.specs.RangeViews.{AreEnds, comparators_view, ranges_view};
+    ghost use Rattle.registry_ranges.specs.RangeViews.{AreEnds, count_of, ranges_view};
 
     ghost view = { λ r. ranges_view r.ends r.comparators };
 
-    ghost invariant = { λ r. AreEnds 0 r.ends.items (length (comparators_view r.comparators.items)) };
+    ghost invariant = { λ r. AreEnds 0 r.ends.items (count_of r.comparators.items) };
 }
 
 fn push(alloc: Global, comparators: &mut Vec<Comparator>, bound: Bound<'_>) -> Result<(), Fault>
     requires { has_pre (bound_view bound) ≡ true }
-    ensures ok { IfOk result (λ _. comparators_view comparators.new.items ≡ comparators_view comparators.old.items ++ bound_view bound.entry ∷ []) }
+    ensures ok { OnOk result (Adds comparators.old comparators.new (bound_view bound.entry ∷ [])) }
     ensures err { IfErr result (λ e. e ≡ Fault.Memory) }
 {
     let comparator = Comparator::new(alloc, bound)?;
@@ -57,7 +58,7 @@ fn push_all(
     bounds: Bounds<'_>,
 ) -> Result<(), Fault>
     requires { list_all has_pre (bounds_view bounds) ≡ true }
-    ensures ok { IfOk result (λ _. comparators_view comparators.new.items ≡ comparators_view comparators.old.items ++ bounds_view bounds.entry) }
+    ensures ok { OnOk result (Adds comparators.old comparators.new (bounds_view bounds.entry)) }
     ensures err { IfErr result (λ e. e ≡ Fault.Memory) }
 {
     let (first, second) = bounds;
@@ -71,7 +72,7 @@ fn push_all(
 #[tactic(auto, using(crate::proofs::BoundFacts::pre_facts))]
 fn push_part(alloc: Global, comparators: &mut Vec<Comparator>, part: Part<'_>) -> Result<(), Fault>
     requires { IsPart (part_view part) }
-    ensures ok { IfOk result (λ _. comparators_view comparators.new.items ≡ comparators_view comparators.old.items ++ spec.comparators_of_part (part_view part.entry)) }
+    ensures ok { OnOk result (AddsPart comparators.old comparators.new (part_view part.entry)) }
     ensures err { IfErr result (λ e. e ≡ Fault.Memory) }
 {
     let bounds = bounds_of(part);
@@ -81,7 +82,7 @@ fn push_part(alloc: Global, comparators: &mut Vec<Comparator>, part: Part<'_>) -
 // A range ends behind all comparators that are kept.
 #[tactic(auto, using(crate::proofs::PieceFacts::view_facts))]
 fn push_end(ends: &mut Vec<usize>, comparators: &Vec<Comparator>) -> Result<(), Fault>
-    ensures ok { IfOk result (λ _. ends.new.items ≡ ends.old.items ++ length (comparators_view comparators.now.items) ∷ []) }
+    ensures ok { OnOk result (AddsEnd ends.old ends.new comparators.now) }
     ensures err { IfErr result (λ e. e ≡ Fault.Memory) }
 {
     ends.push(comparators.len())?;
@@ -111,14 +112,15 @@ fn range_allows(range: &[Comparator], version: &Ver) -> bool
 #[tactic(auto, using(crate::proofs::PieceFacts::view_facts))]
 fn range_at(comparators: &[Comparator], start: usize, end: usize) -> &[Comparator]
     requires { (start ≤ end) × (end ≤ length comparators.now) }
-    ensures { comparators_view result.now ≡ slice_range (comparators_view comparators.now) start end }
+    ensures { comparators_view result.now
+        ≡ slice_range (comparators_view comparators.now) start end }
 {
     &comparators[start..end]
 }
 
 fn set_allows(ends: &[usize], comparators: &[Comparator], version: &Ver) -> bool
-    requires { AreEnds 0 ends.now (length (comparators_view comparators.now)) }
-    ensures { result ≡ spec.set_allows version.now (pieces 0 ends.now (comparators_view comparators.now)) }
+    requires { AreEnds 0 ends.now (count_of comparators.now) }
+    ensures { result ≡ spec.set_allows version.now (ranges_in ends.now comparators.now) }
 {
     let mut start = 0;
     'places: for i in 0..ends.len() {
@@ -131,14 +133,6 @@ fn set_allows(ends: &[usize], comparators: &[Comparator], version: &Ver) -> bool
     false
 }
 
-// How many comparators the ranges of a text are likely to have: two for each word, and one for an
-// empty range.
-fn likely(text: &str) -> usize {
-    let words = text.as_bytes().split(|byte| matches!(byte, b' ' | b'|'));
-    let words = words.filter(|word| !word.is_empty()).count();
-    words.saturating_mul(2).saturating_add(1)
-}
-
 impl Range {
     // Reads a range: `None` for a text that is none, if the memory lasts so far.
     fn read(alloc: Global, text: &str) -> Result<Option<Range>, Fault>
@@ -147,7 +141,7 @@ impl Range {
         ensures none { result ≡ Ok None → ¬ IsRangeText text.now }
         ensures err { IfErr result (λ e. e ≡ Fault.Memory) }
     {
-        let mut comparators = Vec::with_capacity(alloc, likely(text))?;
+        let mut comparators = Vec::new(alloc);
         let mut ends = Vec::new(alloc);
         let mut reader = Reader::new(text.as_bytes());
         'steps: loop {
@@ -169,8 +163,8 @@ impl Range {
         }
     }
 
-    /// Reads a range, after the grammar of node-semver: `None` exactly for a text that is none, also
-    /// where no memory is left.
+    /// Reads a range, after the grammar of node-semver: `None` exactly for a text that is none,
+    /// also where no memory is left.
     #[tactic(auto, using(crate::proofs::RangeFacts::parse_facts))]
     pub fn parse(alloc: Global, text: &str) -> Result<Option<Range>, Fault>
         ensures found { IfOk result (λ r. IfSome r (HasComparators text.now)) }

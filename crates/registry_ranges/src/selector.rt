@@ -1,8 +1,9 @@
 //! Selectors of versions.
 
-ghost use Rattle.std.specs.Prelude.{◌≡◌, ◌↔◌, ◌⊎◌, ◌++◌, ◌∷◌, [], Err, IfOk, IfErr, IsTrue, true};
+ghost use Rattle.std.specs.Prelude.{◌≡◌, ◌↔◌, ◌⊎◌, Err, IfOk, IfErr, IsTrue, OnOk, true};
 ghost use Rattle.std.specs.List.{list_all, list_any};
-ghost use Rattle.registry_ranges.specs.SelectorViews.{asks_pre, condition_view, conditions_view, question_view, selector_view};
+ghost use Rattle.registry_ranges.specs.SelectorViews.{AddsCondition, AddsRange, asks_pre};
+ghost use Rattle.registry_ranges.specs.SelectorViews.{meets_all_kept, meets_kept, question_view};
 ghost use Rattle.registry_ranges.specs.Selectors as spec;
 ghost use Rattle.registry_ranges.specs.Selectors.{HasConditions, IsSelector, SelectsAs};
 
@@ -53,7 +54,7 @@ fn is_selector(text: &str) -> bool
 
 fn push(alloc: Global, range: &mut Vec<Condition>, question: Question<'_>) -> Result<(), Fault>
     requires { asks_pre (question_view question) ≡ true }
-    ensures ok { IfOk result (λ _. conditions_view range.new ≡ conditions_view range.old ++ question_view question.entry ∷ []) }
+    ensures ok { OnOk result (AddsCondition range.old range.new (question_view question.entry)) }
     ensures err { IfErr result (λ e. e ≡ Fault.Memory) }
 {
     let condition = Condition::new(alloc, question)?;
@@ -62,7 +63,7 @@ fn push(alloc: Global, range: &mut Vec<Condition>, question: Question<'_>) -> Re
 }
 
 fn push_range(ranges: &mut Vec<Vec<Condition>>, range: Vec<Condition>) -> Result<(), Fault>
-    ensures ok { IfOk result (λ _. selector_view ranges.new ≡ selector_view ranges.old ++ conditions_view range ∷ []) }
+    ensures ok { OnOk result (AddsRange ranges.old ranges.new range) }
     ensures err { IfErr result (λ e. e ≡ Fault.Memory) }
 {
     ranges.push(range)?;
@@ -70,20 +71,20 @@ fn push_range(ranges: &mut Vec<Vec<Condition>>, range: Vec<Condition>) -> Result
 }
 
 fn all_met(range: &Vec<Condition>, version: &Ver) -> bool
-    ensures { result ≡ list_all (λ c. spec.meets_condition version.now (condition_view c)) range.now.items }
+    ensures { result ≡ list_all (meets_kept version.now) range.now.items }
 {
     range.iter().all(|condition| condition.is_met(version))
 }
 
 #[tactic(auto, using(crate::proofs::RangeFacts::tests_of_views))]
 fn range_selects(range: &Vec<Condition>, version: &Ver) -> bool
-    ensures { result ≡ list_all (spec.meets_condition version.now) (conditions_view range.now) }
+    ensures { result ≡ meets_all_kept version.now range.now }
 {
     all_met(range, version)
 }
 
 fn set_selects(ranges: &Vec<Vec<Condition>>, version: &Ver) -> bool
-    ensures { result ≡ list_any (λ r. list_all (spec.meets_condition version.now) (conditions_view r)) ranges.now.items }
+    ensures { result ≡ list_any (meets_all_kept version.now) ranges.now.items }
 {
     ranges.iter().any(|range| range_selects(range, version))
 }
@@ -129,8 +130,10 @@ impl Selector {
     pub fn parse(alloc: Global, text: &str) -> Result<Selector, Stop>
         ensures ok { IfOk result (HasConditions text.now) }
         ensures meaning { IfOk result (SelectsAs text.now) }
-        ensures refused { (result ≡ Err (Stop.Refused Refusal.BadSelector)) ↔ (¬ IsSelector text.now) }
-        ensures err { IfErr result (λ e. (e ≡ Stop.Fault Fault.Memory) ⊎ (e ≡ Stop.Refused Refusal.BadSelector)) }
+        ensures refused { (result ≡ Err (Stop.Refused Refusal.BadSelector))
+            ↔ (¬ IsSelector text.now) }
+        ensures err { IfErr result (λ e. (e ≡ Stop.Fault Fault.Memory)
+            ⊎ (e ≡ Stop.Refused Refusal.BadSelector)) }
     {
         if !is_selector(text) {
             return Err(Stop::Refused(Refusal::BadSelector));

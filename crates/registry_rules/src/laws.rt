@@ -16,7 +16,7 @@ use registry_publish::PublishForm;
 /// A publish makes its version live, with its manifest, its archive and its moment; its tag names
 /// the version, and so does `latest` where none stood; and its package has a status. No other
 /// version, tag or status changes, and nothing else.
-pub fn publishes_say_what_they_make()
+pub fn publishes_add_versions()
     ensures versions { PublishesAddVersions }
     ensures tags { PublishesSetTags }
     ensures statuses { PublishesSetStatuses }

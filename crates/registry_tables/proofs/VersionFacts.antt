@@ -1,5 +1,5 @@
 -- What the statements on versions make and show.
-use Rattle.std.proofs.Common.{◌≡◌, ◌==◌, ℕ, List, [], ◌∷◌, pos, map, not, is_some, length, option_map, slice_get, Ok, refl, ap, ◌∙◌, codes}
+use Rattle.std.proofs.Common.{◌≡◌, ◌==◌, ℕ, List, [], ◌∷◌, pos, map, not, is_some, length, option_map, slice_get, None, Ok, refl, ap, ◌∙◌, codes}
 use Rattle.sqlite.specs.declared.types.Value.TheVariants.{Null, Int, Text as Stored, Blob}
 use Rattle.sqlite.specs.Command.TheVariants.{Insert, Select}
 use Rattle.sqlite.specs.Source.TheVariants.{Values}
@@ -18,7 +18,7 @@ use Rattle.registry_names.specs.Maps.{at, of, put, seen}
 use Rattle.registry_rules.specs.State.{Release}
 use Rattle.registry_rows.specs.Columns.{number_in}
 use Rattle.registry_rows.specs.Statements.{Means, MeansQuery, scan, by_texts, in_order}
-use Rattle.registry_rows.proofs.StatementFacts.{insert_puts}
+use Rattle.registry_rows.proofs.StatementFacts.{insert_puts, insert_meets_none}
 use Rattle.registry_rows.proofs.LookUpFacts.{select_finds, select_lists, first_listed}
 use Rattle.registry_tables.specs.Spelled.{bytes_spelled, number_spelled, document, row_spelled}
 use Rattle.registry_tables.proofs.FoundFacts.{some_found, some_seen}
@@ -40,6 +40,11 @@ pub version_inserted : (p v : Text) (published : ℕ) (manifest : Text) (archive
     → Wrote put_text (Stored p ∷ Stored v ∷ Int (pos published) ∷ Stored manifest ∷ Blob archive ∷ []) old new → HasCleanDisk new
     → Leaves schema contents (record (stored old) { versions = put (stored old).versions (p, v) (record { at = published; manifest = manifest; archive = archive; message = [] }) }) new
 version_inserted p v published manifest archive old new form call = insert_puts versions_mapped put_text put_cells put_means (Stored p ∷ Stored v ∷ Int (pos published) ∷ Stored manifest ∷ Blob archive ∷ []) refl old new (Ok call.0) form call.1
+
+-- an answered INSERT had a new key
+pub version_is_new : (p v : Text) (published : ℕ) (manifest : Text) (archive : List ℕ) (old new : Shown) → Ready schema old
+    → Wrote put_text (Stored p ∷ Stored v ∷ Int (pos published) ∷ Stored manifest ∷ Blob archive ∷ []) old new → HasCleanDisk new → at (stored old).versions (p, v) ≡ None
+version_is_new p v published manifest archive old new form call = insert_meets_none versions_mapped put_text put_cells put_means (Stored p ∷ Stored v ∷ Int (pos published) ∷ Stored manifest ∷ Blob archive ∷ []) refl old new (Ok call.0) form call.1
 
 -- ---- SELECT by package and version
 

@@ -1,5 +1,5 @@
 -- What a change makes of what is stored.
-use Rattle.std.specs.Prelude.{ℕ, Bool, List, [], ◌∷◌, is_some, if◌then◌else◌}
+use Rattle.std.specs.Prelude.{◌≡◌, ℕ, Bool, true, false, not, ◌&&◌, List, [], ◌∷◌, None, is_some, if◌then◌else◌}
 use Rattle.std.specs.declared.cmp.Ordering.{Ordering}
 use Rattle.registry_names.specs.Texts.{Text}
 use Rattle.registry_names.specs.Maps.{MapBy, at, put, erase}
@@ -35,3 +35,13 @@ stored_by (DropTag p t) c = record c { tags = erase c.tags (p, t) }
 abbrev pub all_stored : List Change → Contents → Contents
 all_stored [] c = c
 all_stored (change ∷ changes) c = all_stored changes (stored_by change c)
+
+-- the package has a status, and the version wasn't withdrawn
+abbrev pub is_unspent : FormParts → Contents → Bool
+is_unspent f c = is_some (at c.packages f.name) && not (is_some (at c.spent (f.name, version_of f)))
+
+-- what a version's publication asks of the tables: the version neither lives nor was withdrawn, and its package has a status
+pub record IsNew (f : FormParts) (c : Contents) : Type 0 where
+  pub not_live : at c.versions (f.name, version_of f) ≡ None
+  pub not_spent : is_some (at c.spent (f.name, version_of f)) ≡ false
+  pub has_status : is_some (at c.packages f.name) ≡ true

@@ -1,16 +1,19 @@
 //! The table `versions`: the live versions of every package.
 
-ghost use Rattle.std.specs.Prelude.{◌≡◌, ℕ, List, IfOk, is_some, map, option_map, slice_get};
+ghost use Rattle.std.specs.Prelude.{◌≡◌, ℕ, List, IfOk, None, OnOk, is_some, map, option_map, slice_get};
+ghost use Rattle.sqlite.specs.State.{HasCleanDisk};
 ghost use Rattle.registry_names.specs.Maps.{at, of, put, seen};
 ghost use Rattle.registry_names.specs.Texts.{Text as Bytes};
 ghost use Rattle.registry_rows.specs.Frames.{Stays};
 ghost use Rattle.registry_rules.specs.Actions.{version_of};
 ghost use Rattle.registry_rules.specs.Changes.{release_of};
-ghost use Rattle.registry_tables.specs.Changes.{version_put};
-ghost use Rattle.registry_tables.specs.Effects.{InForm, Makes, Tells};
+ghost use Rattle.registry_tables.specs.Changes.{IsNew, is_unspent, version_put};
+ghost use Rattle.registry_tables.specs.Effects.{InForm, Makes, Tells, shown, stored_in};
 ghost use Rattle.registry_tables.specs.Spelled.{bytes_spelled, document, row_entry, row_spelled};
 
 use crate::needs::put_needs;
+use crate::spent::is_spent;
+use crate::statuses::load_status;
 use registry_names::{Blob, Fault, Moment, Name, Text};
 use registry_packument::VersionRow;
 use registry_publish::PublishForm;
@@ -91,7 +94,7 @@ fn archive_in(rows: &[Row]) -> Result<Option<Blob>, Fault>
 /// Puts the version of a form, published at this moment and not deprecated, and what it depends
 /// on.
 ///
-/// A package without a status is a fault, and so is a version that lives already.
+/// A package without a status is a fault, and so is a version that lives already or was withdrawn.
 pub fn put_version<S: Alter>(
     tx: &mut Transaction<'_, S>,
     form: &PublishForm,
@@ -100,9 +103,24 @@ pub fn put_version<S: Alter>(
     requires in_form { InForm S.Store tx.old }
     ensures stays { Stays S.Store tx.old tx.new }
     ensures makes { Makes S.Store tx.old tx.new result (version_put form.now published) }
+    ensures was_new { HasCleanDisk (shown S.Store tx.new) → OnOk result (IsNew form.now (stored_in S.Store tx.old)) }
 {
+    if !may_be_put(tx, form)? {
+        return Err(Fault::Database);
+    }
     insert_version(tx, form, published)?;
     put_needs(tx, form.name().text(), form.version().text(), form.needs())
+}
+
+// Whether the package has a status, and the version was never withdrawn.
+fn may_be_put<S: Alter>(tx: &mut Transaction<'_, S>, form: &PublishForm) -> Result<bool, Fault>
+    requires in_form { InForm S.Store tx.old }
+    ensures stays { Stays S.Store tx.old tx.new }
+    ensures tells { Tells S.Store tx.old tx.new result (λ may c. may ≡ is_unspent form.now c) }
+{
+    let status = load_status(tx, form.name())?;
+    let spent = is_spent(tx, form.name(), form.version().text())?;
+    Ok(status.is_some() && !spent)
 }
 
 fn insert_version<S: Alter>(
@@ -113,6 +131,7 @@ fn insert_version<S: Alter>(
     requires in_form { InForm S.Store tx.old }
     ensures stays { Stays S.Store tx.old tx.new }
     ensures makes { Makes S.Store tx.old tx.new result (λ c. record c { versions = put c.versions (form.now.name, version_of form.now) (release_of form.now published) }) }
+    ensures was_new { HasCleanDisk (shown S.Store tx.new) → OnOk result (at (stored_in S.Store tx.old).versions (form.now.name, version_of form.now) ≡ None) }
 {
     write(
         tx,

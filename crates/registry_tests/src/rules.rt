@@ -8,10 +8,9 @@ mod case;
 use crate::rules::case::Ask::{
     Archive, Packument, Publish, PublishUnderNext, TagRemove, TagSet, Tags,
 };
-use crate::rules::case::Held::{Nothing, Version};
-use crate::rules::case::{Case, Held, all_told};
+use crate::rules::case::Held::{Nothing, Version, Withdrawn};
+use crate::rules::case::{Ask, Case, Held, Want, all_told, all_turned_away};
 use registry_names::{Refusal, Status};
-use registry_rules::{Change, SetTag};
 
 const OF_LAB: &str = "@lab/kit";
 
@@ -25,42 +24,42 @@ const UNDER_BETA: Held = Version(Status::Restricted, "0.9.0", "beta");
 
 const UNDER_NEXT: Held = Version(Status::Public, "1.0.0", "next");
 
-const TO_PUBLIC: Change = Change::PutStatus(Status::Public);
+const NEW_PUBLIC: Want = Want::NewStatus(Status::Public);
 
-const TO_RESTRICTED: Change = Change::PutStatus(Status::Restricted);
+const NEW_RESTRICTED: Want = Want::NewStatus(Status::Restricted);
 
-const VERSION: Change = Change::AddVersion;
+const TO_RESTRICTED: Want = Want::OtherStatus(Status::Restricted);
 
-const LATEST: Change = Change::PutTag(SetTag::Latest);
+const NEW_LATEST: Want = Want::NewTag("latest");
 
-const TAG: Change = Change::PutTag(SetTag::Named);
+const TO_LATEST: Want = Want::MovedTag("latest");
 
-const NO_TAG: Change = Change::DropTag;
+const NEW_NEXT: Want = Want::NewTag("next");
 
 static FIRST_PUBLICATIONS: [Case; 4] = [
     (
         "a package of lab",
         Nothing,
         Publish(OF_LAB, "null"),
-        Ok(&[TO_RESTRICTED, VERSION, TAG]),
+        Ok(&[NEW_RESTRICTED, Want::Version, NEW_LATEST]),
     ),
     (
         "a package of nobody",
         Nothing,
         Publish(OF_NOBODY, "null"),
-        Ok(&[TO_PUBLIC, VERSION, TAG]),
+        Ok(&[NEW_PUBLIC, Want::Version, NEW_LATEST]),
     ),
     (
         "a public package of lab",
         Nothing,
         Publish(OF_LAB, r#""public""#),
-        Ok(&[TO_PUBLIC, VERSION, TAG]),
+        Ok(&[NEW_PUBLIC, Want::Version, NEW_LATEST]),
     ),
     (
         "under another tag",
         Nothing,
         PublishUnderNext(OF_LAB),
-        Ok(&[TO_RESTRICTED, VERSION, LATEST, TAG]),
+        Ok(&[NEW_RESTRICTED, Want::Version, NEW_LATEST, NEW_NEXT]),
     ),
 ];
 
@@ -74,31 +73,31 @@ static LATER_PUBLISHES: [Case; 5] = [
         "another version",
         OLDER,
         Publish(OF_LAB, "null"),
-        Ok(&[VERSION, TAG]),
+        Ok(&[Want::Version, TO_LATEST]),
     ),
     (
         "another status",
         OLDER,
         Publish(OF_LAB, r#""restricted""#),
-        Ok(&[TO_RESTRICTED, VERSION, TAG]),
+        Ok(&[TO_RESTRICTED, Want::Version, TO_LATEST]),
     ),
     (
         "another tag",
         OLDER,
         PublishUnderNext(OF_LAB),
-        Ok(&[VERSION, TAG]),
+        Ok(&[Want::Version, NEW_NEXT]),
     ),
     (
         "latest beside beta",
         UNDER_BETA,
         Publish(OF_LAB, "null"),
-        Ok(&[VERSION, TAG]),
+        Ok(&[Want::Version, NEW_LATEST]),
     ),
     (
         "next beside beta",
         UNDER_BETA,
         PublishUnderNext(OF_LAB),
-        Ok(&[VERSION, LATEST, TAG]),
+        Ok(&[Want::Version, NEW_LATEST, NEW_NEXT]),
     ),
 ];
 
@@ -107,12 +106,18 @@ fn later_publishes(rt: HostRuntime) -> Result<(), &'static str> {
     all_told(rt.alloc(), &LATER_PUBLISHES)
 }
 
-static REFUSED_PUBLISHES: [Case; 3] = [
+static REFUSED_PUBLISHES: [Case; 4] = [
     (
         "once more",
         PUBLIC,
         Publish(OF_NOBODY, "null"),
         Err(Refusal::Published),
+    ),
+    (
+        "withdrawn",
+        Withdrawn,
+        Publish(OF_NOBODY, r#""restricted""#),
+        Err(Refusal::Spent),
     ),
     (
         "never restricted",
@@ -134,12 +139,17 @@ fn refused_publishes(rt: HostRuntime) -> Result<(), &'static str> {
 }
 
 static TAGS: [Case; 7] = [
-    ("a new tag", PUBLIC, TagSet("next", "1.0.0"), Ok(&[TAG])),
+    (
+        "a new tag",
+        PUBLIC,
+        TagSet("next", "1.0.0"),
+        Ok(&[NEW_NEXT]),
+    ),
     (
         "latest is set",
         PUBLIC,
         TagSet("latest", "1.0.0"),
-        Ok(&[TAG]),
+        Ok(&[TO_LATEST]),
     ),
     (
         "no such version",
@@ -147,7 +157,12 @@ static TAGS: [Case; 7] = [
         TagSet("latest", "3.0.0"),
         Err(Refusal::NotFound),
     ),
-    ("a tag goes", UNDER_NEXT, TagRemove("next"), Ok(&[NO_TAG])),
+    (
+        "a tag goes",
+        UNDER_NEXT,
+        TagRemove("next"),
+        Ok(&[Want::NoTag("next")]),
+    ),
     (
         "no such tag",
         UNDER_NEXT,
@@ -190,4 +205,18 @@ static QUERIES: [Case; 6] = [
 #[test]
 fn queries_of_what_lives(rt: HostRuntime) -> Result<(), &'static str> {
     all_told(rt.alloc(), &QUERIES)
+}
+
+static REQUESTS: [(&str, Ask); 6] = [
+    ("a publish", Publish(OF_LAB, "null")),
+    ("a tag that is set", TagSet("next", "1.0.0")),
+    ("a tag that is removed", TagRemove("next")),
+    ("a packument", Packument),
+    ("an archive", Archive("1.0.0")),
+    ("tags", Tags),
+];
+
+#[test]
+fn requests_of_nobody(rt: HostRuntime) -> Result<(), &'static str> {
+    all_turned_away(rt.alloc(), &REQUESTS)
 }

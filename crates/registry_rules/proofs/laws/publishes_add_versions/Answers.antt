@@ -1,5 +1,5 @@
 use Rattle.registry_rules.proofs.LawFacts.{publishes_add_versions, publishes_set_statuses, publishes_set_tags}
-use Rattle.registry_rules.proofs.laws.publishes_say_what_they_make.Goals as goal
+use Rattle.registry_rules.proofs.laws.publishes_add_versions.Goals as goal
 
 pub returns-clause-versions : goal.returns-clause-versions
 returns-clause-versions c = publishes_add_versions
