@@ -1,5 +1,5 @@
 -- The first tables, and what a commit leaves.
-use Rattle.std.proofs.Common.{◌≡◌, ◌∙◌, inl, inr, IsTrue, true, false, true≢false, sym, ap, subst}
+use Rattle.std.proofs.Common.{◌≡◌, ◌⊎◌, ◌∙◌, ◌+◌, ◌-◌, ◌^◌, ◌≤◌, Bool, min, arith, inl, inr, IsTrue, true, false, true≢false, sym, ap, subst}
 use Rattle.std.specs.List.{AllByRecursion}
 use Rattle.sqlite.specs.Effect.{Database, IsDatabase}
 use Rattle.sqlite.specs.Held.{Held, state}
@@ -7,15 +7,16 @@ use Rattle.sqlite.specs.State.{State as Shown, HasCleanDisk, IsRolledBack, Keeps
 use Rattle.sqlite.specs.Steps.{FailsToCommit, IsEmpty}
 use Rattle.sqlite.specs.declared.error.Error.{Error}
 use Rattle.sqlite_trees.specs.declared.store.Store.{Ghosts}
-use Rattle.registry_rows.specs.Ready.{IsReady, Leaves}
+use Rattle.registry_rows.specs.Ready.{IsReady, Leaves, Ready}
 use Rattle.registry_rows.specs.Rows.{HasRowids}
 use Rattle.registry_tables.specs.Contents.{Contents, contents}
-use Rattle.registry_tables.specs.Effects.{HasNoTables, stored}
+use Rattle.registry_rows.specs.Tables.{no_tables}
+use Rattle.registry_tables.specs.Effects.{stored}
 use Rattle.registry_tables.specs.Schema.{schema}
 use Rattle.registry_desk.specs.Resting.{Rests}
 
 -- an empty database has no tables, also once a transaction is begun
-pub empty_begun : {S : Type 0} (store : Ghosts S) (h : Held S) → IsEmpty (state store h) → HasNoTables store (record h { in_transaction = true })
+pub empty_begun : {S : Type 0} (store : Ghosts S) (h : Held S) → IsEmpty (state store h) → Ready no_tables (state store (record h { in_transaction = true }))
 empty_begun store h empty clean on = record { schema_is = empty.2; sound = (empty.1 on).0; rowids = tt }
 
 ready_again : (mid new : Shown) → new.now ≡ mid.now → IsReady schema mid → IsReady schema new
@@ -65,3 +66,10 @@ module _ (old mid new : Shown) where
         ready_again old new (undone_now rests b.0 b.1 b.2 on) (rests.in_form b.0 (undone b.1 b.2 on).0);
     settled = λ clean on. let b = back clean in let left = undone b.1 b.2 on in left.1 ∙ sym left.2;
   }
+
+-- ---- a store without faults
+
+-- where no fault may come, nothing shuts the registry
+pub stays_open : (is : Bool) → IsTrue is ⊎ (min (0 + 1) (2 ^ 64 - 1) ≤ 0) → IsTrue is
+stays_open is (inl on) = on
+stays_open is (inr more) = absurd (omega arith)

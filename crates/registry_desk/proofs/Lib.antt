@@ -1,5 +1,4 @@
 mod CommitFacts
-mod EffectFacts
 mod KeepingFacts
 mod MakingFacts
 mod SettlingFacts
@@ -7,5 +6,6 @@ pub mod AnswerFacts
 pub mod PublishFacts
 pub mod RunFacts
 pub mod StatusFacts
+pub mod StoredFacts
 pub mod TagFacts
 pub mod VersionFacts

@@ -5,9 +5,9 @@
 #![tactic(auto)]
 
 mod answer;
-mod command;
+mod found;
 pub mod laws;
-mod query;
 mod registry;
+mod reply;
 
 pub use crate::registry::Registry;

@@ -4,24 +4,20 @@ ghost use Rattle.std.specs.Prelude.{◌≡◌, IfErr, IfOk, IsTrue, List, OnErr,
 ghost use Rattle.sqlite.specs.Held.{state};
 ghost use Rattle.sqlite.specs.State.{HasCleanDisk, Survives};
 ghost use Rattle.sqlite.specs.Steps.{IsEmpty, over_memory};
-ghost use Rattle.sqlite_trees.specs.Tree.{Trees};
-ghost use Rattle.registry_rules.specs.Kept.{IsKept};
-ghost use Rattle.registry_rules.specs.State.{nothing};
 ghost use Rattle.registry_tables.specs.Contents.{contents};
 ghost use Rattle.registry_tables.specs.Effects.{registry_in, stored};
 ghost use Rattle.registry_tables.specs.Fresh.{fresh};
 ghost use Rattle.registry_tables.specs.Needs.{HoldsNeeds};
 ghost use Rattle.registry_desk.specs.Headline.{Headline};
-ghost use Rattle.registry_desk.specs.History.{Entry, Legal, after};
-ghost use Rattle.registry_desk.specs.Readings.{Stands};
-ghost use Rattle.registry_desk.specs.Resting.{Rests, next_stored, settled_by};
-ghost use Rattle.registry_desk.specs.Runs.{IsAnswer, Ran, grown, history};
+ghost use Rattle.registry_desk.specs.Promises.{Answered, GrowsHistory, HasHeadline, Keeps, KeepsForm, RanTo, Served, Stays, StaysRun, Stepped, Stored, SurvivesOne, SurvivesRun, WasOpen, WritesHistory};
+ghost use Rattle.registry_desk.specs.Resting.{Rests};
 
 use crate::answer::answered_inside;
 use registry_names::Fault;
+use registry_rows::fault_of;
 use registry_rules::laws::requests_are_in_form;
 use registry_rules::{Reply, Request};
-use registry_tables::{create, fault_of};
+use registry_tables::create;
 use sqlite::{Alter, Connection, MemStore};
 use std::alloc::Global;
 use std::marker::Model;
@@ -55,9 +51,9 @@ impl<S: Alter> Model for Registry<S> {
 }
 
 impl Registry<MemStore> {
-    /// An empty registry in memory, or a fault.
+    /// A new registry in memory, or a fault. Of a new one nothing was asked yet.
     pub fn in_memory(alloc: Global) -> Result<Registry<MemStore>, Fault>
-        ensures empty { IfOk result (λ r. registry_in (state over_memory r) ≡ nothing) }
+        ensures fresh { IfOk result (λ r. stored (state over_memory r) ≡ fresh) }
         ensures needs { IfOk result (λ r. HoldsNeeds (stored (state over_memory r))) }
         ensures served { IfOk result (λ r. IsTrue (state over_memory r).is_open) }
     {
@@ -66,6 +62,21 @@ impl Registry<MemStore> {
         };
         create_tables(&mut conn)?;
         Ok(Registry { conn })
+    }
+
+    /// Answers requests on a new registry in memory, in their order, and gives the registry that
+    /// they leave with the outcomes. A fault comes where no registry could be made, or no room
+    /// for the outcomes was left: then nothing was run.
+    pub fn run_in_memory(
+        alloc: Global,
+        requests: &[Request],
+    ) -> Result<(Registry<MemStore>, Vec<Result<Reply, Fault>>), Fault>
+        ensures headline { IfOk result (λ ran.
+            Headline requests.now ran.1.items (registry_in (state over_memory ran.0))) }
+    {
+        let mut registry = Registry::in_memory(alloc)?;
+        let outcomes = registry.run(alloc, requests)?;
+        Ok((registry, outcomes))
     }
 }
 
@@ -77,15 +88,19 @@ impl<S: Alter> Registry<S> {
     /// always does. A crash leaves what it could have left before, or, once the commit was
     /// reached, what the request makes; after a reply that alone.
     pub fn apply(&mut self, alloc: Global, request: &Request) -> Result<Reply, Fault>
-        ensures answer { HasCleanDisk (state S.Store self.new) → IsAnswer (registry_in (state S.Store self.old)) request.now result }
-        ensures served { HasCleanDisk (state S.Store self.new) → OnOk result (IsTrue (state S.Store self.old).is_open) }
-        ensures opened { HasCleanDisk (state S.Store self.new) → IsTrue (state S.Store self.new).is_open → IsTrue (state S.Store self.old).is_open }
-        ensures step { HasCleanDisk (state S.Store self.new) → IsTrue (state S.Store self.new).is_open → stored (state S.Store self.new) ≡ next_stored request.now result (stored (state S.Store self.old)) }
-        ensures history { HasCleanDisk (state S.Store self.new) → IsTrue (state S.Store self.new).is_open → (h : List Entry) → Legal h → registry_in (state S.Store self.old) ≡ after h → Stands (grown h request.now result) (registry_in (state S.Store self.new)) }
-        ensures form { HasCleanDisk (state S.Store self.new) → IsTrue (state S.Store self.new).is_open → IsKept (registry_in (state S.Store self.old)) → IsKept (registry_in (state S.Store self.new)) }
-        ensures needs { HasCleanDisk (state S.Store self.new) → IsTrue (state S.Store self.new).is_open → HoldsNeeds (stored (state S.Store self.old)) → HoldsNeeds (stored (state S.Store self.new)) }
-        ensures survives { Survives (state S.Store self.old) (state S.Store self.new) (λ db. contents db ≡ settled_by request.now (stored (state S.Store self.old))) }
-        ensures stays { HasCleanDisk (state S.Store self.new) → OnOk result ((db : Trees) → (state S.Store self.new).may_leave db → contents db ≡ stored (state S.Store self.new)) }
+        ensures answer { Answered (state S.Store self.old) (state S.Store self.new)
+            request.now result }
+        ensures served { Served (state S.Store self.old) (state S.Store self.new) result }
+        ensures opened { WasOpen (state S.Store self.old) (state S.Store self.new) }
+        ensures step { Stepped (state S.Store self.old) (state S.Store self.new)
+            request.now result }
+        ensures history { GrowsHistory (state S.Store self.old) (state S.Store self.new)
+            request.now result }
+        ensures form { KeepsForm (state S.Store self.old) (state S.Store self.new) }
+        ensures needs { Keeps (state S.Store self.old) (state S.Store self.new) HoldsNeeds }
+        ensures survives { SurvivesOne (state S.Store self.old) (state S.Store self.new)
+            request.now }
+        ensures stays { Stays (state S.Store self.new) result }
     {
         requests_are_in_form(request);
         answered(alloc, &mut self.conn, request)
@@ -93,30 +108,30 @@ impl<S: Alter> Registry<S> {
 
     /// Answers requests in their order, as [`apply`](Registry::apply) does. Room for all outcomes
     /// is taken first: where that is refused, the answer is `Memory` and nothing was run.
+    ///
+    /// A crash leaves what it could have left before, or what one of the requests makes of what
+    /// the earlier ones left; where the last outcome is a reply, what is left then alone.
     pub fn run(
         &mut self,
         alloc: Global,
         requests: &[Request],
     ) -> Result<Vec<Result<Reply, Fault>>, Fault>
-        ensures headline { HasCleanDisk (state S.Store self.new) → IsTrue (state S.Store self.new).is_open → registry_in (state S.Store self.old) ≡ nothing → IfOk result (λ outcomes. Headline requests.now outcomes.items (registry_in (state S.Store self.new))) }
-        ensures history { HasCleanDisk (state S.Store self.new) → IsTrue (state S.Store self.new).is_open → (h : List Entry) → Legal h → registry_in (state S.Store self.old) ≡ after h → IfOk result (λ outcomes. Stands (history h requests.now outcomes.items) (registry_in (state S.Store self.new))) }
-        ensures ran { HasCleanDisk (state S.Store self.new) → IfOk result (λ outcomes. Ran (registry_in (state S.Store self.old)) requests.now outcomes.items (state S.Store self.new).is_open (registry_in (state S.Store self.new))) }
+        ensures headline { IfOk result (λ outcomes. HasHeadline (state S.Store self.old)
+            (state S.Store self.new) requests.now outcomes.items) }
+        ensures history { IfOk result (λ outcomes. WritesHistory (state S.Store self.old)
+            (state S.Store self.new) requests.now outcomes.items) }
+        ensures ran { IfOk result (λ outcomes. RanTo (state S.Store self.old)
+            (state S.Store self.new) requests.now outcomes.items) }
+        ensures stored { IfOk result (λ outcomes. Stored (state S.Store self.old)
+            (state S.Store self.new) requests.now outcomes.items) }
+        ensures form { KeepsForm (state S.Store self.old) (state S.Store self.new) }
+        ensures needs { Keeps (state S.Store self.old) (state S.Store self.new) HoldsNeeds }
+        ensures survives { IfOk result (λ outcomes. SurvivesRun (state S.Store self.old)
+            (state S.Store self.new) requests.now outcomes.items) }
+        ensures stays { IfOk result (λ outcomes.
+            StaysRun (state S.Store self.new) outcomes.items) }
         ensures not_run { OnErr result (self.new ≡ self.old) }
         ensures memory { IfErr result (λ fault. fault ≡ Fault.Memory) }
-        ensures survives { Survives (state S.Store self.old) (state S.Store self.new) (λ _. Unit {0}) }
-    {
-        self.all_applied(alloc, requests)
-    }
-
-    fn all_applied(
-        &mut self,
-        alloc: Global,
-        requests: &[Request],
-    ) -> Result<Vec<Result<Reply, Fault>>, Fault>
-        ensures ran { HasCleanDisk (state S.Store self.new) → IfOk result (λ outcomes. Ran (registry_in (state S.Store self.old)) requests.now outcomes.items (state S.Store self.new).is_open (registry_in (state S.Store self.new))) }
-        ensures not_run { OnErr result (self.new ≡ self.old) }
-        ensures memory { IfErr result (λ fault. fault ≡ Fault.Memory) }
-        ensures survives { Survives (state S.Store self.old) (state S.Store self.new) (λ _. Unit {0}) }
     {
         let mut outcomes = Vec::with_capacity(alloc, requests.len())?;
         for request in requests {
@@ -133,10 +148,14 @@ impl<S: Alter> Registry<S> {
 // Makes the tables of an empty database, in one transaction.
 fn create_tables<S: Alter>(conn: &mut Connection<S>) -> Result<(), Fault>
     requires empty { IsEmpty (state S.Store conn.old) }
-    ensures rests { HasCleanDisk (state S.Store conn.new) → OnOk result (Rests (state S.Store conn.new)) }
-    ensures made { HasCleanDisk (state S.Store conn.new) → OnOk result (stored (state S.Store conn.new) ≡ fresh) }
-    ensures served { HasCleanDisk (state S.Store conn.new) → OnOk result (IsTrue (state S.Store conn.new).is_open) }
-    ensures survives { Survives (state S.Store conn.old) (state S.Store conn.new) (λ db. contents db ≡ fresh) }
+    ensures rests { HasCleanDisk (state S.Store conn.new)
+        → OnOk result (Rests (state S.Store conn.new)) }
+    ensures made { HasCleanDisk (state S.Store conn.new)
+        → OnOk result (stored (state S.Store conn.new) ≡ fresh) }
+    ensures served { HasCleanDisk (state S.Store conn.new)
+        → OnOk result (IsTrue (state S.Store conn.new).is_open) }
+    ensures survives { Survives (state S.Store conn.old) (state S.Store conn.new)
+        (λ db. contents db ≡ fresh) }
 {
     let mut tx = conn.transaction();
     create(&mut tx)?;
@@ -154,12 +173,13 @@ fn answered<S: Alter>(
 ) -> Result<Reply, Fault>
     requires rests { Rests (state S.Store conn.old) }
     ensures rests { Rests (state S.Store conn.new) }
-    ensures answer { HasCleanDisk (state S.Store conn.new) → IsAnswer (registry_in (state S.Store conn.old)) request.now result }
-    ensures served { HasCleanDisk (state S.Store conn.new) → OnOk result (IsTrue (state S.Store conn.old).is_open) }
-    ensures opened { HasCleanDisk (state S.Store conn.new) → IsTrue (state S.Store conn.new).is_open → IsTrue (state S.Store conn.old).is_open }
-    ensures step { HasCleanDisk (state S.Store conn.new) → IsTrue (state S.Store conn.new).is_open → stored (state S.Store conn.new) ≡ next_stored request.now result (stored (state S.Store conn.old)) }
-    ensures survives { Survives (state S.Store conn.old) (state S.Store conn.new) (λ db. contents db ≡ settled_by request.now (stored (state S.Store conn.old))) }
-    ensures stays { HasCleanDisk (state S.Store conn.new) → OnOk result ((db : Trees) → (state S.Store conn.new).may_leave db → contents db ≡ stored (state S.Store conn.new)) }
+    ensures answer { Answered (state S.Store conn.old) (state S.Store conn.new)
+        request.now result }
+    ensures served { Served (state S.Store conn.old) (state S.Store conn.new) result }
+    ensures opened { WasOpen (state S.Store conn.old) (state S.Store conn.new) }
+    ensures step { Stepped (state S.Store conn.old) (state S.Store conn.new) request.now result }
+    ensures survives { SurvivesOne (state S.Store conn.old) (state S.Store conn.new) request.now }
+    ensures stays { Stays (state S.Store conn.new) result }
 {
     let mut tx = conn.transaction();
     let reply = answered_inside(alloc, &mut tx, request)?;

@@ -15,7 +15,7 @@ pub returns-in-Ok-clause-rests : goal.returns-in-Ok-clause-rests
 returns-in-Ok-clause-rests g c =
     let old = c.args.conn.now in
     let mid = state g.S.Store c.create.new.tx.conn.now in
-    let begun : HasNoTables g.S.Store c.transaction-tx.result.conn.now = rw c.transaction-tx.ensures.begun (empty_begun g.S.Store old c.requires.empty) in
+    let begun : HasNoTables g.S.Store c.transaction-tx.result = rw c.transaction-tx.ensures.begun (empty_begun g.S.Store old c.requires.empty) in
     let rests : HasCleanDisk (state g.S.Store c.commit.new.self.0) → Rests (state g.S.Store c.commit.new.self.0) = λ clean.
     committed_rests fresh mid (state g.S.Store c.commit.new.self.0) (c.in_ok-create.ensures.made begun (omega (arith, c.commit.ensures.survives.clean, clean))) (c.in-Ok.ensures.ok clean).1 in
     let same : c.commit.new.self.0 ≡ c.conn-2-1.given.0 = search rules in
@@ -26,10 +26,10 @@ returns-in-Ok-clause-survives g c =
     let old = c.args.conn.now in
     let mid = state g.S.Store c.create.new.tx.conn.now in
     let P = λ (db : Trees). contents db ≡ fresh in
-    let begun : HasNoTables g.S.Store c.transaction-tx.result.conn.now = rw c.transaction-tx.ensures.begun (empty_begun g.S.Store old c.requires.empty) in
+    let begun : HasNoTables g.S.Store c.transaction-tx.result = rw c.transaction-tx.ensures.begun (empty_begun g.S.Store old c.requires.empty) in
     let whole = survives_then (state g.S.Store old) mid (state g.S.Store c.commit.new.self.0) _ _ P (λ _ db none. absurd none)
     (λ clean db is. ap contents is ∙ (c.in_ok-create.ensures.made begun (omega (arith, c.commit.ensures.survives.clean, clean))).holds)
-    (survives_begin g.S.Store old mid _ (rw c.transaction-tx.ensures.begun at c.create.ensures.survives)) c.commit.ensures.survives in
+    (survives_begin g.S.Store old mid _ (rw c.transaction-tx.ensures.begun at c.create.ensures.stays.survives)) c.commit.ensures.survives in
     let same : c.commit.new.self.0 ≡ c.conn-2-1.given.0 = search rules in
     subst (λ h. Survives (state g.S.Store old) (state g.S.Store h) P) same whole
 
@@ -38,9 +38,9 @@ returns-in-Err-clause-survives g c =
     let old = c.args.conn.now in
     let mid = state g.S.Store c.create.new.tx.conn.now in
     let P = λ (db : Trees). contents db ≡ fresh in
-    let begun : HasNoTables g.S.Store c.transaction-tx.result.conn.now = rw c.transaction-tx.ensures.begun (empty_begun g.S.Store old c.requires.empty) in
+    let begun : HasNoTables g.S.Store c.transaction-tx.result = rw c.transaction-tx.ensures.begun (empty_begun g.S.Store old c.requires.empty) in
     let whole = survives_then (state g.S.Store old) mid (state g.S.Store c.commit.new.self.0) _ _ P (λ _ db none. absurd none)
     (λ clean db is. ap contents is ∙ (c.in_ok-create.ensures.made begun (omega (arith, c.commit.ensures.survives.clean, clean))).holds)
-    (survives_begin g.S.Store old mid _ (rw c.transaction-tx.ensures.begun at c.create.ensures.survives)) c.commit.ensures.survives in
+    (survives_begin g.S.Store old mid _ (rw c.transaction-tx.ensures.begun at c.create.ensures.stays.survives)) c.commit.ensures.survives in
     let same : c.commit.new.self.0 ≡ c.conn-2-1.given.0 = search rules in
     subst (λ h. Survives (state g.S.Store old) (state g.S.Store h) P) same whole

@@ -1,6 +1,5 @@
-use Rattle.std.proofs.Common.{ap, subst, sym}
+use Rattle.std.proofs.Common.{subst, sym}
 use Rattle.sqlite.proofs.Callers.{memory_is_clean}
-use Rattle.registry_tables.specs.Contents.{Contents}
 use Rattle.registry_tables.specs.Needs.{HoldsNeeds}
 use Rattle.registry_tables.proofs.HeldNeedFacts.{fresh_holds}
 use Rattle.registry_desk.proofs.registry.Registry+MemStore.in_memory.Goals as goal
@@ -8,8 +7,8 @@ use Rattle.registry_desk.proofs.registry.Registry+MemStore.in_memory.Goals as go
 pub invariant_of-result : goal.invariant_of-result
 invariant_of-result c = c.in_ok-create_tables.ensures.rests (memory_is_clean c.create_tables.new.conn)
 
-pub returns-clause-empty : goal.returns-clause-empty
-returns-clause-empty c = ap (λ (made : Contents). made.registry) (c.in_ok-create_tables.ensures.made (memory_is_clean c.create_tables.new.conn))
+pub returns-clause-fresh : goal.returns-clause-fresh
+returns-clause-fresh c = c.in_ok-create_tables.ensures.made (memory_is_clean c.create_tables.new.conn)
 
 pub returns-clause-needs : goal.returns-clause-needs
 returns-clause-needs c = subst HoldsNeeds (sym (c.in_ok-create_tables.ensures.made (memory_is_clean c.create_tables.new.conn))) fresh_holds

@@ -1,0 +1,33 @@
+use Rattle.std.proofs.Common.{◌∙◌, ap, arith, map, take_all}
+use Rattle.registry_rows.proofs.QuietFacts.{stays_then}
+use Rattle.registry_rules.specs.Changes.{change_of}
+use Rattle.registry_tables.specs.Changes.{all_stored}
+use Rattle.registry_tables.specs.Effects.{stored_in}
+use Rattle.registry_desk.proofs.MakingFacts.{changes_next}
+use Rattle.registry_desk.proofs.answer.make_all.Goals as goal
+
+pub make-requires : goal.make-requires
+make-requires g c = record { in_form = λ clean on. (c.loop-change.invariant.made clean).ready }
+
+pub loop-change-preserved : goal.loop-change-preserved
+loop-change-preserved g c = record {
+  stays = stays_then g.S.Store c.args.tx.now c.loop-change.tx c.make.new.tx c.loop-change.invariant.stays c.make.ensures.stays;
+  made = λ clean.
+      let before = c.loop-change.invariant.made (omega (arith, c.make.ensures.stays.survives.clean, clean)) in
+      let it = c.in_ok-make.ensures.makes clean in
+      record {
+        holds = changes_next c.args.changes.now c.loop-change.change-index c.change-item.result c.loop-change-test.true c.change-item.is
+            (stored_in g.S.Store c.args.tx.now) (stored_in g.S.Store c.loop-change.tx) (stored_in g.S.Store c.make.new.tx) before.holds it.holds;
+        ready = it.ready;
+        mode = it.mode;
+      };
+}
+
+pub returns-clause-makes : goal.returns-clause-makes
+returns-clause-makes g c clean =
+    let it = c.loop-change.invariant.made clean in
+    record {
+      holds = it.holds ∙ ap (λ changes. all_stored (map change_of changes) (stored_in g.S.Store c.args.tx.now)) (take_all c.loop-change.change-index c.args.changes.now c.loop-change-test.false);
+      ready = it.ready;
+      mode = it.mode;
+    }

@@ -1,0 +1,12 @@
+use Rattle.std.proofs.Common.{◌≡◌, ◌≤◌, length, take, vec_capacity}
+use Rattle.sqlite.specs.Held.{state}
+use Rattle.registry_desk.proofs.StoredFacts.{HasRun}
+use Rattle.registry_desk.proofs.registry.Registry.run.Given as goal
+
+-- the outcomes so far are those of the requests so far, and there is room for the others
+abbrev pub invariant-loop-request : goal.invariant-loop-request
+invariant-loop-request g l = record {
+  room : length l.requests ≤ vec_capacity l.outcomes;
+  count : length l.outcomes.items ≡ l.request-index;
+  run : HasRun (state g.S.Store l.fn.self) (state g.S.Store l.self) (take l.request-index l.requests) l.outcomes.items;
+}

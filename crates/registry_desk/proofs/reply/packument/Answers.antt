@@ -1,0 +1,14 @@
+use Rattle.std.proofs.Common.{◌≡◌, ◌∙◌, ap, sym, List, Option, Some}
+use Rattle.std.proofs.lemmas.Result.{IfOk-weaker}
+use Rattle.registry_names.specs.Texts.{Text}
+use Rattle.registry_packument.specs.Packuments.{packument_of}
+use Rattle.registry_desk.proofs.AnswerFacts.{packument_is}
+use Rattle.registry_desk.proofs.reply.packument.Goals as goal
+
+pub returns : goal.returns
+returns c =
+    let same = c.in_ok-name.ensures ∙ c.text.ensures.text in
+    IfOk-weaker c.packument_text.result _ _
+    (λ text written S shown named. packument_is S c.args.name.now c.args.tags.items c.args.versions.now text
+        (ap (λ (p : Text). packument_of p c.args.tags.items c.args.versions.now) (sym same) ∙ written) shown named)
+    c.packument_text.ensures.text

@@ -1,0 +1,27 @@
+-- When what was loaded for an action is what the registry holds of it.
+use Rattle.std.specs.Prelude.{◌≡◌, true, map, option_map}
+use Rattle.registry_names.specs.Maps.{at, of, seen}
+use Rattle.registry_names.specs.Versions.{text_of_version}
+use Rattle.registry_rules.specs.Actions.{is_command}
+use Rattle.registry_rules.specs.Facts.{StandsAbout}
+use Rattle.registry_rules.specs.State.{State, Release}
+use Rattle.registry_rules.specs.declared.request.Action.{Action}
+use Rattle.registry_rules.specs.declared.request.Action.TheVariants.{Packument, Archive, Tags}
+use Rattle.registry_tables.specs.Spelled.{document, row_entry, tag_entry}
+use Rattle.registry_desk.specs.declared.found.Found.{Found}
+use Rattle.registry_desk.specs.declared.found.Rows.{Rows}
+use Rattle.registry_desk.specs.declared.found.Rows.TheVariants as rows
+
+-- The rows are those that answer the action. A command is answered by none
+abbrev pub AreRowsOf : Rows → State → Action → Type 0
+AreRowsOf (rows.Packument versions tags) S (Packument p) =
+    (map row_entry versions.items ≡ map (seen document) (of S.live p)) × (map tag_entry tags.items ≡ of S.tags p)
+AreRowsOf (rows.Archive archive) S (Archive p v) = archive ≡ option_map (λ (r : Release). r.archive) (at S.live (p, text_of_version v))
+AreRowsOf (rows.Tags tags) S (Tags p) = map tag_entry tags.items ≡ of S.tags p
+AreRowsOf rows.Nothing S what = is_command what ≡ true
+AreRowsOf _ S _ = ⊥
+
+-- what decides the action, and what answers it
+pub record IsFoundFor (found : Found) (S : State) (what : Action) : Type 0 where
+  pub about : StandsAbout found.about S what
+  pub rows : AreRowsOf found.rows S what

@@ -1,0 +1,85 @@
+-- What is promised of a request, and of a run, as long as the disk returns what was written to it. `old` and `new` are what the connection shows at the entry and at the exit.
+use Rattle.std.specs.Prelude.{◌≡◌, List, OnOk, IsTrue}
+use Rattle.sqlite_trees.specs.Tree.{Trees}
+use Rattle.sqlite.specs.State.{State as Shown, HasCleanDisk, Survives}
+use Rattle.registry_rules.specs.Kept.{IsKept}
+use Rattle.registry_rules.specs.State.{nothing}
+use Rattle.registry_rules.specs.declared.request.Request.{Request}
+use Rattle.registry_tables.specs.Contents.{Contents, contents, registry_of}
+use Rattle.registry_tables.specs.Effects.{registry_in, stored}
+use Rattle.registry_desk.specs.Headline.{Headline}
+use Rattle.registry_desk.specs.History.{Entry, Legal, after}
+use Rattle.registry_desk.specs.Readings.{Says}
+use Rattle.registry_desk.specs.Resting.{SettlesOne, end_stored, ends_replied, next_stored, settled_by}
+use Rattle.registry_desk.specs.Runs.{Outcome, IsAnswer, Ran, grown, history}
+
+-- an open after a crash finds what is stored now, and nothing else
+abbrev pub IsSure : Shown → Type 0
+IsSure s = (db : Trees) → s.may_leave db → contents db ≡ stored s
+
+-- that is so after a reply
+abbrev pub Stays : Shown → Outcome → Type 0
+Stays new o = HasCleanDisk new → OnOk o (IsSure new)
+
+-- that is so where the last outcome of a run is a reply
+abbrev pub StaysRun : Shown → List Outcome → Type 0
+StaysRun new os = HasCleanDisk new → IsTrue (ends_replied os) → IsSure new
+
+module _ (old new : Shown) where
+  -- it was open where it is open
+  abbrev pub WasOpen : Type 0
+  WasOpen = HasCleanDisk new → IsTrue new.is_open → IsTrue old.is_open
+
+  -- where this held of all that was stored, it still does
+  abbrev pub Keeps : (Contents → Type 0) → Type 0
+  Keeps P = HasCleanDisk new → IsTrue new.is_open → P (stored old) → P (stored new)
+
+  -- what the registry holds stays in form
+  abbrev pub KeepsForm : Type 0
+  KeepsForm = Keeps (λ c. IsKept (registry_of c))
+
+  -- ---- one request
+
+  -- a reply is the machine's
+  abbrev pub Answered : Request → Outcome → Type 0
+  Answered r o = HasCleanDisk new → IsAnswer (registry_in old) r o
+
+  -- a reply comes from an open registry alone
+  abbrev pub Served : Outcome → Type 0
+  Served o = HasCleanDisk new → OnOk o (IsTrue old.is_open)
+
+  -- what is stored is changed as the outcome says
+  abbrev pub Stepped : Request → Outcome → Type 0
+  Stepped r o = HasCleanDisk new → IsTrue new.is_open → stored new ≡ next_stored r o (stored old)
+
+  -- a legal history of what is held goes on with the request where it was accepted
+  abbrev pub GrowsHistory : Request → Outcome → Type 0
+  GrowsHistory r o = HasCleanDisk new → IsTrue new.is_open → (h : List Entry) → Legal h → registry_in old ≡ after h
+      → Says (grown h (registry_in old) r o) (registry_in new)
+
+  -- a crash leaves what it could have left before, or what an open registry makes of the request
+  abbrev pub SurvivesOne : Request → Type 0
+  SurvivesOne r = Survives old new (λ db. IsTrue old.is_open × (contents db ≡ settled_by r (stored old)))
+
+  -- ---- a run
+
+  -- each outcome is the machine's answer on what the earlier ones left, or a fault
+  abbrev pub RanTo : List Request → List Outcome → Type 0
+  RanTo rs os = HasCleanDisk new → Ran (registry_in old) rs os new.is_open (registry_in new)
+
+  -- what is stored is changed as the outcomes say
+  abbrev pub Stored : List Request → List Outcome → Type 0
+  Stored rs os = HasCleanDisk new → IsTrue new.is_open → stored new ≡ end_stored rs os (stored old)
+
+  -- of a registry of which nothing was asked yet
+  abbrev pub HasHeadline : List Request → List Outcome → Type 0
+  HasHeadline rs os = HasCleanDisk new → IsTrue new.is_open → registry_in old ≡ nothing → Headline rs os (registry_in new)
+
+  -- a legal history of what was held goes on with the requests that were accepted
+  abbrev pub WritesHistory : List Request → List Outcome → Type 0
+  WritesHistory rs os = HasCleanDisk new → IsTrue new.is_open → (h : List Entry) → Legal h → registry_in old ≡ after h
+      → Says (history h (registry_in old) rs os) (registry_in new)
+
+  -- a crash leaves what it could have left before, or what one of the requests settles on what the earlier ones left
+  abbrev pub SurvivesRun : List Request → List Outcome → Type 0
+  SurvivesRun rs os = Survives old new (λ db. SettlesOne rs os (stored old) (contents db))

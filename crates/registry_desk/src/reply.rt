@@ -1,0 +1,56 @@
+//! The reply to a request that isn't turned away.
+
+ghost use Rattle.std.specs.Prelude.{◌≡◌, ℕ, List as Sequence, IfOk, map};
+ghost use Rattle.registry_names.specs.Maps.{of, seen};
+ghost use Rattle.registry_rules.specs.State.{State};
+ghost use Rattle.registry_tables.specs.Spelled.{document, row_entry, tag_entry};
+ghost use Rattle.registry_desk.specs.Answers as answers;
+ghost use Rattle.registry_desk.specs.Answers.{packument_in, tags_in};
+ghost use Rattle.registry_desk.specs.Found.{AreRowsOf};
+
+use crate::found::Rows;
+use registry_names::{DistTag, Fault, Name, Text};
+use registry_packument::{List, PackHead, VersionRow, list_text, packument_text};
+use registry_rules::{Action, Reply};
+use std::alloc::Global;
+
+/// The reply to an action, of the rows that answer it.
+pub(crate) fn reply(alloc: Global, what: &Action, rows: Rows) -> Result<Reply, Fault>
+    ensures { IfOk result (λ told. (S : State) → AreRowsOf rows S what.now
+        → told ≡ answers.reply S what.now) }
+{
+    match (what, rows) {
+        (Action::Publish { .. }, _) => Ok(Reply::Created),
+        (Action::TagSet { .. } | Action::TagRemove { .. }, _) => Ok(Reply::Done),
+        (Action::Packument { name }, Rows::Packument { versions, tags }) => {
+            Ok(Reply::Doc(packument(alloc, name, &versions, tags)?))
+        }
+        (Action::Archive { .. }, Rows::Archive(Some(archive))) => Ok(Reply::Bytes(archive)),
+        (Action::Tags { .. }, Rows::Tags(tags)) => Ok(Reply::Doc(tags_of(alloc, tags)?)),
+        _ => Err(Fault::Database),
+    }
+}
+
+// The packument of a package, whose versions and tags these are.
+fn packument(
+    alloc: Global,
+    name: &Name,
+    versions: &[VersionRow],
+    tags: Vec<DistTag>,
+) -> Result<Text, Fault>
+    ensures { IfOk result (λ text. (S : State)
+        → map row_entry versions.now ≡ map (seen document) (of S.live name.now)
+        → map tag_entry tags.items ≡ of S.tags name.now
+        → text ≡ packument_in S name.now) }
+{
+    let name = Text::from_str(alloc, name.text())?;
+    packument_text(alloc, &PackHead { name, tags }, versions)
+}
+
+// The text of a package's tags.
+fn tags_of(alloc: Global, tags: Vec<DistTag>) -> Result<Text, Fault>
+    ensures { IfOk result (λ text. (S : State) (p : Sequence ℕ) → map tag_entry tags.items ≡ of S.tags p
+        → text ≡ tags_in S p) }
+{
+    Ok(list_text(alloc, &List::Tags(tags))?)
+}
