@@ -23,8 +23,8 @@ pub fn print_rounds<R: Print>(rt: &R, alloc: Global) -> Result<(), Failure> {
 
 fn outcomes(alloc: Global) -> Result<Vec<Result<Reply, Fault>>, Failure> {
     let requests = requests(alloc)?;
-    let mut registry = Registry::in_memory(alloc)?;
-    Ok(registry.run(alloc, &requests)?)
+    let (_registry, outcomes) = Registry::run_in_memory(alloc, &requests)?;
+    Ok(outcomes)
 }
 
 fn release(version: u32) -> Release {

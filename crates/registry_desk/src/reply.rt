@@ -10,7 +10,7 @@ ghost use Rattle.registry_desk.specs.Found.{AreRowsOf};
 
 use crate::found::Rows;
 use registry_names::{DistTag, Fault, Name, Text};
-use registry_packument::{List, PackHead, VersionRow, list_text, packument_text};
+use registry_packument::{List, PackHead, VersionRow, VersionRows, list_text, packument_text};
 use registry_rules::{Action, Reply};
 use std::alloc::Global;
 
@@ -23,7 +23,7 @@ pub(crate) fn reply(alloc: Global, what: &Action, rows: Rows) -> Result<Reply, F
         (Action::Publish { .. }, _) => Ok(Reply::Created),
         (Action::TagSet { .. } | Action::TagRemove { .. }, _) => Ok(Reply::Done),
         (Action::Packument { name }, Rows::Packument { versions, tags }) => {
-            Ok(Reply::Doc(packument(alloc, name, &versions, tags)?))
+            Ok(Reply::Doc(packument(alloc, name, versions, tags)?))
         }
         (Action::Archive { .. }, Rows::Archive(Some(archive))) => Ok(Reply::Bytes(archive)),
         (Action::Tags { .. }, Rows::Tags(tags)) => Ok(Reply::Doc(tags_of(alloc, tags)?)),
@@ -31,20 +31,23 @@ pub(crate) fn reply(alloc: Global, what: &Action, rows: Rows) -> Result<Reply, F
     }
 }
 
-// The packument of a package, whose versions and tags these are.
+// The packument of a package, whose versions and tags these are. A database gives its rows in order.
 fn packument(
     alloc: Global,
     name: &Name,
-    versions: &[VersionRow],
+    versions: Vec<VersionRow>,
     tags: Vec<DistTag>,
 ) -> Result<Text, Fault>
     ensures { IfOk result (λ text. (S : State)
-        → map row_entry versions.now ≡ map (seen document) (of S.live name.now)
+        → map row_entry versions.items ≡ map (seen document) (of S.live name.now)
         → map tag_entry tags.items ≡ of S.tags name.now
         → text ≡ packument_in S name.now) }
 {
     let name = Text::from_str(alloc, name.text())?;
-    packument_text(alloc, &PackHead { name, tags }, versions)
+    let Some(mut source) = VersionRows::new(versions) else {
+        return Err(Fault::Database);
+    };
+    packument_text(alloc, &PackHead { name, tags }, &mut source)
 }
 
 // The text of a package's tags.

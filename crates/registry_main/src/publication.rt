@@ -10,7 +10,8 @@ use std::alloc::Global;
 /// The packument of the one package of an empty registry to which the body is published.
 pub fn packument_of(alloc: Global, body: &[u8]) -> Result<Text, Ending> {
     let requests = publish_and_query(alloc, body)?;
-    document_in(outcomes_of(alloc, &requests)?)
+    let (_registry, outcomes) = Registry::run_in_memory(alloc, &requests)?;
+    document_in(outcomes)
 }
 
 // The publish of the body, and the query of its package's packument.
@@ -30,12 +31,6 @@ fn request(what: Action) -> Request {
         who: Credential::Anonymous,
         what,
     }
-}
-
-// What the requests have as outcomes on an empty registry.
-fn outcomes_of(alloc: Global, requests: &[Request]) -> Result<Vec<Result<Reply, Fault>>, Fault> {
-    let mut registry = Registry::in_memory(alloc)?;
-    registry.run(alloc, requests)
 }
 
 // The document among the outcomes, where no request before it was turned away.

@@ -1,8 +1,7 @@
-use Rattle.std.proofs.Common.{◌∙◌, ap, map, sym, subst₂}
+use Rattle.std.proofs.Common.{◌∙◌, ap, sym, subst₂}
 use Rattle.registry_names.specs.Texts.{Text}
 use Rattle.registry_rules.specs.declared.reply.Reply.TheVariants.{Doc}
 use Rattle.registry_rules.specs.declared.request.Action.{Action}
-use Rattle.registry_tables.specs.Spelled.{row_entry}
 use Rattle.registry_desk.specs.Answers.{reply}
 use Rattle.registry_desk.specs.Found.{AreRowsOf}
 use Rattle.registry_desk.specs.declared.found.Rows.{Rows}
@@ -11,7 +10,7 @@ use Rattle.registry_desk.proofs.reply.reply.Goals as goal
 pub returns-in_ok-packument-in-Packument-Packument : goal.returns-in_ok-packument-in-Packument-Packument
 returns-in_ok-packument-in-Packument-Packument c S found =
     let shown = subst₂ (λ (rows : Rows) (what : Action). AreRowsOf rows S what) c.in-Packument-Packument.is-1 c.in-Packument-Packument.is-0 found in
-    ap (λ (text : Text). Doc text) (c.in_ok-packument-in-Packument-Packument.ensures S (ap (map row_entry) c.deref.ensures.value ∙ shown.0) shown.1) ∙ ap (reply S) (sym c.in-Packument-Packument.is-0)
+    ap (λ (text : Text). Doc text) (c.in_ok-packument-in-Packument-Packument.ensures S shown.0 shown.1) ∙ ap (reply S) (sym c.in-Packument-Packument.is-0)
 
 pub returns-in_ok-tags_of-in-Tags-Tags : goal.returns-in_ok-tags_of-in-Tags-Tags
 returns-in_ok-tags_of-in-Tags-Tags c S found =

@@ -6,13 +6,12 @@ ghost use Rattle.sqlite.specs.Steps.{IsEmpty};
 ghost use Rattle.registry_tables.specs.Effects.{InForm};
 
 use super::text::{Body, form_of, package_text};
-use registry_names::{Blob, Fault, Moment, Name, Status, Stop, Text};
-use registry_publish::PublishForm;
-use registry_rules::PackageRows;
-use registry_tables::laws::first_publication;
+use registry_names::{Blob, Fault, Moment, Name, Status, Stop, Ver};
+use registry_packument::VersionRow;
+use registry_rules::Change;
 use registry_tables::{
-    AccessChange, TagChange, change_access, create, load_archive, load_manifest, load_package,
-    put_version, set_tags,
+    create, has_tag, has_version, is_spent, load_archive, load_status, load_tags, load_versions,
+    make, put_version,
 };
 use sqlite::{Alter, Connection, Row, Transaction};
 use sqlite_value::value::ValueRef;
@@ -40,13 +39,10 @@ pub enum Call {
     Status(Status),
     /// Names a version by a tag of it, or drops the tag.
     Tag(&'static str, Option<&'static str>),
-    /// Changes none of its tags.
-    NoTag,
     /// Puts the version of this body, published at this second.
     Publish(Body, i64),
-    /// Publishes this body as a restricted package's first, at this second. The text tells what
-    /// stands of the package then.
-    First(Body, i64, &'static str),
+    /// A version of it lives, or doesn't. None was withdrawn.
+    Lives(&'static str, bool),
     /// The text tells what stands of it.
     Package(&'static str),
     /// A version has this manifest, or there is none.
@@ -98,7 +94,7 @@ fn comes_out_inside<S: Alter>(
     tx: &mut Transaction<'_, S>,
     case: &Case,
 ) -> Result<bool, Stop>
-    requires in_form { InForm S.Store tx.old.conn.now }
+    requires in_form { InForm S.Store tx.old }
     ensures same_reference { tx.new.conn.ghost_name ≡ tx.old.conn.ghost_name }
 {
     Ok(are_so(alloc, tx, case.calls)? && ends(alloc, tx, case.end))
@@ -109,9 +105,9 @@ fn are_so<S: Alter>(
     tx: &mut Transaction<'_, S>,
     calls: &[(&'static str, Call)],
 ) -> Result<bool, Stop>
-    requires in_form { InForm S.Store tx.old.conn.now }
+    requires in_form { InForm S.Store tx.old }
     ensures same_reference { tx.new.conn.ghost_name ≡ tx.old.conn.ghost_name }
-    ensures in_form { OnOk result (InForm S.Store tx.new.conn.now) }
+    ensures in_form { OnOk result (InForm S.Store tx.new) }
 {
     for (name, call) in calls {
         if !is_so(alloc, tx, name, *call)? {
@@ -122,7 +118,7 @@ fn are_so<S: Alter>(
 }
 
 fn ends<S: Alter>(alloc: Global, tx: &mut Transaction<'_, S>, end: End) -> bool
-    requires in_form { InForm S.Store tx.old.conn.now }
+    requires in_form { InForm S.Store tx.old }
     ensures same_reference { tx.new.conn.ghost_name ≡ tx.old.conn.ghost_name }
 {
     match end {
@@ -157,9 +153,9 @@ fn is_so<S: Alter>(
     name: &str,
     call: Call,
 ) -> Result<bool, Stop>
-    requires in_form { InForm S.Store tx.old.conn.now }
+    requires in_form { InForm S.Store tx.old }
     ensures same_reference { tx.new.conn.ghost_name ≡ tx.old.conn.ghost_name }
-    ensures in_form { OnOk result (InForm S.Store tx.new.conn.now) }
+    ensures in_form { OnOk result (InForm S.Store tx.new) }
 {
     let name = Name::parse(alloc, name)?;
     is_so_of(alloc, tx, &name, call)
@@ -171,18 +167,18 @@ fn is_so_of<S: Alter>(
     name: &Name,
     call: Call,
 ) -> Result<bool, Stop>
-    requires in_form { InForm S.Store tx.old.conn.now }
+    requires in_form { InForm S.Store tx.old }
     ensures same_reference { tx.new.conn.ghost_name ≡ tx.old.conn.ghost_name }
-    ensures in_form { OnOk result (InForm S.Store tx.new.conn.now) }
+    ensures in_form { OnOk result (InForm S.Store tx.new) }
 {
     match call {
         Call::Status(status) => put_status(tx, name, status),
-        Call::Tag(tag, version) => change_tag(tx, name, TagChange { tag, version }),
-        Call::NoTag => change_no_tag(tx, name),
+        Call::Tag(tag, Some(version)) => put_tag(alloc, tx, name, tag, version),
+        Call::Tag(tag, None) => drop_tag(tx, name, tag),
         Call::Publish(body, at) => publish(alloc, tx, name, body, at),
-        Call::First(body, at, told) => publish_first(alloc, tx, name, body, at, told),
+        Call::Lives(version, lives) => tells_version(tx, name, version, lives),
         Call::Package(told) => tells_package(alloc, tx, name, told),
-        Call::Manifest(version, told) => tells_manifest(tx, name, version, told),
+        Call::Manifest(version, told) => tells_manifest(alloc, tx, name, version, told),
         Call::Archive(version, told) => tells_archive(tx, name, version, told),
     }
 }
@@ -192,33 +188,52 @@ fn put_status<S: Alter>(
     name: &Name,
     status: Status,
 ) -> Result<bool, Stop>
-    requires in_form { InForm S.Store tx.old.conn.now }
+    requires in_form { InForm S.Store tx.old }
     ensures same_reference { tx.new.conn.ghost_name ≡ tx.old.conn.ghost_name }
-    ensures in_form { OnOk result (InForm S.Store tx.new.conn.now) }
+    ensures in_form { OnOk result (InForm S.Store tx.new) }
 {
-    change_access(tx, &AccessChange::PutStatus { name, status })?;
+    let change = Change::PutStatus {
+        package: name,
+        status,
+        stands: load_status(tx, name)?.is_some(),
+    };
+    make(tx, &change)?;
     Ok(true)
 }
 
-fn change_tag<S: Alter>(
+fn put_tag<S: Alter>(
+    alloc: Global,
     tx: &mut Transaction<'_, S>,
     name: &Name,
-    change: TagChange<'_>,
+    tag: &str,
+    version: &str,
 ) -> Result<bool, Stop>
-    requires in_form { InForm S.Store tx.old.conn.now }
+    requires in_form { InForm S.Store tx.old }
     ensures same_reference { tx.new.conn.ghost_name ≡ tx.old.conn.ghost_name }
-    ensures in_form { OnOk result (InForm S.Store tx.new.conn.now) }
+    ensures in_form { OnOk result (InForm S.Store tx.new) }
 {
-    set_tags(tx, name, &[change])?;
+    let version = Ver::parse(alloc, version)?;
+    let change = Change::PutTag {
+        package: name,
+        tag,
+        version: &version,
+        stands: has_tag(tx, name, tag)?,
+    };
+    make(tx, &change)?;
     Ok(true)
 }
 
-fn change_no_tag<S: Alter>(tx: &mut Transaction<'_, S>, name: &Name) -> Result<bool, Stop>
-    requires in_form { InForm S.Store tx.old.conn.now }
+fn drop_tag<S: Alter>(
+    tx: &mut Transaction<'_, S>,
+    name: &Name,
+    tag: &str,
+) -> Result<bool, Stop>
+    requires in_form { InForm S.Store tx.old }
     ensures same_reference { tx.new.conn.ghost_name ≡ tx.old.conn.ghost_name }
-    ensures in_form { OnOk result (InForm S.Store tx.new.conn.now) }
+    ensures in_form { OnOk result (InForm S.Store tx.new) }
 {
-    set_tags(tx, name, &[])?;
+    let change = Change::DropTag { package: name, tag };
+    make(tx, &change)?;
     Ok(true)
 }
 
@@ -229,44 +244,27 @@ fn publish<S: Alter>(
     body: Body,
     at: i64,
 ) -> Result<bool, Stop>
-    requires in_form { InForm S.Store tx.old.conn.now }
+    requires in_form { InForm S.Store tx.old }
     ensures same_reference { tx.new.conn.ghost_name ≡ tx.old.conn.ghost_name }
-    ensures in_form { OnOk result (InForm S.Store tx.new.conn.now) }
+    ensures in_form { OnOk result (InForm S.Store tx.new) }
 {
     let form = form_of(alloc, name.text(), body)?;
     put_version(tx, &form, Moment::clamped(at))?;
     Ok(true)
 }
 
-fn publish_first<S: Alter>(
-    alloc: Global,
+fn tells_version<S: Alter>(
     tx: &mut Transaction<'_, S>,
     name: &Name,
-    body: Body,
-    at: i64,
-    told: &str,
+    version: &str,
+    lives: bool,
 ) -> Result<bool, Stop>
-    requires in_form { InForm S.Store tx.old.conn.now }
+    requires in_form { InForm S.Store tx.old }
     ensures same_reference { tx.new.conn.ghost_name ≡ tx.old.conn.ghost_name }
-    ensures in_form { OnOk result (InForm S.Store tx.new.conn.now) }
+    ensures in_form { OnOk result (InForm S.Store tx.new) }
 {
-    let form = form_of(alloc, name.text(), body)?;
-    tells_first(alloc, tx, &form, Moment::clamped(at), told)
-}
-
-fn tells_first<S: Alter>(
-    alloc: Global,
-    tx: &mut Transaction<'_, S>,
-    form: &PublishForm,
-    at: Moment,
-    told: &str,
-) -> Result<bool, Stop>
-    requires in_form { InForm S.Store tx.old.conn.now }
-    ensures same_reference { tx.new.conn.ghost_name ≡ tx.old.conn.ghost_name }
-    ensures in_form { OnOk result (InForm S.Store tx.new.conn.now) }
-{
-    let rows = first_publication(alloc, tx, form, Status::Restricted, at)?;
-    is_told(alloc, &rows, told)
+    let found = has_version(tx, name, version)?;
+    Ok(found == lives && !is_spent(tx, name, version)?)
 }
 
 fn tells_package<S: Alter>(
@@ -275,35 +273,35 @@ fn tells_package<S: Alter>(
     name: &Name,
     told: &str,
 ) -> Result<bool, Stop>
-    requires in_form { InForm S.Store tx.old.conn.now }
+    requires in_form { InForm S.Store tx.old }
     ensures same_reference { tx.new.conn.ghost_name ≡ tx.old.conn.ghost_name }
-    ensures in_form { OnOk result (InForm S.Store tx.new.conn.now) }
+    ensures in_form { OnOk result (InForm S.Store tx.new) }
 {
-    let rows = load_package(alloc, tx, name)?;
-    is_told(alloc, &rows, told)
-}
-
-fn is_told(alloc: Global, rows: &PackageRows, told: &str) -> Result<bool, Stop> {
-    Ok(package_text(alloc, rows)?.as_str() == told)
+    let status = load_status(tx, name)?;
+    let versions = load_versions(alloc, tx, name)?;
+    let tags = load_tags(alloc, tx, name)?;
+    Ok(package_text(alloc, status, &versions, &tags)?.as_str() == told)
 }
 
 fn tells_manifest<S: Alter>(
+    alloc: Global,
     tx: &mut Transaction<'_, S>,
     name: &Name,
     version: &str,
     told: Option<&str>,
 ) -> Result<bool, Stop>
-    requires in_form { InForm S.Store tx.old.conn.now }
+    requires in_form { InForm S.Store tx.old }
     ensures same_reference { tx.new.conn.ghost_name ≡ tx.old.conn.ghost_name }
-    ensures in_form { OnOk result (InForm S.Store tx.new.conn.now) }
+    ensures in_form { OnOk result (InForm S.Store tx.new) }
 {
-    let manifest = load_manifest(tx, name, version)?;
-    Ok(is_manifest(&manifest, told))
+    let versions = load_versions(alloc, tx, name)?;
+    let row = versions.iter().find(|row| row.version.as_str() == version);
+    Ok(is_manifest(row, told))
 }
 
-fn is_manifest(manifest: &Option<Text>, told: Option<&str>) -> bool {
-    match (manifest, told) {
-        (Some(manifest), Some(told)) => manifest.as_str() == told,
+fn is_manifest(row: Option<&VersionRow>, told: Option<&str>) -> bool {
+    match (row, told) {
+        (Some(row), Some(told)) => row.manifest.as_str() == told && row.message.as_str() == "",
         (None, None) => true,
         _ => false,
     }
@@ -315,9 +313,9 @@ fn tells_archive<S: Alter>(
     version: &str,
     told: Option<(usize, &str)>,
 ) -> Result<bool, Stop>
-    requires in_form { InForm S.Store tx.old.conn.now }
+    requires in_form { InForm S.Store tx.old }
     ensures same_reference { tx.new.conn.ghost_name ≡ tx.old.conn.ghost_name }
-    ensures in_form { OnOk result (InForm S.Store tx.new.conn.now) }
+    ensures in_form { OnOk result (InForm S.Store tx.new) }
 {
     let archive = load_archive(tx, name, version)?;
     Ok(is_archive(&archive, told))
