@@ -1,7 +1,7 @@
 use Rattle.std.proofs.Common.{true}
 use Rattle.sqlite.specs.Held.{state}
-use Rattle.registry_rows.specs.Ready.{Ready}
 use Rattle.registry_rows.specs.Tables.{no_tables}
+use Rattle.registry_rows.specs.Ready.{Ready}
 use Rattle.registry_tables.specs.Effects.{HasNoTables}
 use Rattle.registry_examples.proofs.tests.tables.call.comes_out_on.Goals as goal
 
