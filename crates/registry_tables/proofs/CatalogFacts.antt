@@ -3,7 +3,7 @@ use Rattle.std.specs.Prelude.{codes}
 use Rattle.std.specs.List.{AllZip}
 use Rattle.std.specs.Ordering.{match_ordering}
 use Rattle.std.specs.declared.cmp.Ordering.TheVariants.{Less, Equal, Greater}
-use Rattle.std.proofs.Common.{◌≡◌, inl, ℕ, Bool, true, false, not, ◌||◌, cond, List, [], ◌∷◌, map, filter, Option, None, Some, IsTrue, refl, sym, ap, subst, subst₂, ◌∙◌, ◌==◌, length, ne_eqb, arith}
+use Rattle.std.proofs.Common.{◌≡◌, inl, Bool, true, false, not, ◌||◌, cond, List, [], ◌∷◌, map, filter, Option, None, Some, IsTrue, refl, sym, ap, subst, subst₂, ◌∙◌, ◌==◌, length, ne_eqb, arith}
 use Rattle.sqlite_value.specs.Order.{Row, value_cmp}
 use Rattle.sqlite_trees.specs.Tree.{rowid, put_row}
 use Rattle.sqlite_trees.specs.Objects.{catalog_tree}
@@ -27,17 +27,15 @@ use Rattle.registry_rows.specs.Ready.{IsReady, Ready, Reads, Queried}
 use Rattle.registry_rows.proofs.SelectFacts.{selects, finds}
 use Rattle.registry_rows.proofs.QueryFacts.{ready_same}
 use Rattle.registry_tables.specs.Schema.{schema}
+use Rattle.registry_tables.specs.Opening.{listing_query}
 
-abbrev listing_text : List ℕ
-listing_text = codes "SELECT name FROM sqlite_schema"
-
-abbrev lists_names : Command
+abbrev pub lists_names : Command
 lists_names = Select (record { lets = []; body = scan 0 [] (col 1 2 ∷ []) [] }) (codes "name" ∷ [])
 
 -- under this schema the text reads the listing
-record ReadsListing (s : Schema) : Type 0 where
-  means : Means s listing_text lists_names
-  listing : reads_listing s listing_text ≡ true
+pub record ReadsListing (s : Schema) : Type 0 where
+  pub means : Means s listing_query lists_names
+  pub listing : reads_listing s listing_query ≡ true
 
 ours_read : ReadsListing schema
 unfolding understood listing_schema everything
@@ -47,21 +45,21 @@ none_read : ReadsListing no_tables
 unfolding understood listing_schema everything
 none_read = record { means = (refl, (refl, refl)); listing = refl }
 
-listing_shown : (s : Schema) → ReadsListing s → (old new : State) (rows : List Row) → (IsTrue old.is_open → old.now.schema ≡ s) → Shown listing_text [] old new rows
+pub listing_shown : (s : Schema) → ReadsListing s → (old new : State) (rows : List Row) → (IsTrue old.is_open → old.now.schema ≡ s) → Shown listing_query [] old new rows
     → IsUnchanged old new × ((db : Database) × IsSourceOf true old.now db × Answers lists_names db [] rows)
 unfolding Shown
 listing_shown s it old new rows has h = go h.0.returning refl h.2
   where
-    go : (o : Option Returning) → h.0.returning ≡ o → ShowsRows old new listing_text h.0 (timed [] h.0.formats h.1.now) rows o
+    go : (o : Option Returning) → h.0.returning ≡ o → ShowsRows old new listing_query h.0 (timed [] h.0.formats h.1.now) rows o
         → IsUnchanged old new × ((db : Database) × IsSourceOf true old.now db × Answers lists_names db [] rows)
     go None e k =
         let is = has k.3.0.was_open in
-        let known = sym h.1.is ∙ ap (λ z. understood z listing_text) is in
+        let known = sym h.1.is ∙ ap (λ z. understood z listing_query) is in
         let bare = subst IsPlain (sym known) it.means.1 in
-        let source = subst (λ b. IsSourceOf b old.now k.0) (ap (λ z. reads_listing z listing_text) is ∙ it.listing) k.1 in
+        let source = subst (λ b. IsSourceOf b old.now k.0) (ap (λ z. reads_listing z listing_query) is ∙ it.listing) k.1 in
         (k.3, (k.0, source, subst (λ c. Answers c k.0 [] rows) (ap command_of known ∙ it.means.0) (rw bare.1 at k.2)))
     go (Some what) e k =
-        let known = sym h.1.is ∙ ap (λ z. understood z listing_text) (has k.1.shown.was_open) in
+        let known = sym h.1.is ∙ ap (λ z. understood z listing_query) (has k.1.shown.was_open) in
         let bare = subst IsPlain (sym known) it.means.1 in
         absurd (let both = sym bare.0 ∙ e in cc)
 
@@ -75,14 +73,14 @@ all_some : (rows more : List Row) → ¬ (rows ≡ []) → ¬ (put_all rows more
 all_some rows [] some = some
 all_some rows (r ∷ more) some = all_some (put_row r rows) more (put_some r rows)
 
-none_shown : (now db : Database) (rows : List Row) → IsSourceOf true now db → Answers lists_names db [] rows → now.trees catalog_tree ≡ [] → rows ≡ []
+pub none_shown : (now db : Database) (rows : List Row) → IsSourceOf true now db → Answers lists_names db [] rows → now.trees catalog_tree ≡ [] → rows ≡ []
 none_shown now db [] source answer none = refl
 none_shown now db (x ∷ rows) source answer none =
     let found = finds [] (col 1 2 ∷ []) [] [] (db.trees 0) (x ∷ rows) (selects 0 [] (col 1 2 ∷ []) [] [] db.trees (x ∷ rows) answer.answer) in
     let it = found.sound x (inl refl) in
     absurd (subst (λ l. Has l it.0) (source.1 ∙ ap (λ l. put_all [] (map shown l)) none) it.1)
 
-some_shown : (now db : Database) → IsSourceOf true now db → Answers lists_names db [] [] → (objects : List Row) → now.trees catalog_tree ≡ objects → objects ≡ []
+pub some_shown : (now db : Database) → IsSourceOf true now db → Answers lists_names db [] [] → (objects : List Row) → now.trees catalog_tree ≡ objects → objects ≡ []
 some_shown now db source answer [] is = refl
 some_shown now db source answer (r ∷ objects) is =
     let found = finds [] (col 1 2 ∷ []) [] [] (db.trees 0) [] (selects 0 [] (col 1 2 ∷ []) [] [] db.trees [] answer.answer) in
@@ -122,7 +120,7 @@ counts_some : (rows : List Row) → ¬ (rows ≡ []) → (length rows == 0) ≡ 
 counts_some [] some = absurd (some refl)
 counts_some (r ∷ rows) some = ne_eqb _ 0 (omega arith)
 
-pub none_found : (old new : State) (rows : List Row) → Ready no_tables old → Queried listing_text [] old new rows → HasCleanDisk new → Reads no_tables old new × ((length rows == 0) ≡ true)
+pub none_found : (old new : State) (rows : List Row) → Ready no_tables old → Queried listing_query [] old new rows → HasCleanDisk new → Reads no_tables old new × ((length rows == 0) ≡ true)
 none_found old new rows form call clean =
     let ready = form (omega (arith, call.survives.clean, clean)) in
     let it = listing_shown no_tables none_read old new rows (λ up. (ready up).schema_is) (call.shown clean) in
@@ -130,7 +128,7 @@ none_found old new rows form call clean =
     let none = none_listed _ (subst (AreListed (old.now.trees catalog_tree)) was.schema_is was.sound.lists.listed) in
     (unchanged_reads no_tables old new was it.0, ap (λ (l : List Row). length l == 0) (none_shown old.now it.1.0 rows it.1.1 it.1.2 none))
 
-pub ours_found : (old new : State) (rows : List Row) → Ready schema old → Queried listing_text [] old new rows → HasCleanDisk new → Reads schema old new × ((length rows == 0) ≡ false)
+pub ours_found : (old new : State) (rows : List Row) → Ready schema old → Queried listing_query [] old new rows → HasCleanDisk new → Reads schema old new × ((length rows == 0) ≡ false)
 ours_found old new rows form call clean =
     let ready = form (omega (arith, call.survives.clean, clean)) in
     let it = listing_shown schema ours_read old new rows (λ up. (ready up).schema_is) (call.shown clean) in

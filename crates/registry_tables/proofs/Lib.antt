@@ -6,6 +6,7 @@ pub mod HeldNeedFacts
 pub mod MappedFacts
 pub mod MetaFacts
 pub mod NeedFacts
+pub mod OpeningFacts
 pub mod ReviseFacts
 pub mod SchemaFacts
 pub mod SpentFacts

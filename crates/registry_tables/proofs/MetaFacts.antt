@@ -13,7 +13,7 @@ use Rattle.registry_names.specs.Maps.{at}
 use Rattle.registry_rows.specs.Columns.{number_in}
 use Rattle.registry_rows.specs.Statements.{Means, MeansQuery, scan, by_texts}
 use Rattle.registry_rows.specs.Frames.{Wrote}
-use Rattle.registry_rows.specs.Ready.{Ready, Leaves, Reads, Executed, Queried, IsMapped}
+use Rattle.registry_rows.specs.Ready.{Ready, Leaves, Reads, Queried, IsMapped}
 use Rattle.registry_rows.proofs.LookUpFacts.{first_listed, select_finds}
 use Rattle.registry_rows.proofs.StatementFacts.{insert_puts}
 use Rattle.registry_tables.specs.Schema as table

@@ -90,4 +90,3 @@ needs_next p v needs i need first mid new within is_next so_far once =
     let more : take (i + 1) needs ≡ take i needs ++ need ∷ [] = take_more needs i need within ∙ ap (λ n. take i needs ++ n ∷ []) (sym is_next) in
     once ∙ ap (λ (c : Contents). record c { need_ranges = with_need c.need_ranges p v need }) so_far
     ∙ ap (λ m. record first { need_ranges = m }) (sym (ap (with_needs first.need_ranges p v) more ∙ with_needs-more p v (take i needs) need first.need_ranges))
-

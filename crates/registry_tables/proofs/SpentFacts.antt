@@ -1,5 +1,5 @@
 -- What the statements on withdrawn versions show.
-use Rattle.std.proofs.Common.{◌≡◌, ◌==◌, List, [], ◌∷◌, not, is_some, length, refl, ap, ◌∙◌, codes, ℕ}
+use Rattle.std.proofs.Common.{◌≡◌, ◌==◌, List, [], ◌∷◌, not, is_some, length, refl, ◌∙◌, codes, ℕ}
 use Rattle.sqlite.specs.declared.types.Value.TheVariants.{Text as Stored}
 use Rattle.sqlite.specs.Command.TheVariants.{Select}
 use Rattle.sqlite.specs.Listing.{understood}

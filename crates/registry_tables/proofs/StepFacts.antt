@@ -5,7 +5,6 @@ use Rattle.registry_names.specs.Maps.{at, put}
 use Rattle.registry_names.specs.declared.status.Status.{Status}
 use Rattle.registry_rules.specs.Changes.{Change, PutStatus, AddVersion, PutTag, DropTag, made, all_made}
 use Rattle.registry_rules.specs.Operations.{with_status, with_tag}
-use Rattle.registry_rules.specs.State.{State}
 use Rattle.registry_tables.specs.Changes.{stored_by, all_stored}
 use Rattle.registry_tables.specs.Contents.{Contents, registry_of}
 

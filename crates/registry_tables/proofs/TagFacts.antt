@@ -1,5 +1,5 @@
 -- What the statements on tags make and show.
-use Rattle.std.proofs.Common.{◌≡◌, ◌==◌, ℕ, List, [], ◌∷◌, map, not, Option, Some, None, is_some, length, subst, OnOk, Ok, refl, ap, ◌∙◌, codes}
+use Rattle.std.proofs.Common.{◌≡◌, ◌==◌, ℕ, List, [], ◌∷◌, map, not, Option, Some, None, is_some, length, subst, Ok, refl, ap, ◌∙◌, codes}
 use Rattle.std.proofs.lemmas.Iterator.Adapters.{option_map_id}
 use Rattle.sqlite.specs.declared.types.Value.TheVariants.{Null, Text as Stored}
 use Rattle.sqlite_value.specs.Order.{Row}

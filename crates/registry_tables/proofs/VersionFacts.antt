@@ -1,5 +1,5 @@
 -- What the statements on versions make and show.
-use Rattle.std.proofs.Common.{◌≡◌, ◌==◌, ℕ, List, [], ◌∷◌, pos, map, not, is_some, length, option_map, slice_get, None, Ok, refl, ap, ◌∙◌, codes}
+use Rattle.std.proofs.Common.{◌≡◌, ◌==◌, ℕ, List, [], ◌∷◌, pos, map, not, is_some, length, option_map, slice_get, None, Ok, refl, ◌∙◌, codes}
 use Rattle.sqlite.specs.declared.types.Value.TheVariants.{Null, Int, Text as Stored, Blob}
 use Rattle.sqlite.specs.Command.TheVariants.{Insert, Select}
 use Rattle.sqlite.specs.Source.TheVariants.{Values}
@@ -16,7 +16,6 @@ use Rattle.registry_tables.specs.Contents.{contents}
 use Rattle.registry_tables.specs.Effects.{stored}
 use Rattle.registry_names.specs.Maps.{at, of, put, seen}
 use Rattle.registry_rules.specs.State.{Release}
-use Rattle.registry_rows.specs.Columns.{number_in}
 use Rattle.registry_rows.specs.Statements.{Means, MeansQuery, scan, by_texts, in_order}
 use Rattle.registry_rows.proofs.StatementFacts.{insert_puts, insert_meets_none}
 use Rattle.registry_rows.proofs.LookUpFacts.{select_finds, select_lists, first_listed}

@@ -1,9 +1,7 @@
 -- What a change makes of what is stored.
 use Rattle.std.specs.Prelude.{◌≡◌, ℕ, Bool, true, false, not, ◌&&◌, List, [], ◌∷◌, None, is_some, if◌then◌else◌}
 use Rattle.std.specs.declared.cmp.Ordering.{Ordering}
-use Rattle.registry_names.specs.Texts.{Text}
 use Rattle.registry_names.specs.Maps.{MapBy, at, put, erase}
-use Rattle.registry_names.specs.declared.status.Status.{Status}
 use Rattle.registry_publish.specs.Form.{FormParts}
 use Rattle.registry_rules.specs.Actions.{version_of}
 use Rattle.registry_rules.specs.Changes.{Change, PutStatus, AddVersion, PutTag, DropTag, release_of}

@@ -4,5 +4,6 @@ pub mod Creation
 pub mod Effects
 pub mod Fresh
 pub mod Needs
+pub mod Opening
 pub mod Schema
 pub mod Spelled

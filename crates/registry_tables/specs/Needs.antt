@@ -1,5 +1,5 @@
 -- What live versions depend on, as it is stored beside their manifests.
-use Rattle.std.specs.Prelude.{◌≡◌, ℕ, Bool, false, ◌&&◌, List, [], ◌∷◌, Option, Some, None, is_some, option_and_then}
+use Rattle.std.specs.Prelude.{◌≡◌, Bool, false, ◌&&◌, List, [], ◌∷◌, Option, Some, None, is_some, option_and_then}
 use Rattle.std.specs.List.{list_any}
 use Rattle.registry_names.specs.Texts.{Text, is}
 use Rattle.registry_names.specs.Maps.{PairMap, at, put}

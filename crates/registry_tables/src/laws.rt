@@ -1,7 +1,8 @@
 //! Laws of what is stored. Each function does nothing: what it ensures holds of the definitions
 //! themselves.
 
-ghost use Rattle.std.specs.Prelude.{◌≡◌, ℕ, List, Some, false, is_some};
+ghost use Rattle.std.specs.Prelude.{◌≡◌, ℕ, List, None, Some, false, is_some};
+ghost use Rattle.sqlite.specs.declared.transaction.Transaction.{Transaction};
 ghost use Rattle.registry_names.specs.Maps.{at};
 ghost use Rattle.registry_publish.specs.Form.{FormParts};
 ghost use Rattle.registry_publish.specs.Needs.{needs_of};
@@ -9,8 +10,12 @@ ghost use Rattle.registry_rules.specs.Actions.{version_of};
 ghost use Rattle.registry_rules.specs.Changes.{Change, all_made, made};
 ghost use Rattle.registry_tables.specs.Changes.{all_stored, stored_by, version_put};
 ghost use Rattle.registry_tables.specs.Contents.{Contents, registry_of};
+ghost use Rattle.registry_tables.specs.Effects.{shown};
 ghost use Rattle.registry_tables.specs.Fresh.{fresh};
 ghost use Rattle.registry_tables.specs.Needs.{HoldsNeeds};
+ghost use Rattle.registry_tables.specs.Opening.{Finds, HasNothing, HasNumber, HasUsersAlone, IsMade, Understands, first_creation};
+
+use sqlite::Alter;
 
 /// A change of what is stored makes one operation of the registry's state.
 pub fn changes_make_operations()
@@ -25,4 +30,20 @@ pub fn needs_are_kept()
     ensures fresh { HoldsNeeds fresh }
     ensures others { (c d : Contents) → d.versions ≡ c.versions → d.need_ranges ≡ c.need_ranges → HoldsNeeds c → HoldsNeeds d }
     ensures versions { (f : FormParts) (now : ℕ) (c : Contents) → needs_of f.manifest ≡ Some f.needs → is_some (at c.versions (f.name, version_of f)) ≡ false → HoldsNeeds c → HoldsNeeds (version_put f now c) }
+{}
+
+/// Whatever a database holds: it is answered to have no tables only where it has nothing, and it
+/// is answered by a number only where it has something, and its schema has a meaning for the
+/// query of that number. So a database with the table `users` alone is never answered by one.
+pub fn answers_tell_what_is_there<S: Alter>()
+    ensures none { (old new : Transaction S) → Finds S.Store old new None → HasNothing (shown S.Store old) }
+    ensures some { (n : ℕ) (old new : Transaction S) → Finds S.Store old new (Some n) → HasNumber (shown S.Store old) }
+    ensures users { (n : ℕ) (old new : Transaction S) → HasUsersAlone (shown S.Store old) → ¬ Finds S.Store old new (Some n) }
+{}
+
+/// Whatever a database holds, the tables are made in it only where its schema has a meaning for
+/// the first of the texts that make them: never where the table `users` is there.
+pub fn tables_are_made_once<S: Alter>()
+    ensures understood { (old new : Transaction S) → IsMade S.Store old new → Understands (shown S.Store old) first_creation }
+    ensures users { (old new : Transaction S) → HasUsersAlone (shown S.Store old) → ¬ IsMade S.Store old new }
 {}

@@ -8,6 +8,7 @@ ghost use Rattle.registry_rows.specs.Columns.{number_in};
 ghost use Rattle.registry_rows.specs.Frames.{Stays};
 ghost use Rattle.registry_tables.specs.Effects.{GoesOn, HasNoTables, InForm, Makes, Tells, TellsNone, shown};
 ghost use Rattle.registry_tables.specs.Fresh.{schema_key, schema_number, with_number};
+ghost use Rattle.registry_tables.specs.Opening.{Lists, Opened, PutsNumber, ShowsNumber};
 
 use registry_names::Fault;
 use registry_rows::{fault_of, read, write};
@@ -17,11 +18,14 @@ use sqlite::{Alter, Row, Transaction, params};
 const SCHEMA: i64 = 1;
 
 /// The number of the schema of the tables that are there, or none where the database has no
-/// table. Tables without a number of a schema are answered by `Database`.
+/// table.
+///
+/// A database that has tables and no number of a schema is answered by `Database`.
 pub fn opened<S: Alter>(tx: &mut Transaction<'_, S>) -> Result<Option<u32>, Fault>
     ensures same_reference { tx.new.conn.ghost_name ≡ tx.old.conn.ghost_name }
     ensures committed { GoesOn S.Store tx.old → HasCleanDisk (shown S.Store tx.new) → KeepsCommit (shown S.Store tx.old) (shown S.Store tx.new) }
     ensures survives { Survives (shown S.Store tx.old) (shown S.Store tx.new) (λ _. ⊥) }
+    ensures opened { IfOk result (λ number. Opened S.Store number tx.old tx.new) }
     ensures ours { InForm S.Store tx.old → Tells S.Store tx.old tx.new result (λ number c. IsSome number × (number ≡ at c.meta schema_key)) }
     ensures none { HasNoTables S.Store tx.old → TellsNone S.Store tx.old tx.new result (λ number. number ≡ None) }
 {
@@ -35,6 +39,7 @@ fn lacks_tables<S: Alter>(tx: &mut Transaction<'_, S>) -> Result<bool, Fault>
     ensures same_reference { tx.new.conn.ghost_name ≡ tx.old.conn.ghost_name }
     ensures committed { GoesOn S.Store tx.old → HasCleanDisk (shown S.Store tx.new) → KeepsCommit (shown S.Store tx.old) (shown S.Store tx.new) }
     ensures survives { Survives (shown S.Store tx.old) (shown S.Store tx.new) (λ _. ⊥) }
+    ensures lists { IfOk result (λ lacks. Lists S.Store lacks tx.old tx.new) }
     ensures ours { InForm S.Store tx.old → Tells S.Store tx.old tx.new result (λ lacks c. lacks ≡ false) }
     ensures none { HasNoTables S.Store tx.old → TellsNone S.Store tx.old tx.new result (λ lacks. lacks ≡ true) }
     ensures going { GoesOn S.Store tx.old → HasCleanDisk (shown S.Store tx.new) → OnOk result (GoesOn S.Store tx.new) }
@@ -47,9 +52,14 @@ fn load_schema<S: Alter>(tx: &mut Transaction<'_, S>) -> Result<u32, Fault>
     ensures same_reference { tx.new.conn.ghost_name ≡ tx.old.conn.ghost_name }
     ensures committed { GoesOn S.Store tx.old → HasCleanDisk (shown S.Store tx.new) → KeepsCommit (shown S.Store tx.old) (shown S.Store tx.new) }
     ensures survives { Survives (shown S.Store tx.old) (shown S.Store tx.new) (λ _. ⊥) }
+    ensures shows { IfOk result (λ number. ShowsNumber S.Store number tx.old tx.new) }
     ensures ours { InForm S.Store tx.old → Tells S.Store tx.old tx.new result (λ number c. at c.meta schema_key ≡ Some number) }
 {
-    let rows = read(tx, "SELECT value FROM meta WHERE name = ?1", params!["schema"])?;
+    let rows = read(
+        tx,
+        "SELECT value FROM meta WHERE name = ?1",
+        params!["schema"],
+    )?;
     first_number(&rows)
 }
 
@@ -69,6 +79,11 @@ fn first_number(rows: &[Row]) -> Result<u32, Fault>
 pub(crate) fn put_schema<S: Alter>(tx: &mut Transaction<'_, S>) -> Result<(), Fault>
     ensures stays { Stays S.Store tx.old tx.new }
     ensures makes { InForm S.Store tx.old → Makes S.Store tx.old tx.new result (λ c. with_number c schema_number) }
+    ensures puts { OnOk result (PutsNumber S.Store tx.old tx.new) }
 {
-    write(tx, "INSERT INTO meta VALUES ('schema', ?1)", params![SCHEMA])
+    write(
+        tx,
+        "INSERT INTO meta VALUES ('schema', ?1)",
+        params![SCHEMA],
+    )
 }

@@ -14,6 +14,7 @@ ghost use Rattle.registry_tables.specs.Contents.{contents};
 ghost use Rattle.registry_tables.specs.Creation.{creation};
 ghost use Rattle.registry_tables.specs.Effects.{HasNoTables, InForm, shown};
 ghost use Rattle.registry_tables.specs.Fresh.{HasMade, fresh};
+ghost use Rattle.registry_tables.specs.Opening.{HasCreated, HasRun};
 
 use crate::meta::put_schema;
 use registry_names::Fault;
@@ -40,10 +41,11 @@ const TABLES: [&str; 15] = [
 ];
 
 /// Makes the tables in a database that has none: all of them empty, but for the number of the
-/// schema. Where they are there already, the answer is `Database`.
+/// schema. Where a table of one of their names is there already, the answer is `Database`.
 pub fn create<S: Alter>(tx: &mut Transaction<'_, S>) -> Result<(), Fault>
     ensures stays { Stays S.Store tx.old tx.new }
     ensures made { HasNoTables S.Store tx.old → HasCleanDisk (shown S.Store tx.new) → OnOk result (Leaves schema contents fresh (shown S.Store tx.new)) }
+    ensures created { OnOk result (HasCreated S.Store tx.old tx.new) }
     ensures refused { InForm S.Store tx.old → HasCleanDisk (shown S.Store tx.new) → IsErr result }
 {
     create_tables(tx, &TABLES)?;
@@ -55,6 +57,7 @@ fn create_tables<S: Alter>(tx: &mut Transaction<'_, S>, texts: &[&str]) -> Resul
     requires texts { map (λ text. text.now) texts.now ≡ creation }
     ensures stays { Stays S.Store tx.old tx.new }
     ensures made { HasNoTables S.Store tx.old → OnOk result (HasMade S.Store 15 tx.new) }
+    ensures ran { OnOk result (HasRun S.Store 15 tx.old tx.new) }
     ensures refused { InForm S.Store tx.old → HasCleanDisk (shown S.Store tx.new) → IsErr result }
 {
     for text in texts {

@@ -14,11 +14,7 @@ use sqlite::{Alter, Error, Row, Transaction, params};
 use std::alloc::Global;
 
 /// Whether the package has this tag.
-pub fn has_tag<S: Alter>(
-    tx: &mut Transaction<'_, S>,
-    name: &Name,
-    tag: &str,
-) -> Result<bool, Fault>
+pub fn has_tag<S: Alter>(tx: &mut Transaction<'_, S>, name: &Name, tag: &str) -> Result<bool, Fault>
     requires in_form { InForm S.Store tx.old }
     ensures stays { Stays S.Store tx.old tx.new }
     ensures tells { Tells S.Store tx.old tx.new result (λ has c. has ≡ is_some (at c.tags (name.now, tag.now))) }

@@ -1,6 +1,5 @@
-use Rattle.std.proofs.Common.{◌≡◌, Some, ap, ◌∙◌, sym}
+use Rattle.std.proofs.Common.{◌∙◌, sym}
 use Rattle.std.proofs.lemmas.Result.{IfOk-weaker}
-use Rattle.sqlite.specs.State.{HasCleanDisk}
 use Rattle.registry_rows.proofs.QuietFacts.{shown_keeps}
 use Rattle.registry_tables.specs.Effects.{shown}
 use Rattle.registry_tables.proofs.MetaFacts.{number_found}
@@ -14,3 +13,8 @@ returns-clause-ours g c form clean =
 
 pub returns-clause-committed : goal.returns-clause-committed
 returns-clause-committed g c on clean = (shown_keeps _ _ (shown g.S.Store c.args.tx.now) (shown g.S.Store c.read.new.tx) _ on (c.in_ok-rows.ensures.shown.shown clean)).0
+
+pub returns-clause-shows : goal.returns-clause-shows
+returns-clause-shows g c =
+    let call = rw (c.params-to_sql.ensures) at c.in_ok-rows.ensures.shown in
+    IfOk-weaker c.first_number.result _ _ (λ _ e. (_, call, e)) (rw c.deref.ensures.value at c.first_number.ensures)

@@ -1,4 +1,4 @@
-use Rattle.std.proofs.Common.{◌∙◌, ap, arith, refl, rules, take_all}
+use Rattle.std.proofs.Common.{◌∙◌, ap, arith, refl, take_all}
 use Rattle.registry_rows.proofs.QuietFacts.{stays_then}
 use Rattle.registry_tables.specs.Effects.{stored_in}
 use Rattle.registry_tables.specs.Needs.{with_needs}

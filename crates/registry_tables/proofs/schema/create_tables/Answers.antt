@@ -1,10 +1,11 @@
-use Rattle.std.proofs.Common.{◌≡◌, ◌<◌, ◌∙◌, ℕ, List, [], Bor, ap, arith, get_or, length, map, subst, sym}
+use Rattle.std.proofs.Common.{◌≡◌, ◌+◌, suc, ◌<◌, ◌∙◌, ℕ, List, [], Bor, ap, arith, get_or, length, map, subst, sym}
 use Rattle.std.proofs.lemmas.List.{get_or-map, length-map}
 use Rattle.registry_rows.specs.Frames.{Wrote}
 use Rattle.registry_rows.proofs.QuietFacts.{stays_then}
 use Rattle.registry_tables.specs.Creation.{creation}
 use Rattle.registry_tables.specs.Effects.{shown}
 use Rattle.registry_tables.specs.Fresh.{HasMade}
+use Rattle.registry_tables.specs.Opening.{HasRun}
 use Rattle.registry_tables.proofs.SchemaFacts.{creation_length}
 use Rattle.registry_tables.proofs.CreationFacts.{makes_next, refuses_next}
 use Rattle.registry_tables.proofs.schema.create_tables.Goals as goal
@@ -21,7 +22,10 @@ loop-text-preserved g c =
     let within : c.loop-text.text-index < length creation = omega (arith, as_many c.args.texts.now c.requires.texts, c.loop-text-test.true) in
     let call : Wrote (get_or creation c.loop-text.text-index []) [] (shown g.S.Store c.loop-text.tx) (shown g.S.Store c.write.new.tx) =
     subst (λ sql. Wrote sql [] (shown g.S.Store c.loop-text.tx) (shown g.S.Store c.write.new.tx)) (text_at c.args.texts.now c.loop-text.text-index _ c.requires.texts c.loop-text-test.true) c.in_ok-write.ensures.wrote in
+    let next : suc c.loop-text.text-index ≡ c.loop-text.text-index + 1 = omega arith in
+    let ran : HasRun g.S.Store (suc c.loop-text.text-index) c.args.tx.now c.write.new.tx = (c.loop-text.tx, c.loop-text.invariant.ran, call) in
     record {
+      ran = subst (λ n. HasRun g.S.Store n c.args.tx.now c.write.new.tx) next ran;
       stays = stays_then g.S.Store c.args.tx.now c.loop-text.tx c.write.new.tx c.loop-text.invariant.stays c.write.ensures.stays;
       idle = λ e. absurd (omega (arith, e));
       made = λ _. makes_next g.S.Store c.loop-text.text-index c.args.tx.now c.loop-text.tx c.write.new.tx within c.loop-text.invariant.idle c.loop-text.invariant.made call;
@@ -36,3 +40,8 @@ returns-clause-made g c none =
 pub returns-clause-refused : goal.returns-clause-refused
 returns-clause-refused g c form clean =
     absurd (c.loop-text.invariant.refused (omega (arith, as_many c.args.texts.now c.requires.texts, creation_length, c.loop-text-test.false)) form clean)
+
+pub returns-clause-ran : goal.returns-clause-ran
+returns-clause-ran g c =
+    let all : c.loop-text.text-index ≡ 15 = omega (arith, as_many c.args.texts.now c.requires.texts, creation_length, c.loop-text.auto.text-index-end, c.loop-text-test.false) in
+    subst (λ n. HasRun g.S.Store n c.args.tx.now c.loop-text.tx) all c.loop-text.invariant.ran
