@@ -6,12 +6,13 @@ ghost use Rattle.sqlite.specs.Steps.{IsEmpty};
 ghost use Rattle.registry_tables.specs.Effects.{InForm};
 
 use super::text::{Body, form_of, package_text};
-use registry_names::{Blob, Fault, Moment, Name, Status, Stop, Ver};
-use registry_packument::VersionRow;
-use registry_rules::Change;
+use registry_names::{Blob, Fault, Moment, Name, Status, Stop, Text};
+use registry_publish::PublishForm;
+use registry_rules::PackageRows;
+use registry_tables::laws::first_publication;
 use registry_tables::{
-    create, has_tag, has_version, is_spent, load_archive, load_status, load_tags, load_versions,
-    make, put_version,
+    AccessChange, TagChange, change_access, create, load_archive, load_manifest, load_package,
+    put_version, set_tags,
 };
 use sqlite::{Alter, Connection, Row, Transaction};
 use sqlite_value::value::ValueRef;
@@ -39,10 +40,13 @@ pub enum Call {
     Status(Status),
     /// Names a version by a tag of it, or drops the tag.
     Tag(&'static str, Option<&'static str>),
+    /// Changes none of its tags.
+    NoTag,
     /// Puts the version of this body, published at this second.
     Publish(Body, i64),
-    /// A version of it lives, or doesn't. None was withdrawn.
-    Lives(&'static str, bool),
+    /// Publishes this body as a restricted package's first, at this second. The text tells what
+    /// stands of the package then.
+    First(Body, i64, &'static str),
     /// The text tells what stands of it.
     Package(&'static str),
     /// A version has this manifest, or there is none.
@@ -94,7 +98,7 @@ fn comes_out_inside<S: Alter>(
     tx: &mut Transaction<'_, S>,
     case: &Case,
 ) -> Result<bool, Stop>
-    requires in_form { InForm S.Store tx.old }
+    requires in_form { InForm S.Store tx.old.conn.now }
     ensures same_reference { tx.new.conn.ghost_name ≡ tx.old.conn.ghost_name }
 {
     Ok(are_so(alloc, tx, case.calls)? && ends(alloc, tx, case.end))
@@ -105,9 +109,9 @@ fn are_so<S: Alter>(
     tx: &mut Transaction<'_, S>,
     calls: &[(&'static str, Call)],
 ) -> Result<bool, Stop>
-    requires in_form { InForm S.Store tx.old }
+    requires in_form { InForm S.Store tx.old.conn.now }
     ensures same_reference { tx.new.conn.ghost_name ≡ tx.old.conn.ghost_name }
-    ensures in_form { OnOk result (InForm S.Store tx.new) }
+    ensures in_form { OnOk result (InForm S.Store tx.new.conn.now) }
 {
     for (name, call) in calls {
         if !is_so(alloc, tx, name, *call)? {
@@ -118,7 +122,7 @@ fn are_so<S: Alter>(
 }
 
 fn ends<S: Alter>(alloc: Global, tx: &mut Transaction<'_, S>, end: End) -> bool
-    requires in_form { InForm S.Store tx.old }
+    requires in_form { InForm S.Store tx.old.conn.now }
     ensures same_reference { tx.new.conn.ghost_name ≡ tx.old.conn.ghost_name }
 {
     match end {
@@ -153,9 +157,9 @@ fn is_so<S: Alter>(
     name: &str,
     call: Call,
 ) -> Result<bool, Stop>
-    requires in_form { InForm S.Store tx.old }
+    requires in_form { InForm S.Store tx.old.conn.now }
     ensures same_reference { tx.new.conn.ghost_name ≡ tx.old.conn.ghost_name }
-    ensures in_form { OnOk result (InForm S.Store tx.new) }
+    ensures in_form { OnOk result (InForm S.Store tx.new.conn.now) }
 {
     let name = Name::parse(alloc, name)?;
     is_so_of(alloc, tx, &name, call)
@@ -167,18 +171,18 @@ fn is_so_of<S: Alter>(
     name: &Name,
     call: Call,
 ) -> Result<bool, Stop>
-    requires in_form { InForm S.Store tx.old }
+    requires in_form { InForm S.Store tx.old.conn.now }
     ensures same_reference { tx.new.conn.ghost_name ≡ tx.old.conn.ghost_name }
-    ensures in_form { OnOk result (InForm S.Store tx.new) }
+    ensures in_form { OnOk result (InForm S.Store tx.new.conn.now) }
 {
     match call {
         Call::Status(status) => put_status(tx, name, status),
-        Call::Tag(tag, Some(version)) => put_tag(alloc, tx, name, tag, version),
-        Call::Tag(tag, None) => drop_tag(tx, name, tag),
+        Call::Tag(tag, version) => change_tag(tx, name, TagChange { tag, version }),
+        Call::NoTag => change_no_tag(tx, name),
         Call::Publish(body, at) => publish(alloc, tx, name, body, at),
-        Call::Lives(version, lives) => tells_version(tx, name, version, lives),
+        Call::First(body, at, told) => publish_first(alloc, tx, name, body, at, told),
         Call::Package(told) => tells_package(alloc, tx, name, told),
-        Call::Manifest(version, told) => tells_manifest(alloc, tx, name, version, told),
+        Call::Manifest(version, told) => tells_manifest(tx, name, version, told),
         Call::Archive(version, told) => tells_archive(tx, name, version, told),
     }
 }
@@ -188,52 +192,33 @@ fn put_status<S: Alter>(
     name: &Name,
     status: Status,
 ) -> Result<bool, Stop>
-    requires in_form { InForm S.Store tx.old }
+    requires in_form { InForm S.Store tx.old.conn.now }
     ensures same_reference { tx.new.conn.ghost_name ≡ tx.old.conn.ghost_name }
-    ensures in_form { OnOk result (InForm S.Store tx.new) }
+    ensures in_form { OnOk result (InForm S.Store tx.new.conn.now) }
 {
-    let change = Change::PutStatus {
-        package: name,
-        status,
-        stands: load_status(tx, name)?.is_some(),
-    };
-    make(tx, &change)?;
+    change_access(tx, &AccessChange::PutStatus { name, status })?;
     Ok(true)
 }
 
-fn put_tag<S: Alter>(
-    alloc: Global,
+fn change_tag<S: Alter>(
     tx: &mut Transaction<'_, S>,
     name: &Name,
-    tag: &str,
-    version: &str,
+    change: TagChange<'_>,
 ) -> Result<bool, Stop>
-    requires in_form { InForm S.Store tx.old }
+    requires in_form { InForm S.Store tx.old.conn.now }
     ensures same_reference { tx.new.conn.ghost_name ≡ tx.old.conn.ghost_name }
-    ensures in_form { OnOk result (InForm S.Store tx.new) }
+    ensures in_form { OnOk result (InForm S.Store tx.new.conn.now) }
 {
-    let version = Ver::parse(alloc, version)?;
-    let change = Change::PutTag {
-        package: name,
-        tag,
-        version: &version,
-        stands: has_tag(tx, name, tag)?,
-    };
-    make(tx, &change)?;
+    set_tags(tx, name, &[change])?;
     Ok(true)
 }
 
-fn drop_tag<S: Alter>(
-    tx: &mut Transaction<'_, S>,
-    name: &Name,
-    tag: &str,
-) -> Result<bool, Stop>
-    requires in_form { InForm S.Store tx.old }
+fn change_no_tag<S: Alter>(tx: &mut Transaction<'_, S>, name: &Name) -> Result<bool, Stop>
+    requires in_form { InForm S.Store tx.old.conn.now }
     ensures same_reference { tx.new.conn.ghost_name ≡ tx.old.conn.ghost_name }
-    ensures in_form { OnOk result (InForm S.Store tx.new) }
+    ensures in_form { OnOk result (InForm S.Store tx.new.conn.now) }
 {
-    let change = Change::DropTag { package: name, tag };
-    make(tx, &change)?;
+    set_tags(tx, name, &[])?;
     Ok(true)
 }
 
@@ -244,27 +229,44 @@ fn publish<S: Alter>(
     body: Body,
     at: i64,
 ) -> Result<bool, Stop>
-    requires in_form { InForm S.Store tx.old }
+    requires in_form { InForm S.Store tx.old.conn.now }
     ensures same_reference { tx.new.conn.ghost_name ≡ tx.old.conn.ghost_name }
-    ensures in_form { OnOk result (InForm S.Store tx.new) }
+    ensures in_form { OnOk result (InForm S.Store tx.new.conn.now) }
 {
     let form = form_of(alloc, name.text(), body)?;
     put_version(tx, &form, Moment::clamped(at))?;
     Ok(true)
 }
 
-fn tells_version<S: Alter>(
+fn publish_first<S: Alter>(
+    alloc: Global,
     tx: &mut Transaction<'_, S>,
     name: &Name,
-    version: &str,
-    lives: bool,
+    body: Body,
+    at: i64,
+    told: &str,
 ) -> Result<bool, Stop>
-    requires in_form { InForm S.Store tx.old }
+    requires in_form { InForm S.Store tx.old.conn.now }
     ensures same_reference { tx.new.conn.ghost_name ≡ tx.old.conn.ghost_name }
-    ensures in_form { OnOk result (InForm S.Store tx.new) }
+    ensures in_form { OnOk result (InForm S.Store tx.new.conn.now) }
 {
-    let found = has_version(tx, name, version)?;
-    Ok(found == lives && !is_spent(tx, name, version)?)
+    let form = form_of(alloc, name.text(), body)?;
+    tells_first(alloc, tx, &form, Moment::clamped(at), told)
+}
+
+fn tells_first<S: Alter>(
+    alloc: Global,
+    tx: &mut Transaction<'_, S>,
+    form: &PublishForm,
+    at: Moment,
+    told: &str,
+) -> Result<bool, Stop>
+    requires in_form { InForm S.Store tx.old.conn.now }
+    ensures same_reference { tx.new.conn.ghost_name ≡ tx.old.conn.ghost_name }
+    ensures in_form { OnOk result (InForm S.Store tx.new.conn.now) }
+{
+    let rows = first_publication(alloc, tx, form, Status::Restricted, at)?;
+    is_told(alloc, &rows, told)
 }
 
 fn tells_package<S: Alter>(
@@ -273,35 +275,35 @@ fn tells_package<S: Alter>(
     name: &Name,
     told: &str,
 ) -> Result<bool, Stop>
-    requires in_form { InForm S.Store tx.old }
+    requires in_form { InForm S.Store tx.old.conn.now }
     ensures same_reference { tx.new.conn.ghost_name ≡ tx.old.conn.ghost_name }
-    ensures in_form { OnOk result (InForm S.Store tx.new) }
+    ensures in_form { OnOk result (InForm S.Store tx.new.conn.now) }
 {
-    let status = load_status(tx, name)?;
-    let versions = load_versions(alloc, tx, name)?;
-    let tags = load_tags(alloc, tx, name)?;
-    Ok(package_text(alloc, status, &versions, &tags)?.as_str() == told)
+    let rows = load_package(alloc, tx, name)?;
+    is_told(alloc, &rows, told)
+}
+
+fn is_told(alloc: Global, rows: &PackageRows, told: &str) -> Result<bool, Stop> {
+    Ok(package_text(alloc, rows)?.as_str() == told)
 }
 
 fn tells_manifest<S: Alter>(
-    alloc: Global,
     tx: &mut Transaction<'_, S>,
     name: &Name,
     version: &str,
     told: Option<&str>,
 ) -> Result<bool, Stop>
-    requires in_form { InForm S.Store tx.old }
+    requires in_form { InForm S.Store tx.old.conn.now }
     ensures same_reference { tx.new.conn.ghost_name ≡ tx.old.conn.ghost_name }
-    ensures in_form { OnOk result (InForm S.Store tx.new) }
+    ensures in_form { OnOk result (InForm S.Store tx.new.conn.now) }
 {
-    let versions = load_versions(alloc, tx, name)?;
-    let row = versions.iter().find(|row| row.version.as_str() == version);
-    Ok(is_manifest(row, told))
+    let manifest = load_manifest(tx, name, version)?;
+    Ok(is_manifest(&manifest, told))
 }
 
-fn is_manifest(row: Option<&VersionRow>, told: Option<&str>) -> bool {
-    match (row, told) {
-        (Some(row), Some(told)) => row.manifest.as_str() == told && row.message.as_str() == "",
+fn is_manifest(manifest: &Option<Text>, told: Option<&str>) -> bool {
+    match (manifest, told) {
+        (Some(manifest), Some(told)) => manifest.as_str() == told,
         (None, None) => true,
         _ => false,
     }
@@ -313,9 +315,9 @@ fn tells_archive<S: Alter>(
     version: &str,
     told: Option<(usize, &str)>,
 ) -> Result<bool, Stop>
-    requires in_form { InForm S.Store tx.old }
+    requires in_form { InForm S.Store tx.old.conn.now }
     ensures same_reference { tx.new.conn.ghost_name ≡ tx.old.conn.ghost_name }
-    ensures in_form { OnOk result (InForm S.Store tx.new) }
+    ensures in_form { OnOk result (InForm S.Store tx.new.conn.now) }
 {
     let archive = load_archive(tx, name, version)?;
     Ok(is_archive(&archive, told))

@@ -2,8 +2,8 @@
 
 use crate::tests::body::{ABC, body_of};
 use registry_names::{DistTag, Status, Stop};
-use registry_packument::VersionRow;
 use registry_publish::PublishForm;
+use registry_rules::{LiveVersion, PackageRows};
 use std::alloc::{AllocError, Global};
 
 /// The body of a publication.
@@ -42,16 +42,11 @@ fn archive_body(
     body_of(alloc, name, version, &archive)
 }
 
-/// The status of a package, its versions and its tags.
-pub fn package_text(
-    alloc: Global,
-    status: Option<Status>,
-    versions: &[VersionRow],
-    tags: &[DistTag],
-) -> Result<String, AllocError> {
-    let mut text = String::from_str(alloc, status_text(status))?;
-    push_versions(alloc, &mut text, versions)?;
-    push_tags(alloc, &mut text, tags)?;
+/// The status of a package, its versions with the seconds when they were published, and its tags.
+pub fn package_text(alloc: Global, rows: &PackageRows) -> Result<String, AllocError> {
+    let mut text = String::from_str(alloc, status_text(rows.status))?;
+    push_versions(alloc, &mut text, &rows.live)?;
+    push_tags(alloc, &mut text, &rows.tags)?;
     Ok(text)
 }
 
@@ -66,7 +61,7 @@ fn status_text(status: Option<Status>) -> &'static str {
 fn push_versions(
     alloc: Global,
     text: &mut String,
-    versions: &[VersionRow],
+    versions: &[LiveVersion],
 ) -> Result<(), AllocError> {
     for version in versions {
         text.push_str(&version_text(alloc, version)?)?;
@@ -74,10 +69,11 @@ fn push_versions(
     Ok(())
 }
 
-fn version_text(alloc: Global, row: &VersionRow) -> Result<String, AllocError> {
-    let version = row.version.as_str();
-    let message = row.message.as_str();
-    format!(in alloc; " {version}{message}")
+fn version_text(alloc: Global, live: &LiveVersion) -> Result<String, AllocError> {
+    let version = live.version.as_str();
+    let at = live.published.seconds();
+    let message = live.message.as_str();
+    format!(in alloc; " {version}@{at}{message}")
 }
 
 fn push_tags(alloc: Global, text: &mut String, tags: &[DistTag]) -> Result<(), AllocError> {

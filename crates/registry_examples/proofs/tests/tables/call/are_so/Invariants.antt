@@ -6,5 +6,5 @@ use Rattle.registry_examples.proofs.tests.tables.call.are_so.Given as goal
 abbrev pub invariant-loop-name : goal.invariant-loop-name
 invariant-loop-name g l = record {
   same_reference : l.tx.conn.ghost_name ≡ l.fn.tx.conn.ghost_name;
-  in_form : InForm g.S.Store l.tx;
+  in_form : InForm g.S.Store l.tx.conn.now;
 }
