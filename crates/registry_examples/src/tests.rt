@@ -2,6 +2,7 @@
 //! long lists, and calls on the tables and on rows alone.
 
 mod body;
+mod outcome;
 mod rounds;
 mod rows;
 mod tables;

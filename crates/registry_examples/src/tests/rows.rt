@@ -1,14 +1,18 @@
-//! Rows of an answer, read as values of a struct.
+//! Statements on a table of another database than the registry's, and rows that are read as values
+//! of a struct.
 
-ghost use Rattle.std.specs.Prelude.{ℕ, List, string_bytes};
+ghost use Rattle.std.specs.Prelude.{◌≡◌, false, ℕ, List, string_bytes};
 ghost use Rattle.sqlite_value.specs.Order.{column};
 ghost use Rattle.registry_rows.specs.Columns.{text_in, number_in};
 
-use registry_rows::{FromRow, read_first, read_rows};
-use sqlite::{Connection, Error, Row};
+use crate::tests::outcome::same;
+use registry_names::Fault;
+use registry_rows::{FromRow, fault_of, first_in, read, values_in, write};
+use sqlite::{Alter, Connection, Constraint, Error, ErrorCode, Row, Transaction, params};
 use std::alloc::Global;
+use std::test::Fail;
 
-#[derive(Drop)]
+#[derive(Debug, Drop)]
 struct Count {
     word: String,
     times: u32,
@@ -28,98 +32,146 @@ impl FromRow for Count {
     }
 }
 
-/// A query of two rows, and what is read of its answer.
-struct Case {
-    /// What it shows.
-    shows: &'static str,
-    /// The query.
-    query: &'static str,
-    /// What is read.
-    read: Read,
+/// What is done with the table, after those before it.
+#[derive(Clone, Copy, Debug)]
+enum Call {
+    /// A statement that writes is run.
+    Write(&'static str),
+    /// A word is put with its times.
+    Put(&'static str, i64),
+    /// A query is run, and so many rows are given.
+    Read(&'static str),
+    /// All rows of a query are read as words, each with its times.
+    All(&'static str),
+    /// The first one is.
+    First(&'static str),
 }
 
-/// What is read of an answer.
-#[derive(Clone, Copy)]
-enum Read {
-    /// Two rows of these words.
-    Both(&'static str, &'static str),
-    /// A first row with so many times, or none.
-    First(Option<u32>),
-    /// No rows, since they aren't of a word and its times.
-    Refused,
-}
-
-static CASES: [Case; 4] = [
-    Case {
-        shows: "rows are read in order",
-        query: "SELECT word, times FROM counts ORDER BY times DESC",
-        read: Read::Both("the", "and"),
-    },
-    Case {
-        shows: "the first row is read",
-        query: "SELECT word, times FROM counts WHERE word = 'the'",
-        read: Read::First(Some(9)),
-    },
-    Case {
-        shows: "no first row is read if there is none",
-        query: "SELECT word, times FROM counts WHERE word = 'of'",
-        read: Read::First(None),
-    },
-    Case {
-        shows: "a row of another type is refused",
-        query: "SELECT times, word FROM counts",
-        read: Read::Refused,
-    },
+/// Calls, and what each tells.
+static CALLS: [(Call, Result<&str, Fault>); 15] = [
+    (
+        Call::Write(
+            "CREATE TABLE counts (word TEXT NOT NULL, times INTEGER NOT NULL, PRIMARY KEY (word)) STRICT",
+        ),
+        Ok("done"),
+    ),
+    (Call::Read("SELECT * FROM counts"), Ok("0")),
+    (Call::All("SELECT * FROM counts"), Ok("")),
+    (Call::First("SELECT * FROM counts"), Ok("")),
+    (Call::Put("and", 7), Ok("done")),
+    (Call::Put("the", 9), Ok("done")),
+    (Call::Put("the", 3), Err(Fault::Database)),
+    (Call::Read("SELECT * FROM counts"), Ok("2")),
+    (
+        Call::All("SELECT * FROM counts ORDER BY times DESC"),
+        Ok(" the:9 and:7"),
+    ),
+    (Call::First("SELECT * FROM counts"), Ok(" and:7")),
+    (
+        Call::All("SELECT times, word FROM counts"),
+        Err(Fault::Database),
+    ),
+    (
+        Call::First("SELECT times, word FROM counts"),
+        Err(Fault::Database),
+    ),
+    (
+        Call::First("SELECT word, -1 FROM counts"),
+        Err(Fault::Database),
+    ),
+    (Call::Read("SELECT * FROM sums"), Err(Fault::Database)),
+    (Call::Write("DELETE FROM sums"), Err(Fault::Database)),
 ];
 
 #[test]
-fn rows_are_read(rt: HostRuntime) -> Result<(), &'static str> {
-    all_are_read(rt.alloc(), &CASES)
+fn statements_are_run(rt: HostRuntime) -> Result<(), Fail> {
+    let alloc = rt.alloc();
+    let mut conn = Connection::open_in_memory(alloc)?;
+    all_come_out(alloc, &mut conn)
 }
 
-// The error tells what the first case shows where something else is read.
-fn all_are_read(alloc: Global, cases: &[Case]) -> Result<(), &'static str> {
-    for case in cases {
-        if is_so(alloc, case) != Ok(true) {
-            return Err(case.shows);
-        }
+fn all_come_out<S: Alter>(alloc: Global, conn: &mut Connection<S>) -> Result<(), Fail>
+    requires idle { conn.old.in_transaction ≡ false }
+{
+    let mut tx = conn.transaction();
+    come_out(alloc, &mut tx)
+}
+
+fn come_out<S: Alter>(alloc: Global, tx: &mut Transaction<'_, S>) -> Result<(), Fail>
+    ensures same_reference { tx.new.conn.ghost_name ≡ tx.old.conn.ghost_name }
+{
+    for (call, wanted) in &CALLS {
+        same(call, told(alloc, tx, *call).as_deref(), wanted.as_deref())?;
     }
     Ok(())
 }
 
-fn is_so(alloc: Global, case: &Case) -> Result<bool, Error> {
-    let rows = answer(alloc, case.query)?;
-    is_read(alloc, &rows, case.read)
-}
-
-fn answer(alloc: Global, query: &str) -> Result<Vec<Row>, Error> {
-    let mut conn = Connection::open_in_memory(alloc)?;
-    conn.execute_batch(
-        "CREATE TABLE counts (word TEXT NOT NULL, times INTEGER NOT NULL) STRICT; INSERT INTO counts VALUES ('and', 7), ('the', 9)",
-    )?;
-    conn.query_all(query, &[])
-}
-
-fn is_read(alloc: Global, rows: &[Row], read: Read) -> Result<bool, Error> {
-    match read {
-        Read::Both(word, other) => are_both(alloc, rows, word, other),
-        Read::First(times) => is_first(rows, times),
-        Read::Refused => Ok(counts(alloc, rows).is_err()),
+fn told<S: Alter>(alloc: Global, tx: &mut Transaction<'_, S>, call: Call) -> Result<String, Fault>
+    ensures same_reference { tx.new.conn.ghost_name ≡ tx.old.conn.ghost_name }
+{
+    match call {
+        Call::Write(text) => {
+            write(tx, text, &[])?;
+            Ok(String::from_str(alloc, "done")?)
+        }
+        Call::Put(word, times) => {
+            write(
+                tx,
+                "INSERT INTO counts VALUES (?1, ?2)",
+                params![word, times],
+            )?;
+            Ok(String::from_str(alloc, "done")?)
+        }
+        Call::Read(text) => {
+            let rows = read(tx, text, &[])?.len();
+            Ok(format!(in alloc; "{rows}")?)
+        }
+        Call::All(text) => all_text(alloc, &read(tx, text, &[])?),
+        Call::First(text) => first_text(alloc, &read(tx, text, &[])?),
     }
 }
 
-fn are_both(alloc: Global, rows: &[Row], word: &str, other: &str) -> Result<bool, Error> {
-    match counts(alloc, rows)?.as_slice() {
-        [first, second] => Ok(first.word.as_str() == word && second.word.as_str() == other),
-        _ => Ok(false),
+fn all_text(alloc: Global, rows: &[Row]) -> Result<String, Fault> {
+    let counts: Vec<Count> = values_in(alloc, rows)?;
+    let mut text = String::new(alloc);
+    for count in &counts {
+        push_count(alloc, &mut text, count)?;
     }
+    Ok(text)
 }
 
-fn counts(alloc: Global, rows: &[Row]) -> Result<Vec<Count>, Error> {
-    read_rows(alloc, rows)
+fn first_text(alloc: Global, rows: &[Row]) -> Result<String, Fault> {
+    let first: Option<Count> = first_in(rows)?;
+    let mut text = String::new(alloc);
+    if let Some(count) = &first {
+        push_count(alloc, &mut text, count)?;
+    }
+    Ok(text)
 }
 
-fn is_first(rows: &[Row], times: Option<u32>) -> Result<bool, Error> {
-    let first: Option<Count> = read_first(rows)?;
-    Ok(first.map(|count| count.times) == times)
+fn push_count(alloc: Global, text: &mut String, count: &Count) -> Result<(), Fault> {
+    let word = count.word.as_str();
+    let times = count.times;
+    text.push_str(&format!(in alloc; " {word}:{times}")?)?;
+    Ok(())
+}
+
+/// Errors of the database, and the fault of each.
+static FAULTS: [(Error, Fault); 5] = [
+    (Error::SqliteFailure(ErrorCode::OutOfMemory), Fault::Memory),
+    (Error::SqliteFailure(ErrorCode::DiskFull), Fault::Database),
+    (
+        Error::SqliteFailure(ErrorCode::ConstraintViolation(Constraint::ForeignKey)),
+        Fault::Database,
+    ),
+    (Error::IntegralValueOutOfRange(0), Fault::Database),
+    (Error::InvalidColumnIndex(0), Fault::Database),
+];
+
+#[test]
+fn errors_are_faults() -> Result<(), Fail> {
+    for (error, fault) in &FAULTS {
+        same(error, fault_of(*error), *fault)?;
+    }
+    Ok(())
 }

@@ -7,20 +7,26 @@ mod text;
 
 use call::{Call, Case, End, all_come_out};
 use registry_names::Status;
+use std::test::Fail;
 use text::Body;
 
 #[test]
-fn versions_come_back(rt: HostRuntime) -> Result<(), &'static str> {
+fn versions_come_back(rt: HostRuntime) -> Result<(), Fail> {
     all_come_out(rt.alloc(), &VERSIONS)
 }
 
 #[test]
-fn packages_stand_as_they_were_put(rt: HostRuntime) -> Result<(), &'static str> {
-    all_come_out(rt.alloc(), &PACKAGES)
+fn statuses_stand_as_they_were_put(rt: HostRuntime) -> Result<(), Fail> {
+    all_come_out(rt.alloc(), &STATUSES)
 }
 
 #[test]
-fn calls_put_rows_that_fit(rt: HostRuntime) -> Result<(), &'static str> {
+fn tags_stand_as_they_were_put(rt: HostRuntime) -> Result<(), Fail> {
+    all_come_out(rt.alloc(), &TAGS)
+}
+
+#[test]
+fn calls_put_rows_that_fit(rt: HostRuntime) -> Result<(), Fail> {
     all_come_out(rt.alloc(), &ROWS)
 }
 
@@ -29,176 +35,210 @@ const NEEDS_BODY: &str =
     r#"{"name":"kit","versions":{"1.0.0":{"name":"kit","version":"1.0.0","dependencies":{"kid":"~2","pad":"^1"},"devDependencies":{"pod":"3"},"optionalDependencies":{"pad":"^1"},"peerDependencies":{"kid":"2.1"}}},"_attachments":{"a":{"data":"YWJj"}}}"#;
 
 // Versions, their manifests and their archives.
-static VERSIONS: [Case; 4] = [
+static VERSIONS: [Case; 6] = [
     Case {
         shows: "versions stand in byte order",
         calls: &[
-            ("kit", Call::Status(Status::Public)),
-            ("kit", Call::Publish(Body::Plain("1.9.0"), 1)),
-            ("kit", Call::Publish(Body::Plain("2.0.0-beta"), 2)),
-            ("kit", Call::Publish(Body::Plain("1.10.0"), 3)),
-            ("kit", Call::Package("public 1.10.0@3 1.9.0@1 2.0.0-beta@2")),
+            ("kit", Call::Versions, ""),
+            ("kit", Call::NewStatus(Status::Public), "done"),
+            ("kit", Call::Versions, ""),
+            ("kit", Call::Add(Body::Plain("1.9.0"), 1), "done"),
+            ("kit", Call::Publish(Body::Plain("2.0.0-beta"), 2), "done"),
+            ("kit", Call::Add(Body::Plain("1.10.0"), 3), "done"),
+            (
+                "kit",
+                Call::Versions,
+                r#" 1.10.0 {"name":"kit","version":"1.10.0"} [] 1.9.0 {"name":"kit","version":"1.9.0"} [] 2.0.0-beta {"name":"kit","version":"2.0.0-beta"} []"#,
+            ),
+            ("kid", Call::Versions, ""),
+            ("kit", Call::Lives("1.9.0"), "true"),
+            ("kit", Call::Lives("1.9.1"), "false"),
+            ("kid", Call::Lives("1.9.0"), "false"),
         ],
         end: End::Nothing,
     },
     Case {
         shows: "archives come back",
         calls: &[
-            ("kit", Call::Status(Status::Public)),
-            ("kit", Call::Publish(Body::Archive("1.0.0", 1), 0)),
-            ("kit", Call::Publish(Body::Archive("2.0.0", 0), 0)),
-            ("kit", Call::Publish(Body::Archive("3.0.0", 349_526), 0)),
-            ("kit", Call::Archive("1.0.0", Some((3, "abc")))),
-            ("kit", Call::Archive("2.0.0", Some((0, "")))),
-            ("kit", Call::Archive("3.0.0", Some((1_048_578, "abc")))),
-            ("kit", Call::Archive("4.0.0", None)),
-        ],
-        end: End::Nothing,
-    },
-    Case {
-        shows: "manifests come back",
-        calls: &[
-            ("kit", Call::Status(Status::Public)),
-            ("kit", Call::Publish(Body::Plain("1.0.0"), 1)),
+            ("kit", Call::NewStatus(Status::Public), "done"),
+            ("kit", Call::Add(Body::Archive("1.0.0", 1), 0), "done"),
+            ("kit", Call::Add(Body::Archive("2.0.0", 0), 0), "done"),
             (
                 "kit",
-                Call::Manifest("1.0.0", Some(r#"{"name":"kit","version":"1.0.0"}"#)),
+                Call::Publish(Body::Archive("3.0.0", 349_526), 0),
+                "done",
             ),
-            ("kit", Call::Manifest("1.0.1", None)),
+            ("kit", Call::Archive("1.0.0"), "3 abc"),
+            ("kit", Call::Archive("2.0.0"), "0 "),
+            ("kit", Call::Archive("3.0.0"), "1048578 abc"),
+            ("kit", Call::Archive("4.0.0"), "none"),
+            ("kid", Call::Archive("1.0.0"), "none"),
         ],
         end: End::Nothing,
     },
     Case {
-        shows: "a first publication",
+        shows: "a live version isn't put again",
         calls: &[
-            ("kit", Call::Package("unpublished")),
-            ("kit", Call::Status(Status::Public)),
-            ("kit", Call::Package("public")),
-            ("kit", Call::Publish(Body::Plain("1.0.0"), 100)),
-            ("kit", Call::Tag("latest", Some("1.0.0"))),
-            ("kit", Call::Package("public 1.0.0@100 latest=1.0.0")),
-            (
-                "@lab/pad",
-                Call::First(
-                    Body::Plain("0.1.0"),
-                    200,
-                    "restricted 0.1.0@200 latest=0.1.0",
-                ),
-            ),
+            ("kit", Call::NewStatus(Status::Public), "done"),
+            ("kit", Call::Publish(Body::Plain("1.0.0"), 1), "done"),
         ],
-        end: End::Nothing,
+        end: End::Fault("kit", Call::Publish(Body::Archive("1.0.0", 2), 2)),
+    },
+    Case {
+        shows: "nor is it as a change",
+        calls: &[
+            ("kit", Call::NewStatus(Status::Public), "done"),
+            ("kit", Call::Add(Body::Plain("1.0.0"), 1), "done"),
+        ],
+        end: End::Fault("kit", Call::Add(Body::Plain("1.0.0"), 1)),
+    },
+    Case {
+        shows: "a withdrawn version isn't put again",
+        calls: &[
+            ("kit", Call::NewStatus(Status::Public), "done"),
+            ("kit", Call::Withdrawn("1.0.0"), "done"),
+            ("kit", Call::IsSpent("1.0.0"), "true"),
+            ("kit", Call::IsSpent("1.0.1"), "false"),
+            ("kid", Call::IsSpent("1.0.0"), "false"),
+            ("kit", Call::Lives("1.0.0"), "false"),
+            ("kit", Call::Publish(Body::Plain("1.0.1"), 1), "done"),
+        ],
+        end: End::Fault("kit", Call::Publish(Body::Plain("1.0.0"), 1)),
+    },
+    Case {
+        shows: "a version needs the status of its package",
+        calls: &[
+            ("kid", Call::NewStatus(Status::Public), "done"),
+            ("kit", Call::Status, "none"),
+        ],
+        end: End::Fault("kit", Call::Publish(Body::Plain("1.0.0"), 1)),
     },
 ];
 
-// Statuses and tags of packages.
-static PACKAGES: [Case; 3] = [
+// Statuses of packages.
+static STATUSES: [Case; 4] = [
     Case {
-        shows: "tags are set and dropped",
+        shows: "a status is put over another",
         calls: &[
-            ("kit", Call::Status(Status::Public)),
-            ("kit", Call::Publish(Body::Plain("1.0.0"), 1)),
-            ("kit", Call::Publish(Body::Plain("2.0.0"), 2)),
-            ("kit", Call::Tag("latest", Some("1.0.0"))),
-            ("kit", Call::Tag("beta", Some("2.0.0"))),
-            (
-                "kit",
-                Call::Package("public 1.0.0@1 2.0.0@2 beta=2.0.0 latest=1.0.0"),
-            ),
-            ("kit", Call::Tag("latest", Some("2.0.0"))),
-            (
-                "kit",
-                Call::Package("public 1.0.0@1 2.0.0@2 beta=2.0.0 latest=2.0.0"),
-            ),
-            ("kit", Call::Tag("beta", None)),
-            ("kit", Call::Package("public 1.0.0@1 2.0.0@2 latest=2.0.0")),
-            ("kit", Call::Tag("beta", None)),
-            ("kit", Call::NoTag),
-            ("kit", Call::Package("public 1.0.0@1 2.0.0@2 latest=2.0.0")),
+            ("kit", Call::Status, "none"),
+            ("kit", Call::NewStatus(Status::Restricted), "done"),
+            ("@lab/pad", Call::NewStatus(Status::Restricted), "done"),
+            ("kit", Call::Status, "restricted"),
+            ("kit", Call::OtherStatus(Status::Public), "done"),
+            ("kit", Call::Status, "public"),
+            ("@lab/pad", Call::Status, "restricted"),
         ],
         end: End::Nothing,
     },
     Case {
-        shows: "a status is put over another",
+        shows: "another status is put where one stands, and only there",
         calls: &[
-            ("kit", Call::Status(Status::Restricted)),
-            ("@lab/pad", Call::Status(Status::Restricted)),
-            ("kit", Call::Package("restricted")),
-            ("kit", Call::Status(Status::Public)),
-            ("kit", Call::Package("public")),
-            ("@lab/pad", Call::Package("restricted")),
+            ("kit", Call::OtherStatus(Status::Public), "done"),
+            ("kit", Call::Status, "none"),
+        ],
+        end: End::Rows(" meta"),
+    },
+    Case {
+        shows: "a first status isn't put where one stands",
+        calls: &[("kit", Call::NewStatus(Status::Public), "done")],
+        end: End::Fault("kit", Call::NewStatus(Status::Public)),
+    },
+    Case {
+        shows: "a status of a number that is none is a fault",
+        calls: &[
+            ("kit", Call::Number(1), "done"),
+            ("kit", Call::Status, "public"),
+            ("kid", Call::Number(7), "done"),
+        ],
+        end: End::Fault("kid", Call::Status),
+    },
+];
+
+// Tags of packages.
+static TAGS: [Case; 4] = [
+    Case {
+        shows: "tags are put and dropped",
+        calls: &[
+            ("kit", Call::NewStatus(Status::Public), "done"),
+            ("kit", Call::Add(Body::Plain("1.0.0"), 1), "done"),
+            ("kit", Call::Add(Body::Plain("2.0.0"), 2), "done"),
+            ("kit", Call::Tags, ""),
+            ("kit", Call::NewTag("latest", "1.0.0"), "done"),
+            ("kit", Call::NewTag("beta", "2.0.0"), "done"),
+            ("kit", Call::Tags, " beta=2.0.0 latest=1.0.0"),
+            ("kit", Call::MovedTag("latest", "2.0.0"), "done"),
+            ("kit", Call::Tags, " beta=2.0.0 latest=2.0.0"),
+            ("kit", Call::HasTag("beta"), "true"),
+            ("kid", Call::HasTag("beta"), "false"),
+            ("kit", Call::DropTag("beta"), "done"),
+            ("kit", Call::HasTag("beta"), "false"),
+            ("kit", Call::Tags, " latest=2.0.0"),
+            ("kit", Call::DropTag("beta"), "done"),
+            ("kit", Call::MovedTag("beta", "1.0.0"), "done"),
+            ("kit", Call::Tags, " latest=2.0.0"),
         ],
         end: End::Nothing,
     },
     Case {
         shows: "packages stand apart",
         calls: &[
-            ("kit", Call::Status(Status::Public)),
-            ("@lab/pad", Call::Status(Status::Restricted)),
-            ("kit", Call::Publish(Body::Plain("1.0.0"), 1)),
-            ("@lab/pad", Call::Publish(Body::Plain("2.0.0"), 2)),
-            ("@lab/pad", Call::Tag("latest", Some("2.0.0"))),
-            ("kit", Call::Package("public 1.0.0@1")),
-            ("@lab/pad", Call::Package("restricted 2.0.0@2 latest=2.0.0")),
-            (
-                "@lab/pad",
-                Call::Manifest("2.0.0", Some(r#"{"name":"@lab/pad","version":"2.0.0"}"#)),
-            ),
-            ("kit", Call::Manifest("2.0.0", None)),
-            ("@lab/pad", Call::Archive("1.0.0", None)),
+            ("kit", Call::NewStatus(Status::Public), "done"),
+            ("@lab/pad", Call::NewStatus(Status::Restricted), "done"),
+            ("kit", Call::Add(Body::Plain("1.0.0"), 1), "done"),
+            ("@lab/pad", Call::Add(Body::Plain("1.0.0"), 2), "done"),
+            ("@lab/pad", Call::Add(Body::Plain("2.0.0"), 2), "done"),
+            ("kit", Call::NewTag("latest", "1.0.0"), "done"),
+            ("@lab/pad", Call::NewTag("latest", "1.0.0"), "done"),
+            ("@lab/pad", Call::MovedTag("latest", "2.0.0"), "done"),
+            ("kit", Call::Tags, " latest=1.0.0"),
+            ("@lab/pad", Call::Tags, " latest=2.0.0"),
+            ("kit", Call::DropTag("latest"), "done"),
+            ("kit", Call::Tags, ""),
+            ("@lab/pad", Call::Tags, " latest=2.0.0"),
         ],
         end: End::Nothing,
     },
-];
-
-// The rows that calls put, and calls whose rows would break a key.
-static ROWS: [Case; 5] = [
     Case {
-        shows: "a live version is put once",
+        shows: "a new tag isn't put where it stands",
         calls: &[
-            ("kit", Call::Status(Status::Public)),
-            ("kit", Call::Publish(Body::Plain("1.0.0"), 1)),
-            ("kit", Call::Package("public 1.0.0@1")),
+            ("kit", Call::NewStatus(Status::Public), "done"),
+            ("kit", Call::Add(Body::Plain("1.0.0"), 1), "done"),
+            ("kit", Call::NewTag("latest", "1.0.0"), "done"),
         ],
-        end: End::Fault("kit", Call::Publish(Body::Plain("1.0.0"), 2)),
-    },
-    Case {
-        shows: "a version needs the status of its package",
-        calls: &[("kit", Call::Package("unpublished"))],
-        end: End::Fault("kit", Call::Publish(Body::Plain("1.0.0"), 1)),
+        end: End::Fault("kit", Call::NewTag("latest", "1.0.0")),
     },
     Case {
         shows: "a tag needs its version",
         calls: &[
-            ("kit", Call::Status(Status::Public)),
-            ("kit", Call::Publish(Body::Plain("1.0.0"), 1)),
-            ("kit", Call::Tag("latest", Some("1.0.0"))),
-            ("kit", Call::Package("public 1.0.0@1 latest=1.0.0")),
+            ("kit", Call::NewStatus(Status::Public), "done"),
+            ("kit", Call::Add(Body::Plain("1.0.0"), 1), "done"),
+            ("kit", Call::NewTag("latest", "1.0.0"), "done"),
         ],
-        end: End::Fault("kit", Call::Tag("latest", Some("1.0.1"))),
+        end: End::Fault("kit", Call::MovedTag("latest", "1.0.1")),
     },
+];
+
+// The rows that calls put.
+static ROWS: [Case; 2] = [
     Case {
         shows: "each call puts its rows",
         calls: &[
-            ("kit", Call::Status(Status::Public)),
-            ("@lab/pad", Call::Status(Status::Restricted)),
-            ("kit", Call::Publish(Body::Plain("1.0.0"), 1)),
-            ("kit", Call::Publish(Body::Plain("1.1.0"), 2)),
-            ("@lab/pad", Call::Publish(Body::Plain("1.0.0"), 3)),
-            ("kit", Call::Tag("latest", Some("1.1.0"))),
-            ("@lab/pad", Call::Tag("latest", Some("1.0.0"))),
+            ("kit", Call::NewStatus(Status::Public), "done"),
+            ("@lab/pad", Call::NewStatus(Status::Restricted), "done"),
+            ("kit", Call::Publish(Body::Plain("1.0.0"), 1), "done"),
+            ("kit", Call::Add(Body::Plain("1.1.0"), 2), "done"),
+            ("@lab/pad", Call::Publish(Body::Plain("1.0.0"), 3), "done"),
+            ("kit", Call::NewTag("latest", "1.1.0"), "done"),
+            ("@lab/pad", Call::NewTag("latest", "1.0.0"), "done"),
         ],
-        end: End::Rows(&[
-            "meta", "packages", "packages", "tags", "tags", "versions", "versions", "versions",
-        ]),
+        end: End::Rows(" meta packages packages tags tags versions versions versions"),
     },
     Case {
         shows: "a need that two members name is put once",
         calls: &[
-            ("kit", Call::Status(Status::Public)),
-            ("kit", Call::Publish(Body::Text(NEEDS_BODY), 0)),
+            ("kit", Call::NewStatus(Status::Public), "done"),
+            ("kit", Call::Publish(Body::Text(NEEDS_BODY), 0), "done"),
         ],
-        end: End::Rows(&[
-            "kid 2.1", "kid ~2", "meta", "packages", "pad ^1", "versions",
-        ]),
+        end: End::Rows(" kid 2.1 kid ~2 meta packages pad ^1 versions"),
     },
 ];

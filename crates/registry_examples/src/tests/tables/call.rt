@@ -5,18 +5,21 @@ ghost use Rattle.sqlite.specs.Held.{state};
 ghost use Rattle.sqlite.specs.Steps.{IsEmpty};
 ghost use Rattle.registry_tables.specs.Effects.{InForm};
 
-use super::text::{Body, form_of, package_text};
-use registry_names::{Blob, Fault, Moment, Name, Status, Stop, Text};
-use registry_publish::PublishForm;
-use registry_rules::PackageRows;
-use registry_tables::laws::first_publication;
-use registry_tables::{
-    AccessChange, TagChange, change_access, create, load_archive, load_manifest, load_package,
-    put_version, set_tags,
+use super::text::{
+    Body, archive_text, done, form_of, status_text, tags_text, versions_text, word_text,
 };
-use sqlite::{Alter, Connection, Row, Transaction};
+use crate::tests::outcome::{otherwise, same};
+use registry_names::{Fault, Moment, Name, Status, Stop, Ver};
+use registry_rows::write;
+use registry_rules::Change;
+use registry_tables::{
+    create, has_tag, has_version, is_spent, load_archive, load_status, load_tags, load_versions,
+    make, put_version,
+};
+use sqlite::{Alter, Connection, Row, Transaction, params};
 use sqlite_value::value::ValueRef;
 use std::alloc::Global;
+use std::test::Fail;
 
 /// Gives the name of its table for each row, and for what versions depend on the target and the
 /// range, in byte order.
@@ -27,32 +30,47 @@ const TABLE_OF_EACH_ROW: &str =
 pub struct Case {
     /// What they show.
     pub shows: &'static str,
-    /// The calls, each with the name of its package. Each succeeds, and tells what it says.
-    pub calls: &'static [(&'static str, Call)],
+    /// The calls, each with the name of its package, and what it tells.
+    pub calls: &'static [(&'static str, Call, &'static str)],
     /// What comes after them.
     pub end: End,
 }
 
 /// A call on a package.
-#[derive(Clone, Copy)]
+#[derive(Clone, Copy, Debug)]
 pub enum Call {
-    /// Gives it this status.
-    Status(Status),
-    /// Names a version by a tag of it, or drops the tag.
-    Tag(&'static str, Option<&'static str>),
-    /// Changes none of its tags.
-    NoTag,
-    /// Puts the version of this body, published at this second.
+    /// Puts its first status.
+    NewStatus(Status),
+    /// Puts another status.
+    OtherStatus(Status),
+    /// A statement keeps this number for its first status.
+    Number(i64),
+    /// Puts the version of this body as a change, published at this second.
+    Add(Body, i64),
+    /// Puts it by itself.
     Publish(Body, i64),
-    /// Publishes this body as a restricted package's first, at this second. The text tells what
-    /// stands of the package then.
-    First(Body, i64, &'static str),
-    /// The text tells what stands of it.
-    Package(&'static str),
-    /// A version has this manifest, or there is none.
-    Manifest(&'static str, Option<&'static str>),
-    /// A version's archive has so many bytes, the last of which are these; or there is none.
-    Archive(&'static str, Option<(usize, &'static str)>),
+    /// A statement has the version withdrawn.
+    Withdrawn(&'static str),
+    /// A new tag is to name the version.
+    NewTag(&'static str, &'static str),
+    /// A tag that stands is to name the version.
+    MovedTag(&'static str, &'static str),
+    /// Drops the tag.
+    DropTag(&'static str),
+    /// Its status.
+    Status,
+    /// Whether the version lives.
+    Lives(&'static str),
+    /// Whether the version was withdrawn.
+    IsSpent(&'static str),
+    /// Whether it has the tag.
+    HasTag(&'static str),
+    /// Its tags, each with its version.
+    Tags,
+    /// Its versions, each with its manifest and its message.
+    Versions,
+    /// The length of the version's archive, and its last bytes.
+    Archive(&'static str),
 }
 
 /// What comes after the calls of a case.
@@ -63,29 +81,19 @@ pub enum End {
     /// A call that is a fault of the database.
     Fault(&'static str, Call),
     /// A look at every row that is there: these are their tables, and what versions depend on.
-    Rows(&'static [&'static str]),
+    Rows(&'static str),
 }
 
-/// Whether all cases come out as they say. The error tells what the first shows that doesn't.
-pub fn all_come_out(alloc: Global, cases: &[Case]) -> Result<(), &'static str> {
+/// Whether all cases come out as they say.
+pub fn all_come_out(alloc: Global, cases: &[Case]) -> Result<(), Fail> {
     for case in cases {
-        if comes_out(alloc, case) != Ok(true) {
-            return Err(case.shows);
-        }
+        let mut conn = Connection::open_in_memory(alloc)?;
+        comes_out_on(alloc, &mut conn, case)?;
     }
     Ok(())
 }
 
-fn comes_out(alloc: Global, case: &Case) -> Result<bool, Stop> {
-    let mut conn = Connection::open_in_memory(alloc)?;
-    comes_out_on(alloc, &mut conn, case)
-}
-
-fn comes_out_on<S: Alter>(
-    alloc: Global,
-    conn: &mut Connection<S>,
-    case: &Case,
-) -> Result<bool, Stop>
+fn comes_out_on<S: Alter>(alloc: Global, conn: &mut Connection<S>, case: &Case) -> Result<(), Fail>
     requires empty { IsEmpty (state S.Store conn.old) }
 {
     let mut tx = conn.transaction();
@@ -97,129 +105,182 @@ fn comes_out_inside<S: Alter>(
     alloc: Global,
     tx: &mut Transaction<'_, S>,
     case: &Case,
-) -> Result<bool, Stop>
-    requires in_form { InForm S.Store tx.old.conn.now }
+) -> Result<(), Fail>
+    requires in_form { InForm S.Store tx.old }
     ensures same_reference { tx.new.conn.ghost_name ≡ tx.old.conn.ghost_name }
 {
-    Ok(are_so(alloc, tx, case.calls)? && ends(alloc, tx, case.end))
+    all_tell(alloc, tx, case)?;
+    ends(alloc, tx, case)
 }
 
-fn are_so<S: Alter>(
+fn all_tell<S: Alter>(alloc: Global, tx: &mut Transaction<'_, S>, case: &Case) -> Result<(), Fail>
+    requires in_form { InForm S.Store tx.old }
+    ensures same_reference { tx.new.conn.ghost_name ≡ tx.old.conn.ghost_name }
+    ensures in_form { OnOk result (InForm S.Store tx.new) }
+{
+    for (name, call, wanted) in case.calls {
+        tells(alloc, tx, (case.shows, *name, *call), *wanted)?;
+    }
+    Ok(())
+}
+
+// What a case shows, the name of a package, and a call on it.
+type Asked = (&'static str, &'static str, Call);
+
+fn tells<S: Alter>(
     alloc: Global,
     tx: &mut Transaction<'_, S>,
-    calls: &[(&'static str, Call)],
-) -> Result<bool, Stop>
-    requires in_form { InForm S.Store tx.old.conn.now }
+    asked: Asked,
+    wanted: &'static str,
+) -> Result<(), Fail>
+    requires in_form { InForm S.Store tx.old }
     ensures same_reference { tx.new.conn.ghost_name ≡ tx.old.conn.ghost_name }
-    ensures in_form { OnOk result (InForm S.Store tx.new.conn.now) }
+    ensures in_form { OnOk result (InForm S.Store tx.new) }
 {
-    for (name, call) in calls {
-        if !is_so(alloc, tx, name, *call)? {
-            return Ok(false);
+    match told(alloc, tx, asked.1, asked.2) {
+        Ok(text) => same(asked, text.as_str(), wanted),
+        Err(stop) => Err(otherwise(asked, stop, wanted)),
+    }
+}
+
+fn ends<S: Alter>(alloc: Global, tx: &mut Transaction<'_, S>, case: &Case) -> Result<(), Fail>
+    requires in_form { InForm S.Store tx.old }
+    ensures same_reference { tx.new.conn.ghost_name ≡ tx.old.conn.ghost_name }
+{
+    match case.end {
+        End::Nothing => Ok(()),
+        End::Fault(name, call) => is_fault(alloc, tx, (case.shows, name, call)),
+        End::Rows(wanted) => {
+            let rows = tx.query_all(TABLE_OF_EACH_ROW, &[])?;
+            same(case.shows, words_in(alloc, &rows)?.as_str(), wanted)
         }
     }
-    Ok(true)
 }
 
-fn ends<S: Alter>(alloc: Global, tx: &mut Transaction<'_, S>, end: End) -> bool
-    requires in_form { InForm S.Store tx.old.conn.now }
+fn is_fault<S: Alter>(alloc: Global, tx: &mut Transaction<'_, S>, asked: Asked) -> Result<(), Fail>
+    requires in_form { InForm S.Store tx.old }
     ensures same_reference { tx.new.conn.ghost_name ≡ tx.old.conn.ghost_name }
 {
-    match end {
-        End::Nothing => true,
-        End::Fault(name, call) => {
-            is_so(alloc, tx, name, call) == Err(Stop::Fault(Fault::Database))
+    let told = told(alloc, tx, asked.1, asked.2);
+    same(asked, told, Err(Stop::Fault(Fault::Database)))
+}
+
+// The words of the rows, one after another.
+fn words_in(alloc: Global, rows: &[Row]) -> Result<String, Fail> {
+    let mut text = String::new(alloc);
+    for row in rows {
+        text.push_str(" ")?;
+        if let ValueRef::Text(word) = row.get_ref(0)? {
+            text.push_str(str::from_utf8(word)?)?;
         }
-        End::Rows(words) => has_rows(tx, words),
     }
+    Ok(text)
 }
 
-fn has_rows<S: Alter>(tx: &mut Transaction<'_, S>, words: &[&str]) -> bool
-    ensures same_reference { tx.new.conn.ghost_name ≡ tx.old.conn.ghost_name }
-{
-    match tx.query_all(TABLE_OF_EACH_ROW, &[]) {
-        Ok(rows) => are_words(&rows, words),
-        Err(_) => false,
-    }
-}
-
-fn are_words(rows: &[Row], words: &[&str]) -> bool {
-    rows.len() == words.len() && rows.iter().zip(words).all(|(row, word)| is_word(row, word))
-}
-
-fn is_word(row: &Row, word: &str) -> bool {
-    matches!(row.get_ref(0), Ok(ValueRef::Text(text)) if text == word.as_bytes())
-}
-
-fn is_so<S: Alter>(
+fn told<S: Alter>(
     alloc: Global,
     tx: &mut Transaction<'_, S>,
     name: &str,
     call: Call,
-) -> Result<bool, Stop>
-    requires in_form { InForm S.Store tx.old.conn.now }
+) -> Result<String, Stop>
+    requires in_form { InForm S.Store tx.old }
     ensures same_reference { tx.new.conn.ghost_name ≡ tx.old.conn.ghost_name }
-    ensures in_form { OnOk result (InForm S.Store tx.new.conn.now) }
+    ensures in_form { OnOk result (InForm S.Store tx.new) }
 {
     let name = Name::parse(alloc, name)?;
-    is_so_of(alloc, tx, &name, call)
+    told_of(alloc, tx, &name, call)
 }
 
-fn is_so_of<S: Alter>(
+fn told_of<S: Alter>(
     alloc: Global,
     tx: &mut Transaction<'_, S>,
     name: &Name,
     call: Call,
-) -> Result<bool, Stop>
-    requires in_form { InForm S.Store tx.old.conn.now }
+) -> Result<String, Stop>
+    requires in_form { InForm S.Store tx.old }
     ensures same_reference { tx.new.conn.ghost_name ≡ tx.old.conn.ghost_name }
-    ensures in_form { OnOk result (InForm S.Store tx.new.conn.now) }
+    ensures in_form { OnOk result (InForm S.Store tx.new) }
 {
     match call {
-        Call::Status(status) => put_status(tx, name, status),
-        Call::Tag(tag, version) => change_tag(tx, name, TagChange { tag, version }),
-        Call::NoTag => change_no_tag(tx, name),
-        Call::Publish(body, at) => publish(alloc, tx, name, body, at),
-        Call::First(body, at, told) => publish_first(alloc, tx, name, body, at, told),
-        Call::Package(told) => tells_package(alloc, tx, name, told),
-        Call::Manifest(version, told) => tells_manifest(tx, name, version, told),
-        Call::Archive(version, told) => tells_archive(tx, name, version, told),
+        Call::NewStatus(status) => put_status(alloc, tx, name, status, false),
+        Call::OtherStatus(status) => put_status(alloc, tx, name, status, true),
+        Call::Number(number) => put_number(alloc, tx, name, number),
+        Call::Add(body, at) => add(alloc, tx, name, body, Moment::clamped(at)),
+        Call::Publish(body, at) => publish(alloc, tx, name, body, Moment::clamped(at)),
+        Call::Withdrawn(version) => withdraw(alloc, tx, name, version),
+        Call::NewTag(tag, version) => put_tag(alloc, tx, name, (tag, version), false),
+        Call::MovedTag(tag, version) => put_tag(alloc, tx, name, (tag, version), true),
+        Call::DropTag(tag) => drop_tag(alloc, tx, name, tag),
+        Call::Status => Ok(status_text(alloc, load_status(tx, name)?)?),
+        Call::Lives(version) => Ok(word_text(alloc, has_version(tx, name, version)?)?),
+        Call::IsSpent(version) => Ok(word_text(alloc, is_spent(tx, name, version)?)?),
+        Call::HasTag(tag) => Ok(word_text(alloc, has_tag(tx, name, tag)?)?),
+        Call::Tags => Ok(tags_text(alloc, &load_tags(alloc, tx, name)?)?),
+        Call::Versions => Ok(versions_text(alloc, &load_versions(alloc, tx, name)?)?),
+        Call::Archive(version) => archive_text(alloc, &load_archive(tx, name, version)?),
     }
 }
 
 fn put_status<S: Alter>(
+    alloc: Global,
     tx: &mut Transaction<'_, S>,
-    name: &Name,
+    package: &Name,
     status: Status,
-) -> Result<bool, Stop>
-    requires in_form { InForm S.Store tx.old.conn.now }
+    stands: bool,
+) -> Result<String, Stop>
+    requires in_form { InForm S.Store tx.old }
     ensures same_reference { tx.new.conn.ghost_name ≡ tx.old.conn.ghost_name }
-    ensures in_form { OnOk result (InForm S.Store tx.new.conn.now) }
+    ensures in_form { OnOk result (InForm S.Store tx.new) }
 {
-    change_access(tx, &AccessChange::PutStatus { name, status })?;
-    Ok(true)
+    make(
+        tx,
+        &Change::PutStatus {
+            package,
+            status,
+            stands,
+        },
+    )?;
+    done(alloc)
 }
 
-fn change_tag<S: Alter>(
+fn put_number<S: Alter>(
+    alloc: Global,
+    tx: &mut Transaction<'_, S>,
+    package: &Name,
+    number: i64,
+) -> Result<String, Stop>
+    requires in_form { InForm S.Store tx.old }
+    ensures same_reference { tx.new.conn.ghost_name ≡ tx.old.conn.ghost_name }
+    ensures in_form { OnOk result (InForm S.Store tx.new) }
+{
+    write(
+        tx,
+        "INSERT INTO packages VALUES (?1, ?2)",
+        params![package.text(), number],
+    )?;
+    done(alloc)
+}
+
+fn add<S: Alter>(
+    alloc: Global,
     tx: &mut Transaction<'_, S>,
     name: &Name,
-    change: TagChange<'_>,
-) -> Result<bool, Stop>
-    requires in_form { InForm S.Store tx.old.conn.now }
+    body: Body,
+    at: Moment,
+) -> Result<String, Stop>
+    requires in_form { InForm S.Store tx.old }
     ensures same_reference { tx.new.conn.ghost_name ≡ tx.old.conn.ghost_name }
-    ensures in_form { OnOk result (InForm S.Store tx.new.conn.now) }
+    ensures in_form { OnOk result (InForm S.Store tx.new) }
 {
-    set_tags(tx, name, &[change])?;
-    Ok(true)
-}
-
-fn change_no_tag<S: Alter>(tx: &mut Transaction<'_, S>, name: &Name) -> Result<bool, Stop>
-    requires in_form { InForm S.Store tx.old.conn.now }
-    ensures same_reference { tx.new.conn.ghost_name ≡ tx.old.conn.ghost_name }
-    ensures in_form { OnOk result (InForm S.Store tx.new.conn.now) }
-{
-    set_tags(tx, name, &[])?;
-    Ok(true)
+    let form = form_of(alloc, name.text(), body)?;
+    make(
+        tx,
+        &Change::AddVersion {
+            form: &form,
+            at: &at,
+        },
+    )?;
+    done(alloc)
 }
 
 fn publish<S: Alter>(
@@ -227,108 +288,69 @@ fn publish<S: Alter>(
     tx: &mut Transaction<'_, S>,
     name: &Name,
     body: Body,
-    at: i64,
-) -> Result<bool, Stop>
-    requires in_form { InForm S.Store tx.old.conn.now }
-    ensures same_reference { tx.new.conn.ghost_name ≡ tx.old.conn.ghost_name }
-    ensures in_form { OnOk result (InForm S.Store tx.new.conn.now) }
-{
-    let form = form_of(alloc, name.text(), body)?;
-    put_version(tx, &form, Moment::clamped(at))?;
-    Ok(true)
-}
-
-fn publish_first<S: Alter>(
-    alloc: Global,
-    tx: &mut Transaction<'_, S>,
-    name: &Name,
-    body: Body,
-    at: i64,
-    told: &str,
-) -> Result<bool, Stop>
-    requires in_form { InForm S.Store tx.old.conn.now }
-    ensures same_reference { tx.new.conn.ghost_name ≡ tx.old.conn.ghost_name }
-    ensures in_form { OnOk result (InForm S.Store tx.new.conn.now) }
-{
-    let form = form_of(alloc, name.text(), body)?;
-    tells_first(alloc, tx, &form, Moment::clamped(at), told)
-}
-
-fn tells_first<S: Alter>(
-    alloc: Global,
-    tx: &mut Transaction<'_, S>,
-    form: &PublishForm,
     at: Moment,
-    told: &str,
-) -> Result<bool, Stop>
-    requires in_form { InForm S.Store tx.old.conn.now }
+) -> Result<String, Stop>
+    requires in_form { InForm S.Store tx.old }
     ensures same_reference { tx.new.conn.ghost_name ≡ tx.old.conn.ghost_name }
-    ensures in_form { OnOk result (InForm S.Store tx.new.conn.now) }
+    ensures in_form { OnOk result (InForm S.Store tx.new) }
 {
-    let rows = first_publication(alloc, tx, form, Status::Restricted, at)?;
-    is_told(alloc, &rows, told)
+    let form = form_of(alloc, name.text(), body)?;
+    put_version(tx, &form, at)?;
+    done(alloc)
 }
 
-fn tells_package<S: Alter>(
+fn withdraw<S: Alter>(
     alloc: Global,
     tx: &mut Transaction<'_, S>,
-    name: &Name,
-    told: &str,
-) -> Result<bool, Stop>
-    requires in_form { InForm S.Store tx.old.conn.now }
-    ensures same_reference { tx.new.conn.ghost_name ≡ tx.old.conn.ghost_name }
-    ensures in_form { OnOk result (InForm S.Store tx.new.conn.now) }
-{
-    let rows = load_package(alloc, tx, name)?;
-    is_told(alloc, &rows, told)
-}
-
-fn is_told(alloc: Global, rows: &PackageRows, told: &str) -> Result<bool, Stop> {
-    Ok(package_text(alloc, rows)?.as_str() == told)
-}
-
-fn tells_manifest<S: Alter>(
-    tx: &mut Transaction<'_, S>,
-    name: &Name,
+    package: &Name,
     version: &str,
-    told: Option<&str>,
-) -> Result<bool, Stop>
-    requires in_form { InForm S.Store tx.old.conn.now }
+) -> Result<String, Stop>
+    requires in_form { InForm S.Store tx.old }
     ensures same_reference { tx.new.conn.ghost_name ≡ tx.old.conn.ghost_name }
-    ensures in_form { OnOk result (InForm S.Store tx.new.conn.now) }
+    ensures in_form { OnOk result (InForm S.Store tx.new) }
 {
-    let manifest = load_manifest(tx, name, version)?;
-    Ok(is_manifest(&manifest, told))
+    write(
+        tx,
+        "INSERT INTO spent VALUES (?1, ?2, 1, 2)",
+        params![package.text(), version],
+    )?;
+    done(alloc)
 }
 
-fn is_manifest(manifest: &Option<Text>, told: Option<&str>) -> bool {
-    match (manifest, told) {
-        (Some(manifest), Some(told)) => manifest.as_str() == told,
-        (None, None) => true,
-        _ => false,
-    }
-}
-
-fn tells_archive<S: Alter>(
+fn put_tag<S: Alter>(
+    alloc: Global,
     tx: &mut Transaction<'_, S>,
-    name: &Name,
-    version: &str,
-    told: Option<(usize, &str)>,
-) -> Result<bool, Stop>
-    requires in_form { InForm S.Store tx.old.conn.now }
+    package: &Name,
+    named: (&str, &str),
+    stands: bool,
+) -> Result<String, Stop>
+    requires in_form { InForm S.Store tx.old }
     ensures same_reference { tx.new.conn.ghost_name ≡ tx.old.conn.ghost_name }
-    ensures in_form { OnOk result (InForm S.Store tx.new.conn.now) }
+    ensures in_form { OnOk result (InForm S.Store tx.new) }
 {
-    let archive = load_archive(tx, name, version)?;
-    Ok(is_archive(&archive, told))
+    let version = Ver::parse(alloc, named.1)?;
+    make(
+        tx,
+        &Change::PutTag {
+            package,
+            tag: named.0,
+            version: &version,
+            stands,
+        },
+    )?;
+    done(alloc)
 }
 
-fn is_archive(archive: &Option<Blob>, told: Option<(usize, &str)>) -> bool {
-    match (archive, told) {
-        (Some(archive), Some((length, end))) => {
-            archive.as_slice().len() == length && archive.as_slice().ends_with(end.as_bytes())
-        }
-        (None, None) => true,
-        _ => false,
-    }
+fn drop_tag<S: Alter>(
+    alloc: Global,
+    tx: &mut Transaction<'_, S>,
+    package: &Name,
+    tag: &str,
+) -> Result<String, Stop>
+    requires in_form { InForm S.Store tx.old }
+    ensures same_reference { tx.new.conn.ghost_name ≡ tx.old.conn.ghost_name }
+    ensures in_form { OnOk result (InForm S.Store tx.new) }
+{
+    make(tx, &Change::DropTag { package, tag })?;
+    done(alloc)
 }

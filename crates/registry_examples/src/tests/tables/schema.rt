@@ -2,26 +2,25 @@
 
 ghost use Rattle.std.specs.Prelude.{◌≡◌, false};
 
+use crate::tests::outcome::same;
 use registry_names::Fault;
 use registry_tables::{create, opened};
 use sqlite::{Alter, Connection, Constraint, Error, ErrorCode, Transaction};
-use std::alloc::{AllocError, Global};
+use std::alloc::Global;
+use std::test::Fail;
 
 #[test]
-fn tables_are_as_they_are_made(rt: HostRuntime) -> Result<(), &'static str> {
-    all_come_out(rt.alloc(), &CASES)
-}
-
-/// Steps on an empty database, one after another.
-struct Case {
-    /// What they show.
-    shows: &'static str,
-    /// The steps, each with what comes of it.
-    steps: &'static [Step],
+fn tables_are_as_they_are_made(rt: HostRuntime) -> Result<(), Fail> {
+    let alloc = rt.alloc();
+    for (shows, steps) in &CASES {
+        let mut conn = Connection::open_in_memory(alloc)?;
+        comes_out_on(&mut conn, shows, *steps)?;
+    }
+    Ok(())
 }
 
 /// What is done, and what comes of it.
-#[derive(Clone, Copy)]
+#[derive(Clone, Copy, Debug)]
 enum Step {
     /// The tables are made.
     Create(Result<(), Fault>),
@@ -35,30 +34,94 @@ enum Step {
     Rows(&'static str, usize),
 }
 
-static CASES: [Case; 6] = [
-    Case {
-        shows: "a made database tells the schema",
-        steps: &[
+const BROKEN_KEY: Error = Error::SqliteFailure(ErrorCode::ConstraintViolation(
+    Constraint::ForeignKey,
+));
+
+/// What steps on an empty database show, and the steps, one after another.
+static CASES: [(&str, &[Step]); 14] = [
+    (
+        "a made database tells the schema",
+        &[
             Step::Schema(Ok(None)),
             Step::Create(Ok(())),
             Step::Schema(Ok(Some(1))),
         ],
-    },
-    Case {
-        shows: "tables are made once",
-        steps: &[Step::Create(Ok(())), Step::Create(Err(Fault::Database))],
-    },
-    Case {
-        shows: "tables without a number are a fault",
-        steps: &[
+    ),
+    (
+        "another number is told too",
+        &[
+            Step::Run("CREATE TABLE meta (name TEXT, value INTEGER)"),
+            Step::Run("INSERT INTO meta VALUES ('schema', 7)"),
+            Step::Schema(Ok(Some(7))),
+        ],
+    ),
+    (
+        "a number that is no number of a schema is a fault",
+        &[
+            Step::Create(Ok(())),
+            Step::Run("UPDATE meta SET value = -1"),
+            Step::Schema(Err(Fault::Database)),
+        ],
+    ),
+    (
+        "tables without a number are a fault",
+        &[
             Step::Create(Ok(())),
             Step::Run("DELETE FROM meta"),
             Step::Schema(Err(Fault::Database)),
         ],
-    },
-    Case {
-        shows: "the tables are empty, and only meta has a row",
-        steps: &[
+    ),
+    (
+        "one of the tables alone is a fault",
+        &[
+            Step::Run("CREATE TABLE users (name TEXT NOT NULL, PRIMARY KEY (name)) STRICT"),
+            Step::Schema(Err(Fault::Database)),
+        ],
+    ),
+    (
+        "a table of another is a fault",
+        &[
+            Step::Run("CREATE TABLE notes (text TEXT)"),
+            Step::Schema(Err(Fault::Database)),
+        ],
+    ),
+    (
+        "a database whose tables are gone has none",
+        &[
+            Step::Run("CREATE TABLE notes (text TEXT)"),
+            Step::Run("DROP TABLE notes"),
+            Step::Schema(Ok(None)),
+        ],
+    ),
+    (
+        "tables are made once",
+        &[Step::Create(Ok(())), Step::Create(Err(Fault::Database))],
+    ),
+    (
+        "tables aren't made where the first is there",
+        &[
+            Step::Run("CREATE TABLE users (name TEXT)"),
+            Step::Create(Err(Fault::Database)),
+        ],
+    ),
+    (
+        "tables aren't made where one between is there",
+        &[
+            Step::Run("CREATE TABLE packages (name TEXT)"),
+            Step::Create(Err(Fault::Database)),
+        ],
+    ),
+    (
+        "tables aren't made where the last is there",
+        &[
+            Step::Run("CREATE TABLE need_ranges (name TEXT)"),
+            Step::Create(Err(Fault::Database)),
+        ],
+    ),
+    (
+        "the tables are empty, and only meta has a row",
+        &[
             Step::Create(Ok(())),
             Step::Rows("SELECT name FROM sqlite_schema WHERE type = 'table'", 15),
             Step::Rows(
@@ -66,17 +129,17 @@ static CASES: [Case; 6] = [
                 1,
             ),
         ],
-    },
-    Case {
-        shows: "a version needs its package",
-        steps: &[
+    ),
+    (
+        "a version needs its package",
+        &[
             Step::Create(Ok(())),
             Step::BreakKey("INSERT INTO versions VALUES ('kit', '1.0.0', 0, '{}', '', x'00')"),
         ],
-    },
-    Case {
-        shows: "a need goes with its version",
-        steps: &[
+    ),
+    (
+        "a need goes with its version",
+        &[
             Step::Create(Ok(())),
             Step::Run("INSERT INTO packages VALUES ('kit', 1)"),
             Step::Run("INSERT INTO versions VALUES ('kit', '1.0.0', 0, '{}', '', x'00')"),
@@ -85,66 +148,37 @@ static CASES: [Case; 6] = [
             Step::Run("DELETE FROM versions"),
             Step::Rows("SELECT range FROM need_ranges WHERE target = 'left'", 0),
         ],
-    },
+    ),
 ];
 
-// The error tells what the first case shows that comes out otherwise.
-fn all_come_out(alloc: Global, cases: &[Case]) -> Result<(), &'static str> {
-    for case in cases {
-        if comes_out(alloc, case.steps) != Ok(true) {
-            return Err(case.shows);
-        }
+fn comes_out_on<S: Alter>(conn: &mut Connection<S>, shows: &str, steps: &[Step]) -> Result<(), Fail>
+    requires idle { conn.old.in_transaction ≡ false }
+{
+    let mut tx = conn.transaction();
+    all_come_out(&mut tx, shows, steps)
+}
+
+fn all_come_out<S: Alter>(
+    tx: &mut Transaction<'_, S>,
+    shows: &str,
+    steps: &[Step],
+) -> Result<(), Fail>
+    ensures same_reference { tx.new.conn.ghost_name ≡ tx.old.conn.ghost_name }
+{
+    for step in steps {
+        comes_out(tx, (shows, *step))?;
     }
     Ok(())
 }
 
-fn comes_out(alloc: Global, steps: &[Step]) -> Result<bool, AllocError> {
-    let mut conn = Connection::open_in_memory(alloc)?;
-    Ok(comes_out_on(&mut conn, steps))
-}
-
-fn comes_out_on<S: Alter>(conn: &mut Connection<S>, steps: &[Step]) -> bool
-    requires idle { conn.old.in_transaction ≡ false }
-{
-    let mut tx = conn.transaction();
-    are_so(&mut tx, steps)
-}
-
-fn are_so<S: Alter>(tx: &mut Transaction<'_, S>, steps: &[Step]) -> bool
+fn comes_out<S: Alter>(tx: &mut Transaction<'_, S>, case: (&str, Step)) -> Result<(), Fail>
     ensures same_reference { tx.new.conn.ghost_name ≡ tx.old.conn.ghost_name }
 {
-    for step in steps {
-        if !is_so(tx, step) {
-            return false;
-        }
-    }
-    true
-}
-
-fn is_so<S: Alter>(tx: &mut Transaction<'_, S>, step: &Step) -> bool
-    ensures same_reference { tx.new.conn.ghost_name ≡ tx.old.conn.ghost_name }
-{
-    match step {
-        Step::Create(made) => create(tx) == *made,
-        Step::Schema(number) => opened(tx) == *number,
-        Step::Run(text) => tx.execute(text, &[]).is_ok(),
-        Step::BreakKey(text) => is_broken_key(&tx.execute(text, &[])),
-        Step::Rows(text, count) => gives(tx, text, *count),
-    }
-}
-
-fn is_broken_key(ran: &Result<usize, Error>) -> bool {
-    matches!(
-        ran,
-        Err(Error::SqliteFailure(ErrorCode::ConstraintViolation(Constraint::ForeignKey)))
-    )
-}
-
-fn gives<S: Alter>(tx: &mut Transaction<'_, S>, text: &str, count: usize) -> bool
-    ensures same_reference { tx.new.conn.ghost_name ≡ tx.old.conn.ghost_name }
-{
-    match tx.query_all(text, &[]) {
-        Ok(rows) => rows.len() == count,
-        Err(_) => false,
+    match case.1 {
+        Step::Create(made) => same(case, create(tx), made),
+        Step::Schema(number) => same(case, opened(tx), number),
+        Step::Run(text) => same(case, tx.execute(text, &[]).err(), None),
+        Step::BreakKey(text) => same(case, tx.execute(text, &[]).err(), Some(BROKEN_KEY)),
+        Step::Rows(text, count) => same(case, tx.query_all(text, &[])?.len(), count),
     }
 }

@@ -1,13 +1,13 @@
 //! Bodies of publications, and texts that tell what was loaded.
 
 use crate::tests::body::{ABC, body_of};
-use registry_names::{DistTag, Status, Stop};
+use registry_names::{Blob, DistTag, Status, Stop};
+use registry_packument::VersionRow;
 use registry_publish::PublishForm;
-use registry_rules::{LiveVersion, PackageRows};
 use std::alloc::{AllocError, Global};
 
 /// The body of a publication.
-#[derive(Clone, Copy)]
+#[derive(Clone, Copy, Debug)]
 pub enum Body {
     /// One of this version, whose manifest has its name and its version alone, with the archive
     /// `abc`.
@@ -42,49 +42,56 @@ fn archive_body(
     body_of(alloc, name, version, &archive)
 }
 
-/// The status of a package, its versions with the seconds when they were published, and its tags.
-pub fn package_text(alloc: Global, rows: &PackageRows) -> Result<String, AllocError> {
-    let mut text = String::from_str(alloc, status_text(rows.status))?;
-    push_versions(alloc, &mut text, &rows.live)?;
-    push_tags(alloc, &mut text, &rows.tags)?;
+/// What a call tells that only writes.
+pub fn done(alloc: Global) -> Result<String, Stop> {
+    Ok(String::from_str(alloc, "done")?)
+}
+
+/// `true` or `false`.
+pub fn word_text(alloc: Global, is_so: bool) -> Result<String, AllocError> {
+    format!(in alloc; "{is_so}")
+}
+
+/// The word of a status, or `none`.
+pub fn status_text(alloc: Global, status: Option<Status>) -> Result<String, AllocError> {
+    let word = match status {
+        Some(Status::Public) => "public",
+        Some(Status::Restricted) => "restricted",
+        None => "none",
+    };
+    String::from_str(alloc, word)
+}
+
+/// Each tag with its version, after a space.
+pub fn tags_text(alloc: Global, tags: &[DistTag]) -> Result<String, AllocError> {
+    let mut text = String::new(alloc);
+    for named in tags {
+        let tag = named.tag.as_str();
+        let version = named.version.as_str();
+        text.push_str(&format!(in alloc; " {tag}={version}")?)?;
+    }
     Ok(text)
 }
 
-fn status_text(status: Option<Status>) -> &'static str {
-    match status {
-        Some(Status::Public) => "public",
-        Some(Status::Restricted) => "restricted",
-        None => "unpublished",
+/// Each version with its manifest and its message in brackets, after a space.
+pub fn versions_text(alloc: Global, rows: &[VersionRow]) -> Result<String, AllocError> {
+    let mut text = String::new(alloc);
+    for row in rows {
+        let version = row.version.as_str();
+        let manifest = row.manifest.as_str();
+        let message = row.message.as_str();
+        text.push_str(&format!(in alloc; " {version} {manifest} [{message}]")?)?;
     }
+    Ok(text)
 }
 
-fn push_versions(
-    alloc: Global,
-    text: &mut String,
-    versions: &[LiveVersion],
-) -> Result<(), AllocError> {
-    for version in versions {
-        text.push_str(&version_text(alloc, version)?)?;
-    }
-    Ok(())
-}
-
-fn version_text(alloc: Global, live: &LiveVersion) -> Result<String, AllocError> {
-    let version = live.version.as_str();
-    let at = live.published.seconds();
-    let message = live.message.as_str();
-    format!(in alloc; " {version}@{at}{message}")
-}
-
-fn push_tags(alloc: Global, text: &mut String, tags: &[DistTag]) -> Result<(), AllocError> {
-    for tag in tags {
-        text.push_str(&tag_text(alloc, tag)?)?;
-    }
-    Ok(())
-}
-
-fn tag_text(alloc: Global, named: &DistTag) -> Result<String, AllocError> {
-    let tag = named.tag.as_str();
-    let version = named.version.as_str();
-    format!(in alloc; " {tag}={version}")
+/// The length of an archive, and the text of its last three bytes; or `none`.
+pub fn archive_text(alloc: Global, archive: &Option<Blob>) -> Result<String, Stop> {
+    let Some(archive) = archive else {
+        return Ok(String::from_str(alloc, "none")?);
+    };
+    let bytes = archive.as_slice();
+    let length = bytes.len();
+    let end = str::from_utf8(&bytes[length.saturating_sub(3)..]).unwrap_or("no text");
+    Ok(format!(in alloc; "{length} {end}")?)
 }

@@ -1,5 +1,5 @@
 use Rattle.std.proofs.Common.{◌≡◌}
-use Rattle.registry_examples.proofs.tests.tables.schema.are_so.Given as goal
+use Rattle.registry_examples.proofs.tests.tables.schema.all_come_out.Given as goal
 
 -- the transaction is the one that was handed in
 abbrev pub invariant-loop-step : goal.invariant-loop-step
