@@ -56,8 +56,8 @@ fn have_replies(alloc: Global, requests: &[Request], steps: &[Step]) -> Result<b
 }
 
 fn all_at_once(alloc: Global, requests: &[Request]) -> Result<Outcomes, Fault> {
-    let mut registry = Registry::in_memory(alloc)?;
-    registry.run(alloc, requests)
+    let (_registry, outcomes) = Registry::run_in_memory(alloc, requests)?;
+    Ok(outcomes)
 }
 
 fn one_by_one(alloc: Global, requests: &[Request]) -> Result<Outcomes, Fault> {
