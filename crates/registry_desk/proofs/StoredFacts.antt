@@ -1,5 +1,5 @@
 -- Runs, one request at a time, and what they leave of all that is stored.
-use Rattle.std.proofs.Common.{◌≡◌, ◌⊎◌, inl, inr, ◌∙◌, arith, List, [], ◌∷◌, ◌++◌, Ok, Err, OnOk, IsTrue, true≢false, refl, sym, ap, subst}
+use Rattle.std.proofs.Common.{◌≡◌, inl, inr, ◌∙◌, arith, List, [], ◌∷◌, ◌++◌, Ok, Err, OnOk, IsTrue, true≢false, refl, sym, ap, subst}
 use Rattle.std.specs.Prelude.{is_ok}
 use Rattle.sqlite.specs.State.{State as Shown, HasCleanDisk}
 use Rattle.sqlite.proofs.StateLemmas.{survives_then}

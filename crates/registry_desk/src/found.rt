@@ -1,19 +1,18 @@
 //! What the tables hold of an action. Nothing is changed.
 
-ghost use Rattle.sqlite.specs.Held.{state};
 ghost use Rattle.registry_rows.specs.Frames.{Stays};
-ghost use Rattle.registry_publish.specs.Form.{FormParts};
-ghost use Rattle.registry_rules.specs.Facts.{ArePublishFacts};
 ghost use Rattle.registry_tables.specs.Contents.{registry_of};
 ghost use Rattle.registry_tables.specs.Effects.{InForm, Tells};
 ghost use Rattle.registry_desk.specs.Found.{IsFoundFor};
-ghost use Rattle.registry_rules.specs.declared.request.Action as action;
+ghost use Rattle.registry_rules.specs.declared.request.Action.TheVariants as asked;
 
 use registry_names::{Blob, DistTag, Fault, LATEST, Name, TagText, Ver};
 use registry_packument::VersionRow;
 use registry_publish::PublishForm;
 use registry_rules::{About, Action, PublishFacts};
-use registry_tables::{has_tag, has_version, is_spent, load_archive, load_status, load_tags, load_versions};
+use registry_tables::{
+    has_tag, has_version, is_spent, load_archive, load_status, load_tags, load_versions,
+};
 use sqlite::{Alter, Transaction};
 use std::alloc::Global;
 
@@ -65,14 +64,11 @@ pub(crate) fn find<S: Alter>(
     }
 }
 
-fn find_publish<S: Alter>(
-    tx: &mut Transaction<'_, S>,
-    form: &PublishForm,
-) -> Result<Found, Fault>
+fn find_publish<S: Alter>(tx: &mut Transaction<'_, S>, form: &PublishForm) -> Result<Found, Fault>
     requires in_form { InForm S.Store tx.old }
     ensures stays { Stays S.Store tx.old tx.new }
     ensures tells { Tells S.Store tx.old tx.new result
-        (λ found c. IsFoundFor found (registry_of c) (action.Action.Publish form.now)) }
+        (λ found c. IsFoundFor found (registry_of c) (asked.Publish form.now)) }
 {
     let (name, version) = (form.name(), form.version().text());
     let facts = PublishFacts {
@@ -97,7 +93,7 @@ fn find_tag_set<S: Alter>(
     requires in_form { InForm S.Store tx.old }
     ensures stays { Stays S.Store tx.old tx.new }
     ensures tells { Tells S.Store tx.old tx.new result
-        (λ found c. IsFoundFor found (registry_of c) (action.Action.TagSet name.now tag.now version.now)) }
+        (λ found c. IsFoundFor found (registry_of c) (asked.TagSet name.now tag.now version.now)) }
 {
     let about = About::TagSet {
         version_lives: has_version(tx, name, version.text())?,
@@ -117,7 +113,7 @@ fn find_tag<S: Alter>(
     requires in_form { InForm S.Store tx.old }
     ensures stays { Stays S.Store tx.old tx.new }
     ensures tells { Tells S.Store tx.old tx.new result
-        (λ found c. IsFoundFor found (registry_of c) (action.Action.TagRemove name.now tag.now)) }
+        (λ found c. IsFoundFor found (registry_of c) (asked.TagRemove name.now tag.now)) }
 {
     let about = About::TagRemove {
         tag_stands: has_tag(tx, name, tag.text())?,
@@ -136,7 +132,7 @@ fn find_packument<S: Alter>(
     requires in_form { InForm S.Store tx.old }
     ensures stays { Stays S.Store tx.old tx.new }
     ensures tells { Tells S.Store tx.old tx.new result
-        (λ found c. IsFoundFor found (registry_of c) (action.Action.Packument name.now)) }
+        (λ found c. IsFoundFor found (registry_of c) (asked.Packument name.now)) }
 {
     let versions = load_versions(alloc, tx, name)?;
     let tags = load_tags(alloc, tx, name)?;
@@ -156,7 +152,7 @@ fn find_archive<S: Alter>(
     requires in_form { InForm S.Store tx.old }
     ensures stays { Stays S.Store tx.old tx.new }
     ensures tells { Tells S.Store tx.old tx.new result
-        (λ found c. IsFoundFor found (registry_of c) (action.Action.Archive name.now version.now)) }
+        (λ found c. IsFoundFor found (registry_of c) (asked.Archive name.now version.now)) }
 {
     let archive = load_archive(tx, name, version.text())?;
     Ok(Found {
@@ -175,7 +171,7 @@ fn find_tags<S: Alter>(
     requires in_form { InForm S.Store tx.old }
     ensures stays { Stays S.Store tx.old tx.new }
     ensures tells { Tells S.Store tx.old tx.new result
-        (λ found c. IsFoundFor found (registry_of c) (action.Action.Tags name.now)) }
+        (λ found c. IsFoundFor found (registry_of c) (asked.Tags name.now)) }
 {
     let versions = load_versions(alloc, tx, name)?;
     let tags = load_tags(alloc, tx, name)?;

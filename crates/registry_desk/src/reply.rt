@@ -31,7 +31,8 @@ pub(crate) fn reply(alloc: Global, what: &Action, rows: Rows) -> Result<Reply, F
     }
 }
 
-// The packument of a package, whose versions and tags these are. A database gives its rows in order.
+// The packument of a package, whose versions and tags these are. A database gives its rows in
+// order.
 fn packument(
     alloc: Global,
     name: &Name,
@@ -52,7 +53,8 @@ fn packument(
 
 // The text of a package's tags.
 fn tags_of(alloc: Global, tags: Vec<DistTag>) -> Result<Text, Fault>
-    ensures { IfOk result (λ text. (S : State) (p : Sequence ℕ) → map tag_entry tags.items ≡ of S.tags p
+    ensures { IfOk result (λ text. (S : State) (p : Sequence ℕ)
+        → map tag_entry tags.items ≡ of S.tags p
         → text ≡ tags_in S p) }
 {
     Ok(list_text(alloc, &List::Tags(tags))?)

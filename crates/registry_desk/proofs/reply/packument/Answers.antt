@@ -1,4 +1,4 @@
-use Rattle.std.proofs.Common.{◌≡◌, ◌∙◌, ap, sym, List, Option, Some}
+use Rattle.std.proofs.Common.{◌∙◌, ap, sym}
 use Rattle.std.proofs.lemmas.Result.{IfOk-weaker}
 use Rattle.registry_names.specs.Texts.{Text}
 use Rattle.registry_packument.specs.Packuments.{packument_of}
@@ -10,5 +10,5 @@ returns c =
     let same = c.in_ok-name.ensures ∙ c.text.ensures.text in
     IfOk-weaker c.packument_text.result _ _
     (λ text written S shown named. packument_is S c.args.name.now c.args.tags.items c.args.versions.items text
-        (ap (λ (p : Text). packument_of p c.args.tags.items c.args.versions.items) (sym same) ∙ ap (packument_of c.in_ok-name.name c.args.tags.items) (sym c.in-Some.ensures) ∙ written) shown named)
+    (ap (λ (p : Text). packument_of p c.args.tags.items c.args.versions.items) (sym same) ∙ ap (packument_of c.in_ok-name.name c.args.tags.items) (sym c.in-Some.ensures) ∙ written) shown named)
     c.packument_text.ensures.ok
