@@ -20,3 +20,5 @@ pub mod OrderFacts
 pub mod QueryFacts
 pub mod ListingFacts
 pub mod LookUpFacts
+pub mod CountFacts
+mod Examples

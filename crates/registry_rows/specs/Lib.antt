@@ -9,3 +9,4 @@ pub mod Laws
 pub mod CreateLaws
 pub mod WriteLaws
 pub mod QueryLaws
+pub mod Counting
