@@ -3,17 +3,20 @@
 KIT := $(shell command -v rt 2>/dev/null)
 PROGRAM := crates/registry_main
 BENCH := crates/registry_bench
-BODY := examples/lab-kit-1.0.0.publish.json
+EXAMPLE := examples/lab-kit-1.0.0.publish.json
 PACKUMENT := examples/lab-kit-1.0.0.packument.json
+BODY := $(EXAMPLE)
 
-.PHONY: help run build bench test examples check fmt kit
+.PHONY: help try run build bench test examples check fmt kit
 
 help:
-	@echo 'make run    publish $(BODY) to an empty registry, and print its packument'
-	@echo 'make build  leave the program as out/registry'
-	@echo 'make bench  print how long publishes, packuments and the reading of bodies take'
-	@echo 'make test   the gate: prove every crate from nothing, and run every test'
+	@echo 'make try    run the program before any proof: 2 minutes, and nothing is proved'
+	@echo 'make run    prove and build the program, publish $(BODY)'
+	@echo '            to an empty registry, and print its packument: 20 minutes at first'
+	@echo 'make build  the same, but for the publish: leave the program as out/registry'
+	@echo 'make test   the gate: prove every crate from nothing, and run every test: 40 minutes'
 	@echo 'make check  prove every crate over what earlier checks kept'
+	@echo 'make bench  print how long publishes, packuments and the reading of bodies take'
 	@echo 'make fmt    lay out the files'
 
 kit:
@@ -22,10 +25,16 @@ ifeq ($(KIT),)
 	@exit 1
 endif
 
-# The prover tells how far it is on standard error, which is shown only where it fails.
+try: kit
+	@echo 'running the program before any proof' >&2
+	@(cd $(PROGRAM) && rt try) < $(BODY)
+	@echo 'Nothing was proved: make run proves the program.' >&2
+
+# A program stands in out/ only where this proof passes. It is run once, on the example.
 build: kit
 	@mkdir -p out
-	@cd $(PROGRAM) && rt run < /dev/null > ../../out/build.log 2>&1; test -x out/registry_main || { cat ../../out/build.log >&2; exit 1; }
+	@rm -f out/registry
+	@tools/prove registry_main out/build.log < $(EXAMPLE) > /dev/null
 	@cp $(PROGRAM)/out/registry_main out/registry
 
 run: build
@@ -33,7 +42,7 @@ run: build
 
 bench: kit
 	@mkdir -p out
-	@cd $(BENCH) && rt run < /dev/null > ../../out/bench.log 2>&1 || { cat ../../out/bench.log >&2; exit 1; }
+	@tools/prove registry_bench out/bench.log < /dev/null > /dev/null
 	@$(BENCH)/out/registry_bench full
 
 test: kit examples
@@ -41,7 +50,7 @@ test: kit examples
 
 # The gate runs the program on its own copies of the example.
 examples:
-	@cmp $(BODY) $(PROGRAM)/stdin
+	@cmp $(EXAMPLE) $(PROGRAM)/stdin
 	@cmp $(PACKUMENT) $(PROGRAM)/stdout
 
 check: kit

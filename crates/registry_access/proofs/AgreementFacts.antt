@@ -1,13 +1,13 @@
 -- States that agree on what an ask concerns allow the same, and a standing that stands for a state says what the state says.
 use Rattle.std.proofs.Common.{◌≡◌, Some, None, Option, is_some, refl, ap, ap₂, ◌∙◌}
 use Rattle.registry_names.specs.Texts.{Text}
+use Rattle.registry_names.specs.Names.{scope_of}
 use Rattle.registry_access.specs.Access.{Access}
 use Rattle.registry_access.specs.Agreement.{SameOrganisation, SamePackage, SameFor}
 use Rattle.registry_access.specs.Callers.{is_maintainer, granted}
 use Rattle.registry_access.specs.Policy.{may_manage_members, may_manage_teams, may_see_organisation, may_read, may_write, may_manage_maintainers, may_publish, allowed_at, allowed_in}
 use Rattle.registry_access.specs.Positions.{has_scope, scope_role, position_in}
 use Rattle.registry_access.specs.RowsFor.{StandsFor, asked_package}
-use Rattle.registry_access.specs.Scopes.{scope_of}
 use Rattle.registry_access.specs.Standings.{is_listed, position_of}
 use Rattle.registry_access.specs.declared.role.Role.{Role}
 use Rattle.registry_access.specs.declared.caller.Caller.{Caller}

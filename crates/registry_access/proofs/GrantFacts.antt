@@ -1,12 +1,14 @@
 -- What a user's teams are granted: read from rows, and team by team.
 use Rattle.std.proofs.Common.{◌≡◌, Bool, true, false, ◌&&◌, is_some, List, None, Option, refl, sym, ap, ◌∙◌, true≢false, if◌then◌else◌}
 use Rattle.std.proofs.lemmas.Bool.{and_parts, and_from}
+use Rattle.std.specs.Cmp.{both_ways}
 use Rattle.std.specs.List.{list_any}
 use Rattle.registry_names.specs.Texts.{Text, is}
 use Rattle.registry_names.specs.Keys.{Triple}
 use Rattle.registry_names.specs.Maps.{at}
 use Rattle.registry_names.proofs.TextFacts.{is_true, is_self}
 use Rattle.registry_names.proofs.KeyFacts.{triple_key}
+use Rattle.registry_names.proofs.RowFacts.{any_in, any_here, any-rows}
 use Rattle.registry_access.specs.Access.{Access}
 use Rattle.registry_access.specs.Callers.{grants, granted, team_grant, team_granted}
 use Rattle.registry_access.specs.RowMaps.{state_of, team_member_entry}
@@ -15,7 +17,6 @@ use Rattle.registry_access.specs.declared.caller.Caller.{Caller}
 use Rattle.registry_access.specs.declared.caller.Caller.TheVariants.{Operator, User, Anonymous}
 use Rattle.registry_access.specs.declared.levels.Level.{Level}
 use Rattle.registry_access.specs.declared.rows.AccessRows.{AccessRows}
-use Rattle.registry_access.proofs.RowFacts.{both_ways, any_in, any_here, any-rows}
 
 -- whether a key of a team's member is the user's, and the team is granted the level
 abbrev reaches : Access → Text → Text → Level → Triple → Bool

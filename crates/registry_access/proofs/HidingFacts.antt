@@ -2,6 +2,7 @@
 use Rattle.std.proofs.Common.{◌≡◌, Bool, true, false, cond, not, ◌&&◌, is_some, Some, None, Option, Ok, Err, refl, sym, ap, ◌∙◌, true≢false, if◌then◌else◌}
 use Rattle.registry_names.specs.Texts.{Text, is}
 use Rattle.registry_names.specs.Maps.{at}
+use Rattle.registry_names.specs.Names.{scope_of}
 use Rattle.registry_names.specs.declared.refusal.Rule.TheVariants.{A4, A5, A6, A7, A8}
 use Rattle.registry_names.specs.declared.refusal.Refusal.TheVariants.{NotFound, Denied}
 use Rattle.registry_names.specs.declared.status.Status.{Status}
@@ -15,7 +16,6 @@ use Rattle.registry_access.specs.Hiding.{without, UnscopedArePublic, UnreadAreHi
 use Rattle.registry_access.specs.Levels.{reads, writes}
 use Rattle.registry_access.specs.Policy.{for_known, where_found, by_rule, may_manage_maintainers, may_publish, may_manage_members, may_manage_teams, may_see_organisation}
 use Rattle.registry_access.specs.Positions.{has_organisation, has_scope, scope_role, position_in, level_at, level_in}
-use Rattle.registry_access.specs.Scopes.{scope_of}
 use Rattle.registry_access.specs.declared.role.Role.{Role}
 use Rattle.registry_access.specs.declared.levels.Level.{Level}
 use Rattle.registry_access.specs.declared.levels.Level.TheVariants.{Nothing}

@@ -3,6 +3,4 @@ pub mod GrantFacts
 pub mod HidingFacts
 pub mod LawFacts
 pub mod LevelFacts
-pub mod RowFacts
-pub mod ScopeFacts
 pub mod WholeFacts

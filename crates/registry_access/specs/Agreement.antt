@@ -2,10 +2,10 @@
 use Rattle.std.specs.Prelude.{◌≡◌, Some}
 use Rattle.registry_names.specs.Texts.{Text}
 use Rattle.registry_names.specs.Maps.{at}
+use Rattle.registry_names.specs.Names.{scope_of}
 use Rattle.registry_access.specs.Access.{Access}
 use Rattle.registry_access.specs.Callers.{role_of, is_maintainer, team_grant}
 use Rattle.registry_access.specs.Positions.{has_organisation}
-use Rattle.registry_access.specs.Scopes.{scope_of}
 use Rattle.registry_access.specs.declared.caller.Caller.{Caller}
 use Rattle.registry_access.specs.declared.ask.Ask.{Ask}
 use Rattle.registry_access.specs.declared.ask.Ask.TheVariants.{Operate, OrgMembers, OrgTeams, Publish, Write, Owners, Read, OrgRead}

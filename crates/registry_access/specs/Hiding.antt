@@ -2,11 +2,11 @@
 use Rattle.std.specs.Prelude.{◌≡◌, ◌≢◌, Bool, false, not, ◌&&◌, is_some, Some, None}
 use Rattle.registry_names.specs.Texts.{Text, is}
 use Rattle.registry_names.specs.Maps.{at, erase, keep}
+use Rattle.registry_names.specs.Names.{scope_of}
 use Rattle.registry_names.specs.declared.status.Status.TheVariants.{Restricted}
 use Rattle.registry_access.specs.Access.{Access}
 use Rattle.registry_access.specs.Policy.{allowed_in}
 use Rattle.registry_access.specs.Positions.{scope_role, level_in}
-use Rattle.registry_access.specs.Scopes.{scope_of}
 use Rattle.registry_access.specs.declared.levels.Level.TheVariants.{Nothing}
 use Rattle.registry_access.specs.declared.caller.Caller.{Caller}
 use Rattle.registry_access.specs.declared.ask.Ask.{Ask}

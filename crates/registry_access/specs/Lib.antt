@@ -8,5 +8,4 @@ pub mod Policy
 pub mod Positions
 pub mod RowMaps
 pub mod RowsFor
-pub mod Scopes
 pub mod Standings

@@ -1,5 +1,6 @@
 -- The policy: for each thing that can be asked for, the rule that allows it, or the first of NoCaller, NotFound and Denied that refuses it.
 use Rattle.std.specs.Prelude.{Bool, is_some, Option, Result, Ok, Err, if◌then◌else◌}
+use Rattle.registry_names.specs.Names.{scope_of}
 use Rattle.registry_names.specs.declared.refusal.Rule.{Rule}
 use Rattle.registry_names.specs.declared.refusal.Rule.TheVariants.{A1, A2, A3, A4, A5, A6, A7, A8, A9}
 use Rattle.registry_names.specs.declared.refusal.Refusal.{Refusal}
@@ -8,7 +9,6 @@ use Rattle.registry_access.specs.Access.{Access}
 use Rattle.registry_access.specs.Callers.{is_operator, is_user, role_of}
 use Rattle.registry_access.specs.Levels.{reads, writes, is_owner, is_owner_or_admin}
 use Rattle.registry_access.specs.Positions.{has_organisation, level_at, position_in}
-use Rattle.registry_access.specs.Scopes.{scope_of}
 use Rattle.registry_access.specs.declared.role.Role.{Role}
 use Rattle.registry_access.specs.declared.caller.Caller.{Caller}
 use Rattle.registry_access.specs.declared.caller.Caller.TheVariants.{Operator, User, Anonymous}

@@ -2,11 +2,11 @@
 use Rattle.std.specs.Prelude.{Bool, false, ◌||◌, is_some, Option, Some, None, if◌then◌else◌}
 use Rattle.registry_names.specs.Texts.{Text}
 use Rattle.registry_names.specs.Maps.{at}
+use Rattle.registry_names.specs.Names.{scope_of}
 use Rattle.registry_names.specs.declared.status.Status.{Status}
 use Rattle.registry_access.specs.Access.{Access}
 use Rattle.registry_access.specs.Callers.{role_of, is_maintainer, granted}
 use Rattle.registry_access.specs.Levels.{larger, greatest, open_level, is_owner_or_admin}
-use Rattle.registry_access.specs.Scopes.{scope_of}
 use Rattle.registry_access.specs.declared.role.Role.{Role}
 use Rattle.registry_access.specs.declared.levels.Level.{Level}
 use Rattle.registry_access.specs.declared.levels.Level.TheVariants.{Nothing, Write}

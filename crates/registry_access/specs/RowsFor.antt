@@ -2,12 +2,12 @@
 use Rattle.std.specs.Prelude.{◌≡◌, Option, Some, None}
 use Rattle.registry_names.specs.Texts.{Text}
 use Rattle.registry_names.specs.Maps.{at}
+use Rattle.registry_names.specs.Names.{scope_of}
 use Rattle.registry_access.specs.Access.{Access}
 use Rattle.registry_access.specs.Agreement.{SamePackage, SameFor}
 use Rattle.registry_access.specs.Callers.{is_maintainer, granted}
 use Rattle.registry_access.specs.Positions.{has_scope, scope_role}
 use Rattle.registry_access.specs.RowMaps.{state_of}
-use Rattle.registry_access.specs.Scopes.{scope_of}
 use Rattle.registry_access.specs.Standings.{is_listed}
 use Rattle.registry_access.specs.declared.levels.Level.{Level}
 use Rattle.registry_access.specs.declared.caller.Caller.{Caller}

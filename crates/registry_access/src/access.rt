@@ -16,7 +16,7 @@ use crate::policy::{
     may_manage_maintainers, may_manage_members, may_manage_teams, may_operate, may_publish,
     may_read, may_see_organisation, may_write,
 };
-use crate::position::{Position, scope_of};
+use crate::position::Position;
 use crate::rows::AccessRows;
 use crate::standing::Standing;
 use registry_names::{Ident, Name, Refusal, Rule};
@@ -99,7 +99,7 @@ fn by_position(caller: &Caller, ask: &Ask, at: Position) -> Result<Rule, Refusal
     ensures { result ≡ allowed_at caller.now ask.now at }
 {
     match *ask {
-        Ask::Publish(name) => may_publish(caller, scope_of(name).is_some(), at),
+        Ask::Publish(name) => may_publish(caller, name.scope().is_some(), at),
         Ask::Write(_) => may_write(caller, at),
         Ask::Owners(_) => may_manage_maintainers(caller, at),
         Ask::Read(_) => may_read(at),

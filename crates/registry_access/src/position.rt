@@ -1,11 +1,10 @@
 //! How a caller stands to a package, and the level that follows from it.
 
-ghost use Rattle.std.specs.Prelude.{◌≡◌, option_map};
+ghost use Rattle.std.specs.Prelude.{◌≡◌};
 ghost use Rattle.registry_access.specs.Levels as levels;
 ghost use Rattle.registry_access.specs.Levels.{greatest};
 ghost use Rattle.registry_access.specs.Positions.{level_at, position_in};
 ghost use Rattle.registry_access.specs.RowMaps.{state_of};
-ghost use Rattle.registry_access.specs.Scopes as scopes;
 ghost use Rattle.registry_access.specs.Standings.{is_listed, position_of};
 
 use crate::caller::Caller;
@@ -44,13 +43,6 @@ fn opened(status: Status, grant: Level) -> Level
     }
 }
 
-/// The scope of a name, which is an organisation's name.
-pub(crate) fn scope_of(name: &Name) -> Option<&str>
-    ensures { option_map (λ s. s.now) result ≡ scopes.scope_of name.now }
-{
-    name.scope()
-}
-
 fn is_listed(grants: &[Level], level: Level) -> bool
     ensures { result ≡ is_listed grants.now level }
 {
@@ -75,7 +67,7 @@ impl Position {
         ensures { result ≡ position_in (state_of rows.now) caller.now name.now }
     {
         let text = name.text();
-        let scope = scope_of(name);
+        let scope = name.scope();
         Position {
             organisation: scope.is_some_and(|scope| rows.has_organisation(scope)),
             role: scope.and_then(|scope| rows.role_of(caller, scope)),

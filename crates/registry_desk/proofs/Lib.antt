@@ -4,7 +4,6 @@ mod KeepingFacts
 mod MakingFacts
 mod SettlingFacts
 pub mod AnswerFacts
-pub mod PartFacts
 pub mod PublishFacts
 pub mod RunFacts
 pub mod StatusFacts

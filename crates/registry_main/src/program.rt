@@ -3,10 +3,11 @@
 use crate::ending::{Ending, Failure};
 use crate::publication::packument_of;
 use registry_names::{ByteIn, ByteOut, Text, read_whole, write_whole};
+use registry_publish::MOST_BODY_BYTES;
 use std::alloc::Global;
 
 /// One byte more than a body may have: enough to see that it is too large.
-const MOST_READ: usize = 4_194_305;
+const MOST_READ: usize = MOST_BODY_BYTES + 1;
 
 /// What is printed where there are words.
 const USAGE: &str = "usage: registry < BODY\n";

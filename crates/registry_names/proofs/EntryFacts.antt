@@ -1,10 +1,12 @@
 -- Rows whose keys strictly rise, as the entries of a map do.
-use Rattle.std.proofs.Common.{◌≡◌, Bool, true, false, cond, ◌&&◌, ◌||◌, List, [], ◌∷◌, map, is_some, refl, sym, ap, ap₂, ◌∙◌, T, true≢false, Ordering, Less, Equal, Greater, is_lt, Some, None, Option, option_map, filter}
+use Rattle.std.proofs.Common.{◌≡◌, Bool, true, false, cond, ◌&&◌, ◌||◌, List, [], ◌∷◌, map, is_some, refl, sym, ap, ap₂, ◌∙◌, T, true≢false, Ordering, Less, Equal, Greater, is_lt, Some, None, Option, option_map, filter, All, is_eq}
 use Rattle.std.specs.FinMap as fin
 use Rattle.std.specs.FinMap.Entries.{same_entries, below_all, is_sorted-where_key}
 use Rattle.std.proofs.lemmas.Bool.{and_parts, and_from}
+use Rattle.std.proofs.lemmas.List.Elements.{All-nil, All-cons, All-head, All-tail}
 use Rattle.registry_names.specs.Keys.{IsKey}
 use Rattle.registry_names.specs.Maps.{MapBy, empty, at, keep, entries, revise, rows, first_at, rises, among, keys, seen}
+use Rattle.registry_names.proofs.KeyFacts.{same_self}
 use Rattle.registry_names.proofs.MapFacts.{at-empty, at-keep, at-revise, at-rows, at-entries, same_map, first_is, first_at-kept, first_at-revised}
 
 to_true : (b : Bool) → T b → b ≡ true
@@ -19,6 +21,11 @@ less : (o : Ordering) → is_lt o ≡ true → o ≡ Less
 less Less e = refl
 less Equal e = absurd (true≢false (sym e))
 less Greater e = absurd (true≢false (sym e))
+
+untied : (o : Ordering) → is_lt o ≡ true → is_eq o ≡ false
+untied Less e = refl
+untied Equal e = sym e
+untied Greater e = refl
 
 -- the keys of a map's entries strictly rise
 pub entries_rise : {K X : Type 0} {cmp : K → K → Ordering} (m : MapBy cmp X) → rises cmp (entries m) ≡ true
@@ -96,3 +103,25 @@ module _ {K X : Type 0} {cmp : K → K → Ordering} {same : K → K → Bool} (
   pub entries-revise : (m : MapBy cmp X) (f : K → X → X) → entries (revise m f) ≡ map (λ (e : K × X). (e.0, f e.0 e.1)) (entries m)
   entries-revise m f = entries_are (revise m f) _ (rises_mapped cmp (λ e. (e.0, f e.0 e.1)) (λ e. refl) (entries m) ∙ entries_rise m)
       (λ k. first_at-revised key (entries m) f k ∙ ap (option_map (f k)) (sym (at-entries key m k)) ∙ sym (at-revise key m f k))
+
+  -- what the rows have at this row's key is its value
+  abbrev pub IsFoundIn : List (K × X) → K × X → Type 0
+  IsFoundIn es e = first_at same es e.0 ≡ Some e.1
+
+  -- a row in front whose key is below hides none
+  found_behind : (e : K × X) (whole es : List (K × X)) → below_all cmp e.0 es ≡ true → All (IsFoundIn whole) es → All (IsFoundIn (e ∷ whole)) es
+  found_behind e whole [] low found = All-nil (IsFoundIn (e ∷ whole))
+  found_behind e whole (d ∷ es) low found =
+      let both = and_parts (is_lt (cmp e.0 d.0)) (below_all cmp e.0 es) low in
+      All-cons (IsFoundIn (e ∷ whole)) d es
+      (ap (λ b. cond b (Some e.1) (first_at same whole d.0)) (key.test e.0 d.0 ∙ untied _ both.0) ∙ All-head (IsFoundIn whole) d es found)
+      (found_behind e whole es both.1 (All-tail (IsFoundIn whole) d es found))
+
+  -- each row of rows that rise is the first with its key
+  pub rows_found : (es : List (K × X)) → rises cmp es ≡ true → All (IsFoundIn es) es
+  rows_found [] up = All-nil (IsFoundIn [])
+  rows_found (e ∷ es) up =
+      let both = and_parts (below_all cmp e.0 es) (rises cmp es) up in
+      All-cons (IsFoundIn (e ∷ es)) e es
+      (ap (λ b. cond b (Some e.1) (first_at same es e.0)) (same_self key e.0))
+      (found_behind e es es both.0 (rows_found es both.1))

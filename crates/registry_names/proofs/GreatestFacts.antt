@@ -2,6 +2,7 @@
 use Rattle.std.proofs.Common.{◌≡◌, Bool, true, false, cond, ◌||◌, List, [], ◌∷◌, ◌++◌, is_some, refl, sym, ◌∙◌, ap, subst, true≢false, Ordering, Less, Equal, Greater, is_gt, is_lt, Some, None}
 use Rattle.std.specs.Ordering.{ordering_reverse}
 use Rattle.std.specs.Cmp.{upto, tied_itself}
+use Rattle.std.proofs.lemmas.Bool.{or_right}
 use Rattle.registry_names.specs.Texts.{Text, is}
 use Rattle.registry_names.specs.Maps.{PairMap, at, of, among, keys}
 use Rattle.registry_names.specs.Precedence.{text_precedence}
@@ -33,10 +34,6 @@ not_above_self v = ap is_gt (tied_itself text_precedence_total v)
 
 -- ---- members of a list
 
-later : (b c : Bool) → c ≡ true → (b || c) ≡ true
-later true c e = refl
-later false c e = e
-
 split : {G : Type 0} (b c : Bool) → (b || c) ≡ true → (b ≡ true → G) → (c ≡ true → G) → G
 split true c e f g = f refl
 split false c e f g = g e
@@ -63,7 +60,7 @@ greatest_one v = record {
 
 greatest_more : (v m : Text) (vs : List Text) (b : Bool) → is_lt (text_precedence v m) ≡ b → IsGreatest m vs → IsGreatest (cond b m v) (v ∷ vs)
 greatest_more v m vs true e g = record {
-  member = later (is v m) _ g.member;
+  member = or_right (is v m) _ g.member;
   above = λ u h. split (is v u) _ h (λ s. ap (λ x. is_gt (text_precedence x m)) (sym (is_true v u s)) ∙ not_gt_lt _ e) (g.above u);
 }
 greatest_more v m vs false e g = record {

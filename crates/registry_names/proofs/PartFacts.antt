@@ -1,16 +1,17 @@
 -- The part of a map under a first text.
-use Rattle.std.proofs.Common.{◌≡◌, Bool, true, false, cond, not, ◌&&◌, ◌||◌, List, [], ◌∷◌, map, is_some, refl, sym, ap, ◌∙◌, Ordering, is_lt, Some, None, Option, option_map, filter}
+use Rattle.std.proofs.Common.{◌≡◌, Bool, true, false, cond, not, ◌&&◌, ◌||◌, List, [], ◌∷◌, map, is_some, refl, sym, ap, ◌∙◌, Ordering, is_lt, Some, None, Option, option_map, filter, All}
 use Rattle.std.specs.Ordering.{ordering_then}
 use Rattle.std.specs.FinMap.Entries.{below_all}
 use Rattle.std.specs.Cmp.{tied_itself}
 use Rattle.std.proofs.lemmas.Bool.{and_parts, and_from}
+use Rattle.std.proofs.lemmas.List.Elements.{All-weaker}
 use Rattle.registry_names.specs.Texts.{Text, is}
 use Rattle.registry_names.specs.Keys.{IsKey, by_first, both}
 use Rattle.registry_names.specs.Maps.{MapBy, at, put, erase, keep, entries, revise, parts, part, first_at, rises, among, keys, seen}
 use Rattle.registry_names.proofs.TextFacts.{text_total, is_true, is_self}
 use Rattle.registry_names.proofs.KeyFacts.{first_key}
 use Rattle.registry_names.proofs.MapFacts.{at-put, at-erase, at-keep, at-revise, at-entries, first_at-kept, first_at-revised}
-use Rattle.registry_names.proofs.EntryFacts.{entries_rise, rises_kept, rises_mapped, rises_seen, first_at-seen, among_keys, same_rows}
+use Rattle.registry_names.proofs.EntryFacts.{entries_rise, rises_kept, rises_mapped, rises_seen, first_at-seen, among_keys, same_rows, rows_found, IsFoundIn}
 
 -- keys with one first text stand as their rests do
 same_first : {R : Type 0} (cmp : R → R → Ordering) (p : Text) (a b : R) → by_first cmp (p, a) (p, b) ≡ cmp a b
@@ -61,6 +62,12 @@ module _ {R X : Type 0} {cmp : R → R → Ordering} {same : R → R → Bool} (
   -- the rests in a part are those that the map has something at
   pub any-part : (m : MapBy (by_first cmp) X) (p : Text) (k : R) → among same (keys (part cmp m p)) k ≡ is_some (at m (p, k))
   any-part m p k = among_keys rest (part cmp m p) k ∙ ap is_some (at-part m p k)
+
+  -- each row of a part is what the map has at its whole key
+  pub part_found : (m : MapBy (by_first cmp) X) (p : Text) → All (λ e. at m (p, e.0) ≡ Some e.1) (part cmp m p)
+  part_found m p =
+      All-weaker (IsFoundIn rest (part cmp m p)) (λ e. at m (p, e.0) ≡ Some e.1) (λ e found. sym (at-part m p e.0) ∙ found)
+      (part cmp m p) (rows_found rest (part cmp m p) (part_rises cmp m p))
 
   -- rows that rise, and have at each rest what the map has, are the part
   pub part_is : (m : MapBy (by_first cmp) X) (p : Text) (es : List (R × X)) → rises cmp es ≡ true → ((k : R) → first_at same es k ≡ at m (p, k)) → part cmp m p ≡ es

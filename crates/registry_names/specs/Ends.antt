@@ -1,5 +1,5 @@
 -- Ends of bytes. An end shows the bytes that it tells, if any, how many of its calls failed, and whether it is silent, so that it tells its bytes no more.
-use Rattle.std.specs.Prelude.{◌≡◌, ℕ, zero, suc, ◌-◌, ◌+◌, ◌^◌, ◌<◌, ◌≤◌, min, Bool, false, List, length, take, Result, Ok, Err, Option}
+use Rattle.std.specs.Prelude.{◌≡◌, ℕ, zero, suc, ◌-◌, ◌+◌, ◌^◌, ◌<◌, ◌≤◌, min, Bool, false, List, length, take, Result, Ok, Err, Option, IfSome}
 use Rattle.std.specs.Io.KnownBytes.{Appends, Consumes}
 
 -- the greatest count of failures, at which every call fails
@@ -43,3 +43,7 @@ pub record ReadsUpTo (limit : ℕ) (old new : Option (List ℕ)) (silent : Bool)
   pub given : List ℕ
   pub is_within : length given ≤ limit
   pub read : Reads old new silent given
+
+-- Unless the end is silent now, these are the first of the bytes that it told before, up to a limit.
+abbrev pub AreFirst : ℕ → Option (List ℕ) → Bool → List ℕ → Type 0
+AreFirst limit old silent bs = silent ≡ false → IfSome old (λ left. bs ≡ take limit left)

@@ -1,8 +1,8 @@
 -- The names of packages.
-use Rattle.std.specs.Prelude.{◌≡◌, ◌≤◌, ℕ, ◌==◌, ◌&&◌, ◌||◌, not, Bool, List, ◌∷◌, ◌++◌, length, slice_index, codes, true, Option, Some, None}
-use Rattle.std.specs.List.{list_all}
+use Rattle.std.specs.Prelude.{◌≡◌, ◌≤◌, ℕ, ◌==◌, ◌&&◌, ◌||◌, not, Bool, List, [], ◌∷◌, ◌++◌, length, slice_index, codes, true, Option, Some, None, if◌then◌else◌}
+use Rattle.std.specs.List.{before_first, list_all}
 use Rattle.std.specs.Str.{bytes_eq}
-use Rattle.registry_names.specs.Idents.{is_alnum, is_ident, is_ident_char}
+use Rattle.registry_names.specs.Idents.{is_lower_alphanumeric, is_ident, is_ident_char}
 
 -- a-z 0-9 - _ .
 abbrev pub is_name_char : ℕ → Bool
@@ -10,12 +10,16 @@ is_name_char c = is_ident_char c || c == 46
 
 -- The part of a name without a scope begins with a letter or digit; two whole names are taken.
 abbrev pub is_plain_part : List ℕ → Bool
-is_plain_part p = is_alnum (slice_index p 0) && list_all is_name_char p
+is_plain_part p = is_lower_alphanumeric (slice_index p 0) && list_all is_name_char p
     && not (bytes_eq p (codes "node_modules")) && not (bytes_eq p (codes "favicon.ico"))
 
--- The part of a name with a scope begins with any character of a name, and is neither . nor ..
+-- a-z 0-9 _ .
+abbrev pub is_scoped_start : ℕ → Bool
+is_scoped_start c = is_lower_alphanumeric c || c == 95 || c == 46
+
+-- The part of a name with a scope begins with a letter, a digit, _ or ., and is neither . nor ..
 abbrev pub is_scoped_part : List ℕ → Bool
-is_scoped_part p = not (length p == 0) && list_all is_name_char p
+is_scoped_part p = is_scoped_start (slice_index p 0) && list_all is_name_char p
     && not (bytes_eq p (codes ".")) && not (bytes_eq p (codes ".."))
 
 abbrev pub longest_name : ℕ
@@ -29,3 +33,8 @@ IsNameOf t (Some s) p = (t ≡ 64 ∷ (s ++ 47 ∷ p)) × (is_ident s ≡ true) 
 -- the text is a name
 abbrev pub IsName : List ℕ → Type 0
 IsName t = (s : Option (List ℕ)) × ((p : List ℕ) × IsNameOf t s p)
+
+-- the scope of a name: what stands between an @ at its front and the first slash
+abbrev pub scope_of : List ℕ → Option (List ℕ)
+scope_of [] = None
+scope_of (c ∷ rest) = if c == 64 then Some (before_first (λ d. d == 47) rest) else None

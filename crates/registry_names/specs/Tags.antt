@@ -1,4 +1,4 @@
--- The characters and the length of tags.
+-- The characters and the length of tags, and the tag that every package has.
 use Rattle.std.specs.Prelude.{ℕ, ◌==◌, ◌&&◌, ◌||◌, nat_le, Bool, List, length, codes}
 use Rattle.std.specs.List.{list_all, list_any}
 
@@ -13,3 +13,7 @@ is_tag_char c = is_alphanumeric c || list_any (λ m. m == c) (codes "-_.!~*'()")
 -- 1 to 214 characters of a tag
 abbrev pub is_tag : List ℕ → Bool
 is_tag t = nat_le 1 (length t) && nat_le (length t) 214 && list_all is_tag_char t
+
+-- the tag that stands while a version lives
+abbrev pub latest : List ℕ
+latest = codes "latest"

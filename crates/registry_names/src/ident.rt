@@ -1,19 +1,21 @@
 //! The names of users, organisations and teams.
 
-ghost use Rattle.std.specs.Prelude.{◌≡◌, ◌⊎◌, List, ℕ, string_bytes, IfOk, IfErr, slice_index, true, false};
+ghost use Rattle.std.specs.Prelude.{◌≡◌, List, ℕ, string_bytes, IfOk, IfErr, slice_index, true, false};
 ghost use Rattle.std.specs.List.{list_all};
+ghost use Rattle.registry_names.specs.Faults.{IsMemoryOr, IsRefused};
 ghost use Rattle.registry_names.specs.Idents as spec;
-ghost use Rattle.registry_names.specs.Idents.{is_alnum, is_ident_char};
+ghost use Rattle.registry_names.specs.Idents.{is_lower_alphanumeric, is_ident_char};
 
+use crate::form::kept_in_form;
 use crate::refusal::Refusal;
-use crate::stop::{Fault, Stop};
+use crate::stop::Stop;
 use std::alloc::Global;
 use std::marker::Model;
 
 const LONGEST: usize = 64;
 
-pub(crate) fn is_alnum_byte(byte: u8) -> bool
-    ensures { result ≡ is_alnum byte }
+pub(crate) fn is_lower_alphanumeric_byte(byte: u8) -> bool
+    ensures { result ≡ is_lower_alphanumeric byte }
 {
     byte.is_ascii_lowercase() || byte.is_ascii_digit()
 }
@@ -21,16 +23,14 @@ pub(crate) fn is_alnum_byte(byte: u8) -> bool
 pub(crate) fn is_ident_byte(byte: u8) -> bool
     ensures { result ≡ is_ident_char byte }
 {
-    is_alnum_byte(byte) || byte == b'-' || byte == b'_'
+    is_lower_alphanumeric_byte(byte) || byte == b'-' || byte == b'_'
 }
 
-pub(crate) fn starts_alnum(text: &[u8]) -> bool
-    ensures { result ≡ is_alnum (slice_index text.now 0) }
+pub(crate) fn starts_lower_alphanumeric(text: &[u8]) -> bool
+    ensures { result ≡ is_lower_alphanumeric (slice_index text.now 0) }
 {
-    match text.first() {
-        Some(byte) => is_alnum_byte(*byte),
-        None => false,
-    }
+    text.first()
+        .is_some_and(|byte| is_lower_alphanumeric_byte(*byte))
 }
 
 fn all_ident_bytes(text: &[u8]) -> bool
@@ -42,7 +42,9 @@ fn all_ident_bytes(text: &[u8]) -> bool
 pub(crate) fn is_ident(text: &str) -> bool
     ensures { result ≡ spec.is_ident text.now }
 {
-    text.len() <= LONGEST && starts_alnum(text.as_bytes()) && all_ident_bytes(text.as_bytes())
+    text.len() <= LONGEST
+        && starts_lower_alphanumeric(text.as_bytes())
+        && all_ident_bytes(text.as_bytes())
 }
 
 /// The name of a user, an organisation or a team: 1 to 64 characters of `a-z 0-9 - _`, the first
@@ -66,16 +68,11 @@ impl Ident {
     /// `BadName` comes exactly for a text that is none, and `Memory` where no memory is left.
     pub fn parse(alloc: Global, text: &str) -> Result<Ident, Stop>
         ensures ok { IfOk result (λ i. (i ≡ text.now) × (spec.is_ident text.now ≡ true)) }
-        ensures err { IfErr result (λ e. (e ≡ Stop.Fault Fault.Memory)
-            ⊎ ((e ≡ Stop.Refused Refusal.BadName) × (spec.is_ident text.now ≡ false))) }
-        ensures refused { spec.is_ident text.now ≡ false → result ≡ Err (Stop.Refused Refusal.BadName) }
+        ensures err { IfErr result (IsMemoryOr Refusal.BadName (spec.is_ident text.now ≡ false)) }
+        ensures refused { spec.is_ident text.now ≡ false → IsRefused result Refusal.BadName }
     {
-        if !is_ident(text) {
-            return Err(Stop::Refused(Refusal::BadName));
-        }
-        Ok(Ident {
-            text: String::from_str(alloc, text)?,
-        })
+        let text = kept_in_form(alloc, text, is_ident(text), Refusal::BadName)?;
+        Ok(Ident { text })
     }
 
     /// The text that was read.

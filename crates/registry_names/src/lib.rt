@@ -9,6 +9,7 @@
 mod blob;
 mod dist_tag;
 mod ends;
+mod form;
 mod ident;
 pub mod laws;
 mod message;
@@ -34,6 +35,6 @@ pub use crate::name::Name;
 pub use crate::refusal::{Refusal, Rule};
 pub use crate::status::Status;
 pub use crate::stop::{Fault, Stop};
-pub use crate::tag::TagText;
+pub use crate::tag::{LATEST, TagText};
 pub use crate::text::Text;
-pub use crate::version::Ver;
+pub use crate::version::{GREATEST_NUMBER, Ver};

@@ -1,10 +1,12 @@
 //! Messages of deprecation.
 
-ghost use Rattle.std.specs.Prelude.{◌≡◌, ◌⊎◌, List, ℕ, string_bytes, IfOk, IfErr, true, false};
+ghost use Rattle.std.specs.Prelude.{◌≡◌, List, ℕ, string_bytes, IfOk, IfErr, true, false};
+ghost use Rattle.registry_names.specs.Faults.{IsMemoryOr, IsRefused};
 ghost use Rattle.registry_names.specs.Messages.{is_message};
 
+use crate::form::kept_in_form;
 use crate::refusal::Refusal;
-use crate::stop::{Fault, Stop};
+use crate::stop::Stop;
 use std::alloc::Global;
 use std::marker::Model;
 
@@ -31,16 +33,11 @@ impl Message {
     /// `BadBody` comes exactly for a text of more bytes, and `Memory` where no memory is left.
     pub fn parse(alloc: Global, text: &str) -> Result<Message, Stop>
         ensures ok { IfOk result (λ m. (m ≡ text.now) × (is_message text.now ≡ true)) }
-        ensures err { IfErr result (λ e. (e ≡ Stop.Fault Fault.Memory)
-            ⊎ ((e ≡ Stop.Refused Refusal.BadBody) × (is_message text.now ≡ false))) }
-        ensures refused { is_message text.now ≡ false → result ≡ Err (Stop.Refused Refusal.BadBody) }
+        ensures err { IfErr result (IsMemoryOr Refusal.BadBody (is_message text.now ≡ false)) }
+        ensures refused { is_message text.now ≡ false → IsRefused result Refusal.BadBody }
     {
-        if text.len() > LONGEST {
-            return Err(Stop::Refused(Refusal::BadBody));
-        }
-        Ok(Message {
-            text: String::from_str(alloc, text)?,
-        })
+        let text = kept_in_form(alloc, text, text.len() <= LONGEST, Refusal::BadBody)?;
+        Ok(Message { text })
     }
 
     /// The text that was read.

@@ -1,14 +1,18 @@
 //! The names of packages.
 
-ghost use Rattle.std.specs.Prelude.{◌≡◌, ◌⊎◌, List, ℕ, string_bytes, Option, option_map, IfOk, IfErr, MatchOption};
+ghost use Rattle.std.specs.Prelude.{◌≡◌, List, ℕ, string_bytes, Option, option_map, slice_index, IfOk, IfErr, MatchOption};
 ghost use Rattle.std.specs.List.{list_all};
 ghost use Rattle.std.specs.Str.{bytes_eq};
+ghost use Rattle.registry_names.specs.Faults.{IsMemoryOr, IsRefused};
 ghost use Rattle.registry_names.specs.Names as spec;
-ghost use Rattle.registry_names.specs.Names.{is_name_char, IsNameOf, IsName};
+ghost use Rattle.registry_names.specs.Names.{is_name_char, is_scoped_start, scope_of, IsNameOf, IsName};
 
-use crate::ident::{is_ident, is_ident_byte, starts_alnum};
+use crate::form::kept_in_form;
+use crate::ident::{
+    is_ident, is_ident_byte, is_lower_alphanumeric_byte, starts_lower_alphanumeric,
+};
 use crate::refusal::Refusal;
-use crate::stop::{Fault, Stop};
+use crate::stop::Stop;
 use std::alloc::Global;
 use std::marker::Model;
 
@@ -35,16 +39,28 @@ fn is_same(text: &str, other: &str) -> bool
 fn is_plain_part(text: &str) -> bool
     ensures { result ≡ spec.is_plain_part text.now }
 {
-    starts_alnum(text.as_bytes())
+    starts_lower_alphanumeric(text.as_bytes())
         && all_name_bytes(text.as_bytes())
         && !is_same(text, "node_modules")
         && !is_same(text, "favicon.ico")
 }
 
+fn is_scoped_start_byte(byte: u8) -> bool
+    ensures { result ≡ is_scoped_start byte }
+{
+    is_lower_alphanumeric_byte(byte) || byte == b'_' || byte == b'.'
+}
+
+fn starts_scoped(text: &[u8]) -> bool
+    ensures { result ≡ is_scoped_start (slice_index text.now 0) }
+{
+    text.first().is_some_and(|byte| is_scoped_start_byte(*byte))
+}
+
 fn is_scoped_part(text: &str) -> bool
     ensures { result ≡ spec.is_scoped_part text.now }
 {
-    !text.is_empty()
+    starts_scoped(text.as_bytes())
         && all_name_bytes(text.as_bytes())
         && !is_same(text, ".")
         && !is_same(text, "..")
@@ -76,7 +92,7 @@ fn parts(text: &str) -> Option<(Option<&str>, &str)>
 /// The name of a package, as npm has it: `part`, or `@scope/part`, of at most 214 characters.
 ///
 /// A part has characters of `a-z 0-9 - _ .`. Without a scope it begins with a letter or digit,
-/// and is neither `node_modules` nor `favicon.ico`; with one it may begin with any of them, and
+/// and is neither `node_modules` nor `favicon.ico`; with one it may begin with `_` or `.` too, and
 /// is neither `.` nor `..`. A scope is the name of an organisation ([`Ident`](crate::Ident)).
 /// Contracts see its text.
 #[derive(Debug, Drop)]
@@ -98,16 +114,11 @@ impl Name {
     /// `BadName` comes exactly for a text that is none, and `Memory` where no memory is left.
     pub fn parse(alloc: Global, text: &str) -> Result<Name, Stop>
         ensures ok { IfOk result (λ n. (n ≡ text.now) × IsName text.now) }
-        ensures err { IfErr result (λ e. (e ≡ Stop.Fault Fault.Memory)
-            ⊎ ((e ≡ Stop.Refused Refusal.BadName) × (¬ IsName text.now))) }
-        ensures refused { (¬ IsName text.now) → result ≡ Err (Stop.Refused Refusal.BadName) }
+        ensures err { IfErr result (IsMemoryOr Refusal.BadName (¬ IsName text.now)) }
+        ensures refused { (¬ IsName text.now) → IsRefused result Refusal.BadName }
     {
-        if parts(text).is_none() {
-            return Err(Stop::Refused(Refusal::BadName));
-        }
-        Ok(Name {
-            text: String::from_str(alloc, text)?,
-        })
+        let text = kept_in_form(alloc, text, parts(text).is_some(), Refusal::BadName)?;
+        Ok(Name { text })
     }
 
     /// The text that was read.
@@ -120,7 +131,8 @@ impl Name {
 
     /// The scope without its `@`, which is an organisation's name. None where the name has none.
     pub fn scope(&self) -> Option<&str>
-        ensures { (p : List ℕ) × IsNameOf self.now (option_map (λ s. s.now) result) p }
+        ensures scope { option_map (λ s. s.now) result ≡ scope_of self.now }
+        ensures form { (p : List ℕ) × IsNameOf self.now (option_map (λ s. s.now) result) p }
     {
         match parts(self.text.as_str()) {
             Some((scope, _)) => scope,

@@ -1,8 +1,11 @@
 //! Why the registry turns a request away, and what is printed of it.
 
-ghost use Rattle.std.specs.Prelude.{◌≡◌};
+ghost use Rattle.std.specs.Prelude.{◌≡◌, Some};
 ghost use Rattle.registry_names.specs.Refusals as spec;
 ghost use Rattle.registry_names.specs.Refusals.{refusal_status, refusal_text};
+
+use std::error::Error;
+use std::fmt;
 
 /// A rule of access: who may do what. Its name is printed behind `Denied`.
 #[derive(Clone, Copy, Debug, PartialEq, Eq)]
@@ -28,8 +31,11 @@ pub enum Rule {
     A9,
 }
 
-/// Why a request is turned away, in the order in which the reasons are tested: where several
-/// hold, the first is answered.
+/// Why a request is turned away. Where several reasons hold, the first that is tested is answered.
+///
+/// A text that is out of form is refused where it is read, and each reader says in which order it
+/// tests. A request in form is refused by `NoCaller`, `NotFound` or `Denied`, or else by what the
+/// registry holds, and these reasons are tested in the order in which they stand here.
 #[derive(Clone, Copy, Debug, PartialEq, Eq)]
 pub enum Refusal {
     /// A text is no name of a package, a user, an organisation or a team.
@@ -139,6 +145,16 @@ impl Refusal {
         }
     }
 }
+
+impl fmt::Display for Refusal {
+    ghost output = { λ refusal. Some (refusal_text refusal) };
+
+    fn fmt<W: fmt::Write>(&self, f: &mut fmt::Formatter<W>) -> fmt::Result {
+        f.write_str(self.text())
+    }
+}
+
+impl Error for Refusal {}
 
 fn denied_text(rule: Rule) -> &'static str
     ensures { result.now ≡ spec.denied_text rule }

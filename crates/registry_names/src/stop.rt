@@ -1,12 +1,14 @@
 //! Why nothing is answered: a refusal, or a fault.
 
-ghost use Rattle.std.specs.Prelude.{◌≡◌};
-ghost use Rattle.registry_names.specs.Faults.{fault_status, fault_text};
+ghost use Rattle.std.specs.Prelude.{◌≡◌, Some};
+ghost use Rattle.registry_names.specs.Faults.{fault_status, fault_text, stop_text};
 ghost use Rattle.registry_names.specs.declared.stop.Stop.TheVariants.{Fault as Faulted};
 ghost use Rattle.registry_names.specs.declared.stop.Fault.TheVariants.{Memory};
 
 use crate::refusal::Refusal;
 use std::alloc::{AllocError, AllocFailed};
+use std::error::Error;
+use std::fmt;
 
 /// What went wrong in the machine. A fault may come at any place instead of an answer, and it
 /// changes nothing.
@@ -40,6 +42,16 @@ impl Fault {
     }
 }
 
+impl fmt::Display for Fault {
+    ghost output = { λ fault. Some (fault_text fault) };
+
+    fn fmt<W: fmt::Write>(&self, f: &mut fmt::Formatter<W>) -> fmt::Result {
+        f.write_str(self.text())
+    }
+}
+
+impl Error for Fault {}
+
 /// Why a call answers nothing. It hands out nothing then.
 #[derive(Clone, Copy, Debug, PartialEq, Eq)]
 pub enum Stop {
@@ -48,6 +60,28 @@ pub enum Stop {
     /// The machine failed.
     Fault(Fault),
 }
+
+impl Stop {
+    /// What is printed of it: the refusal's text, or the fault's.
+    pub fn text(self) -> &'static str
+        ensures { result.now ≡ stop_text self }
+    {
+        match self {
+            Stop::Refused(refusal) => refusal.text(),
+            Stop::Fault(fault) => fault.text(),
+        }
+    }
+}
+
+impl fmt::Display for Stop {
+    ghost output = { λ stop. Some (stop_text stop) };
+
+    fn fmt<W: fmt::Write>(&self, f: &mut fmt::Formatter<W>) -> fmt::Result {
+        f.write_str(self.text())
+    }
+}
+
+impl Error for Stop {}
 
 impl From<AllocError> for Fault {
     ghost from_gives = { λ _ fault. fault ≡ Memory };

@@ -1,14 +1,19 @@
 //! The texts of dist-tags.
 
-ghost use Rattle.std.specs.Prelude.{◌≡◌, ◌⊎◌, List, ℕ, string_bytes, IfOk, IfErr, true, false};
+ghost use Rattle.std.specs.Prelude.{◌≡◌, List, ℕ, string_bytes, IfOk, IfErr, true, false};
 ghost use Rattle.std.specs.List.{list_all};
+ghost use Rattle.registry_names.specs.Faults.{IsMemoryOr, IsRefused};
 ghost use Rattle.registry_names.specs.Tags as spec;
 ghost use Rattle.registry_names.specs.Tags.{is_tag_char};
 
+use crate::form::kept_in_form;
 use crate::refusal::Refusal;
-use crate::stop::{Fault, Stop};
+use crate::stop::Stop;
 use std::alloc::Global;
 use std::marker::Model;
+
+/// The tag that stands while a version lives.
+pub const LATEST: &str = "latest";
 
 const LONGEST: usize = 214;
 
@@ -53,16 +58,11 @@ impl TagText {
     /// `BadTag` comes exactly for a text that hasn't, and `Memory` where no memory is left.
     pub fn shape(alloc: Global, text: &str) -> Result<TagText, Stop>
         ensures ok { IfOk result (λ t. (t ≡ text.now) × (spec.is_tag text.now ≡ true)) }
-        ensures err { IfErr result (λ e. (e ≡ Stop.Fault Fault.Memory)
-            ⊎ ((e ≡ Stop.Refused Refusal.BadTag) × (spec.is_tag text.now ≡ false))) }
-        ensures refused { spec.is_tag text.now ≡ false → result ≡ Err (Stop.Refused Refusal.BadTag) }
+        ensures err { IfErr result (IsMemoryOr Refusal.BadTag (spec.is_tag text.now ≡ false)) }
+        ensures refused { spec.is_tag text.now ≡ false → IsRefused result Refusal.BadTag }
     {
-        if !is_tag(text) {
-            return Err(Stop::Refused(Refusal::BadTag));
-        }
-        Ok(TagText {
-            text: String::from_str(alloc, text)?,
-        })
+        let text = kept_in_form(alloc, text, is_tag(text), Refusal::BadTag)?;
+        Ok(TagText { text })
     }
 
     /// The text that was read.

@@ -1,8 +1,9 @@
 //! Versions.
 
-ghost use Rattle.std.specs.Prelude.{◌≡◌, ◌≢◌, ◌⊎◌, IfOk, IfErr, false};
+ghost use Rattle.std.specs.Prelude.{◌≡◌, ◌≢◌, IfOk, IfErr, false};
 ghost use Rattle.semver.specs.Identifiers.{parts_of};
 ghost use Rattle.semver.specs.Parse.{memory_error};
+ghost use Rattle.registry_names.specs.Faults.{IsMemoryOr};
 ghost use Rattle.registry_names.specs.VersionReading as spec;
 ghost use Rattle.registry_names.specs.Versions.{IsVersion, IsVersionOf, precedence, text_of_version, version_parts};
 
@@ -15,8 +16,8 @@ use std::marker::Model;
 
 const LONGEST: usize = 256;
 
-/// 2^53 - 1, the greatest number that every JavaScript client reads as it is.
-const GREATEST_NUMBER: u64 = 9_007_199_254_740_991;
+/// The greatest number of a version, 2^53 - 1, which every JavaScript client reads as it is.
+pub const GREATEST_NUMBER: u64 = 9_007_199_254_740_991;
 
 // Whether reading stopped for want of memory.
 fn is_memory(error: Error) -> bool
@@ -35,7 +36,7 @@ fn in_profile(version: &Version) -> bool
 }
 
 /// A version of [SemVer 2.0.0](https://semver.org/spec/v2.0.0.html) without build metadata, of at
-/// most 256 characters, its numbers at most 9007199254740991. So two versions of one precedence
+/// most 256 characters, its numbers at most [`GREATEST_NUMBER`]. So two versions of one precedence
 /// are one version. Contracts see its parts.
 #[derive(Debug)]
 pub struct Ver {
@@ -55,14 +56,13 @@ impl Drop for Ver {
 
 impl Model for Ver {
     ghost use Rattle.std.specs.Prelude.{string_bytes};
-    ghost use Rattle.semver.specs.Identifiers.{pre_text};
-    ghost use Rattle.registry_names.specs.Versions.{VersionParts, IsVersionOf};
+    ghost use Rattle.registry_names.specs.Versions.{VersionParts, IsVersionOf, version_parts};
 
     ghost Value = { VersionParts };
 
-    ghost view = { λ v. record { major = v.version.major; minor = v.version.minor; patch = v.version.patch; pre = pre_text v.version.pre } };
+    ghost view = { λ v. version_parts v.version };
 
-    ghost invariant = { λ v. IsVersionOf (string_bytes v.text) (record { major = v.version.major; minor = v.version.minor; patch = v.version.patch; pre = pre_text v.version.pre }) };
+    ghost invariant = { λ v. IsVersionOf (string_bytes v.text) (version_parts v.version) };
 }
 
 impl Ver {
@@ -72,8 +72,7 @@ impl Ver {
     /// memory is left, which may be before such a text is read to its end.
     pub fn parse(alloc: Global, text: &str) -> Result<Ver, Stop>
         ensures ok { IfOk result (λ v. IsVersionOf text.now v) }
-        ensures err { IfErr result (λ e. (e ≡ Stop.Fault Fault.Memory)
-            ⊎ ((e ≡ Stop.Refused Refusal.BadVersion) × (¬ IsVersion text.now))) }
+        ensures err { IfErr result (IsMemoryOr Refusal.BadVersion (¬ IsVersion text.now)) }
     {
         if text.len() > LONGEST {
             return Err(Stop::Refused(Refusal::BadVersion));

@@ -4,6 +4,7 @@ use Rattle.serde_json.specs.Data.{Data}
 use Rattle.serde_json.specs.Find.{get}
 use Rattle.serde_json.specs.Read.{read}
 use Rattle.serde_json.specs.Written.{has_float}
+use Rattle.registry_names.specs.Tags.{latest}
 use Rattle.registry_names.specs.declared.status.Status.{Status}
 use Rattle.registry_publish.specs.Access.{access_at}
 use Rattle.registry_publish.specs.Attachments.{IsAttached}
@@ -27,9 +28,6 @@ pub record BodyParts : Type 0 where
   pub tag : Option (List ℕ)
   pub access : Option Status
   pub archive : List ℕ
-
-abbrev pub latest : List ℕ
-latest = codes "latest"
 
 -- the tag that a body asks for, which is `latest` where it names none
 abbrev pub tag_of : BodyParts → List ℕ

@@ -15,7 +15,7 @@ use crate::json::BAD_BODY;
 use crate::members::{has_member, has_text, sole_at, text_at};
 use crate::need::Need;
 use crate::needs::needs_in;
-use registry_names::{Status, Stop};
+use registry_names::{LATEST, Status, Stop};
 use serde_json::Value;
 use std::alloc::Global;
 
@@ -37,7 +37,7 @@ impl<'v> Body<'v> {
     pub(crate) fn tag(&self) -> &'v str
         ensures { result.now ≡ tag_of (body_view self.now) }
     {
-        self.tag.unwrap_or("latest")
+        self.tag.unwrap_or(LATEST)
     }
 }
 

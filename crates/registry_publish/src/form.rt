@@ -20,7 +20,8 @@ use registry_names::{Name, Refusal, Status, Stop, TagText, Text, Ver};
 use std::alloc::Global;
 use std::marker::Model;
 
-const MOST_BYTES: usize = 4_194_304;
+/// The greatest number of bytes of a body that is read: 4 MiB.
+pub const MOST_BODY_BYTES: usize = 4_194_304;
 
 /// What a publication asks for: the package's name and the version, the tag that is to name the
 /// version, the status that is to be set, and the version's manifest and archive, with what the
@@ -93,7 +94,7 @@ impl PublishForm {
     ///
     /// The first of these that holds is answered:
     ///
-    /// 1. `TooLarge`: the body has more than 4,194,304 bytes.
+    /// 1. `TooLarge`: the body has more than [`MOST_BODY_BYTES`] bytes.
     /// 2. `BadBody`: it isn't JSON of the form above.
     /// 3. `BadName`: its name is no name of a package ([`Name`]).
     /// 4. `BadVersion`: its version is no version ([`Ver`]), as one of
@@ -108,7 +109,7 @@ impl PublishForm {
     pub fn read(alloc: Global, body: &[u8]) -> Result<PublishForm, Stop>
         ensures { MatchResult result (IsFormOf body.now) (StopsForm body.now) }
     {
-        if body.len() > MOST_BYTES {
+        if body.len() > MOST_BODY_BYTES {
             return Err(Stop::Refused(Refusal::TooLarge));
         }
         let value = document(alloc, body)?;

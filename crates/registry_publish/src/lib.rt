@@ -19,7 +19,7 @@ mod needs;
 mod token;
 
 pub use crate::floats::has_float;
-pub use crate::form::PublishForm;
+pub use crate::form::{MOST_BODY_BYTES, PublishForm};
 pub use crate::integrity::integrity_of;
 pub use crate::need::Need;
 pub use crate::needs::needs_of;

@@ -12,7 +12,7 @@ use crate::number::number_at;
 pub enum Component {
     /// `x`, `X` or `*`, by its byte.
     Wildcard(u8),
-    /// A number of at most 9007199254740991.
+    /// A number of at most [`GREATEST_NUMBER`](registry_names::GREATEST_NUMBER).
     Number(u64),
 }
 

@@ -6,8 +6,7 @@ ghost use Rattle.semver.specs.declared.error.Position.TheVariants as place;
 ghost use Rattle.registry_ranges.specs.Reading as spec;
 ghost use Rattle.registry_ranges.specs.Reading.{read_view};
 
-/// 2^53 - 1, the greatest number that every JavaScript client reads as it is.
-const GREATEST_NUMBER: u64 = 9_007_199_254_740_991;
+use registry_names::GREATEST_NUMBER;
 
 // The number `value` with one digit more, if that fits.
 fn next_value(value: u64, digit: u8) -> Option<u64>
@@ -39,7 +38,7 @@ fn number_end(bytes: &[u8], len: usize, value: u64) -> Option<(u64, &[u8])>
 }
 
 /// The number at the front and what follows it: digits with no leading zero, of a value of at
-/// most 9007199254740991.
+/// most [`GREATEST_NUMBER`].
 #[tactic(auto, unfolding(crate::specs::Reading::number_at))]
 pub fn number_at(bytes: &[u8]) -> Option<(u64, &[u8])>
     ensures { read_view result ≡ spec.number_at bytes.now }

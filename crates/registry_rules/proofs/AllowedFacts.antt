@@ -3,21 +3,21 @@ use Rattle.std.proofs.Common.{◌≡◌, ◌≢◌, ℕ, ◌≤◌, Bool, true, 
 use Rattle.std.specs.Prelude.{IsSome, IsTrue}
 use Rattle.registry_names.specs.Maps.{TextMap, at}
 use Rattle.registry_names.specs.Moments.{last_second}
-use Rattle.registry_names.specs.Tags.{is_tag}
+use Rattle.registry_names.specs.Tags.{is_tag, latest}
 use Rattle.registry_names.specs.Texts.{Text}
 use Rattle.registry_names.specs.declared.refusal.Refusal.TheVariants.{NotFound, Published, KeepsLatest, AlwaysPublic}
 use Rattle.registry_names.specs.declared.status.Status.{Status}
 use Rattle.registry_names.specs.declared.status.Status.TheVariants.{Public, Restricted}
 use Rattle.registry_names.proofs.KeyFacts.{text_key}
-use Rattle.registry_access.specs.Scopes.{scope_of}
+use Rattle.registry_names.proofs.PutFacts.{put_there}
+use Rattle.registry_names.specs.Names.{scope_of}
 use Rattle.registry_publish.specs.Form.{FormParts}
 use Rattle.registry_rules.specs.Actions.{version_of}
 use Rattle.registry_rules.specs.Kept.{IsReleaseOf}
 use Rattle.registry_rules.specs.Refusals.{is_restricted, publish_refusal, refuse, unless_there}
 use Rattle.registry_rules.specs.Requests.{ArePartsInForm}
 use Rattle.registry_rules.specs.State.{State, Release}
-use Rattle.registry_rules.specs.Steps.{latest, new_status, release_of}
-use Rattle.registry_rules.proofs.PutFacts.{put_there}
+use Rattle.registry_rules.specs.Steps.{new_status, release_of}
 use Rattle.registry_rules.proofs.PublishedFacts.{statuses_after}
 
 pub record IsAllowed (S : State) (p v t : Text) (release : Release) (status : Option Status) (first : Bool) : Type 0 where

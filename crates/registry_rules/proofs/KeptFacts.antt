@@ -5,15 +5,15 @@ use Rattle.std.specs.Prelude.{IsSome, IsTrue}
 use Rattle.registry_names.specs.Keys.{Pair}
 use Rattle.registry_names.specs.Maps.{at}
 use Rattle.registry_names.specs.Moments.{last_second}
-use Rattle.registry_names.specs.Names.{IsName}
-use Rattle.registry_names.specs.Tags.{is_tag}
+use Rattle.registry_names.specs.Names.{IsName, scope_of}
+use Rattle.registry_names.specs.Tags.{is_tag, latest}
 use Rattle.registry_names.specs.Texts.{Text, is}
 use Rattle.registry_names.specs.Versions.{text_of_version}
 use Rattle.registry_names.specs.declared.status.Status.{Status}
 use Rattle.registry_names.specs.declared.status.Status.TheVariants.{Restricted}
 use Rattle.registry_names.proofs.KeyFacts.{text_key, pair_key}
 use Rattle.registry_names.proofs.MapFacts.{at-empty, at-erase_other}
-use Rattle.registry_access.specs.Scopes.{scope_of}
+use Rattle.registry_names.proofs.PutFacts.{each_put, each_left, some_before, put_there, still_there}
 use Rattle.registry_publish.specs.Form.{FormParts}
 use Rattle.registry_rules.specs.Actions.{version_of}
 use Rattle.registry_rules.specs.Kept.{IsReleaseOf, IsTagOf, IsKept}
@@ -21,11 +21,10 @@ use Rattle.registry_rules.specs.Refusals.{is_live, stands, publish_refusal, refu
 use Rattle.registry_rules.specs.Operations.{with_tag, without_tag}
 use Rattle.registry_rules.specs.Requests.{ArePartsInForm, IsInForm, IsActionInForm}
 use Rattle.registry_rules.specs.State.{State, Release, nothing}
-use Rattle.registry_rules.specs.Steps.{latest, new_status, release_of, published, step, step_of}
+use Rattle.registry_rules.specs.Steps.{new_status, release_of, published, step, step_of}
 use Rattle.registry_rules.specs.declared.request.Action.{Action}
 use Rattle.registry_rules.specs.declared.request.Action.TheVariants.{Publish, TagSet, TagRemove, Packument, Archive, Tags}
 use Rattle.registry_rules.specs.declared.request.Request.{Request}
-use Rattle.registry_rules.proofs.PutFacts.{each_put, each_left, some_before, put_there, still_there}
 use Rattle.registry_rules.proofs.PublishedFacts.{statuses_after, tags_before, after_publish, published_is}
 use Rattle.registry_rules.proofs.AllowedFacts.{IsAllowed, allowed_publish, is_there, isnt_kept}
 

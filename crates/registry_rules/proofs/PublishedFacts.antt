@@ -1,11 +1,12 @@
 -- What a publish leaves, each map apart.
 use Rattle.std.proofs.Common.{◌≡◌, Bool, true, false, cond, is_none, Option, Some, None, refl, if◌then◌else◌}
 use Rattle.registry_names.specs.Maps.{TextMap, PairMap, at, put}
+use Rattle.registry_names.specs.Tags.{latest}
 use Rattle.registry_names.specs.Texts.{Text}
 use Rattle.registry_names.specs.declared.status.Status.{Status}
 use Rattle.registry_rules.specs.Operations.{with_version, with_tag}
 use Rattle.registry_rules.specs.State.{State, Release}
-use Rattle.registry_rules.specs.Steps.{latest, with_new_status, with_latest}
+use Rattle.registry_rules.specs.Steps.{with_new_status, with_latest}
 
 abbrev pub statuses_after : TextMap Status → Text → Option Status → TextMap Status
 statuses_after m p None = m

@@ -1,6 +1,7 @@
 -- What the rows of a package decide is what every state decides that they stand for.
 use Rattle.std.proofs.Common.{◌≡◌, ℕ, Bool, true, false, not, ◌&&◌, ◌||◌, [], is_some, is_none, Option, Some, None, refl, sym, ap, ◌∙◌, subst, true≢false, if◌then◌else◌}
 use Rattle.std.specs.Prelude.{is_ok}
+use Rattle.registry_names.specs.Tags.{latest}
 use Rattle.registry_names.specs.Texts.{Text, is}
 use Rattle.registry_names.specs.Maps.{at}
 use Rattle.registry_names.specs.Versions.{text_of_version}
@@ -8,7 +9,8 @@ use Rattle.registry_names.specs.declared.refusal.Refusal.{Refusal}
 use Rattle.registry_names.specs.declared.refusal.Refusal.TheVariants.{NotFound, Published, KeepsLatest, AlwaysPublic}
 use Rattle.registry_names.specs.declared.status.Status.{Status}
 use Rattle.registry_names.proofs.KeyFacts.{text_key, pair_key, same_true}
-use Rattle.registry_access.specs.Scopes.{scope_of}
+use Rattle.registry_names.proofs.ChangeFacts.{put_over}
+use Rattle.registry_names.specs.Names.{scope_of}
 use Rattle.registry_publish.specs.Form.{FormParts}
 use Rattle.registry_rules.specs.Actions.{is_command, name_of, version_of}
 use Rattle.registry_rules.specs.Changes.{all_add, all_made, publishes}
@@ -19,11 +21,10 @@ use Rattle.registry_rules.specs.Rows as from_rows
 use Rattle.registry_rules.specs.Rows.{has_tag, changes_with}
 use Rattle.registry_rules.specs.Standing.{AreRowsOf}
 use Rattle.registry_rules.specs.State.{State}
-use Rattle.registry_rules.specs.Steps.{latest, new_status, with_new_status, with_latest, release_of, published, step_of}
+use Rattle.registry_rules.specs.Steps.{new_status, with_new_status, with_latest, release_of, published, step_of}
 use Rattle.registry_rules.specs.declared.facts.PackageRows.{PackageRows}
 use Rattle.registry_rules.specs.declared.request.Action.{Action}
 use Rattle.registry_rules.specs.declared.request.Action.TheVariants.{Publish, TagSet, TagRemove, Packument, Archive, Tags}
-use Rattle.registry_rules.proofs.PutFacts.{put_twice}
 use Rattle.registry_rules.proofs.RowFacts.{version_stands, tag_stands, none_live}
 
 pub refusal_stands : (rows : PackageRows) (S : State) (what : Action) → AreRowsOf rows S (name_of what) → from_rows.refusal rows what ≡ state.refusal_of S what
@@ -45,7 +46,7 @@ module _ (S : State) (f : FormParts) (now : ℕ) where
   once : f.tag ≡ latest → with_tag W f.name f.tag (version_of f) ≡ with_tag (with_tag W f.name latest (version_of f)) f.name f.tag (version_of f)
   once e =
       subst (λ t. with_tag W f.name t (version_of f) ≡ with_tag (with_tag W f.name latest (version_of f)) f.name t (version_of f)) (sym e)
-      (ap (λ tags. record W { tags = tags }) (sym (put_twice pair_key S.tags (f.name, latest) (version_of f))))
+      (ap (λ tags. record W { tags = tags }) (sym (put_over pair_key S.tags (f.name, latest) (version_of f) (version_of f))))
 
   tags_made : (b named : Bool) (o : Option Text) → b ≡ is_some o → (named ≡ true → f.tag ≡ latest)
       → all_made S now (Publish f) (changes_with None (b || named)) ≡ with_tag (if is_none o then with_tag W f.name latest (version_of f) else W) f.name f.tag (version_of f)

@@ -1,10 +1,11 @@
 -- What changes make of what the registry holds.
 use Rattle.std.specs.Prelude.{ℕ, ◌+◌, List, [], ◌∷◌, Option, Some, None}
+use Rattle.registry_names.specs.Tags.{latest}
 use Rattle.registry_names.specs.Texts.{Text}
 use Rattle.registry_rules.specs.Actions.{name_of, tag_named, version_named, version_of}
 use Rattle.registry_rules.specs.State.{State}
 use Rattle.registry_rules.specs.Operations.{with_status, with_version, with_tag, without_tag}
-use Rattle.registry_rules.specs.Steps.{latest, release_of}
+use Rattle.registry_rules.specs.Steps.{release_of}
 use Rattle.registry_rules.specs.declared.change.Change.{Change}
 use Rattle.registry_rules.specs.declared.change.Change.TheVariants.{PutStatus, AddVersion, PutTag, DropTag}
 use Rattle.registry_rules.specs.declared.change.SetTag.{SetTag}

@@ -4,14 +4,13 @@ use Rattle.registry_names.specs.Maps.{at}
 use Rattle.registry_names.specs.Messages.{is_message}
 use Rattle.registry_names.specs.Moments.{last_second}
 use Rattle.registry_names.specs.Names.{IsName}
-use Rattle.registry_names.specs.Tags.{is_tag}
+use Rattle.registry_names.specs.Tags.{is_tag, latest}
 use Rattle.registry_names.specs.Texts.{Text}
 use Rattle.registry_names.specs.Versions.{VersionParts, IsVersionOf}
 use Rattle.registry_access.specs.Hiding.{UnscopedArePublic}
 use Rattle.registry_publish.specs.Form.{IsManifestText}
 use Rattle.registry_rules.specs.State.{State, Release}
 use Rattle.registry_rules.specs.Refusals.{is_live}
-use Rattle.registry_rules.specs.Steps.{latest}
 
 -- the release may stand under this package and version
 pub record IsReleaseOf (p v : Text) (release : Release) : Type 0 where

@@ -1,16 +1,17 @@
 -- What the rows of a package decide of a request.
 use Rattle.std.specs.Prelude.{Bool, not, ◌&&◌, ◌||◌, List, [], ◌∷◌, ◌++◌, is_none, Option, Some, None, if◌then◌else◌}
 use Rattle.std.specs.List.{list_any}
+use Rattle.registry_names.specs.Tags.{latest}
 use Rattle.registry_names.specs.Texts.{Text, is}
 use Rattle.registry_names.specs.Versions.{text_of_version}
 use Rattle.registry_names.specs.declared.refusal.Refusal.{Refusal}
 use Rattle.registry_names.specs.declared.refusal.Refusal.TheVariants.{NotFound, Published, KeepsLatest, AlwaysPublic}
 use Rattle.registry_names.specs.declared.status.Status.{Status}
-use Rattle.registry_access.specs.Scopes.{scope_of}
+use Rattle.registry_names.specs.Names.{scope_of}
 use Rattle.registry_publish.specs.Form.{FormParts}
 use Rattle.registry_rules.specs.Actions.{version_of}
 use Rattle.registry_rules.specs.Refusals.{refuse, unless_there, is_empty, is_restricted}
-use Rattle.registry_rules.specs.Steps.{latest, new_status}
+use Rattle.registry_rules.specs.Steps.{new_status}
 use Rattle.registry_rules.specs.declared.change.Change.{Change}
 use Rattle.registry_rules.specs.declared.change.Change.TheVariants.{PutStatus, AddVersion, PutTag, DropTag}
 use Rattle.registry_rules.specs.declared.change.SetTag.TheVariants.{Latest, Named}

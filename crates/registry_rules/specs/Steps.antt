@@ -1,11 +1,12 @@
 -- What an accepted request makes of what the registry holds.
-use Rattle.std.specs.Prelude.{ℕ, [], is_some, is_none, Option, Some, None, if◌then◌else◌, codes}
+use Rattle.std.specs.Prelude.{ℕ, [], is_some, is_none, Option, Some, None, if◌then◌else◌}
+use Rattle.registry_names.specs.Tags.{latest}
 use Rattle.registry_names.specs.Texts.{Text}
 use Rattle.registry_names.specs.Maps.{at}
 use Rattle.registry_names.specs.Versions.{text_of_version}
 use Rattle.registry_names.specs.declared.status.Status.{Status}
 use Rattle.registry_names.specs.declared.status.Status.TheVariants.{Public, Restricted}
-use Rattle.registry_access.specs.Scopes.{scope_of}
+use Rattle.registry_names.specs.Names.{scope_of}
 use Rattle.registry_publish.specs.Form.{FormParts}
 use Rattle.registry_rules.specs.Actions.{version_of}
 use Rattle.registry_rules.specs.State.{State, Release}
@@ -13,9 +14,6 @@ use Rattle.registry_rules.specs.Operations.{with_status, with_version, with_tag,
 use Rattle.registry_rules.specs.declared.request.Action.{Action}
 use Rattle.registry_rules.specs.declared.request.Action.TheVariants.{Publish, TagSet, TagRemove, Packument, Archive, Tags}
 use Rattle.registry_rules.specs.declared.request.Request.{Request}
-
-abbrev pub latest : Text
-latest = codes "latest"
 
 -- what is published, at this moment and not deprecated
 abbrev pub release_of : FormParts → ℕ → Release

@@ -4,10 +4,7 @@ ghost use Rattle.std.specs.Prelude.{◌≡◌, option_map};
 ghost use Rattle.registry_rules.specs.Changes.{tag_of};
 
 use crate::request::Action;
-use registry_names::{Status, TagText};
-
-/// The tag that stands while a version lives.
-pub(crate) const LATEST: &str = "latest";
+use registry_names::{LATEST, Status, TagText};
 
 /// Changes, which are made in their order.
 pub type Changes = Vec<Change>;

@@ -1,13 +1,13 @@
 //! The decision on a publish.
 
 ghost use Rattle.std.specs.Prelude.{◌≡◌, is_some, IfOk};
-ghost use Rattle.registry_access.specs.Scopes.{scope_of};
+ghost use Rattle.registry_names.specs.Names.{scope_of};
 ghost use Rattle.registry_rules.specs.Rows as from_rows;
 ghost use Rattle.registry_rules.specs.Steps as steps;
 
-use crate::change::{Change, Changes, LATEST, SetTag};
+use crate::change::{Change, Changes, SetTag};
 use crate::facts::PackageRows;
-use registry_names::{Name, Refusal, Status};
+use registry_names::{LATEST, Name, Refusal, Status};
 use registry_publish::PublishForm;
 use std::alloc::{AllocError, Global};
 

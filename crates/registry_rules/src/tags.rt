@@ -3,9 +3,8 @@
 ghost use Rattle.std.specs.Prelude.{◌≡◌};
 ghost use Rattle.registry_rules.specs.Rows as from_rows;
 
-use crate::change::LATEST;
 use crate::facts::PackageRows;
-use registry_names::{Refusal, TagText};
+use registry_names::{LATEST, Refusal, TagText};
 
 /// Why a tag can't be removed, if it can't: it isn't there, or it is `latest`.
 #[tactic(auto, unfolding(registry_names::specs::Texts::is))]

@@ -1,11 +1,14 @@
 //! Ends over readers and writers in memory, and over some that fail.
 
+use crate::outcome::{displayed, same};
 use registry_names::{
     ByteIn, ByteOut, FromRead, ReadFailed, ReadStop, ToWrite, WriteFailed, read_whole, write_whole,
 };
 use std::alloc::Global;
-use std::io;
+use std::error::Error;
 use std::io::{ErrorKind, Read, Write};
+use std::test::Fail;
+use std::{io, str};
 
 /// A reader whose second read is interrupted, and whose fourth fails.
 #[derive(Drop)]
@@ -63,21 +66,19 @@ impl Write for Narrow {
 /// What a read is to give.
 type Given = Result<&'static str, ReadFailed>;
 
-// Whether the next read gives this.
-fn gives<I: ByteIn>(end: &mut I, buf: &mut [u8], want: Given) -> bool {
-    match (end.read(buf), want) {
-        (Ok(count), Ok(text)) => &buf[..count] == text.as_bytes(),
-        (Err(failed), Err(wanted)) => failed == wanted,
-        (Ok(_), Err(_)) | (Err(_), Ok(_)) => false,
-    }
+fn as_text(bytes: &[u8]) -> &str {
+    str::from_utf8(bytes).unwrap_or("no UTF-8")
 }
 
-// Whether all reads give what is wanted, and else what the first was to give that doesn't.
-fn all_given<I: ByteIn>(end: &mut I, buf: &mut [u8], wanted: &[Given]) -> Result<(), &'static str> {
-    for want in wanted {
-        if !gives(end, buf, *want) {
-            return Err(want.unwrap_or("a failure"));
-        }
+// What the next read gives.
+fn given<'b, I: ByteIn>(end: &mut I, buf: &'b mut [u8]) -> Result<&'b str, ReadFailed> {
+    let count = end.read(buf)?;
+    Ok(as_text(&buf[..count]))
+}
+
+fn all_given<I: ByteIn>(end: &mut I, buf: &mut [u8], wanted: &[Given]) -> Result<(), Fail> {
+    for (place, wanted) in wanted.iter().enumerate() {
+        same(place, given(end, buf), *wanted)?;
     }
     Ok(())
 }
@@ -85,9 +86,17 @@ fn all_given<I: ByteIn>(end: &mut I, buf: &mut [u8], wanted: &[Given]) -> Result
 static PIECES: [Given; 3] = [Ok("regis"), Ok("try"), Ok("")];
 
 #[test]
-fn a_reader_gives_its_bytes_and_then_none(_: HostRuntime) -> Result<(), &'static str> {
+fn a_reader_gives_its_bytes_and_then_none(_: HostRuntime) -> Result<(), Fail> {
     let mut end = FromRead::new(b"registry".as_slice());
     all_given(&mut end, &mut [0; 5], &PIECES)
+}
+
+#[test]
+fn a_large_read_gives_all_that_is_left(rt: HostRuntime) -> Result<(), Fail> {
+    let text = "registry".repeat(rt.alloc(), 1_000)?;
+    let mut end = FromRead::new(text.as_bytes());
+    let mut buf = [0; 8_192];
+    same("8,000 bytes", given(&mut end, &mut buf), Ok(text.as_str()))
 }
 
 static READS: [Given; 5] = [
@@ -99,7 +108,7 @@ static READS: [Given; 5] = [
 ];
 
 #[test]
-fn a_read_goes_on_after_one_that_failed(_: HostRuntime) -> Result<(), &'static str> {
+fn a_read_goes_on_after_one_that_failed(_: HostRuntime) -> Result<(), Fail> {
     let mut end = FromRead::new(Faltering {
         text: b"abcdef",
         reads: 0,
@@ -109,39 +118,14 @@ fn a_read_goes_on_after_one_that_failed(_: HostRuntime) -> Result<(), &'static s
 
 static WRITES: [&str; 3] = ["lab", "", "-kit"];
 
-// Whether each text is taken whole by one write, and else the first that isn't.
-fn all_taken<O: ByteOut>(end: &mut O) -> Result<(), &'static str> {
-    for text in &WRITES {
-        if end.write(text.as_bytes()) != Ok(text.len()) {
-            return Err(text);
-        }
-    }
-    Ok(())
-}
-
-// How the writes ended, and then whether this is held.
-fn held_after(
-    ended: Result<(), &'static str>,
-    held: &[u8],
-    wanted: &[u8],
-) -> Result<(), &'static str> {
-    ended?;
-    if held == wanted {
-        Ok(())
-    } else {
-        Err("what is held")
-    }
-}
-
-fn writer_holds_all(alloc: Global) -> Result<(), &'static str> {
-    let mut out = Vec::new(alloc);
-    let ended = all_taken(&mut ToWrite::new(&mut out));
-    held_after(ended, &out, b"lab-kit")
-}
-
 #[test]
-fn a_writer_holds_what_was_written(rt: HostRuntime) -> Result<(), &'static str> {
-    writer_holds_all(rt.alloc())
+fn a_writer_holds_what_was_written(rt: HostRuntime) -> Result<(), Fail> {
+    let mut out = Vec::new(rt.alloc());
+    let mut end = ToWrite::new(&mut out);
+    for text in &WRITES {
+        same(*text, end.write(text.as_bytes()), Ok(text.len()))?;
+    }
+    same("what is held", as_text(&out), "lab-kit")
 }
 
 // Texts, and whether each is written whole by a narrow writer.
@@ -152,28 +136,17 @@ static WHOLE_WRITES: [(&str, Result<(), WriteFailed>); 4] = [
     ("defg", Ok(())),
 ];
 
-// Whether each write ends so, and else the text of the first that doesn't.
-fn all_ended<O: ByteOut>(end: &mut O) -> Result<(), &'static str> {
-    for (text, wanted) in &WHOLE_WRITES {
-        if write_whole(end, text.as_bytes()) != *wanted {
-            return Err(text);
-        }
-    }
-    Ok(())
-}
-
-fn narrow_writer_goes_on(alloc: Global) -> Result<(), &'static str> {
+#[test]
+fn a_write_goes_on_after_one_that_failed(rt: HostRuntime) -> Result<(), Fail> {
     let mut narrow = Narrow {
-        taken: Vec::new(alloc),
+        taken: Vec::new(rt.alloc()),
         writes: 0,
     };
-    let ended = all_ended(&mut ToWrite::new(&mut narrow));
-    held_after(ended, &narrow.taken, b"abcdefg")
-}
-
-#[test]
-fn a_write_goes_on_after_one_that_failed(rt: HostRuntime) -> Result<(), &'static str> {
-    narrow_writer_goes_on(rt.alloc())
+    let mut end = ToWrite::new(&mut narrow);
+    for (text, wanted) in &WHOLE_WRITES {
+        same(*text, write_whole(&mut end, text.as_bytes()), *wanted)?;
+    }
+    same("what is held", as_text(&narrow.taken), "abcdefg")
 }
 
 // Whether the whole of an input, up to a limit, is this.
@@ -181,67 +154,56 @@ fn is_whole<I: ByteIn>(
     alloc: Global,
     end: &mut I,
     limit: usize,
-    text: &str,
-) -> Result<bool, ReadStop> {
-    let bytes = read_whole(alloc, end, limit)?;
-    Ok(bytes.as_slice() == text.as_bytes())
+    wanted: Result<&str, ReadStop>,
+) -> Result<(), Fail> {
+    let bytes = read_whole(alloc, end, limit);
+    let text = match &bytes {
+        Ok(bytes) => Ok(as_text(bytes)),
+        Err(stop) => Err(*stop),
+    };
+    same(limit, text, wanted)
 }
 
-// What is shown, a limit, and what is read up to it.
-static LIMITS: [(&str, usize, &str); 4] = [
-    ("nothing", 0, ""),
-    ("a part", 3, "reg"),
-    ("all of it", 8, "registry"),
-    ("no more than all", 9, "registry"),
-];
+// A limit, and what is read up to it.
+static LIMITS: [(usize, &str); 4] = [(0, ""), (3, "reg"), (8, "registry"), (9, "registry")];
 
-fn all_limits(alloc: Global) -> Result<(), &'static str> {
-    for (shows, limit, text) in &LIMITS {
+#[test]
+fn a_whole_input_is_read_up_to_a_limit(rt: HostRuntime) -> Result<(), Fail> {
+    for (limit, text) in &LIMITS {
         let mut end = FromRead::new(b"registry".as_slice());
-        if is_whole(alloc, &mut end, *limit, text) != Ok(true) {
-            return Err(shows);
-        }
+        is_whole(rt.alloc(), &mut end, *limit, Ok(text))?;
     }
     Ok(())
 }
 
 #[test]
-fn a_whole_input_is_read_up_to_a_limit(rt: HostRuntime) -> Result<(), &'static str> {
-    all_limits(rt.alloc())
-}
-
-fn is_tried_again<I: ByteIn>(alloc: Global, end: &mut I) -> Result<(), &'static str> {
-    if is_whole(alloc, end, 9, "abc") != Ok(true) {
-        Err("an interrupted read")
-    } else if is_whole(alloc, end, 9, "") != Err(ReadStop::Read) {
-        Err("a broken read")
-    } else {
-        Ok(())
-    }
-}
-
-#[test]
-fn an_interrupted_read_is_tried_again(rt: HostRuntime) -> Result<(), &'static str> {
+fn an_interrupted_read_is_tried_again(rt: HostRuntime) -> Result<(), Fail> {
     let mut end = FromRead::new(Faltering {
         text: b"abc",
         reads: 0,
     });
-    is_tried_again(rt.alloc(), &mut end)
-}
-
-fn all_are_tried_again(alloc: Global) -> Result<(), &'static str> {
-    let mut restless = Restless { reads: 0 };
-    let mut end = FromRead::new(&mut restless);
-    if is_whole(alloc, &mut end, 9, "") != Err(ReadStop::Read) {
-        Err("the answer")
-    } else if restless.reads != 1001 {
-        Err("the reads")
-    } else {
-        Ok(())
-    }
+    is_whole(rt.alloc(), &mut end, 9, Ok("abc"))?;
+    is_whole(rt.alloc(), &mut end, 9, Err(ReadStop::Read))
 }
 
 #[test]
-fn a_thousand_interrupted_reads_are_tried_again(rt: HostRuntime) -> Result<(), &'static str> {
-    all_are_tried_again(rt.alloc())
+fn a_thousand_interrupted_reads_are_tried_again(rt: HostRuntime) -> Result<(), Fail> {
+    let mut restless = Restless { reads: 0 };
+    let mut end = FromRead::new(&mut restless);
+    is_whole(rt.alloc(), &mut end, 9, Err(ReadStop::Read))?;
+    same("how often it was read", restless.reads, 1_001)
+}
+
+fn is_displayed<E: Error>(alloc: Global, error: &E, wanted: &str) -> Result<(), Fail> {
+    same(wanted, displayed(alloc, error)?.as_str(), wanted)
+}
+
+#[test]
+fn failures_are_displayed(rt: HostRuntime) -> Result<(), Fail> {
+    let alloc = rt.alloc();
+    is_displayed(alloc, &ReadFailed::Interrupted, "the read was interrupted")?;
+    is_displayed(alloc, &ReadFailed::Broken, "the read failed")?;
+    is_displayed(alloc, &WriteFailed, "the write failed")?;
+    is_displayed(alloc, &ReadStop::Read, "the input could not be read")?;
+    is_displayed(alloc, &ReadStop::Memory, "out of memory")
 }

@@ -12,6 +12,8 @@ mod ends;
 #[cfg(test)]
 mod names;
 #[cfg(test)]
+mod outcome;
+#[cfg(test)]
 mod packument;
 #[cfg(test)]
 mod publish;

@@ -1,10 +1,12 @@
 //! Texts in form and out of form, from the rules as they are written down.
 
+use crate::outcome::{displayed, same};
 use registry_names::{
     Blob, Fault, Ident, Message, Moment, Name, Refusal, Rule, Stop, TagText, Text, Ver,
 };
-use std::alloc::Global;
+use std::alloc::{AllocError, Global};
 use std::cmp::Ordering;
+use std::test::Fail;
 
 /// What a text is to be.
 enum Kind {
@@ -15,45 +17,61 @@ enum Kind {
     Message,
 }
 
-/// Whether a text is read and given back, or why it isn't read.
-type Told = Result<bool, Stop>;
-
-const READ: Told = Ok(true);
-
-const BAD_NAME: Told = Err(Stop::Refused(Refusal::BadName));
-
-const BAD_VERSION: Told = Err(Stop::Refused(Refusal::BadVersion));
-
-const BAD_TAG: Told = Err(Stop::Refused(Refusal::BadTag));
-
-const BAD_BODY: Told = Err(Stop::Refused(Refusal::BadBody));
-
-fn told(alloc: Global, kind: &Kind, text: &str) -> Told {
-    match *kind {
-        Kind::Name => Ok(Name::parse(alloc, text)?.text() == text),
-        Kind::Ident => Ok(Ident::parse(alloc, text)?.text() == text),
-        Kind::Version => Ok(Ver::parse(alloc, text)?.text() == text),
-        Kind::Tag => Ok(TagText::shape(alloc, text)?.text() == text),
-        Kind::Message => Ok(Message::parse(alloc, text)?.text() == text),
-    }
+// The text that is given back of one that is read.
+fn given_back(alloc: Global, kind: &Kind, text: &str) -> Result<String, Stop> {
+    let back = match *kind {
+        Kind::Name => String::from_str(alloc, Name::parse(alloc, text)?.text()),
+        Kind::Ident => String::from_str(alloc, Ident::parse(alloc, text)?.text()),
+        Kind::Version => String::from_str(alloc, Ver::parse(alloc, text)?.text()),
+        Kind::Tag => String::from_str(alloc, TagText::shape(alloc, text)?.text()),
+        Kind::Message => String::from_str(alloc, Message::parse(alloc, text)?.text()),
+    };
+    Ok(back?)
 }
 
-/// Texts that are read as a kind, and what is told of each.
+/// Why a text isn't given back, if it isn't.
+type Stopped = Option<Stop>;
+
+const READ: Stopped = None;
+
+const BAD_NAME: Stopped = Some(Stop::Refused(Refusal::BadName));
+
+const BAD_VERSION: Stopped = Some(Stop::Refused(Refusal::BadVersion));
+
+const BAD_TAG: Stopped = Some(Stop::Refused(Refusal::BadTag));
+
+const BAD_BODY: Stopped = Some(Stop::Refused(Refusal::BadBody));
+
+fn is_told(
+    alloc: Global,
+    shows: &str,
+    kind: &Kind,
+    text: &str,
+    stopped: &Stopped,
+) -> Result<(), Fail> {
+    let wanted = match stopped {
+        None => Ok(text),
+        Some(stop) => Err(stop),
+    };
+    same(shows, given_back(alloc, kind, text).as_deref(), wanted)
+}
+
+/// Texts that are read as a kind, and why they aren't, if so.
 struct Form {
     kind: Kind,
-    told: Told,
+    stopped: Stopped,
     texts: &'static [&'static str],
 }
 
 static FORMS: [Form; 9] = [
     Form {
         kind: Kind::Name,
-        told: READ,
-        texts: &["kit", "@lab/kit", "@lab/.x", "@lab/_x", "0.a-b_c"],
+        stopped: READ,
+        texts: &["kit", "@lab/kit", "@lab/.x", "@lab/_x", "@lab/9", "0.a-b_c"],
     },
     Form {
         kind: Kind::Name,
-        told: BAD_NAME,
+        stopped: BAD_NAME,
         texts: &[
             "",
             ".x",
@@ -64,6 +82,9 @@ static FORMS: [Form; 9] = [
             "favicon.ico",
             "@lab/..",
             "@lab/.",
+            "@lab/-x",
+            "@lab/-",
+            "@lab/-.-",
             "@lab/",
             "@lab",
             "@/kit",
@@ -76,17 +97,17 @@ static FORMS: [Form; 9] = [
     },
     Form {
         kind: Kind::Ident,
-        told: READ,
+        stopped: READ,
         texts: &["ann", "0", "a-b_c"],
     },
     Form {
         kind: Kind::Ident,
-        told: BAD_NAME,
+        stopped: BAD_NAME,
         texts: &["", "-a", "_a", "Ann", "a.b", "a b", "@lab"],
     },
     Form {
         kind: Kind::Version,
-        told: READ,
+        stopped: READ,
         texts: &[
             "1.0.0",
             "0.0.0",
@@ -98,7 +119,7 @@ static FORMS: [Form; 9] = [
     },
     Form {
         kind: Kind::Version,
-        told: BAD_VERSION,
+        stopped: BAD_VERSION,
         texts: &[
             "",
             "1.0",
@@ -115,45 +136,33 @@ static FORMS: [Form; 9] = [
     },
     Form {
         kind: Kind::Tag,
-        told: READ,
+        stopped: READ,
         texts: &["latest", "v", "next", "1.2.3.4", "-_.!~*'()"],
     },
     Form {
         kind: Kind::Tag,
-        told: BAD_TAG,
+        stopped: BAD_TAG,
         texts: &["", "a/b", "a b", "a+b", "é"],
     },
     Form {
         kind: Kind::Message,
-        told: READ,
+        stopped: READ,
         texts: &["", "use @lab/kit 2"],
     },
 ];
 
-// Whether each text is told, and else the first that isn't.
-fn all_forms(alloc: Global) -> Result<(), &'static str> {
+#[test]
+fn texts_in_form_and_out_of_it(rt: HostRuntime) -> Result<(), Fail> {
     for form in &FORMS {
-        is_told(alloc, form)?;
-    }
-    Ok(())
-}
-
-fn is_told(alloc: Global, form: &Form) -> Result<(), &'static str> {
-    for text in form.texts {
-        if told(alloc, &form.kind, text) != form.told {
-            return Err(text);
+        for text in form.texts {
+            is_told(rt.alloc(), text, &form.kind, text, &form.stopped)?;
         }
     }
     Ok(())
 }
 
-#[test]
-fn texts_in_form_and_out_of_it(rt: HostRuntime) -> Result<(), &'static str> {
-    all_forms(rt.alloc())
-}
-
-/// What is shown, a kind, how many ones are read as it, and what is told of them.
-type Length = (&'static str, Kind, usize, Told);
+/// What is shown, a kind, how many ones are read as it, and why they aren't, if so.
+type Length = (&'static str, Kind, usize, Stopped);
 
 static LENGTHS: [Length; 9] = [
     ("the longest name", Kind::Name, 214, READ),
@@ -167,24 +176,13 @@ static LENGTHS: [Length; 9] = [
     ("a longer message", Kind::Message, 1025, BAD_BODY),
 ];
 
-fn told_of_ones(alloc: Global, length: &Length) -> Told {
-    let text = "1".repeat(alloc, length.2)?;
-    told(alloc, &length.1, &text)
-}
-
-// Whether each length is told, and else what the first shows that isn't.
-fn all_lengths(alloc: Global) -> Result<(), &'static str> {
-    for length in &LENGTHS {
-        if told_of_ones(alloc, length) != length.3 {
-            return Err(length.0);
-        }
+#[test]
+fn the_longest_texts_and_longer_ones(rt: HostRuntime) -> Result<(), Fail> {
+    for (shows, kind, count, stopped) in &LENGTHS {
+        let text = "1".repeat(rt.alloc(), *count)?;
+        is_told(rt.alloc(), shows, kind, &text, stopped)?;
     }
     Ok(())
-}
-
-#[test]
-fn the_longest_texts_and_longer_ones(rt: HostRuntime) -> Result<(), &'static str> {
-    all_lengths(rt.alloc())
 }
 
 /// A name, its scope, and the part behind it.
@@ -196,25 +194,13 @@ static PARTS: [Parts; 3] = [
     ("@lab/node_modules", Some("lab"), "node_modules"),
 ];
 
-fn has_parts(alloc: Global, parts: &Parts) -> Result<bool, Stop> {
-    let (text, scope, part) = *parts;
-    let name = Name::parse(alloc, text)?;
-    Ok(name.scope() == scope && name.part() == part)
-}
-
-// Whether each name has its parts, and else the first that has others.
-fn all_parts(alloc: Global) -> Result<(), &'static str> {
-    for parts in &PARTS {
-        if has_parts(alloc, parts) != Ok(true) {
-            return Err(parts.0);
-        }
+#[test]
+fn parts_of_names(rt: HostRuntime) -> Result<(), Fail> {
+    for (text, scope, part) in &PARTS {
+        let name = Name::parse(rt.alloc(), text)?;
+        same(*text, (name.scope(), name.part()), (*scope, *part))?;
     }
     Ok(())
-}
-
-#[test]
-fn parts_of_names(rt: HostRuntime) -> Result<(), &'static str> {
-    all_parts(rt.alloc())
 }
 
 // The example of SemVer 2.0.0, item 11, and numbers that texts would turn round.
@@ -240,30 +226,15 @@ fn order(alloc: Global, low: &str, high: &str) -> Result<Ordering, Stop> {
     Ok(low.cmp(&high))
 }
 
-// Whether each two versions stand so, and else the first two that don't.
-fn all_orders(alloc: Global) -> Result<(), (&'static str, &'static str)> {
-    for (place, version) in RISING.iter().enumerate() {
-        all_orders_of(alloc, place, version)?;
-    }
-    Ok(())
-}
-
-fn all_orders_of(
-    alloc: Global,
-    place: usize,
-    version: &'static str,
-) -> Result<(), (&'static str, &'static str)> {
-    for (other_place, other) in RISING.iter().enumerate() {
-        if order(alloc, version, other) != Ok(place.cmp(&other_place)) {
-            return Err((version, other));
+#[test]
+fn versions_in_order(rt: HostRuntime) -> Result<(), Fail> {
+    for (place, low) in RISING.iter().enumerate() {
+        for (other_place, other) in RISING.iter().enumerate() {
+            let order = order(rt.alloc(), low, other)?;
+            same((*low, *other), order, place.cmp(&other_place))?;
         }
     }
     Ok(())
-}
-
-#[test]
-fn versions_in_order(rt: HostRuntime) -> Result<(), (&'static str, &'static str)> {
-    all_orders(rt.alloc())
 }
 
 // What is shown, seconds, the moment that they are, and the nearest moment.
@@ -287,19 +258,13 @@ fn exact(seconds: i64) -> Option<i64> {
     }
 }
 
-// Whether all seconds are these moments, and else what the first show that aren't.
-fn all_moments() -> Result<(), &'static str> {
+#[test]
+fn moments(_: HostRuntime) -> Result<(), Fail> {
     for (shows, seconds, moment, nearest) in &MOMENTS {
-        if exact(*seconds) != *moment || Moment::clamped(*seconds).seconds() != *nearest {
-            return Err(shows);
-        }
+        let clamped = Moment::clamped(*seconds).seconds();
+        same(*shows, (exact(*seconds), clamped), (*moment, *nearest))?;
     }
     Ok(())
-}
-
-#[test]
-fn moments(_: HostRuntime) -> Result<(), &'static str> {
-    all_moments()
 }
 
 // Refusals and faults, how each is printed, and the status of its answer.
@@ -343,19 +308,22 @@ fn printed(stop: Stop) -> (&'static str, u16) {
     }
 }
 
-// Whether each is printed so, and else the first that isn't.
-fn all_printed() -> Result<(), &'static str> {
-    for (stop, text, status) in &PRINTED {
-        if printed(*stop) != (*text, *status) {
-            return Err(text);
-        }
+fn shown(alloc: Global, stop: Stop) -> Result<String, AllocError> {
+    match stop {
+        Stop::Refused(refusal) => displayed(alloc, &refusal),
+        Stop::Fault(fault) => displayed(alloc, &fault),
     }
-    Ok(())
 }
 
 #[test]
-fn refusals_and_faults_are_printed(_: HostRuntime) -> Result<(), &'static str> {
-    all_printed()
+fn refusals_and_faults_are_printed(rt: HostRuntime) -> Result<(), Fail> {
+    for (stop, text, status) in &PRINTED {
+        same(*stop, printed(*stop), (*text, *status))?;
+        same(*stop, shown(rt.alloc(), *stop)?.as_str(), *text)?;
+        same(*stop, displayed(rt.alloc(), stop)?.as_str(), *text)?;
+        same(*stop, stop.text(), *text)?;
+    }
+    Ok(())
 }
 
 /// Two texts, and whether they are one.
@@ -368,37 +336,25 @@ static PAIRS: [Pair; 4] = [
     ("abc", "ab", false),
 ];
 
-// Whether a text that is held is another one that was given back and is held again.
-fn are_one_text(alloc: Global, text: &str, other: &str) -> Result<bool, Stop> {
-    let held = Text::from_str(alloc, text)?;
-    let again = Text::from(Text::from_str(alloc, other)?.into_string());
-    Ok(held == again && held.as_str() == text)
-}
-
-fn are_one_blob(alloc: Global, bytes: &[u8], other: &[u8]) -> Result<bool, Stop> {
-    let held = Blob::from_slice(alloc, bytes)?;
-    let again = Blob::from(Blob::from_slice(alloc, other)?.into_vec());
-    Ok(held == again && held.as_slice() == bytes)
-}
-
-// Whether the pair is told as is wanted, as texts and as blobs.
-fn both_tell(alloc: Global, pair: &Pair) -> bool {
-    let (text, other, are_one) = *pair;
-    are_one_text(alloc, text, other) == Ok(are_one)
-        && are_one_blob(alloc, text.as_bytes(), other.as_bytes()) == Ok(are_one)
-}
-
-// Whether each pair is told, and else the first that isn't.
-fn all_pairs(alloc: Global) -> Result<(), (&'static str, &'static str)> {
-    for pair in &PAIRS {
-        if !both_tell(alloc, pair) {
-            return Err((pair.0, pair.1));
-        }
+#[test]
+fn texts(rt: HostRuntime) -> Result<(), Fail> {
+    let alloc = rt.alloc();
+    for (text, other, are_one) in &PAIRS {
+        let held = Text::from_str(alloc, text)?;
+        let again = Text::from(Text::from_str(alloc, other)?.into_string());
+        same(*text, (held.as_str(), held == again), (*text, *are_one))?;
     }
     Ok(())
 }
 
 #[test]
-fn texts_and_blobs(rt: HostRuntime) -> Result<(), (&'static str, &'static str)> {
-    all_pairs(rt.alloc())
+fn blobs(rt: HostRuntime) -> Result<(), Fail> {
+    let alloc = rt.alloc();
+    for (text, other, are_one) in &PAIRS {
+        let bytes = text.as_bytes();
+        let held = Blob::from_slice(alloc, bytes)?;
+        let again = Blob::from(Blob::from_slice(alloc, other.as_bytes())?.into_vec());
+        same(*text, (held.as_slice(), held == again), (bytes, *are_one))?;
+    }
+    Ok(())
 }

@@ -1,11 +1,15 @@
 //! Ends that bytes come in by.
 
-ghost use Rattle.std.specs.Prelude.{◌≡◌, ◌≤◌, ℕ, List, Option, Bool, true, false, IfOk, OnOk, IsErr, length};
+ghost use Rattle.std.specs.Prelude.{◌≡◌, ◌↔◌, ◌≤◌, ℕ, List, Option, Bool, true, false, IfOk, OnOk, IsErr, length};
 ghost use Rattle.std.specs.Io.KnownBytes.{ReadConsumes};
+ghost use Rattle.std.specs.IoError.{error_kind};
+ghost use Rattle.std.specs.declared.io.ErrorKind.TheVariants as kinds;
 ghost use Rattle.registry_names.specs.Ends.{failures_after, full_count};
+ghost use Rattle.registry_names.specs.declared.ends.byte_in.ReadFailed.TheVariants.{Interrupted};
 
 use std::error::Error;
-use std::fmt;
+use std::io::ErrorKind;
+use std::{fmt, io};
 
 /// Why a read gave no bytes.
 #[derive(Clone, Copy, Debug, PartialEq, Eq)]
@@ -26,6 +30,19 @@ impl fmt::Display for ReadFailed {
 }
 
 impl Error for ReadFailed {}
+
+impl From<io::Error> for ReadFailed {
+    ghost from_gives = { λ error failed.
+        (failed ≡ Interrupted) ↔ (error_kind error ≡ kinds.Interrupted) };
+
+    /// `Interrupted` for an error of that kind, and `Broken` for every other.
+    fn from(error: io::Error) -> ReadFailed {
+        match error.kind() {
+            ErrorKind::Interrupted => ReadFailed::Interrupted,
+            _ => ReadFailed::Broken,
+        }
+    }
+}
 
 /// An end that bytes come in by.
 ///
@@ -48,7 +65,8 @@ pub trait ByteIn {
     /// A failed read takes no byte, or leaves the end silent.
     fn read(&mut self, buf: &mut [u8]) -> Result<usize, ReadFailed>
         ensures bound { IfOk result (λ n. n ≤ length buf.new) }
-        ensures taken { is_silent self.new ≡ false → ReadConsumes (bytes self.old) (bytes self.new) result buf.new }
+        ensures taken { is_silent self.new ≡ false
+            → ReadConsumes (bytes self.old) (bytes self.new) result buf.new }
 
         ensures counted { failures self.new ≡ failures_after result (failures self.old) }
         ensures full { failures self.old ≡ full_count → IsErr result }

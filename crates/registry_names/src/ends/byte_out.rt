@@ -41,7 +41,8 @@ pub trait ByteOut {
     fn write(&mut self, text: &[u8]) -> Result<usize, WriteFailed>
         ensures bound { IfOk result (λ n. n ≤ length text.now) }
         ensures some { IfOk result (λ n. 0 < length text.now → 0 < n) }
-        ensures added { is_silent self.new ≡ false → WriteAppends (bytes self.old) (bytes self.new) result text.now }
+        ensures added { is_silent self.new ≡ false
+            → WriteAppends (bytes self.old) (bytes self.new) result text.now }
 
         ensures counted { failures self.new ≡ failures_after result (failures self.old) }
         ensures full { failures self.old ≡ full_count → IsErr result }

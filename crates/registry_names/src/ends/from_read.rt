@@ -3,9 +3,10 @@
 ghost use Rattle.std.specs.Prelude.{◌≡◌, false};
 
 use super::{ByteIn, ReadFailed};
-use std::io::{Error, ErrorKind, Read};
+use std::io::Read;
 
-/// A reader of the standard library as an end. Each of its errors is a failed read; it is never silent.
+/// A reader of the standard library as an end. Each of its errors is a failed read, which is
+/// interrupted where the error's kind is `Interrupted`; the end is never silent.
 #[derive(Drop)]
 pub struct FromRead<R: Read> {
     reader: R,
@@ -39,16 +40,8 @@ impl<R: Read> ByteIn for FromRead<R> {
             Ok(n) => Ok(n),
             Err(error) => {
                 self.failures += 1;
-                Err(failure_of(&error))
+                Err(ReadFailed::from(error))
             }
         }
-    }
-}
-
-fn failure_of(error: &Error) -> ReadFailed {
-    if error.kind() == ErrorKind::Interrupted {
-        ReadFailed::Interrupted
-    } else {
-        ReadFailed::Broken
     }
 }

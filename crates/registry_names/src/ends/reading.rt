@@ -1,7 +1,7 @@
 //! Reading a whole input.
 
-ghost use Rattle.std.specs.Prelude.{◌≡◌, ◌+◌, ◌≤◌, ◌<◌, true, false, IfOk, IfSome, OnOk, OnErr, IsErr, take, vec_len};
-ghost use Rattle.registry_names.specs.Ends.{Reads, ReadsUpTo, RisesBetween, full_count};
+ghost use Rattle.std.specs.Prelude.{◌≡◌, ◌+◌, ◌≤◌, ◌<◌, true, false, IfOk, OnOk, OnErr, IsErr, vec_len};
+ghost use Rattle.registry_names.specs.Ends.{AreFirst, Reads, ReadsUpTo, RisesBetween, full_count};
 ghost use Rattle.registry_names.specs.declared.ends.reading.TheConstants.{RETRY_LIMIT};
 ghost use Rattle.registry_names.specs.declared.ends.reading.ReadStop.TheVariants.{Memory};
 
@@ -50,15 +50,20 @@ pub fn read_whole<R: ByteIn>(
     reader: &mut R,
     limit: usize,
 ) -> Result<Vec<u8>, ReadStop>
-    ensures first { IfOk result (λ v. R.is_silent reader.new ≡ false → IfSome (R.bytes reader.old) (λ left. v.items ≡ take limit left)) }
-    ensures taken { IfOk result (λ v. Reads (R.bytes reader.old) (R.bytes reader.new) (R.is_silent reader.new) v.items) }
+    ensures first { IfOk result (λ v. AreFirst limit (R.bytes reader.old) (R.is_silent reader.new) v.items) }
+    ensures taken { IfOk result (λ v.
+        Reads (R.bytes reader.old) (R.bytes reader.new) (R.is_silent reader.new) v.items) }
     ensures bound { IfOk result (λ v. vec_len v ≤ limit) }
-    ensures lost { OnErr result (ReadsUpTo limit (R.bytes reader.old) (R.bytes reader.new) (R.is_silent reader.new)) }
+    ensures lost { OnErr result
+        (ReadsUpTo limit (R.bytes reader.old) (R.bytes reader.new) (R.is_silent reader.new)) }
 
     // Only interrupted reads are tried again, and only a failed one stops.
-    ensures retried { OnOk result (RisesBetween 0 RETRY_LIMIT (R.failures reader.old) (R.failures reader.new)) }
-    ensures stopped { result ≡ Err ReadStop.Read → RisesBetween 1 (RETRY_LIMIT + 1) (R.failures reader.old) (R.failures reader.new) }
-    ensures memory { result ≡ Err ReadStop.Memory → RisesBetween 0 RETRY_LIMIT (R.failures reader.old) (R.failures reader.new) }
+    ensures retried { OnOk result
+        (RisesBetween 0 RETRY_LIMIT (R.failures reader.old) (R.failures reader.new)) }
+    ensures stopped { result ≡ Err ReadStop.Read
+        → RisesBetween 1 (RETRY_LIMIT + 1) (R.failures reader.old) (R.failures reader.new) }
+    ensures memory { result ≡ Err ReadStop.Memory
+        → RisesBetween 0 RETRY_LIMIT (R.failures reader.old) (R.failures reader.new) }
     ensures full { R.failures reader.old ≡ full_count → 0 < limit → IsErr result }
 
     ensures silent { R.is_silent reader.old ≡ true → R.is_silent reader.new ≡ true }

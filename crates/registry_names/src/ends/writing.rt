@@ -7,8 +7,10 @@ use super::{ByteOut, WriteFailed};
 
 /// Writes all of the text, or a front of it up to the first failed write.
 pub fn write_whole<W: ByteOut>(writer: &mut W, text: &[u8]) -> Result<(), WriteFailed>
-    ensures ok { OnOk result (Writes (W.bytes writer.old) (W.bytes writer.new) (W.is_silent writer.new) text.now) }
-    ensures err { OnErr result (WritesFront (W.bytes writer.old) (W.bytes writer.new) (W.is_silent writer.new) text.now) }
+    ensures ok { OnOk result
+        (Writes (W.bytes writer.old) (W.bytes writer.new) (W.is_silent writer.new) text.now) }
+    ensures err { OnErr result
+        (WritesFront (W.bytes writer.old) (W.bytes writer.new) (W.is_silent writer.new) text.now) }
 
     ensures counted { W.failures writer.new ≡ failures_after result (W.failures writer.old) }
     ensures full { W.failures writer.old ≡ full_count → 0 < length text.now → IsErr result }

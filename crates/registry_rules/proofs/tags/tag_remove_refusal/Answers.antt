@@ -1,9 +1,9 @@
 use Rattle.std.proofs.Common.{◌≡◌, Bool, true, not, Some, None, refl, sym, ap, ◌∙◌}
+use Rattle.registry_names.specs.Tags.{latest}
 use Rattle.registry_names.specs.Texts.{is}
 use Rattle.registry_names.specs.declared.refusal.Refusal.TheVariants.{NotFound, KeepsLatest}
 use Rattle.registry_rules.specs.Refusals.{refuse}
 use Rattle.registry_rules.specs.Rows.{has_tag}
-use Rattle.registry_rules.specs.Steps.{latest}
 use Rattle.registry_rules.proofs.tags.tag_remove_refusal.Goals as goal
 
 kept : (there last : Bool) → there ≡ true → last ≡ true → Some KeepsLatest ≡ refuse (not there) NotFound (refuse last KeepsLatest None)

@@ -1,7 +1,7 @@
 use Rattle.std.proofs.Common.{◌∙◌}
 use Rattle.registry_names.proofs.KeyFacts.{pair_key}
+use Rattle.registry_names.proofs.RowFacts.{at-any}
 use Rattle.registry_access.specs.RowMaps.{maintainer_entry}
-use Rattle.registry_access.proofs.RowFacts.{at-any}
 use Rattle.registry_access.proofs.rows.AccessRows.is_maintainer.Goals as goal
 
 pub returns-in-User : goal.returns-in-User

@@ -1,7 +1,7 @@
 use Rattle.std.proofs.Common.{◌∙◌}
 use Rattle.registry_names.proofs.KeyFacts.{pair_key}
+use Rattle.registry_names.proofs.RowFacts.{at-find}
 use Rattle.registry_access.specs.RowMaps.{member_entry}
-use Rattle.registry_access.proofs.RowFacts.{at-find}
 use Rattle.registry_access.proofs.rows.AccessRows.role_of.Goals as goal
 
 pub returns-in-User : goal.returns-in-User

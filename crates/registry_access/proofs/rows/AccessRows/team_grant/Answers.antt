@@ -1,7 +1,7 @@
 use Rattle.std.proofs.Common.{◌∙◌}
 use Rattle.registry_names.proofs.KeyFacts.{triple_key}
+use Rattle.registry_names.proofs.RowFacts.{at-find}
 use Rattle.registry_access.specs.RowMaps.{grant_entry}
-use Rattle.registry_access.proofs.RowFacts.{at-find}
 use Rattle.registry_access.proofs.rows.AccessRows.team_grant.Goals as goal
 
 pub returns : goal.returns

@@ -1,23 +1,13 @@
 -- What a search in a list of rows finds is what the map that they give has.
 use Rattle.std.proofs.Common.{◌≡◌, Bool, true, false, cond, ◌||◌, List, [], ◌∷◌, map, is_some, refl, sym, ap, ◌∙◌, true≢false, Ordering, Some, Option, option_map, find}
+use Rattle.std.specs.Cmp.{both_ways}
 use Rattle.std.specs.List.{list_any}
+use Rattle.std.proofs.lemmas.Bool.{or_left, or_right}
 use Rattle.registry_names.specs.Keys.{IsKey}
 use Rattle.registry_names.specs.Maps.{MapBy, at, rows, entries, keys, first_at}
 use Rattle.registry_names.proofs.KeyFacts.{same_true, same_self}
 use Rattle.registry_names.proofs.MapFacts.{at-rows, at-entries}
-
--- tests that pass together answer alike
-pub both_ways : (a b : Bool) → (a ≡ true → b ≡ true) → (b ≡ true → a ≡ true) → a ≡ b
-both_ways true b f g = sym (f refl)
-both_ways false true f g = g refl
-both_ways false false f g = refl
-
-or_left : (a b : Bool) → a ≡ true → (a || b) ≡ true
-or_left a b h = ap (λ x. x || b) h
-
-or_right : (a b : Bool) → b ≡ true → (a || b) ≡ true
-or_right true b h = refl
-or_right false b h = h
+use Rattle.registry_names.proofs.EntryFacts.{among_keys}
 
 module _ {K X : Type 0} {cmp : K → K → Ordering} {same : K → K → Bool} (key : IsKey cmp same) where
   more_there : (b : Bool) (x : X) (o : Option X) → is_some o ≡ true → is_some (cond b (Some x) o) ≡ true
@@ -65,21 +55,13 @@ module _ {K X : Type 0} {cmp : K → K → Ordering} {same : K → K → Bool} (
     pub at-find : (es : List R) (k : K) → option_map (λ (r : R). (entry r).1) (find (λ r. same (entry r).0 k) es) ≡ at (rows cmp (map entry es)) k
     at-find es k = first_at-find es k ∙ sym (at-rows key (map entry es) k)
 
-    either : (b : Bool) (x : X) (o : Option X) → (b || is_some o) ≡ is_some (cond b (Some x) o)
-    either true x o = refl
-    either false x o = refl
-
-    first_at-any : (es : List R) (k : K) → list_any (λ r. same (entry r).0 k) es ≡ is_some (first_at same (map entry es) k)
-    first_at-any [] k = refl
-    first_at-any (r ∷ es) k = ap (λ b. same (entry r).0 k || b) (first_at-any es k) ∙ either (same (entry r).0 k) (entry r).1 _
-
-    -- a key is that of a row where the map has a value
-    pub at-any : (es : List R) (k : K) → list_any (λ r. same (entry r).0 k) es ≡ is_some (at (rows cmp (map entry es)) k)
-    at-any es k = first_at-any es k ∙ ap is_some (sym (at-rows key (map entry es) k))
-
     row_keys : (f : K → Bool) (es : List R) → list_any (λ r. f (entry r).0) es ≡ list_any f (keys (map entry es))
     row_keys f [] = refl
     row_keys f (r ∷ es) = ap (λ b. f (entry r).0 || b) (row_keys f es)
+
+    -- a key is that of a row where the map has a value
+    pub at-any : (es : List R) (k : K) → list_any (λ r. same (entry r).0 k) es ≡ is_some (at (rows cmp (map entry es)) k)
+    at-any es k = row_keys (λ q. same q k) es ∙ among_keys key (map entry es) k ∙ ap is_some (sym (at-rows key (map entry es) k))
 
     -- a test passes at some row where it passes at some key of the map
     pub any-rows : (f : K → Bool) (es : List R) → list_any (λ r. f (entry r).0) es ≡ list_any f (keys (entries (rows cmp (map entry es))))

@@ -4,7 +4,7 @@ use Rattle.std.specs.Prelude.{IsSome}
 use Rattle.registry_names.specs.Keys.{IsKey}
 use Rattle.registry_names.specs.Maps.{MapBy, at, put, erase}
 use Rattle.registry_names.proofs.KeyFacts.{same_true}
-use Rattle.registry_names.proofs.MapFacts.{at-put, at-put_same, at-erase, same_map}
+use Rattle.registry_names.proofs.MapFacts.{at-put, at-put_same, at-erase}
 
 module _ {K X : Type 0} {cmp : K → K → Ordering} {same : K → K → Bool} (key : IsKey cmp same) (m : MapBy cmp X) (q : K) (x : X) where
   -- what holds of each entry, and of the one that is put, holds of each entry then
@@ -34,15 +34,6 @@ module _ {K X : Type 0} {cmp : K → K → Ordering} {same : K → K → Bool} (
       either : (b : Bool) (o : Option X) → IsSome o → IsSome (cond b (Some x) o)
       either true o h = refl
       either false o h = h
-
-  -- what is put twice is put once
-  pub put_twice : put (put m q x) q x ≡ put m q x
-  put_twice =
-      same_map key _ _ (λ k. at-put key (put m q x) q x k ∙ ap (cond (same q k) (Some x)) (at-put key m q x k) ∙ twice (same q k) (at m k) ∙ sym (at-put key m q x k))
-    where
-      twice : (b : Bool) (o : Option X) → cond b (Some x) (cond b (Some x) o) ≡ cond b (Some x) o
-      twice true o = refl
-      twice false o = refl
 
 module _ {K X : Type 0} {cmp : K → K → Ordering} {same : K → K → Bool} (key : IsKey cmp same) (m : MapBy cmp X) (q : K) where
   -- an entry that is left after one is erased was there
