@@ -1,8 +1,9 @@
 -- What each kind of key comes to in SQL, on tables that are ready.
-use Rattle.std.proofs.Common.{◌≡◌, ◌==◌, inl, inr, ℕ, ℤ, zero, List, [], ◌∷◌, ◌++◌, map, drop, slice_get, Bool, true, false, Some, refl, sym, ap, ap₂, subst, subst₂, ◌∙◌, true≢false}
+use Rattle.std.proofs.Common.{◌≡◌, ◌+◌, ◌==◌, arith, inl, inr, ℕ, zero, suc, ℤ, List, [], ◌∷◌, ◌++◌, map, drop, slice_get, true, false, Some, refl, sym, ap, ap₂, subst, subst₂, ◌∙◌, true≢false}
 use Rattle.std.specs.Ordering.{int_cmp, int_eq}
 use Rattle.std.proofs.lemmas.Bool.{cases_Bool, and_from, eqb-true}
 use Rattle.std.proofs.lemmas.Cmp.{int_cmp_total, tied_itself}
+use Rattle.std.proofs.lemmas.List.{get_or-drop, drop-drop}
 use Rattle.std.proofs.lemmas.Map.Lookups.{exact_signed}
 use Rattle.sqlite.specs.declared.types.Value.{Value}
 use Rattle.sqlite.specs.declared.types.Value.TheVariants.{Null, Int, Real, Text, Blob}
@@ -23,22 +24,20 @@ use Rattle.sqlite_schema.specs.declared.schema.Schema.{Schema}
 use Rattle.sqlite_schema.specs.declared.schema.Table.{Table}
 use Rattle.sqlite_schema.specs.Rules.{agree}
 use Rattle.sqlite_rules.specs.Lists.{Has}
-use Rattle.sqlite_rules.specs.Edit.{id_in}
-use Rattle.sqlite_rules.proofs.TableLemmas.{int_is}
 use Rattle.sqlite_rules.proofs.PlaceLemmas.{tied_same}
-use Rattle.sqlite_rules.proofs.ListLemmas.{all_has, all_from}
+use Rattle.sqlite_rules.proofs.ListLemmas.{all_has, all_from, has_got}
 use Rattle.sqlite.specs.State.{State}
 use Rattle.registry_names.specs.Texts.{is}
 use Rattle.registry_names.specs.Keys.{IsKey}
 use Rattle.registry_names.specs.Maps.{MapBy}
 use Rattle.registry_names.proofs.KeyFacts.{text_key}
-use Rattle.registry_rows.specs.Columns.{blob_in, int_in, is_bytes, begin_with_bytes, IsOf, AreOf}
-use Rattle.registry_rows.specs.TextKeys.{Texts, TextsMap}
+use Rattle.registry_rows.specs.Columns.{id_column, id_name, blob_in, int_in, is_bytes, begin_with_bytes, equals, takes, IsOf, AreOf}
+use Rattle.registry_rows.specs.TextKeys.{TextsMap}
 use Rattle.registry_rows.specs.KeyKinds.{KeyKind, texts, bytes, numbers, map_by, OneEach, BytesMap, NumberMap}
 use Rattle.registry_rows.specs.Rows.{HasRowids}
 use Rattle.registry_rows.specs.Statements.{KeepsOthers, by_texts, is_wanted, shown_by}
 use Rattle.registry_rows.specs.Ready.{IsReady, DependsOn, with_rows, IsMapped, IsMappedByBytes, IsNumbered}
-use Rattle.registry_rows.proofs.TypeFacts.{bytes_test, bytes_same, number_test}
+use Rattle.registry_rows.proofs.TypeFacts.{bytes_test, bytes_same, number_test, column_is, typed_after_id}
 use Rattle.registry_rows.proofs.TextKeyFacts.{HasTexts, texts_key, row_parts, has_texts, tests_key, keys_agree, orders_keys, and_true, then_equal}
 use Rattle.registry_rows.proofs.OneRowFacts.{table_rowids, row_types, one_by_primary}
 
@@ -50,6 +49,9 @@ pub record IsKeyed (k : KeyKind) (schema : Schema) (table : Table) : Type 1 wher
   pub tested : (s : State) → IsReady schema s → (q : k.Key) (rest r : Row) → Has (s.now.trees table.tree) r → is_wanted k.wanted (k.params q ++ rest) r ≡ k.same q (k.of_row r)
   pub sorted : (s : State) → IsReady schema s → (params a b : Row) → Has (s.now.trees table.tree) a → Has (s.now.trees table.tree) b
       → key_cmp 0 (map (λ o. o.1) k.order) (shown_by (map (λ o. o.0) k.order) params a) (shown_by (map (λ o. o.0) k.order) params b) ≡ k.cmp (k.of_row a) (k.of_row b)
+  -- and SQL's = on a column is that of what it is read as
+  pub equal : (s : State) → IsReady schema s → (r : Row) → Has (s.now.trees table.tree) r → (at : ℕ) (q : Value) → takes table.columns at q ≡ true
+      → is_true (binary (Compare Eq Binary) (column (drop 1 r) at) q) ≡ equals q (column (drop 1 r) at)
 
 -- and they give one map of the contents
 pub record Gives (k : KeyKind) {C X : Type 0} (schema : Schema) (contents : Trees → C) (place : ℕ) (table : Table) (value : Row → X) (change : C → MapBy k.cmp X → C) : Type 1 where
@@ -104,6 +106,7 @@ module _ {C X : Type 0} {schema : Schema} {contents : Trees → C} {place : ℕ}
         let parts = row_parts r (all_has _ (s.now.trees table.tree) r (table_rowids schema s place table ready t.found).1 h) in
         ap (is_wanted (by_texts more 1 0) ((texts more).params q ++ rest)) parts.1 ∙ tests_key more q rest parts.0 (drop 1 r) (texts_of s ready r h);
     sorted = texts_sorted;
+    equal = λ s ready r h at q. column_is table.columns (drop 1 r) at q (types_of s ready r h);
   }
 
   pub by_texts_given : Gives (texts more) schema contents place table value change
@@ -154,6 +157,7 @@ module _ {C X : Type 0} {schema : Schema} {contents : Trees → C} {place : ℕ}
           (λ x y. bytes_agree x y (drop 1 a) (drop 1 b) (bytes_of s ready a ha) (bytes_of s ready b hb) same);
       tested = bytes_tested;
       sorted = bytes_sorted;
+      equal = λ s ready r h at q. column_is table.columns (drop 1 r) at q (row_types schema s place table _ ready t.found t.shape t.indexed t.plain r h);
     };
     depends = t.depends;
     alone = t.alone;
@@ -187,17 +191,38 @@ module _ (table : List Row) (ids : HasRowids table) where
   numbers_sorted params a b ha hb =
       then_equal _ ∙ subst₂ (λ v w. value_cmp v w ≡ int_cmp (numbers.of_row a) (numbers.of_row b)) (sym (number_of a ha)) (sym (number_of b hb)) (value_cmp-Int (numbers.of_row a) (numbers.of_row b))
 
-pub by_number : (schema : Schema) (place : ℕ) (table : Table) → slice_get schema.tables place ≡ Some table → IsKeyed numbers schema table
-by_number schema place table found =
-    let ids = λ (s : State) (ready : IsReady schema s). table_rowids schema s place table ready found in
-    record {
+-- the columns behind the id, as the row has them behind its first
+id_equal : (columns cs : List Column) (id : List ℕ) (r : Row) (at : ℕ) (q : Value) → columns ≡ id_column id ∷ cs → AreOf cs (drop 2 r) → takes columns at q ≡ true
+    → is_true (binary (Compare Eq Binary) (column (drop 1 r) at) q) ≡ equals q (column (drop 1 r) at)
+id_equal columns cs id r at q shape h t = go at (rw shape at t)
+  where
+    second : (j : ℕ) → column (drop 2 r) j ≡ column (drop 1 r) (suc j)
+    second j = let next : 1 + j ≡ suc j = omega arith in ap (λ l. column l j) (sym (drop-drop 1 1 r)) ∙ get_or-drop 1 (drop 1 r) j Null ∙ ap (column (drop 1 r)) next
+
+    go : (at : ℕ) → takes (id_column id ∷ cs) at q ≡ true → is_true (binary (Compare Eq Binary) (column (drop 1 r) at) q) ≡ equals q (column (drop 1 r) at)
+    go zero t = absurd (true≢false (sym t))
+    go (suc at) t = subst (λ v. is_true (binary (Compare Eq Binary) v q) ≡ equals q v) (second at) (column_is cs (drop 2 r) at q h t)
+
+module _ {C X : Type 0} {schema : Schema} {contents : Trees → C} {place : ℕ} {table : Table} {value : Row → X} {change : C → NumberMap X → C} (t : IsNumbered schema contents place table value change) where
+  ids : (s : State) → IsReady schema s → HasRowids (s.now.trees table.tree)
+  ids s ready = table_rowids schema s place table ready t.found
+
+  -- each column but the first has its type
+  pub number_types : (s : State) → IsReady schema s → (r : Row) → Has (s.now.trees table.tree) r → AreOf (drop 1 table.columns) (drop 2 r)
+  number_types s ready r h = typed_after_id schema s.now table r ready.sound ready.schema_is (has_got schema.tables place table t.found) h (id_column (id_name table.columns)) (drop 1 table.columns)
+      (ap (λ (u : Table). u.key) t.shape) (ap (λ (u : Table). u.columns) t.shape) t.plain
+
+  pub by_number_given : Gives numbers schema contents place table value change
+  by_number_given = record {
+    found = t.found;
+    keyed = record {
       key = number_key;
       rowids = ids;
       once = λ s ready. numbers_once (s.now.trees table.tree) (ids s ready);
       tested = λ s ready. numbers_tested (s.now.trees table.tree) (ids s ready);
       sorted = λ s ready. numbers_sorted (s.now.trees table.tree) (ids s ready);
-    }
-
-pub by_number_given : {C X : Type 0} {schema : Schema} {contents : Trees → C} {place : ℕ} {table : Table} {value : Row → X} {change : C → NumberMap X → C} → IsNumbered schema contents place table value change
-    → Gives numbers schema contents place table value change
-by_number_given {schema = schema} {place = place} {table = table} t = record { found = t.found; keyed = by_number schema place table t.found; depends = t.depends; alone = t.alone }
+      equal = λ s ready r h at q. id_equal table.columns (drop 1 table.columns) (id_name table.columns) r at q (ap (λ (u : Table). u.columns) t.shape) (number_types s ready r h);
+    };
+    depends = t.depends;
+    alone = t.alone;
+  }

@@ -21,3 +21,5 @@ pub mod QueryFacts
 pub mod ListingFacts
 pub mod LookUpFacts
 pub mod QuietFacts
+pub mod CountFacts
+mod Examples

@@ -1,7 +1,7 @@
 -- Keys of texts in SQL: WHERE tests them, ORDER BY compares them, and a unique index tells them apart.
-use Rattle.std.proofs.Common.{◌≡◌, inl, inr, ℕ, zero, suc, List, [], ◌∷◌, ◌++◌, map, Bool, true, false, ◌&&◌, refl, sym, ap, ap₂, subst, subst₂, ◌∙◌, true≢false, Ordering, Less, Equal, Greater, drop, IsTrue}
+use Rattle.std.proofs.Common.{◌≡◌, ℕ, zero, suc, List, [], ◌∷◌, ◌++◌, map, Bool, true, false, ◌&&◌, refl, sym, ap, ap₂, subst₂, ◌∙◌, true≢false, Ordering, Less, Equal, Greater, drop, IsTrue}
 use Rattle.std.specs.Ordering.{ordering_then}
-use Rattle.std.proofs.lemmas.Bool.{cases_Bool, and_parts, and_from, false_from_ne_true}
+use Rattle.std.proofs.lemmas.Bool.{and_parts, and_from}
 use Rattle.sqlite.specs.declared.types.Value.{Value}
 use Rattle.sqlite.specs.declared.types.Value.TheVariants.{Text}
 use Rattle.sqlite_value.specs.Order.{Row, column, value_cmp}

@@ -1,11 +1,11 @@
 -- SQL's = on texts, blobs and integers, and the types of the columns.
-use Rattle.std.proofs.Common.{◌≡◌, ◌+◌, ◌≤◌, ℕ, ℤ, List, [], ◌∷◌, drop, get_or, Bool, true, false, cond, not, ◌&&◌, ◌||◌, Option, Some, None, refl, sym, ap, subst, ◌∙◌, true≢false, ne_eqb, arith}
+use Rattle.std.proofs.Common.{◌≡◌, ◌+◌, ◌≤◌, ℕ, zero, suc, ℤ, List, [], ◌∷◌, drop, get_or, Bool, true, false, cond, not, ◌&&◌, ◌||◌, Option, Some, None, refl, sym, ap, subst, ◌∙◌, true≢false, ne_eqb, arith}
 use Rattle.std.specs.Ordering.{is_eq, int_eq}
 use Rattle.std.proofs.lemmas.Cmp.{int_cmp_total, eq_by_cmp_equiv}
 use Rattle.std.proofs.lemmas.Bool.{and_parts, not-true}
 use Rattle.std.proofs.lemmas.List.{get_or-drop, drop-drop}
 use Rattle.sqlite.specs.declared.types.Value.{Value}
-use Rattle.sqlite.specs.declared.types.Value.TheVariants.{Null, Int, Real, Text, Blob}
+use Rattle.sqlite.specs.declared.types.Value.TheVariants.{Null, Int, Text, Blob}
 use Rattle.sqlite_value.specs.Order.{Row, column, value_cmp}
 use Rattle.sqlite_value.specs.declared.keys.Collation.TheVariants.{Binary}
 use Rattle.sqlite_value.proofs.OrderLemmas.{value_cmp-Int, value_cmp-Text, value_cmp-Blob}
@@ -25,7 +25,7 @@ use Rattle.sqlite_rules.proofs.ListLemmas.{all_has}
 use Rattle.sqlite.specs.Effect.{Database, IsDatabase}
 use Rattle.registry_names.specs.Texts.{is}
 use Rattle.registry_names.proofs.TextFacts.{is_tie, is_sym, is_self}
-use Rattle.registry_rows.specs.Columns.{is_plain_kind, are_plain, is_exact, equals, IsOf, AreOf}
+use Rattle.registry_rows.specs.Columns.{is_plain_kind, are_plain, is_exact, equals, takes, IsOf, AreOf}
 
 -- ---- SQL's =
 
@@ -59,6 +59,13 @@ equals_is kind.Blob v (Blob b) h e = subst (λ w. is_true (binary (Compare Eq Bi
 equals_is _ v q h e = absurd (true≢false (sym e))
 
 -- ---- the types of the columns
+
+-- a column of the value's type is tested by what it is read as
+pub column_is : (cs : List Column) (vs : Row) (at : ℕ) (q : Value) → AreOf cs vs → takes cs at q ≡ true → is_true (binary (Compare Eq Binary) (column vs at) q) ≡ equals q (column vs at)
+column_is [] vs at q h t = absurd (true≢false (sym t))
+column_is (c ∷ cs) [] at q h t = absurd h
+column_is (c ∷ cs) (v ∷ vs) zero q h t = equals_is c.kind v q h.0 (and_parts _ _ t).1
+column_is (c ∷ cs) (v ∷ vs) (suc at) q h t = column_is cs vs at q h.1 t
 
 drop_more : (n : ℕ) (row : Row) (v : Value) (vs : Row) → drop n row ≡ v ∷ vs → (drop (n + 1) row ≡ vs) × (column row n ≡ v)
 drop_more n row v vs e = (sym (drop-drop 1 n row) ∙ ap (drop 1) e, let z : n + 0 ≡ n = omega arith in subst (λ i. column row i ≡ v) z (sym (get_or-drop n row 0 Null) ∙ ap (λ l. get_or l 0 Null) e))

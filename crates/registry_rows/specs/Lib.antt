@@ -11,3 +11,4 @@ pub mod Statements
 pub mod Tables
 pub mod TextKeys
 pub mod WriteLaws
+pub mod Counting

@@ -1,8 +1,8 @@
--- Laws of SELECT by key, and in the order of the key.
-use Rattle.std.specs.Prelude.{◌≡◌, ℕ, suc, List, [], ◌∷◌, map, option_map}
+-- Laws of SELECT by key, by a column, and in the order of the key.
+use Rattle.std.specs.Prelude.{◌≡◌, ℕ, suc, Bool, true, List, [], ◌∷◌, map, filter, option_map}
 use Rattle.sqlite.specs.declared.types.Value.{Value}
 use Rattle.sqlite.specs.declared.types.Value.TheVariants.{Text as Stored}
-use Rattle.sqlite_value.specs.Order.{Row}
+use Rattle.sqlite_value.specs.Order.{Row, column}
 use Rattle.sqlite_trees.specs.Tree.{Trees}
 use Rattle.sqlite_trees.specs.declared.store.Store.{Ghosts}
 use Rattle.sqlite_sql.specs.Term.{Term}
@@ -10,10 +10,11 @@ use Rattle.sqlite_schema.specs.declared.schema.Schema.{Schema}
 use Rattle.sqlite_schema.specs.declared.schema.Table.{Table}
 use Rattle.registry_names.specs.Texts.{Text}
 use Rattle.registry_names.specs.Maps.{MapBy, at, entries, part, parts, seen}
+use Rattle.registry_rows.specs.Columns.{takes, equals}
 use Rattle.registry_rows.specs.TextKeys.{Texts, texts_cmp, texts_from}
 use Rattle.registry_rows.specs.KeyKinds.{KeyKind, map_by}
 use Rattle.registry_rows.specs.Rows.{map_of, listed}
-use Rattle.registry_rows.specs.Statements.{MeansQuery, select_where, by_texts, in_order, shown_by}
+use Rattle.registry_rows.specs.Statements.{MeansQuery, select_where, by_texts, by_column, in_order, shown_by}
 use Rattle.registry_rows.specs.Laws.{EachShows}
 
 module _ {S : Type 0} (store : Ghosts S) (Y : Type 0) {C X : Type 0} (k : KeyKind) (schema : Schema) (contents : Trees → C) (place : ℕ) (table : Table) (value : Row → X) (change : C → MapBy k.cmp X → C) where
@@ -22,6 +23,13 @@ module _ {S : Type 0} (store : Ghosts S) (Y : Type 0) {C X : Type 0} (k : KeyKin
   SelectFinds = (sql : List ℕ) (project : List Term) (names : List (List ℕ)) → MeansQuery schema sql (select_where table project k.wanted [] names) → (q : k.Key)
       → (read : Row → Y) (g : X → Y) → ((id : Value) (vs : Row) → read (shown_by project (k.params q) (id ∷ vs)) ≡ g (value vs))
       → EachShows store schema sql (k.params q) read (λ db. listed (option_map g (at (map_by k value (db table.tree)) q)))
+
+  -- SELECT .. WHERE a column is ?1 ORDER BY the key shows the entries whose values have it, in the order of their keys
+  abbrev pub SelectHas : Type 0
+  SelectHas = (at : ℕ) (q : Value) → takes table.columns at q ≡ true → (has : X → Bool) → ((vs : Row) → equals q (column vs at) ≡ has (value vs))
+      → (sql : List ℕ) (project : List Term) (names : List (List ℕ)) → MeansQuery schema sql (select_where table project (by_column at) k.order names)
+      → (read : Row → k.Key × Y) (g : X → Y) → ((id : Value) (vs : Row) → read (shown_by project (q ∷ []) (id ∷ vs)) ≡ (k.of_row (id ∷ vs), g (value vs)))
+      → EachShows store schema sql (q ∷ []) read (λ db. map (seen g) (filter (λ e. has e.1) (entries (map_by k value (db table.tree)))))
 
   -- SELECT .. ORDER BY the key shows the map, in the order of its keys
   abbrev pub SelectListsAll : Type 0

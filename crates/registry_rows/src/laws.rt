@@ -4,7 +4,8 @@
 ghost use Rattle.registry_rows.specs.Laws.{OfEachTable, OfEachBytesTable, OfEachNumberedTable, OfEachPairTable, OfEachTripleTable};
 ghost use Rattle.registry_rows.specs.CreateLaws.{CreateAddsEmpty, CreateAddsCounter, IndexKeepsEmpty, IndexKeepsRows};
 ghost use Rattle.registry_rows.specs.WriteLaws.{OneRowEach, RowsTellMap, InsertPuts, InsertMeetsNone, DeleteErases, UpdateRevises, UpdatePuts};
-ghost use Rattle.registry_rows.specs.QueryLaws.{SelectFinds, SelectListsAll, SelectLists, SelectListsTwo};
+ghost use Rattle.registry_rows.specs.QueryLaws.{SelectFinds, SelectHas, SelectListsAll, SelectLists, SelectListsTwo};
+ghost use Rattle.registry_rows.specs.Counting.{InsertNumbers, NextIsNew, NextIsAfter};
 
 use sqlite::Alter;
 
@@ -34,10 +35,11 @@ pub fn writes_change_maps<S: Alter, C, X>()
     ensures update_known { OfEachTable C X (UpdatePuts S.Store) }
 {}
 
-/// A query by key, or in the order of the key, shows exactly what its table's map has, and changes
-/// nothing.
+/// A query by key, by a column or in the order of the key shows exactly what its table's map has,
+/// and changes nothing.
 pub fn queries_show_maps<S: Alter, C, X, Y>()
     ensures find { OfEachTable C X (SelectFinds S.Store Y) }
+    ensures has { OfEachTable C X (SelectHas S.Store Y) }
     ensures all { OfEachTable C X (SelectListsAll S.Store Y) }
     ensures list { OfEachPairTable C X (SelectLists S.Store Y) }
     ensures list_two { OfEachTripleTable C X (SelectListsTwo S.Store Y) }
@@ -51,6 +53,7 @@ pub fn bytes_are_keys<S: Alter, C, X, Y>()
     ensures insert_new { OfEachBytesTable C X (InsertMeetsNone S.Store) }
     ensures delete { OfEachBytesTable C X (DeleteErases S.Store) }
     ensures find { OfEachBytesTable C X (SelectFinds S.Store Y) }
+    ensures has { OfEachBytesTable C X (SelectHas S.Store Y) }
     ensures all { OfEachBytesTable C X (SelectListsAll S.Store Y) }
 {}
 
@@ -60,5 +63,15 @@ pub fn numbers_are_keys<S: Alter, C, X, Y>()
     ensures tell { OfEachNumberedTable C X (RowsTellMap S.Store) }
     ensures delete { OfEachNumberedTable C X (DeleteErases S.Store) }
     ensures find { OfEachNumberedTable C X (SelectFinds S.Store Y) }
+    ensures has { OfEachNumberedTable C X (SelectHas S.Store Y) }
     ensures all { OfEachNumberedTable C X (SelectListsAll S.Store Y) }
+{}
+
+/// AUTOINCREMENT: INSERT puts a row under the next number, counts that and answers it. The next
+/// number is above the count and above each that a row has, so none is given twice, also where
+/// rows were deleted since.
+pub fn numbers_are_counted<S: Alter, C, X>()
+    ensures insert { InsertNumbers S.Store C X }
+    ensures new { NextIsNew X }
+    ensures after { NextIsAfter X }
 {}

@@ -1,7 +1,7 @@
 use Rattle.sqlite.specs.Held.{state}
 use Rattle.registry_rows.proofs.KeyedFacts.{by_number_given}
 use Rattle.registry_rows.proofs.StatementFacts.{rows_tell_by, delete_erases_by}
-use Rattle.registry_rows.proofs.LookUpFacts.{select_finds_by, select_all_by}
+use Rattle.registry_rows.proofs.LookUpFacts.{select_finds_by, select_has_by, select_all_by}
 use Rattle.registry_rows.proofs.laws.numbers_are_keys.Goals as goal
 
 pub returns-clause-once : goal.returns-clause-once
@@ -16,6 +16,10 @@ returns-clause-delete g c = λ schema contents place table value change t sql me
 pub returns-clause-find : goal.returns-clause-find
 returns-clause-find g c = λ schema contents place table value change t sql project names means q read see shows old new.
     select_finds_by (by_number_given t) sql project names means q read see shows (state g.S.Store old) (state g.S.Store new)
+
+pub returns-clause-has : goal.returns-clause-has
+returns-clause-has g c = λ schema contents place table value change t at q typed has tells sql project names means read see shows old new.
+    select_has_by (by_number_given t) at q typed has tells sql project names means read see shows (state g.S.Store old) (state g.S.Store new)
 
 pub returns-clause-all : goal.returns-clause-all
 returns-clause-all g c = λ schema contents place table value change t sql project names means read see shows old new.

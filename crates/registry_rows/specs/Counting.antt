@@ -1,0 +1,70 @@
+-- AUTOINCREMENT: which numbers it gives, where it counts them, and the law of its INSERT.
+use Rattle.std.specs.Prelude.{◌≡◌, ◌==◌, ℕ, ℤ, pos, ◌+ℤ◌, ◌<ℤ◌, ◌≤ℤ◌, true, false, List, [], ◌∷◌, fold, find, drop, None, Some}
+use Rattle.std.specs.Int.{int_max}
+use Rattle.std.specs.Ordering.{is_eq}
+use Rattle.sqlite.specs.declared.types.Value.TheVariants.{Null, Text}
+use Rattle.sqlite_value.specs.Order.{Row, column, value_cmp}
+use Rattle.sqlite_trees.specs.Tree.{Trees}
+use Rattle.sqlite_trees.specs.declared.store.Store.{Ghosts}
+use Rattle.sqlite_sql.specs.Term.{Term, lit, eval_all}
+use Rattle.sqlite_schema.specs.declared.schema.Schema.{Schema}
+use Rattle.sqlite_schema.specs.declared.schema.Table.{Table}
+use Rattle.sqlite.specs.Rows.{sequence, count_of}
+use Rattle.sqlite.specs.State.{State}
+use Rattle.registry_names.specs.Maps.{at, put, entries}
+use Rattle.registry_rows.specs.Columns.{are_exact}
+use Rattle.registry_rows.specs.Tables.{sequence_table}
+use Rattle.registry_rows.specs.KeyKinds.{NumberMap, numbers, map_by}
+use Rattle.registry_rows.specs.Statements.{Means, ignores_updates, insert_values}
+use Rattle.registry_rows.specs.Ready.{Leaves, with_rows, IsNumbered}
+use Rattle.registry_rows.specs.Laws.{EachAnswer}
+
+-- the number that the rows of sqlite_sequence have for a table: that of the first row of its name, or 0
+abbrev pub count_in : List ℕ → List Row → ℤ
+count_in name counters = count_of (find (λ r. is_eq (value_cmp (column r 1) (Text name))) counters)
+
+-- the greatest key, or 0
+abbrev pub last_number : {X : Type 0} → NumberMap X → ℤ
+last_number m = fold (λ _ e. e.0) (pos 0) (entries m)
+
+-- the number of the next row: one above the greatest key, and above the count
+abbrev pub next_number : {X : Type 0} → ℤ → NumberMap X → ℤ
+next_number count m = int_max count (last_number m) +ℤ pos 1
+
+-- The table counts in the rows of this tree, which is that of sqlite_sequence, and what they say of it is a part of the contents. Where the contents leave it out, `count` changes nothing.
+pub record IsCounted {C : Type 0} (schema : Schema) (contents : Trees → C) (table : Table) (counters : ℕ) (count : C → ℤ → C) : Type 0 where
+  pub counts : table.is_counted ≡ true
+  pub sequence_is : sequence schema ≡ Some (sequence_table counters)
+  pub apart : (table.tree == counters) ≡ false
+  pub quiet : ignores_updates schema ≡ true
+  pub counted : (db : Trees) (rows : List Row) → contents (with_rows db counters rows) ≡ count (contents db) (count_in table.name rows)
+
+-- the number that the next row of a table gets
+abbrev pub next_in : {X : Type 0} → (Row → X) → Table → ℕ → Trees → ℤ
+next_in value table counters db = next_number (count_in table.name (db counters)) (map_by numbers value (db table.tree))
+
+-- the values stand under the next number, which is counted, and answered as the last rowid
+pub record TakesNext {C X : Type 0} (schema : Schema) (contents : Trees → C) (table : Table) (value : Row → X) (change : C → NumberMap X → C) (counters : ℕ) (count : C → ℤ → C) (values : Row) (old new : State) : Type 0 where
+  pub leaves : Leaves schema contents
+      (count (change (contents old.now.trees) (put (map_by numbers value (old.now.trees table.tree)) (next_in value table counters old.now.trees) (value (Null ∷ values)))) (next_in value table counters old.now.trees)) new
+  pub answered : new.last_rowid ≡ next_in value table counters old.now.trees
+
+-- INSERT INTO t (every column but the id) VALUES (..) gives the row the next number
+abbrev pub InsertNumbers : {S : Type 0} → Ghosts S → (C X : Type 0) → Type 0
+InsertNumbers store C X = (schema : Schema) (contents : Trees → C) (place : ℕ) (table : Table) (value : Row → X) (change : C → NumberMap X → C) → IsNumbered schema contents place table value change
+    → (counters : ℕ) (count : C → ℤ → C) → IsCounted schema contents table counters count
+    → (sql : List ℕ) (cells : List Term) → Means schema sql (insert_values place (lit Null ∷ cells)) → (params : Row) → are_exact (drop 1 table.columns) (eval_all cells (params ∷ [])) ≡ true
+    → EachAnswer store schema sql params (TakesNext schema contents table value change counters count (eval_all cells (params ∷ [])))
+
+-- the next number is above the count, and above each key: no row has it
+pub record IsNew {X : Type 0} (count : ℤ) (m : NumberMap X) (n : ℤ) : Type 0 where
+  pub counted : count <ℤ n
+  pub above : (k : ℤ) (x : X) → at m k ≡ Some x → k <ℤ n
+  pub free : at m n ≡ None
+
+abbrev pub NextIsNew : Type 0 → Type 0
+NextIsNew X = (count : ℤ) (m : NumberMap X) → IsNew count m (next_number count m)
+
+-- where no key is above the count, the next number is the one after it
+abbrev pub NextIsAfter : Type 0 → Type 0
+NextIsAfter X = (count : ℤ) (m : NumberMap X) → ((k : ℤ) (x : X) → at m k ≡ Some x → k ≤ℤ count) → pos 0 ≤ℤ count → next_number count m ≡ count +ℤ pos 1
