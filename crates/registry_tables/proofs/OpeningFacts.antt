@@ -17,6 +17,7 @@ use Rattle.registry_tables.specs.Opening.{Finds, HasNothing, HasNumber, HasRun, 
 use Rattle.sqlite.specs.declared.transaction.Transaction.{Transaction}
 use Rattle.sqlite_trees.specs.declared.store.Store.{Ghosts}
 use Rattle.sqlite.proofs.Callers.{IsPlain, command_of}
+use Rattle.registry_tables.proofs.SchemaFacts.{creation_length}
 use Rattle.registry_tables.proofs.CatalogFacts.{ReadsListing, lists_names, listing_shown, none_shown, some_shown}
 
 -- ---- opening
@@ -86,7 +87,9 @@ module _ {S : Type 0} (store : Ghosts S) where
   first_understood (suc n) old new run clean = first_understood n old run.0 run.1 (omega (arith, run.2.1.survives.clean, clean))
 
   pub creation_understood : (old new : Transaction S) → IsMade store old new → Understands (shown store old) first_creation
-  creation_understood old new made = let all = made.1 in first_understood 14 old all.0 all.1 (omega (arith, all.2.1.survives.clean, made.0))
+  creation_understood old new made =
+      let all = made.1 in
+      first_understood 14 old all.0 (subst (λ n. HasRun store n old all.0) creation_length all.1) (omega (arith, all.2.1.survives.clean, made.0))
 
   pub users_refused : (old new : Transaction S) → HasUsersAlone (shown store old) → ¬ IsMade store old new
   users_refused old new alone made =

@@ -82,7 +82,7 @@ module _ {S : Type 0} (store : Ghosts S) where
 
   -- all of them were, and then that one
   abbrev pub HasCreated : Transaction S → Transaction S → Type 0
-  HasCreated old new = (between : Transaction S) × HasRun 15 old between × PutsNumber between new
+  HasCreated old new = (between : Transaction S) × HasRun (length creation) old between × PutsNumber between new
 
   -- a sound making: the disk stayed clean
   abbrev pub IsMade : Transaction S → Transaction S → Type 0

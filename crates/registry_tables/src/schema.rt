@@ -5,7 +5,7 @@
 //! row goes with the one that it names. Tables are made in this order, and later ones are added
 //! behind them.
 
-ghost use Rattle.std.specs.Prelude.{◌≡◌, IsErr, OnOk, map};
+ghost use Rattle.std.specs.Prelude.{◌≡◌, IsErr, OnOk, length, map};
 ghost use Rattle.sqlite.specs.State.{HasCleanDisk};
 ghost use Rattle.registry_rows.specs.Frames.{Stays};
 ghost use Rattle.registry_rows.specs.Ready.{Leaves};
@@ -57,7 +57,7 @@ fn create_tables<S: Alter>(tx: &mut Transaction<'_, S>, texts: &[&str]) -> Resul
     requires texts { map (λ text. text.now) texts.now ≡ creation }
     ensures stays { Stays S.Store tx.old tx.new }
     ensures made { HasNoTables S.Store tx.old → OnOk result (HasMade S.Store 15 tx.new) }
-    ensures ran { OnOk result (HasRun S.Store 15 tx.old tx.new) }
+    ensures ran { OnOk result (HasRun S.Store (length creation) tx.old tx.new) }
     ensures refused { InForm S.Store tx.old → HasCleanDisk (shown S.Store tx.new) → IsErr result }
 {
     for text in texts {

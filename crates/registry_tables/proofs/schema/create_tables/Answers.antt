@@ -43,5 +43,5 @@ returns-clause-refused g c form clean =
 
 pub returns-clause-ran : goal.returns-clause-ran
 returns-clause-ran g c =
-    let all : c.loop-text.text-index ≡ 15 = omega (arith, as_many c.args.texts.now c.requires.texts, creation_length, c.loop-text.auto.text-index-end, c.loop-text-test.false) in
+    let all : c.loop-text.text-index ≡ length creation = omega (arith, as_many c.args.texts.now c.requires.texts, c.loop-text.auto.text-index-end, c.loop-text-test.false) in
     subst (λ n. HasRun g.S.Store n c.args.tx.now c.loop-text.tx) all c.loop-text.invariant.ran
