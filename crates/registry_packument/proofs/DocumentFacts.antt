@@ -1,77 +1,82 @@
--- A manifest's members with the message put among them, and what is written of these.
-use Rattle.std.proofs.Common.{◌≡◌, ℕ, Bool, true, false, List, Option, Some, None, Ordering, Less, Equal, Greater, ◌||◌, if◌then◌else◌, unwrap_or, refl, sym, ap, ◌∙◌, codes, string_bytes, string_cmp, true≢false, String, Global, BTreeMap}
-use Rattle.std.proofs.lemmas.Option.{none-some, option_and_then_some}
-use Rattle.std.specs.BTreeMap.{insert_entry}
-use Rattle.std.specs.Ordering.{nat_cmp, match_ordering}
-use Rattle.std.specs.Cmp.Lexicographic.{slice_cmp}
-use Rattle.serde_json.specs.Data.{Data, null, boolean, number, string, array, object, Members, no_members, member, put}
-use Rattle.serde_json.specs.Written.{has_float, members_have_float, compact_text}
-use Rattle.serde_json.specs.Find.{as_object}
-use Rattle.serde_json.specs.Read.{read}
-use Rattle.serde_json.specs.View.{view, members_view}
-use Rattle.serde_json.specs.declared.value.Value.{Value, Object}
-use Rattle.serde_json.proofs.Views.{view-Object, members_view-insert_entry}
-use Rattle.registry_packument.specs.Documents.{members_of_value, manifest_members, deprecated_text}
+-- A manifest's members as they are written, with a text put among them.
+use Rattle.std.proofs.Common.{◌≡◌, ℕ, zero, suc, ◌+◌, ◌≤◌, Bool, true, false, not, cond, nat_lt, List, [], ◌∷◌, ◌++◌, length, take, drop, Option, Some, None, option_map, option_and_then, unwrap_or, is_some, refl, ap, sym, ◌∙◌, arith, rules}
+use Rattle.std.proofs.lemmas.List.Sums.{prefix_len-le-length}
+use Rattle.std.proofs.lemmas.Bool.{ltb-false}
+use Rattle.std.specs.Borrow.{Bor}
+use Rattle.std.specs.List.{filter, insert, prefix_len, position, position_or_len}
+use Rattle.std.specs.Ordering.{is_lt}
+use Rattle.std.specs.Str.{bytes_eq}
+use Rattle.json.specs.Json.{Json, string, Members, no_members, member}
+use Rattle.json.specs.Tree.{HasNumbers, MembersHaveNumbers}
+use Rattle.json.specs.Value.{value_view, members_view}
+use Rattle.json.specs.declared.value.Value.{Value, String, the_lemmas}
+use Rattle.registry_names.specs.Texts.{text_cmp}
+use Rattle.registry_packument.specs.Documents.{without, placed}
 
-right_false : (a b : Bool) → (a || b) ≡ false → b ≡ false
-right_false true b h = absurd (true≢false h)
-right_false false b h = h
+abbrev pub Entry : Type 0 → Type 0
+Entry A = Bor (List ℕ) × Value A
 
-left_false : (a b : Bool) → (a || b) ≡ false → a ≡ false
-left_false true b h = h
-left_false false b h = refl
+abbrev pub is_other : {A : Type 0} → List ℕ → Entry A → Bool
+is_other k m = not (bytes_eq m.0.now k)
 
-both_false : (a b : Bool) → a ≡ false → b ≡ false → (a || b) ≡ false
-both_false a b ha hb = rw (ha, hb) refl
+abbrev pub is_later : {A : Type 0} → List ℕ → Entry A → Bool
+is_later k m = is_lt (text_cmp k m.0.now)
 
-put_at : (o : Ordering) (k l text : List ℕ) (e : Data) (ms : Members) → has_float e ≡ false → members_have_float ms ≡ false
-    → members_have_float (put k (string text) ms) ≡ false
-    → members_have_float (match_ordering o (member k (string text) (member l e ms)) (member l (string text) ms) (member l e (put k (string text) ms))) ≡ false
-put_at Less k l text e ms he hms h = both_false _ _ he hms
-put_at Equal k l text e ms he hms h = hms
-put_at Greater k l text e ms he hms h = both_false _ _ he h
+pub members_view-filter : {A : Type 0} (k : List ℕ) (ms : List (Entry A)) → members_view (filter (is_other k) ms) ≡ without k (members_view ms)
+members_view-filter k [] = refl
+members_view-filter k (m ∷ ms) =
+    let rest = members_view-filter k ms in
+    elim (bytes_eq m.0.now k)
+        as (λ b. members_view (cond (not b) (m ∷ filter (is_other k) ms) (filter (is_other k) ms)) ≡ cond b (without k (members_view ms)) (member m.0.now (value_view m.1) (without k (members_view ms)))) [
+      | true ↦ rest
+      | false ↦ ap (member m.0.now (value_view m.1)) rest
+    ]
 
--- a text that is put among members without a float leaves none there
-pub no_float-put : (k text : List ℕ) (ms : Members) → members_have_float ms ≡ false → members_have_float (put k (string text) ms) ≡ false
-no_float-put k text no_members h = refl
-no_float-put k text (member l e ms) h =
-    let rest = right_false (has_float e) (members_have_float ms) h in
-    put_at (slice_cmp nat_cmp k l) k l text e ms (left_false (has_float e) (members_have_float ms) h) rest (no_float-put k text ms rest)
+insert_one : {X : Type 0} (x y : X) (xs : List X) (i : ℕ) → insert (x ∷ xs) (1 + i) y ≡ x ∷ insert xs i y
+insert_one x y xs i = let e : 1 + i ≡ suc i = omega arith in rw e refl
 
-if_some : (b : Bool) (o : Option Members) (ms : Members) → (if b then None else o) ≡ Some ms → (b ≡ false) × (o ≡ Some ms)
-if_some true o ms h = absurd (none-some ms h)
-if_some false o ms h = (refl, h)
+pub members_view-insert : {A : Type 0} (k : List ℕ) (m : Entry A) (ms : List (Entry A)) → m.0.now ≡ k
+    → members_view (insert ms (position_or_len (is_later k) ms) m) ≡ placed k (value_view m.1) (members_view ms)
+members_view-insert k m [] e = ap (λ l. member l (value_view m.1) no_members) e
+members_view-insert k m (n ∷ ms) e =
+    let rest = members_view-insert k m ms e in
+    elim (is_later k n)
+        as (λ b. members_view (insert (n ∷ ms) (cond (not b) (1 + prefix_len (λ x. not (is_later k x)) ms) 0) m)
+            ≡ cond b (member k (value_view m.1) (members_view (n ∷ ms))) (member n.0.now (value_view n.1) (placed k (value_view m.1) (members_view ms)))) [
+      | true ↦ ap (λ l. member l (value_view m.1) (members_view (n ∷ ms))) e
+      | false ↦ ap members_view (insert_one n m ms _) ∙ ap (member n.0.now (value_view n.1)) rest
+    ]
 
-object_of : (d : Data) (ms : Members) → as_object d ≡ Some ms → d ≡ object ms
-object_of null n h = absurd (none-some n h)
-object_of (boolean b) n h = absurd (none-some n h)
-object_of (number x) n h = absurd (none-some n h)
-object_of (string t) n h = absurd (none-some n h)
-object_of (array ds) n h = absurd (none-some n h)
-object_of (object ms) n h = ap (λ o. object (unwrap_or o ms)) h
+pub value_view-String : (A : Type 0) (s : Bor (List ℕ)) → value_view {A = A} (String s) ≡ string s.now
+value_view-String A s = search (rules, the_lemmas)
 
-no_float-value : (d : Data) (ms : Members) → members_of_value d ≡ Some ms → members_have_float ms ≡ false
-no_float-value d ms h =
-    let parts = if_some (has_float d) (as_object d) ms h in
-    ap has_float (sym (object_of d ms parts.1)) ∙ parts.0
+-- ---- numbers
 
--- a manifest has no float
-no_float-manifest : (manifest : List ℕ) (ms : Members) → manifest_members manifest ≡ Some ms → members_have_float ms ≡ false
-no_float-manifest manifest ms h =
-    option_and_then_some members_of_value (read manifest) ms h (λ d _ is. no_float-value d ms is)
+numbers_if : (b : Bool) (ms ns : Members) → MembersHaveNumbers ms → MembersHaveNumbers ns → MembersHaveNumbers (cond b ms ns)
+numbers_if true ms ns h i = h
+numbers_if false ms ns h i = i
 
--- what an object is after an insert
-changed : (old new : BTreeMap (String Global) Value) (key : String Global) (value : Value) (k message : List ℕ)
-    → new.entries ≡ insert_entry string_cmp old.entries key value → string_bytes key ≡ k → view value ≡ string message
-    → view (Object new) ≡ object (put k (string message) (members_view old.entries))
-changed old new key value k message e key_is value_is =
-    view-Object new ∙ rw (e, members_view-insert_entry old.entries key value, key_is, value_is) refl
+pub MembersHaveNumbers-without : (k : List ℕ) (ms : Members) → MembersHaveNumbers ms → MembersHaveNumbers (without k ms)
+MembersHaveNumbers-without k no_members h = tt
+MembersHaveNumbers-without k (member l j ms) h =
+    let rest = MembersHaveNumbers-without k ms h.1 in numbers_if (bytes_eq l k) _ (member l j (without k ms)) rest (h.0, rest)
 
-pub deprecated_text-insert : (manifest message text : List ℕ) (old new : BTreeMap (String Global) Value) (key : String Global) (value : Value)
-    → manifest_members manifest ≡ Some (members_view old.entries) → string_bytes key ≡ codes "deprecated" → view value ≡ string message
-    → new.entries ≡ insert_entry string_cmp old.entries key value → (has_float (view (Object new)) ≡ false → text ≡ compact_text (view (Object new)))
-    → deprecated_text manifest message ≡ Some text
-deprecated_text-insert manifest message text old new key value read_is key_is value_is e written =
-    let is = changed old new key value (codes "deprecated") message e key_is value_is in
-    let whole = ap has_float is ∙ no_float-put (codes "deprecated") message (members_view old.entries) (no_float-manifest manifest _ read_is) in
-    rw read_is (ap Some (sym (written whole ∙ ap compact_text is)))
+pub MembersHaveNumbers-placed : (k : List ℕ) (i : Json) (ms : Members) → HasNumbers i → MembersHaveNumbers ms → MembersHaveNumbers (placed k i ms)
+MembersHaveNumbers-placed k i no_members n h = (n, tt)
+MembersHaveNumbers-placed k i (member l j ms) n h =
+    numbers_if (is_lt (text_cmp k l)) (member k i (member l j ms)) (member l j (placed k i ms)) (n, h) (h.0, MembersHaveNumbers-placed k i ms n h.1)
+
+-- ---- places
+
+place_at : (i n : ℕ) → i ≤ n → unwrap_or (cond (nat_lt i n) (Some i) None) n ≡ i
+place_at i n le =
+    elim (nat_lt i n) as (λ b. nat_lt i n ≡ b → unwrap_or (cond b (Some i) None) n ≡ i) [
+      | true ↦ λ _. refl
+      | false ↦ λ e. let most : n ≤ i = ltb-false i n e in omega arith
+    ] refl
+
+pub unwrap_or-position : {X : Type 0} (p : X → Bool) (xs : List X) → unwrap_or (position p xs) (length xs) ≡ position_or_len p xs
+unwrap_or-position p xs = place_at (position_or_len p xs) (length xs) (prefix_len-le-length (λ x. not (p x)) xs)
+
+pub position_or_len-within : {X : Type 0} (p : X → Bool) (xs : List X) → position_or_len p xs ≤ length xs
+position_or_len-within p xs = prefix_len-le-length (λ x. not (p x)) xs

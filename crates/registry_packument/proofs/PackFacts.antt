@@ -12,6 +12,7 @@ use Rattle.registry_packument.specs.ObjectTexts.{Pair, member_text, members_text
 use Rattle.registry_packument.specs.Packuments.{tag_pair, version_pair, version_pairs, pack_pairs, opening_text, versions_text, pack_text, tag_members, pack_value, AreDocumentsOf}
 use Rattle.registry_packument.specs.Writing.{Adds, IsFaultOf}
 use Rattle.registry_packument.specs.declared.head.PackHead.{PackHead}
+use Rattle.registry_packument.proofs.ValueFacts.{document_text-compact}
 use Rattle.registry_names.specs.declared.dist_tag.DistTag.{DistTag}
 use Rattle.registry_packument.specs.declared.packument.VersionRow.{VersionRow}
 
@@ -50,7 +51,8 @@ documents_texts [] (member k d ms) h = absurd h
 documents_texts (r ∷ rs) no_members h = absurd h
 documents_texts (r ∷ rs) (member k d ms) h =
     let rest = documents_texts rs ms h.1.1 in
-    ((r.version, compact_text d) ∷ rest.0, (rw (h.1.0, rest.1.0) refl, (h.0, (refl, rest.1.1))))
+    let document = document_text-compact r.manifest r.message h.1.0.0 h.1.0.1.0 in
+    ((r.version, compact_text d) ∷ rest.0, (rw (document, rest.1.0, h.1.0.1.1) refl, (h.0, (refl, rest.1.1))))
 
 pack_pairs-members : (head : PackHead) (ps : List Pair) (documents : Members) → AreTextsOf ps documents
     → object_text (pack_pairs head.name head.tags.items ps) ≡ compact_text (pack_value head documents)
@@ -122,36 +124,30 @@ whole_of-step : (out more : List ℕ) (later : Bool) (p : Pair) (left : Option (
 whole_of-step out more later p None e = refl
 whole_of-step out more later p (Some ps) e = ap Some (rw e (simp append_assoc))
 
-whole_of-end : (old out done : List ℕ) (later : Bool) (all : Option (List Pair)) → whole_of out later (Some []) ≡ whole_of old false all → done ≡ out ++ 125 ∷ 125 ∷ []
-    → Adds (versions_text false) all old done
-whole_of-end old out done later None h e = absurd (none-some _ (sym h))
-whole_of-end old out done later (Some ps) h e = (ps, (refl, e ∙ ap (λ o. unwrap_or o []) h))
-
-whole_of-none : (old out : List ℕ) (later : Bool) (all : Option (List Pair)) → whole_of out later None ≡ whole_of old false all → all ≡ None
-whole_of-none old out later None h = refl
-whole_of-none old out later (Some ps) h = absurd (none-some _ h)
+start_at : (head : PackHead) (out : List ℕ) (all : Option (List Pair)) → out ≡ opening_text head
+    → whole_of out false all ≡ option_map (λ ps. object_text (pack_pairs head.name head.tags.items ps)) all
+start_at head out None e = refl
+start_at head out (Some ps) e = ap Some (rw e (sym (pack_pairs-parts head ps)))
 
 -- the row that is next is written
-pub rows_step : (old out more : List ℕ) (later : Bool) (rows : List VersionRow) (i : ℕ) (d : VersionRow) → i < length rows
-    → whole_of out later (version_pairs (drop i rows)) ≡ whole_of old false (version_pairs rows) → Adds (member_text later) (version_pair (get_or rows i d)) out more
-    → whole_of more true (version_pairs (drop (i + 1) rows)) ≡ whole_of old false (version_pairs rows)
-rows_step old out more later rows i d lt h (p, (is, w)) =
-    let left : version_pairs (drop i rows) ≡ option_map (λ ps. p ∷ ps) (version_pairs (drop (i + 1) rows)) = rw (drop_more rows i d lt, is) refl in
-    whole_of-step out more later p (version_pairs (drop (i + 1) rows)) w ∙ ap (whole_of out later) (sym left) ∙ h
+pub row_step : (out more : List ℕ) (later : Bool) (row : VersionRow) (old rows : List VersionRow) (whole : Option (List ℕ)) → old ≡ row ∷ rows
+    → whole_of out later (version_pairs old) ≡ whole → Adds (member_text later) (version_pair row) out more → whole_of more true (version_pairs rows) ≡ whole
+row_step out more later row old rows whole gives h (p, (is, w)) =
+    let left : version_pairs old ≡ option_map (λ ps. p ∷ ps) (version_pairs rows) = rw (gives, is) refl in
+    whole_of-step out more later p (version_pairs rows) w ∙ ap (whole_of out later) (sym left) ∙ h
 
 -- the row that is next isn't written
-pub rows_stop : (old out : List ℕ) (later : Bool) (rows : List VersionRow) (i : ℕ) (d : VersionRow) (fault : Fault) → i < length rows
-    → whole_of out later (version_pairs (drop i rows)) ≡ whole_of old false (version_pairs rows) → IsFaultOf (version_pair (get_or rows i d)) fault
-    → IsFaultOf (version_pairs rows) fault
-rows_stop old out later rows i d Memory lt h is = tt
-rows_stop old out later rows i d Database lt h is =
-    let left : version_pairs (drop i rows) ≡ None = rw (drop_more rows i d lt, is) refl in
-    whole_of-none old out later (version_pairs rows) (ap (whole_of out later) (sym left) ∙ h)
+pub row_stop : (out : List ℕ) (later : Bool) (row : VersionRow) (old rows : List VersionRow) (whole : Option (List ℕ)) (fault : Fault) → old ≡ row ∷ rows
+    → whole_of out later (version_pairs old) ≡ whole → IsFaultOf (version_pair row) fault → IsFaultOf whole fault
+row_stop out later row old rows whole Memory gives h is = tt
+row_stop out later row old rows whole Database gives h is =
+    let left : version_pairs old ≡ None = rw (gives, is) refl in sym h ∙ ap (whole_of out later) left
 
 -- every row is written
-pub rows_end : (old out done : List ℕ) (later : Bool) (rows : List VersionRow) (i : ℕ) → length rows ≤ i
-    → whole_of out later (version_pairs (drop i rows)) ≡ whole_of old false (version_pairs rows) → done ≡ out ++ 125 ∷ 125 ∷ []
-    → Adds (versions_text false) (version_pairs rows) old done
-rows_end old out done later rows i le h e =
-    let left : version_pairs (drop i rows) ≡ Some [] = rw (drop_all i rows le) refl in
-    whole_of-end old out done later (version_pairs rows) (ap (whole_of out later) (sym left) ∙ h) e
+pub rows_end : (out done : List ℕ) (later : Bool) (rows : List VersionRow) (whole : Option (List ℕ)) → rows ≡ []
+    → whole_of out later (version_pairs rows) ≡ whole → done ≡ out ++ 125 ∷ 125 ∷ [] → whole ≡ Some done
+rows_end out done later rows whole none h e = sym h ∙ ap (λ rs. whole_of out later (version_pairs rs)) none ∙ ap Some (sym e)
+
+-- nothing is written of the versions
+pub rows_start : (head : PackHead) (rows : List VersionRow) (out : List ℕ) → out ≡ opening_text head → whole_of out false (version_pairs rows) ≡ pack_text head rows
+rows_start head rows out e = start_at head out (version_pairs rows) e

@@ -2,6 +2,7 @@ pub mod Documents
 pub mod Lists
 pub mod ObjectTexts
 pub mod Packuments
+pub mod Passing
 pub mod Sources
 pub mod Streams
 pub mod TextValues

@@ -2,8 +2,7 @@
 use Rattle.std.specs.Prelude.{◌≡◌, ℕ, ◌^◌, Bool, true, false, nat_lt, if◌then◌else◌, List, [], ◌∷◌, ◌++◌, length, Option, Some, None, option_map, option_and_then, map, codes}
 use Rattle.json.specs.Print.{quoted}
 use Rattle.serde_json.specs.Data.{Data, string, object, Members, no_members, member}
-use Rattle.serde_json.specs.Written.{compact_text}
-use Rattle.registry_packument.specs.Documents.{document_text}
+use Rattle.registry_packument.specs.Documents.{document_text, document_members, IsCompact}
 use Rattle.registry_packument.specs.Lists.{tag_texts}
 use Rattle.registry_packument.specs.ObjectTexts.{Pair, member_text, members_text, object_text}
 use Rattle.registry_packument.specs.TextValues.{text_members}
@@ -65,12 +64,16 @@ versions_text later ps = members_text later ps ++ 125 ∷ []
 abbrev pub tag_members : List DistTag → Members
 tag_members rs = text_members tag_texts rs
 
--- each document's text is the compact one of its value
+-- the value is that of the version's document, where its manifest is the compact JSON of an object
+abbrev pub IsDocumentOf : VersionRow → Data → Type 0
+IsDocumentOf r d = (ms : Members) × (IsCompact ms r.manifest × (d ≡ object (document_members ms r.message)))
+
+-- each version, with the value of its document
 abbrev pub AreDocumentsOf : List VersionRow → Members → Type 0
 AreDocumentsOf [] no_members = Unit {0}
 AreDocumentsOf [] (member k d ms) = ⊥
 AreDocumentsOf (r ∷ rs) no_members = ⊥
-AreDocumentsOf (r ∷ rs) (member k d ms) = (r.version ≡ k) × ((document_text r.manifest r.message ≡ Some (compact_text d)) × AreDocumentsOf rs ms)
+AreDocumentsOf (r ∷ rs) (member k d ms) = (r.version ≡ k) × (IsDocumentOf r d × AreDocumentsOf rs ms)
 
 -- the packument of a package's head and its versions' documents
 abbrev pub pack_value : PackHead → Members → Data

@@ -1,6 +1,7 @@
 -- Packuments as they go out version by version.
-use Rattle.std.specs.Prelude.{ℕ, Bool, true, false, List, [], ◌∷◌, ◌++◌, Result, Ok, Err, Option, option_map, unwrap_or, ⊤}
+use Rattle.std.specs.Prelude.{ℕ, Bool, true, false, List, [], ◌∷◌, ◌++◌, Result, Ok, Err, Option, option_map, unwrap_or, codes, ⊤}
 use Rattle.registry_names.specs.Ends.{raised}
+use Rattle.registry_names.specs.Faults.{fault_text}
 use Rattle.registry_names.specs.declared.stop.Fault.{Fault}
 use Rattle.registry_packument.specs.Documents.{document_text}
 use Rattle.registry_packument.specs.ObjectTexts.{member_text}
@@ -24,6 +25,11 @@ versions_front later (r ∷ rs) =
 -- the packument, or what of it stands before the first document that is missing
 abbrev pub pack_front : PackHead → List VersionRow → List ℕ
 pack_front head versions = unwrap_or (pack_text head versions) (opening_text head ++ versions_front false versions)
+
+-- what is printed of a fault
+abbrev pub pack_fault_text : PackFault → List ℕ
+pack_fault_text Write = codes "Write"
+pack_fault_text (Source fault) = fault_text fault
 
 -- the fault is of the end that is written to, or of the source and the value that its rows give
 abbrev pub IsPackFault : {A : Type 0} → Option Fault → Option A → PackFault → Type 0

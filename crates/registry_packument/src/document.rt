@@ -1,35 +1,43 @@
 //! The documents of versions.
 
-ghost use Rattle.std.specs.Prelude.{◌≡◌, Some, option_map, string_bytes, OnOk, IfOk, IfErr};
-ghost use Rattle.serde_json.specs.View.{view, members_view};
-ghost use Rattle.serde_json.specs.Find.{as_object};
-ghost use Rattle.serde_json.specs.Read.{read};
-ghost use Rattle.serde_json.specs.Written.{has_float};
-ghost use Rattle.registry_packument.specs.Documents.{manifest_members, document_text, deprecated_text};
+ghost use Rattle.std.specs.Prelude.{◌≡◌, ◌<◌, Some, string_bytes, IfOk, IfErr, OnOk, option_map, bytes_eq, position};
+ghost use Rattle.std.specs.Ordering.{is_lt};
+ghost use Rattle.json.specs.Json.{string, document};
+ghost use Rattle.json.specs.Print.{print};
+ghost use Rattle.json.specs.Tree.{json_tokens, HasNumbers, MembersHaveNumbers};
+ghost use Rattle.json.specs.Value.{value_view, members_view};
+ghost use Rattle.registry_names.specs.Texts.{text_cmp};
+ghost use Rattle.registry_packument.specs.Documents.{manifest_members, members_in, written_members, without, placed, deprecated_text, document_text};
 ghost use Rattle.registry_packument.specs.Writing.{Adds, IsFaultOf};
 
+use crate::manifest::is_manifest;
+use json::{Error, Scratch, Value, to_vec};
 use registry_names::{Fault, Text};
-use registry_publish::has_float;
-use serde_json::{Map, Value};
-use std::alloc::Global;
+use std::alloc::{AllocError, Global};
 
 const DEPRECATED: &str = "deprecated";
 
-fn parsed(alloc: Global, text: &str) -> Result<Value, Fault>
-    ensures ok { IfOk result (λ value. read text.now ≡ Some (view value)) }
-    ensures err { IfErr result (IsFaultOf (read text.now)) }
+/// A member of an object: its key and its value.
+type Member<'a> = (&'a str, Value<'a>);
+
+fn parsed<'a>(
+    alloc: Global,
+    text: &'a str,
+    scratch: &'a mut Scratch,
+) -> Result<Value<'a>, Fault>
+    ensures ok { IfOk result (λ value. document text.now ≡ Some (value_view value)) }
+    ensures numbers { IfOk result (λ value. HasNumbers (value_view value)) }
+    ensures err { IfErr result (IsFaultOf (document text.now)) }
 {
-    Value::from_str(alloc, text).map_err(|error| {
-        if error.is_memory() {
-            Fault::Memory
-        } else {
-            Fault::Database
-        }
+    Value::parse(alloc, text, scratch).map_err(|error| match error {
+        Error::OutOfMemory => Fault::Memory,
+        _ => Fault::Database,
     })
 }
 
-fn members_of_object(value: Value) -> Option<Map<String, Value>>
-    ensures { option_map (λ members. members_view members.entries) result ≡ as_object (view value) }
+fn members_in(value: Value<'_>) -> Option<Vec<Member<'_>>>
+    ensures { option_map (λ members. members_view members.items) result
+        ≡ members_in (value_view value.entry) }
 {
     match value {
         Value::Object(members) => Some(members),
@@ -37,27 +45,74 @@ fn members_of_object(value: Value) -> Option<Map<String, Value>>
     }
 }
 
-fn members_of(alloc: Global, manifest: &str) -> Result<Map<String, Value>, Fault>
+// The members of a manifest, as they are written.
+fn members_of<'a>(
+    alloc: Global,
+    manifest: &'a str,
+    scratch: &'a mut Scratch,
+) -> Result<Vec<Member<'a>>, Fault>
     ensures ok { IfOk result (λ members.
-        manifest_members manifest.now ≡ Some (members_view members.entries)) }
+        members_view members.items ≡ written_members manifest.now) }
+    ensures numbers { IfOk result (λ members.
+        MembersHaveNumbers (members_view members.items)) }
     ensures err { IfErr result (IsFaultOf (manifest_members manifest.now)) }
 {
-    let value = parsed(alloc, manifest)?;
-    if has_float(&value) {
-        return Err(Fault::Database);
-    }
-    members_of_object(value).ok_or(Fault::Database)
+    let value = parsed(alloc, manifest, scratch)?;
+    members_in(value).ok_or(Fault::Database)
 }
 
+fn is_same(text: &str, other: &str) -> bool
+    ensures { result ≡ bytes_eq text.now other.now }
+{
+    text == other
+}
+
+fn is_below(text: &str, other: &str) -> bool
+    ensures { result ≡ is_lt (text_cmp text.now other.now) }
+{
+    text < other
+}
+
+// How many members stand before the first whose key is greater, if there is one.
+fn place_before_greater(members: &[Member<'_>], key: &str) -> Option<usize>
+    ensures { result ≡ position (λ member. is_lt (text_cmp key.now member.0.now)) members.now }
+{
+    members.iter().position(|member| is_below(key, member.0))
+}
+
+// Puts a text in its place by key, instead of what stood under it.
+fn put_text<'a>(
+    members: &mut Vec<Member<'a>>,
+    key: &'a str,
+    text: &'a str,
+) -> Result<(), AllocError>
+    ensures { OnOk result (members_view members.new.items
+        ≡ placed key.now (string text.now) (without key.now (members_view members.old.items))) }
+{
+    members.retain(|member| !is_same(member.0, key));
+    let place = place_before_greater(members, key).unwrap_or(members.len());
+    members.insert(place, (key, Value::String(text)))?;
+    Ok(())
+}
+
+// The compact text of a value.
+fn text_of(alloc: Global, value: &Value<'_>) -> Result<String, AllocError>
+    requires { HasNumbers (value_view value.now) }
+    ensures { IfOk result (λ text. string_bytes text ≡ print (json_tokens (value_view value.now))) }
+{
+    Ok(String::from_utf8(to_vec(alloc, value)?).unwrap())
+}
+
+// The manifest with the message put in.
 fn deprecated(alloc: Global, manifest: &str, message: &str) -> Result<String, Fault>
     ensures ok { IfOk result (λ text.
-        deprecated_text manifest.now message.now ≡ Some (string_bytes text)) }
-    ensures err { IfErr result (IsFaultOf (deprecated_text manifest.now message.now)) }
+        string_bytes text ≡ deprecated_text manifest.now message.now) }
+    ensures err { IfErr result (IsFaultOf (manifest_members manifest.now)) }
 {
-    let mut members = members_of(alloc, manifest)?;
-    let key = String::from_str(alloc, DEPRECATED)?;
-    members.insert(key, Value::try_from_str(alloc, message)?)?;
-    Ok(Value::Object(members).to_string(alloc)?)
+    let mut scratch = Scratch::new(alloc);
+    let mut members = members_of(alloc, manifest, &mut scratch)?;
+    put_text(&mut members, DEPRECATED, message)?;
+    Ok(text_of(alloc, &Value::Object(members))?)
 }
 
 /// The document, written behind what the text has already.
@@ -71,6 +126,9 @@ pub(crate) fn push_document(
         (string_bytes out.old) (string_bytes out.new)) }
     ensures err { IfErr result (IsFaultOf (document_text manifest.now message.now)) }
 {
+    if !is_manifest(alloc, manifest)? {
+        return Err(Fault::Database);
+    }
     if message.is_empty() {
         return Ok(out.push_str(manifest)?);
     }
@@ -78,17 +136,17 @@ pub(crate) fn push_document(
     Ok(out.push_str(text.as_str())?)
 }
 
-/// The document of a version, in compact JSON: the manifest as it is stored, where the message is
-/// empty; else the manifest's value with the member `deprecated`, in its place by key, whose value
-/// is the message.
+/// The document of a version: the manifest itself where the message is empty; else the manifest as
+/// it is written, without spaces, with the member `deprecated`, whose value is the message, in its
+/// place by key and instead of what stood under it.
 ///
-/// The manifest is looked at only where it has to be changed: where the message is empty, any text
-/// is handed back as it is. `Database` comes exactly where the message isn't empty and the manifest
-/// is no JSON of an object, or has a number that is no integer of 64 bits: no such manifest is ever
-/// stored. `Memory` comes where no memory is left.
+/// A manifest is the compact JSON of an object, and so is its document then. Of any other text that
+/// `serde_json` reads into an object the members and the numbers stay as they are written.
+/// `Database` comes exactly where `serde_json` reads the text into no object, and `Memory` where no
+/// memory is left.
 pub fn version_text(alloc: Global, manifest: &str, message: &str) -> Result<Text, Fault>
     ensures ok { IfOk result (λ text. document_text manifest.now message.now ≡ Some text) }
-    ensures err { IfErr result (IsFaultOf (document_text manifest.now message.now)) }
+    ensures err { IfErr result (IsFaultOf (manifest_members manifest.now)) }
 {
     let mut out = String::new(alloc);
     push_document(alloc, &mut out, manifest, message)?;

@@ -15,7 +15,9 @@
 mod document;
 mod head;
 mod json_text;
+pub mod laws;
 mod list;
+mod manifest;
 mod packument;
 mod source;
 mod stream;
@@ -24,5 +26,5 @@ pub use crate::document::version_text;
 pub use crate::head::PackHead;
 pub use crate::list::{Grant, GrantLevel, List, Member, MemberRole, list_text};
 pub use crate::packument::{VersionRow, packument_text};
-pub use crate::source::VersionSource;
+pub use crate::source::{VersionRows, VersionSource};
 pub use crate::stream::{PackFault, packument_len, write_packument};

@@ -1,15 +1,15 @@
 //! Packuments.
 
-ghost use Rattle.std.specs.Prelude.{◌≡◌, Some, false, string_bytes, OnOk, IfOk, IfErr};
-ghost use Rattle.serde_json.specs.Data.{Members};
-ghost use Rattle.serde_json.specs.Written.{compact_text};
+ghost use Rattle.std.specs.Prelude.{◌≡◌, [], Some, string_bytes, OnOk, IfOk, IfErr};
 ghost use Rattle.registry_packument.specs.ObjectTexts.{member_text};
-ghost use Rattle.registry_packument.specs.Packuments.{version_pair, version_pairs, opening_text, versions_text, pack_text, pack_value, AreDocumentsOf};
+ghost use Rattle.registry_packument.specs.Packuments.{version_pair, opening_text, pack_text};
+ghost use Rattle.registry_packument.specs.Sources.{IsFaultFrom};
 ghost use Rattle.registry_packument.specs.Writing.{Adds, IsFaultOf};
 
 use crate::document::push_document;
 use crate::head::PackHead;
 use crate::json_text::{push_key, push_object, push_text_member};
+use crate::source::VersionSource;
 use registry_names::{Fault, Text};
 use std::alloc::{AllocError, Global};
 
@@ -68,40 +68,30 @@ pub(crate) fn push_version(
     Ok(())
 }
 
-// The versions, and the packument's end.
-fn push_versions(alloc: Global, out: &mut String, versions: &[VersionRow]) -> Result<(), Fault>
-    ensures ok { OnOk result (Adds (versions_text false) (version_pairs versions.now)
-        (string_bytes out.old) (string_bytes out.new)) }
-    ensures err { IfErr result (IsFaultOf (version_pairs versions.now)) }
-{
-    let mut later = false;
-    for row in versions {
-        push_version(alloc, out, later, row)?;
-        later = true;
-    }
-    Ok(out.push_str(CLOSING)?)
-}
-
 /// The packument of a package, as npm's registry answers it: an object with `_id` and `name` (the
 /// package's name), `dist-tags` (tag to version) and `versions` (version to document), in compact
 /// JSON.
 ///
-/// The tags and the versions come in byte order, each once, and are written as they come. A version's
-/// document is that of [`version_text`](crate::version_text). Where each manifest is the compact JSON
-/// of a value, so is the packument. `Database` comes exactly where a version has no document, and
-/// `Memory` where no memory is left.
-pub fn packument_text(
+/// The versions are the rows that the source gives, and the tags are written as they come, in byte
+/// order, each once. A version's document is that of [`version_text`](crate::version_text).
+/// `Database` comes where a manifest is none (see there), and else the source's own fault, or
+/// `Memory` where no memory is left. The source has given all its rows, or those up to the fault.
+pub fn packument_text<S: VersionSource>(
     alloc: Global,
     head: &PackHead,
-    versions: &[VersionRow],
+    source: &mut S,
 ) -> Result<Text, Fault>
-    ensures text { IfOk result (λ text. pack_text head.now versions.now ≡ Some text) }
-    ensures json { IfOk result (λ text. (documents : Members)
-        → AreDocumentsOf versions.now documents
-        → text ≡ compact_text (pack_value head.now documents)) }
-    ensures err { IfErr result (IsFaultOf (pack_text head.now versions.now)) }
+    ensures ok { IfOk result (λ text. pack_text head.now (S.rows source.old) ≡ Some text) }
+    ensures err { IfErr result (IsFaultFrom (S.stopped source.new)
+        (pack_text head.now (S.rows source.old))) }
+    ensures taken { OnOk result (S.rows source.new ≡ []) }
 {
     let mut out = opening(alloc, head)?;
-    push_versions(alloc, &mut out, versions)?;
+    let mut later = false;
+    'versions: while let Some(row) = source.next(alloc)? {
+        push_version(alloc, &mut out, later, &row)?;
+        later = true;
+    }
+    out.push_str(CLOSING)?;
     Ok(Text::from(out))
 }

@@ -1,6 +1,8 @@
 //! Sources of versions.
 
-ghost use Rattle.std.specs.Prelude.{◌≡◌, List, Option, Some, Err, IfOk, IfErr, IfSome};
+ghost use Rattle.std.specs.Prelude.{◌≡◌, ◌↔◌, List, Option, Some, None, Err, IfOk, IfErr, IfSome, IsTrue, MatchOption};
+ghost use Rattle.std.specs.Ordering.{is_lt};
+ghost use Rattle.registry_names.specs.Texts.{text_cmp};
 ghost use Rattle.registry_names.specs.declared.stop.Fault.{Fault};
 ghost use Rattle.registry_packument.specs.declared.packument.VersionRow.{VersionRow};
 ghost use Rattle.registry_packument.specs.Sources.{Gives, IsInOrder};
@@ -8,6 +10,7 @@ ghost use Rattle.registry_packument.specs.Sources.{Gives, IsInOrder};
 use crate::packument::VersionRow;
 use registry_names::Fault;
 use std::alloc::Global;
+use std::collections::VecDeque;
 
 /// The versions of a package, given one after the other, in byte order of their texts, each once.
 ///
@@ -29,4 +32,52 @@ pub trait VersionSource {
 
     // The rows stand in byte order of their versions, each once.
     ghost ordered: { (source : Self) → IsInOrder (rows source) };
+}
+
+/// Versions in memory, given one after the other.
+#[derive(Drop)]
+pub struct VersionRows {
+    left: VecDeque<VersionRow>,
+    ghost ordered: { IsInOrder left.items },
+}
+
+impl VersionRows {
+    /// None exactly where the rows don't stand in byte order of their versions, each once.
+    pub fn new(rows: Vec<VersionRow>) -> Option<VersionRows>
+        ensures { MatchOption result (¬ IsInOrder rows.items)
+            (λ source. ⟦<VersionRows as VersionSource>⟧.rows source ≡ rows.items) }
+    {
+        if is_in_order(&rows) {
+            Some(VersionRows {
+                left: VecDeque::from(rows),
+            })
+        } else {
+            None
+        }
+    }
+}
+
+// Whether the rows stand in byte order of their versions, each once.
+fn is_in_order(rows: &[VersionRow]) -> bool
+    ensures { IsTrue result ↔ IsInOrder rows.now }
+{
+    rows.is_sorted_by(|row, next| is_before(row, next))
+}
+
+fn is_before(row: &VersionRow, next: &VersionRow) -> bool
+    ensures { result ≡ is_lt (text_cmp row.now.version next.now.version) }
+{
+    row.version.as_str() < next.version.as_str()
+}
+
+impl VersionSource for VersionRows {
+    ghost rows = { λ source. source.left.items };
+
+    ghost stopped = { λ _. None };
+
+    ghost ordered = { λ source. source.ordered };
+
+    fn next(&mut self, _alloc: Global) -> Result<Option<VersionRow>, Fault> {
+        Ok(self.left.pop_front())
+    }
 }

@@ -5,7 +5,7 @@ ghost use Rattle.registry_names.specs.Ends.{Writes, WritesFront, full_count};
 ghost use Rattle.registry_packument.specs.ObjectTexts.{Pair, member_text};
 ghost use Rattle.registry_packument.specs.Packuments.{version_pair, version_pairs, opening_text, pack_text, pack_len};
 ghost use Rattle.registry_packument.specs.Sources.{IsFaultFrom};
-ghost use Rattle.registry_packument.specs.Streams.{row_front, versions_front, pack_front, IsPackFault, failures_after};
+ghost use Rattle.registry_packument.specs.Streams.{row_front, versions_front, pack_front, IsPackFault, failures_after, pack_fault_text};
 ghost use Rattle.registry_packument.specs.Writing.{Adds, IsFaultOf};
 ghost use Rattle.registry_names.specs.declared.stop.Fault.TheVariants.{Memory};
 ghost use Rattle.registry_packument.specs.declared.stream.PackFault.TheVariants.{Write, Source};
@@ -15,6 +15,8 @@ use crate::packument::{CLOSING, VersionRow, opening, push_version};
 use crate::source::VersionSource;
 use registry_names::{ByteOut, Fault, WriteFailed, write_whole};
 use std::alloc::{AllocError, Global};
+use std::error::Error;
+use std::fmt;
 
 /// Why a packument wasn't written whole.
 #[derive(Clone, Copy, Debug, PartialEq, Eq)]
@@ -24,6 +26,19 @@ pub enum PackFault {
     /// The source's fault, or that of a version without a document, or want of memory.
     Source(Fault),
 }
+
+impl fmt::Display for PackFault {
+    ghost output = { λ fault. Some (pack_fault_text fault) };
+
+    fn fmt<W: fmt::Write>(&self, f: &mut fmt::Formatter<W>) -> fmt::Result {
+        match self {
+            PackFault::Write => f.write_str("Write"),
+            PackFault::Source(fault) => f.write_str(fault.text()),
+        }
+    }
+}
+
+impl Error for PackFault {}
 
 impl From<WriteFailed> for PackFault {
     ghost from_gives = { λ _ fault. fault ≡ Write };

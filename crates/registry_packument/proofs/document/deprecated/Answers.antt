@@ -1,7 +1,14 @@
-use Rattle.registry_packument.proofs.DocumentFacts.{deprecated_text-insert}
+use Rattle.std.proofs.Common.{codes}
+use Rattle.json.specs.Json.{string}
+use Rattle.json.specs.Value.{members_view}
+use Rattle.json.proofs.Trees.{view-Object}
+use Rattle.registry_packument.specs.Documents.{without}
+use Rattle.registry_packument.proofs.DocumentFacts.{MembersHaveNumbers-without, MembersHaveNumbers-placed}
 use Rattle.registry_packument.proofs.document.deprecated.Goals as goal
 
-pub returns-clause-ok : goal.returns-clause-ok
-returns-clause-ok c =
-    deprecated_text-insert c.args.manifest.now c.args.message.now _ c.in_ok-members.members c.insert.new.self c.in_ok-key.key c.in_ok-try_from_str.field-0
-    c.in_ok-members.ensures.ok c.in_ok-key.ensures.ok c.in_ok-try_from_str.ensures c.in_ok-insert.ensures.entries c.in_ok-to_string.ensures.text
+pub text_of-requires : goal.text_of-requires
+text_of-requires c =
+    let key = codes "deprecated" in
+    let old = members_view c.in_ok-members.members.items in
+    rw (view-Object c.put_text.new.members, c.in_ok-put_text.ensures)
+    (MembersHaveNumbers-placed key (string c.args.message.now) (without key old) tt (MembersHaveNumbers-without key old c.in_ok-members.ensures.numbers))
