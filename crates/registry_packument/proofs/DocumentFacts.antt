@@ -27,7 +27,7 @@ members_view-filter k [] = refl
 members_view-filter k (m ∷ ms) =
     let rest = members_view-filter k ms in
     elim (bytes_eq m.0.now k)
-        as (λ b. members_view (cond (not b) (m ∷ filter (is_other k) ms) (filter (is_other k) ms)) ≡ cond b (without k (members_view ms)) (member m.0.now (value_view m.1) (without k (members_view ms)))) [
+    as (λ b. members_view (cond (not b) (m ∷ filter (is_other k) ms) (filter (is_other k) ms)) ≡ cond b (without k (members_view ms)) (member m.0.now (value_view m.1) (without k (members_view ms)))) [
       | true ↦ rest
       | false ↦ ap (member m.0.now (value_view m.1)) rest
     ]
@@ -41,8 +41,8 @@ members_view-insert k m [] e = ap (λ l. member l (value_view m.1) no_members) e
 members_view-insert k m (n ∷ ms) e =
     let rest = members_view-insert k m ms e in
     elim (is_later k n)
-        as (λ b. members_view (insert (n ∷ ms) (cond (not b) (1 + prefix_len (λ x. not (is_later k x)) ms) 0) m)
-            ≡ cond b (member k (value_view m.1) (members_view (n ∷ ms))) (member n.0.now (value_view n.1) (placed k (value_view m.1) (members_view ms)))) [
+    as (λ b. members_view (insert (n ∷ ms) (cond (not b) (1 + prefix_len (λ x. not (is_later k x)) ms) 0) m)
+    ≡ cond b (member k (value_view m.1) (members_view (n ∷ ms))) (member n.0.now (value_view n.1) (placed k (value_view m.1) (members_view ms)))) [
       | true ↦ ap (λ l. member l (value_view m.1) (members_view (n ∷ ms))) e
       | false ↦ ap members_view (insert_one n m ms _) ∙ ap (member n.0.now (value_view n.1)) rest
     ]

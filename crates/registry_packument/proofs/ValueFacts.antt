@@ -192,8 +192,8 @@ entries-put : (k : Text) (d : Data) (ms : Members) → entries (put k d ms) ≡ 
 entries-put k d no_members = refl
 entries-put k d (member l e ms) =
     elim (text_cmp k l)
-        as (λ o. entries (match_ordering o (member k d (member l e ms)) (member l d ms) (member l e (put k d ms)))
-            ≡ fin.by_order o ((k, d) ∷ (l, e) ∷ entries ms) ((l, d) ∷ entries ms) ((l, e) ∷ fin.put text_cmp k d (entries ms))) [
+    as (λ o. entries (match_ordering o (member k d (member l e ms)) (member l d ms) (member l e (put k d ms)))
+    ≡ fin.by_order o ((k, d) ∷ (l, e) ∷ entries ms) ((l, d) ∷ entries ms) ((l, e) ∷ fin.put text_cmp k d (entries ms))) [
       | Less ↦ refl
       | Equal ↦ refl
       | Greater ↦ ap (λ es. (l, e) ∷ es) (entries-put k d ms)
@@ -238,7 +238,7 @@ placed-put k d no_members h = refl
 placed-put k d (member l e ms) h =
     let parts = and_parts (fin.below_all text_cmp l (entries ms)) (fin.is_sorted text_cmp (entries ms)) h in
     elim (text_cmp k l)
-        as (λ o. text_cmp k l ≡ o → placed k (outline d) (without k (members_outline (member l e ms))) ≡ members_outline (match_ordering o (member k d (member l e ms)) (member l d ms) (member l e (put k d ms)))) [
+    as (λ o. text_cmp k l ≡ o → placed k (outline d) (without k (members_outline (member l e ms))) ≡ members_outline (match_ordering o (member k d (member l e ms)) (member l d ms) (member l e (put k d ms)))) [
       | Less ↦ λ c.
           rw (bytes_eq-is l k Less c, c) (ap (λ js. json.member k (outline d) (json.member l (outline e) js)) (without-above k ms (below_all-trans k l (entries ms) c parts.0)))
       | Equal ↦ λ c.
@@ -256,8 +256,7 @@ document-compact manifest ms h =
     let is = document_is manifest ms members in
     let kept = kept-of_members is.0 no_members tt in
     let numbers : MembersHaveNumbers (members_outline ms) = kept_members ms (rw is.2 at kept) h.0 in
-    let shallow = depth-read manifest (object ms) h.1.1 in
-    (
+    let shallow = depth-read manifest (object ms) h.1.1 in (
       ap document (h.1.0 ∙ sym (print-outline (object ms))) ∙ document-print (outline (object ms)) numbers (omega (arith, depth-outline (object ms))),
       IsSorted-of_members is.0 no_members ms refl is.2,
     )

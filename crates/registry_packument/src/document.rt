@@ -20,11 +20,7 @@ const DEPRECATED: &str = "deprecated";
 /// A member of an object: its key and its value.
 type Member<'a> = (&'a str, Value<'a>);
 
-fn parsed<'a>(
-    alloc: Global,
-    text: &'a str,
-    scratch: &'a mut Scratch,
-) -> Result<Value<'a>, Fault>
+fn parsed<'a>(alloc: Global, text: &'a str, scratch: &'a mut Scratch) -> Result<Value<'a>, Fault>
     ensures ok { IfOk result (λ value. document text.now ≡ Some (value_view value)) }
     ensures numbers { IfOk result (λ value. HasNumbers (value_view value)) }
     ensures err { IfErr result (IsFaultOf (document text.now)) }

@@ -13,7 +13,8 @@ ghost use Rattle.registry_packument.specs.declared.packument.VersionRow.{Version
 /// message put in.
 pub fn documents_are_json()
     ensures { (manifest message : List ℕ) (ms : Members) → IsCompact ms manifest
-        → document_text manifest message ≡ Some (compact_text (object (document_members ms message))) }
+        → document_text manifest message
+        ≡ Some (compact_text (object (document_members ms message))) }
 {}
 
 /// Where each manifest is the compact JSON of an object, the packument is that of its value.

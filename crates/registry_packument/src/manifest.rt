@@ -48,8 +48,16 @@ fn pass_value(reader: &mut Reader<'_>, depth: usize) -> Result<(), Invalid>
         Token::String(_) | Token::Bool(_) | Token::Null => Ok(()),
         Token::Number(text) => if is_held(text) { Ok(()) } else { Err(Invalid) },
         Token::EndObject | Token::EndArray | Token::Key(_) | Token::Bad => Err(Invalid),
-        Token::BeginArray => if depth == 0 { Err(Invalid) } else { pass_items(reader, depth - 1) },
-        Token::BeginObject => if depth == 0 { Err(Invalid) } else { pass_members(reader, depth - 1) },
+        Token::BeginArray => if depth == 0 {
+            Err(Invalid)
+        } else {
+            pass_items(reader, depth - 1)
+        },
+        Token::BeginObject => if depth == 0 {
+            Err(Invalid)
+        } else {
+            pass_members(reader, depth - 1)
+        },
     }
 }
 

@@ -23,7 +23,7 @@ use std::fmt;
 pub enum PackFault {
     /// A write failed.
     Write,
-    /// The source's fault, or that of a version without a document, or want of memory.
+    /// The source's fault, or that of a manifest that is none, or want of memory.
     Source(Fault),
 }
 
@@ -79,7 +79,8 @@ fn version_member(alloc: Global, later: bool, row: &VersionRow) -> Result<String
 fn counted(count: u64, text: &str) -> Result<u64, Fault>
     ensures ok { IfOk result (λ sum. sum ≡ count + length text.now) }
     ensures fits { IfOk result (λ sum. sum < 2 ^ 64) }
-    ensures err { IfErr result (λ fault. (fault ≡ Fault.Database) × (2 ^ 64 ≤ count + length text.now)) }
+    ensures err { IfErr result (λ fault. (fault ≡ Fault.Database)
+        × (2 ^ 64 ≤ count + length text.now)) }
 {
     count.checked_add(text.len() as u64).ok_or(Fault::Database)
 }
@@ -106,9 +107,9 @@ fn counted_row(alloc: Global, count: u64, later: bool, row: &VersionRow) -> Resu
 
 /// How many bytes [`packument_text`](crate::packument_text) has of the rows that the source gives.
 ///
-/// `Database` comes where a version has no document (see [`version_text`](crate::version_text)), and
-/// where the number isn't below 2^64; else the source's own fault, or `Memory` where no memory is
-/// left. The source has given all its rows, or those up to the fault.
+/// `Database` comes where a manifest is none (see [`version_text`](crate::version_text)), and where
+/// the number isn't below 2^64; else the source's own fault, or `Memory` where no memory is left.
+/// The source has given all its rows, or those up to the fault.
 pub fn packument_len<S: VersionSource>(
     alloc: Global,
     head: &PackHead,
@@ -161,7 +162,8 @@ fn write_versions<W: ByteOut, S: VersionSource>(
     ensures whole { OnOk result (IsSome (version_pairs (S.rows source.old))) }
     ensures err { OnErr result (WritesFront (W.bytes writer.old) (W.bytes writer.new)
         (W.is_silent writer.new) (versions_front false (S.rows source.old))) }
-    ensures fault { IfErr result (IsPackFault (S.stopped source.new) (version_pairs (S.rows source.old))) }
+    ensures fault { IfErr result (IsPackFault (S.stopped source.new)
+        (version_pairs (S.rows source.old))) }
     ensures taken { OnOk result (S.rows source.new ≡ []) }
 
     ensures counted { W.failures writer.new ≡ failures_after result (W.failures writer.old) }
@@ -181,9 +183,9 @@ fn write_versions<W: ByteOut, S: VersionSource>(
 /// [`packument_text`](crate::packument_text).
 ///
 /// `Write` comes only where a write failed. `Source` has the source's own fault, or `Database`
-/// where a version has no document (see [`version_text`](crate::version_text)), or `Memory` where
-/// no memory is left. After a fault a front of the packument was written, and not all of it; it
-/// ends before the document that is missing, if one is. No more than one row is held at a time.
+/// where a manifest is none (see [`version_text`](crate::version_text)), or `Memory` where no memory
+/// is left. After a fault a front of the packument was written, and not all of it; it ends before
+/// the document that is missing, if one is. No more than one row is held at a time.
 pub fn write_packument<W: ByteOut, S: VersionSource>(
     alloc: Global,
     head: &PackHead,

@@ -1,75 +1,39 @@
 //! Packuments from sources in memory, to writers that take all, or fail somewhere.
 
-ghost use Rattle.std.specs.Prelude.{◌≡◌, ◌==◌, map, Option, Some, None, if◌then◌else◌};
-ghost use Rattle.registry_names.specs.Texts.{text_cmp};
-ghost use Rattle.registry_names.specs.Maps.{rises};
+ghost use Rattle.std.specs.Prelude.{◌==◌, Some, if◌then◌else◌};
 ghost use Rattle.registry_names.specs.declared.stop.Fault.TheVariants.{Database};
-ghost use Rattle.registry_packument.specs.Sources.{version_entry, IsInOrder};
-ghost use Rattle.std.specs.FinMap.Entries.{below_all};
 
-use crate::packument::{TagCase, VersionCase, head, versions};
+use crate::outcome::{displayed, same};
+use crate::packument::{TagCase, VersionCase, head, source};
 use registry_names::{Fault, ToWrite};
 use registry_packument::{
-    PackFault, PackHead, VersionRow, VersionSource, packument_len, write_packument,
+    PackFault, PackHead, VersionRow, VersionRows, VersionSource, packument_len, write_packument,
 };
-use std::alloc::{AllocError, Global};
-use std::collections::VecDeque;
-use std::io;
+use std::alloc::Global;
 use std::io::{ErrorKind, Write};
+use std::test::Fail;
+use std::{io, str};
 
-/// Rows in memory. The source answers so many calls, and then with a fault.
+/// A source that answers so many calls of another, and then with a fault.
 #[derive(Drop)]
-struct Rows {
-    left: VecDeque<VersionRow>,
+struct Failing<S> {
+    source: S,
     answers: u32,
-    ghost ordered: { IsInOrder left.items },
 }
 
-fn is_below_all(version: &str, rows: &[VersionRow]) -> bool
-    ensures { result ≡ below_all text_cmp version.now (map version_entry rows.now) }
-{
-    match rows.split_first() {
-        Some((row, rest)) => version < row.version.as_str() && is_below_all(version, rest),
-        None => true,
-    }
-}
+impl<S: VersionSource> VersionSource for Failing<S> {
+    ghost rows = { λ failing. S.rows failing.source };
 
-fn is_in_order(rows: &[VersionRow]) -> bool
-    ensures { result ≡ rises text_cmp (map version_entry rows.now) }
-{
-    match rows.split_first() {
-        Some((row, rest)) => is_below_all(row.version.as_str(), rest) && is_in_order(rest),
-        None => true,
-    }
-}
+    ghost stopped = { λ failing. if failing.answers == 0 then Some Database else S.stopped failing.source };
 
-impl Rows {
-    /// None where the rows don't stand in byte order of their versions.
-    fn new(rows: Vec<VersionRow>, answers: u32) -> Option<Rows> {
-        if is_in_order(&rows) {
-            Some(Rows {
-                left: VecDeque::from(rows),
-                answers,
-            })
-        } else {
-            None
-        }
-    }
-}
+    ghost ordered = { λ failing. S.ordered failing.source };
 
-impl VersionSource for Rows {
-    ghost rows = { λ source. source.left.items };
-
-    ghost stopped = { λ source. if source.answers == 0 then Some Database else None };
-
-    ghost ordered = { λ source. source.ordered };
-
-    fn next(&mut self, _alloc: Global) -> Result<Option<VersionRow>, Fault> {
+    fn next(&mut self, alloc: Global) -> Result<Option<VersionRow>, Fault> {
         if self.answers == 0 {
             return Err(Fault::Database);
         }
         self.answers -= 1;
-        Ok(self.left.pop_front())
+        self.source.next(alloc)
     }
 }
 
@@ -111,7 +75,7 @@ pub(super) const KIT_WITHOUT_VERSIONS: &str =
     r#"{"_id":"kit","dist-tags":{"latest":"1.1.0"},"name":"kit","versions":{}}"#;
 
 /// Versions, from a source that answers so many calls, to a writer that takes so many bytes; what
-/// is written where all of it has room; and how that ends.
+/// is written then; and how that ends.
 #[derive(Drop)]
 struct Case {
     versions: &'static [VersionCase],
@@ -121,57 +85,54 @@ struct Case {
     end: Result<(), PackFault>,
 }
 
-fn is_told(alloc: Global, case: &Case) -> Result<bool, Fault> {
+fn source_of(alloc: Global, case: &Case) -> Result<Failing<VersionRows>, Fault> {
+    Ok(Failing {
+        source: source(alloc, case.versions)?,
+        answers: case.answers,
+    })
+}
+
+fn is_told(alloc: Global, shows: &str, case: &Case) -> Result<(), Fail> {
     let head = head(alloc, "kit", KIT_TAGS)?;
-    is_told_of(alloc, &head, case)
+    is_counted(alloc, shows, &head, case)?;
+    is_written(alloc, shows, &head, case)
 }
 
-fn is_told_of(alloc: Global, head: &PackHead, case: &Case) -> Result<bool, Fault> {
-    Ok(is_counted(alloc, head, case)? && is_written(alloc, head, case)?)
-}
-
-fn is_counted(alloc: Global, head: &PackHead, case: &Case) -> Result<bool, Fault> {
-    let mut source = source(alloc, case)?;
-    let len = match case.end {
+// A length is told where the source has no fault, whatever the writer does.
+fn is_counted(alloc: Global, shows: &str, head: &PackHead, case: &Case) -> Result<(), Fail> {
+    let mut source = source_of(alloc, case)?;
+    let wanted = match case.end {
         Err(PackFault::Source(fault)) => Err(fault),
         _ => Ok(case.text.len() as u64),
     };
-    Ok(packument_len(alloc, head, &mut source) == len)
+    same(shows, packument_len(alloc, head, &mut source), wanted)
 }
 
-fn is_written(alloc: Global, head: &PackHead, case: &Case) -> Result<bool, Fault> {
-    let mut source = source(alloc, case)?;
-    Ok(writes(alloc, head, &mut source, case) && stays(alloc, &mut source))
-}
-
-fn source(alloc: Global, case: &Case) -> Result<Rows, Fault> {
-    Rows::new(versions(alloc, case.versions)?, case.answers).ok_or(Fault::Database)
-}
-
-fn writes(alloc: Global, head: &PackHead, source: &mut Rows, case: &Case) -> bool {
+fn is_written(alloc: Global, shows: &str, head: &PackHead, case: &Case) -> Result<(), Fail> {
+    let mut source = source_of(alloc, case)?;
     let mut narrow = Narrow {
         taken: Vec::new(alloc),
         room: case.room,
     };
-    let end = write_packument(alloc, head, source, &mut ToWrite::new(&mut narrow));
-    let whole = case.text.as_bytes();
-    end == case.end && narrow.taken.as_slice() == whole.get(..case.room).unwrap_or(whole)
+    let end = write_packument(alloc, head, &mut source, &mut ToWrite::new(&mut narrow));
+    let written = str::from_utf8(&narrow.taken).unwrap_or("no UTF-8");
+    let wanted = case.text.get(..case.room).unwrap_or(case.text);
+    same(shows, (written, end), (wanted, case.end))?;
+    stays(alloc, shows, &mut source)
 }
 
-// Whether the source, where it failed, fails again.
-fn stays(alloc: Global, source: &mut Rows) -> bool {
-    source.answers > 0 || source.next(alloc).err() == Some(Fault::Database)
+// The source, where it failed, fails again.
+fn stays(alloc: Global, shows: &str, source: &mut Failing<VersionRows>) -> Result<(), Fail> {
+    if source.answers > 0 {
+        return Ok(());
+    }
+    same(shows, source.next(alloc).err(), Some(Fault::Database))
 }
 
 /// What a row shows, versions, how many calls their source answers, and what is written then.
 type Row = (&'static str, &'static [VersionCase], u32, &'static str);
 
-// Whether each row is told, and else what the first shows that isn't.
-fn all_told(
-    alloc: Global,
-    rows: &'static [Row],
-    end: Result<(), PackFault>,
-) -> Result<(), &'static str> {
+fn all_told(alloc: Global, rows: &'static [Row], end: Result<(), PackFault>) -> Result<(), Fail> {
     for (shows, versions, answers, text) in rows {
         let case = Case {
             versions,
@@ -180,9 +141,7 @@ fn all_told(
             text,
             end,
         };
-        if is_told(alloc, &case) != Ok(true) {
-            return Err(shows);
-        }
+        is_told(alloc, shows, &case)?;
     }
     Ok(())
 }
@@ -193,7 +152,7 @@ static WHOLE: [Row; 2] = [
 ];
 
 #[test]
-fn written_and_counted_alike(rt: HostRuntime) -> Result<(), &'static str> {
+fn written_and_counted_alike(rt: HostRuntime) -> Result<(), Fail> {
     all_told(rt.alloc(), &WHOLE, Ok(()))
 }
 
@@ -225,10 +184,10 @@ static FRONTS: [Row; 5] = [
         r#"{"_id":"kit","dist-tags":{"latest":"1.1.0"},"name":"kit","versions":{"1.0.0":{"a":1},"1.1.0":{"a":1,"deprecated":"old","z":2},"2.0.0-b":{}"#,
     ),
     (
-        "a version without a document",
+        "a version without a manifest",
         &[
             ("1.0.0", r#"{"a":1}"#, ""),
-            ("1.1.0", "[1]", "old"),
+            ("1.1.0", "[1]", ""),
             ("2.0.0-b", "{}", ""),
         ],
         9,
@@ -237,12 +196,11 @@ static FRONTS: [Row; 5] = [
 ];
 
 #[test]
-fn a_fault_of_the_source_leaves_a_front(rt: HostRuntime) -> Result<(), &'static str> {
+fn a_fault_of_the_source_leaves_a_front(rt: HostRuntime) -> Result<(), Fail> {
     all_told(rt.alloc(), &FRONTS, SOURCE_FAILED)
 }
 
-// Whether the example is cut where there is no more room, and else the first room where it isn't.
-fn all_rooms(alloc: Global) -> Result<(), usize> {
+fn all_rooms(alloc: Global) -> Result<(), Fail> {
     for room in 0..KIT.len() {
         let case = Case {
             versions: KIT_VERSIONS,
@@ -251,14 +209,26 @@ fn all_rooms(alloc: Global) -> Result<(), usize> {
             text: KIT,
             end: Err(PackFault::Write),
         };
-        if is_told(alloc, &case) != Ok(true) {
-            return Err(room);
-        }
+        is_told(alloc, "a narrow writer", &case)?;
     }
     Ok(())
 }
 
 #[test]
-fn a_failed_write_leaves_a_front(rt: HostRuntime) -> Result<(), usize> {
+fn a_failed_write_leaves_a_front(rt: HostRuntime) -> Result<(), Fail> {
     all_rooms(rt.alloc())
+}
+
+static FAULTS: [(PackFault, &str); 3] = [
+    (PackFault::Write, "Write"),
+    (PackFault::Source(Fault::Memory), "Memory"),
+    (PackFault::Source(Fault::Database), "Database"),
+];
+
+#[test]
+fn faults_of_packuments_are_printed(rt: HostRuntime) -> Result<(), Fail> {
+    for (fault, text) in &FAULTS {
+        same(*fault, displayed(rt.alloc(), fault)?.as_str(), *text)?;
+    }
+    Ok(())
 }
