@@ -32,8 +32,9 @@ impl<S: VersionSource> VersionSource for Failing<S> {
         if self.answers == 0 {
             return Err(Fault::Database);
         }
+        let row = self.source.next(alloc)?;
         self.answers -= 1;
-        self.source.next(alloc)
+        Ok(row)
     }
 }
 
