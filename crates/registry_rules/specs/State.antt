@@ -44,6 +44,14 @@ abbrev pub is_empty : {X : Type 0} → List X → Bool
 is_empty [] = true
 is_empty (x ∷ xs) = false
 
+-- the user is there
+abbrev pub has_user : State → Text → Bool
+has_user S u = is_some (at S.access.users u)
+
+-- there is a token with this digest
+abbrev pub has_token : State → Text → Bool
+has_token S digest = is_some (at S.access.tokens digest)
+
 -- the version lives
 abbrev pub is_live : State → Text → Text → Bool
 is_live S p v = is_some (at S.live (p, v))
