@@ -1,5 +1,5 @@
 -- What the registry holds: finite maps under names, and nothing of how they are kept.
-use Rattle.std.specs.Prelude.{ℕ, Bool, true, false, not, List, [], ◌∷◌, is_some, Option, Some, None}
+use Rattle.std.specs.Prelude.{ℕ, Bool, true, false, not, List, [], ◌∷◌, codes, is_some, Option, Some, None}
 use Rattle.registry_names.specs.Tags.{latest}
 use Rattle.registry_names.specs.Texts.{Text}
 use Rattle.registry_names.specs.Maps.{PairMap, empty, at, of}
@@ -33,6 +33,10 @@ pub record State : Type 0 where
 
 abbrev pub no_access : Access
 no_access = record { users = empty; tokens = empty; organisations = empty; roles = empty; teams = empty; team_members = empty; grants = empty; statuses = empty; maintainers = empty }
+
+-- the team that each organisation has
+abbrev pub developers : Text
+developers = codes "developers"
 
 -- a registry of which nothing was asked yet
 abbrev pub nothing : State
