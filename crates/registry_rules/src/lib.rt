@@ -14,9 +14,10 @@ mod publish;
 mod reply;
 mod request;
 mod tags;
+mod users;
 
 pub use crate::change::{Change, Changes};
 pub use crate::decision::{decide, may_ask};
 pub use crate::facts::{About, Facts, PublishFacts};
 pub use crate::reply::Reply;
-pub use crate::request::{Action, Credential, Request};
+pub use crate::request::{Action, Asked, Credential, Request};
