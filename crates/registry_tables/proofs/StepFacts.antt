@@ -3,7 +3,7 @@ use Rattle.std.proofs.Common.{◌≡◌, Bool, true, false, List, [], ◌∷◌,
 use Rattle.registry_names.specs.Texts.{Text}
 use Rattle.registry_names.specs.Maps.{at, put}
 use Rattle.registry_names.specs.declared.status.Status.{Status}
-use Rattle.registry_rules.specs.Changes.{Change, PutStatus, AddVersion, PutTag, DropTag, made, all_made}
+use Rattle.registry_rules.specs.Changes.{Change, AddUser, AddToken, PutStatus, AddVersion, PutTag, DropTag, made, all_made}
 use Rattle.registry_rules.specs.Operations.{with_status, with_tag}
 use Rattle.registry_tables.specs.Changes.{stored_by, all_stored}
 use Rattle.registry_tables.specs.Contents.{Contents, registry_of}
@@ -19,6 +19,8 @@ tag_either c p t v true = refl
 tag_either c p t v false = refl
 
 pub change_makes : (change : Change) (c : Contents) → registry_of (stored_by change c) ≡ made (registry_of c) change
+change_makes (AddUser u) c = refl
+change_makes (AddToken digest u) c = refl
 change_makes (PutStatus p status true) c = status_either c p status (is_some (at c.packages p))
 change_makes (PutStatus p status false) c = refl
 change_makes (AddVersion f now) c = refl

@@ -4,7 +4,7 @@ use Rattle.std.specs.declared.cmp.Ordering.{Ordering}
 use Rattle.registry_names.specs.Maps.{MapBy, at, put, erase}
 use Rattle.registry_publish.specs.Form.{FormParts}
 use Rattle.registry_rules.specs.Actions.{version_of}
-use Rattle.registry_rules.specs.Changes.{Change, PutStatus, AddVersion, PutTag, DropTag, release_of}
+use Rattle.registry_rules.specs.Changes.{Change, AddUser, AddToken, PutStatus, AddVersion, PutTag, DropTag, release_of}
 use Rattle.registry_tables.specs.Contents.{Contents}
 use Rattle.registry_tables.specs.Needs.{with_needs}
 
@@ -24,6 +24,8 @@ version_put f now c = record c {
 }
 
 abbrev pub stored_by : Change → Contents → Contents
+stored_by (AddUser u) c = record c { users = put c.users u tt }
+stored_by (AddToken digest u) c = record c { tokens = put c.tokens digest u }
 stored_by (PutStatus p status stands) c = record c { packages = with_row c.packages p status stands }
 stored_by (AddVersion f now) c = version_put f now c
 stored_by (PutTag p t v stands) c = record c { tags = with_row c.tags (p, t) v stands }

@@ -7,6 +7,8 @@ ghost use Rattle.registry_tables.specs.Effects.{InForm, Makes};
 
 use crate::statuses::put_status;
 use crate::tags::{drop_tag, put_tag};
+use crate::tokens::add_token;
+use crate::users::add_user;
 use crate::versions::put_version;
 use registry_names::Fault;
 use registry_rules::Change;
@@ -23,6 +25,8 @@ pub fn make<S: Alter>(tx: &mut Transaction<'_, S>, change: &Change<'_>) -> Resul
     ensures makes { Makes S.Store tx.old tx.new result (stored_by (change_of change.now)) }
 {
     match *change {
+        Change::AddUser { user } => add_user(tx, user.text()),
+        Change::AddToken { digest, user } => add_token(tx, digest, user.text()),
         Change::PutStatus {
             package,
             status,

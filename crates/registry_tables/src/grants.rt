@@ -8,15 +8,15 @@ ghost use Rattle.registry_tables.specs.Effects.{InForm, Makes, Tells};
 ghost use Rattle.registry_tables.specs.Spelled.{grant_number};
 
 use registry_access::Grant;
-use registry_names::{Fault, Ident, Name};
+use registry_names::{Fault, Name};
 use registry_rows::{read, write};
 use sqlite::{Alter, Transaction, params};
 
 /// Whether the team is granted something on the package.
 pub fn has_grant<S: Alter>(
     tx: &mut Transaction<'_, S>,
-    organisation: &Ident,
-    team: &Ident,
+    organisation: &str,
+    team: &str,
     name: &Name,
 ) -> Result<bool, Fault>
     requires in_form { InForm S.Store tx.old }
@@ -26,7 +26,7 @@ pub fn has_grant<S: Alter>(
     let rows = read(
         tx,
         "SELECT level FROM grants WHERE org = ?1 AND team = ?2 AND package = ?3",
-        params![organisation.text(), team.text(), name.text()],
+        params![organisation, team, name.text()],
     )?;
     Ok(!rows.is_empty())
 }

@@ -6,8 +6,10 @@
 //! other error by `Database`.
 #![tactic(auto)]
 
+mod callers;
 mod change;
 mod grants;
+mod idents;
 pub mod laws;
 mod maintainers;
 mod members;
@@ -24,6 +26,7 @@ mod tokens;
 mod users;
 mod versions;
 
+pub use crate::callers::load_caller;
 pub use crate::change::make;
 pub use crate::grants::has_grant;
 pub use crate::maintainers::is_maintainer;

@@ -5,7 +5,7 @@ ghost use Rattle.registry_names.specs.Maps.{at, erase, put};
 ghost use Rattle.registry_rows.specs.Frames.{Stays};
 ghost use Rattle.registry_tables.specs.Effects.{InForm, Makes, Tells};
 
-use registry_names::{Fault, Ident, Name};
+use registry_names::{Fault, Name};
 use registry_rows::{read, write};
 use sqlite::{Alter, Transaction, params};
 
@@ -13,7 +13,7 @@ use sqlite::{Alter, Transaction, params};
 pub fn is_maintainer<S: Alter>(
     tx: &mut Transaction<'_, S>,
     name: &Name,
-    user: &Ident,
+    user: &str,
 ) -> Result<bool, Fault>
     requires in_form { InForm S.Store tx.old }
     ensures stays { Stays S.Store tx.old tx.new }
@@ -22,7 +22,7 @@ pub fn is_maintainer<S: Alter>(
     let rows = read(
         tx,
         "SELECT user FROM owners WHERE package = ?1 AND user = ?2",
-        params![name.text(), user.text()],
+        params![name.text(), user],
     )?;
     Ok(!rows.is_empty())
 }

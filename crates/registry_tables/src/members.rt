@@ -9,15 +9,15 @@ ghost use Rattle.registry_tables.specs.Effects.{InForm, Makes, Tells};
 ghost use Rattle.registry_tables.specs.Spelled.{role_number, role_spelled};
 
 use registry_access::Role;
-use registry_names::{Fault, Ident};
+use registry_names::Fault;
 use registry_rows::{FromRow, first_in, read, write};
 use sqlite::{Alter, Error, Row, Transaction, params};
 
 /// The role of a user in an organisation. None where he isn't a member of it.
 pub fn load_role<S: Alter>(
     tx: &mut Transaction<'_, S>,
-    organisation: &Ident,
-    user: &Ident,
+    organisation: &str,
+    user: &str,
 ) -> Result<Option<Role>, Fault>
     requires in_form { InForm S.Store tx.old }
     ensures stays { Stays S.Store tx.old tx.new }
@@ -26,7 +26,7 @@ pub fn load_role<S: Alter>(
     let rows = read(
         tx,
         "SELECT role FROM members WHERE org = ?1 AND user = ?2",
-        params![organisation.text(), user.text()],
+        params![organisation, user],
     )?;
     role_in(&rows)
 }

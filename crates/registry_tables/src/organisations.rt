@@ -5,14 +5,14 @@ ghost use Rattle.registry_names.specs.Maps.{at, put};
 ghost use Rattle.registry_rows.specs.Frames.{Stays};
 ghost use Rattle.registry_tables.specs.Effects.{InForm, Makes, Tells};
 
-use registry_names::{Fault, Ident};
+use registry_names::Fault;
 use registry_rows::{read, write};
 use sqlite::{Alter, Transaction, params};
 
 /// Whether there is an organisation of this name.
 pub fn has_organisation<S: Alter>(
     tx: &mut Transaction<'_, S>,
-    organisation: &Ident,
+    organisation: &str,
 ) -> Result<bool, Fault>
     requires in_form { InForm S.Store tx.old }
     ensures stays { Stays S.Store tx.old tx.new }
@@ -21,7 +21,7 @@ pub fn has_organisation<S: Alter>(
     let rows = read(
         tx,
         "SELECT name FROM orgs WHERE name = ?1",
-        params![organisation.text()],
+        params![organisation],
     )?;
     Ok(!rows.is_empty())
 }

@@ -6,16 +6,16 @@ ghost use Rattle.registry_names.specs.Maps.{at, erase, put};
 ghost use Rattle.registry_rows.specs.Frames.{Stays};
 ghost use Rattle.registry_tables.specs.Effects.{InForm, Makes, Tells};
 
-use registry_names::{Fault, Ident};
+use registry_names::Fault;
 use registry_rows::{read, write};
 use sqlite::{Alter, Transaction, params};
 
 /// Whether the user is in this team of the organisation.
 pub fn is_in_team<S: Alter>(
     tx: &mut Transaction<'_, S>,
-    organisation: &Ident,
-    team: &Ident,
-    user: &Ident,
+    organisation: &str,
+    team: &str,
+    user: &str,
 ) -> Result<bool, Fault>
     requires in_form { InForm S.Store tx.old }
     ensures stays { Stays S.Store tx.old tx.new }
@@ -24,7 +24,7 @@ pub fn is_in_team<S: Alter>(
     let rows = read(
         tx,
         "SELECT user FROM team_members WHERE org = ?1 AND team = ?2 AND user = ?3",
-        params![organisation.text(), team.text(), user.text()],
+        params![organisation, team, user],
     )?;
     Ok(!rows.is_empty())
 }

@@ -5,15 +5,15 @@ ghost use Rattle.registry_names.specs.Maps.{at, put};
 ghost use Rattle.registry_rows.specs.Frames.{Stays};
 ghost use Rattle.registry_tables.specs.Effects.{InForm, Makes, Tells};
 
-use registry_names::{Fault, Ident};
+use registry_names::Fault;
 use registry_rows::{read, write};
 use sqlite::{Alter, Transaction, params};
 
 /// Whether the organisation has this team.
 pub fn has_team<S: Alter>(
     tx: &mut Transaction<'_, S>,
-    organisation: &Ident,
-    team: &Ident,
+    organisation: &str,
+    team: &str,
 ) -> Result<bool, Fault>
     requires in_form { InForm S.Store tx.old }
     ensures stays { Stays S.Store tx.old tx.new }
@@ -22,7 +22,7 @@ pub fn has_team<S: Alter>(
     let rows = read(
         tx,
         "SELECT team FROM teams WHERE org = ?1 AND team = ?2",
-        params![organisation.text(), team.text()],
+        params![organisation, team],
     )?;
     Ok(!rows.is_empty())
 }

@@ -7,7 +7,8 @@ ghost use Rattle.registry_rows.specs.Frames.{Stays};
 ghost use Rattle.registry_tables.specs.Effects.{InForm, Makes, Tells};
 ghost use Rattle.registry_tables.specs.Spelled.{named_spelled};
 
-use registry_names::{Fault, Ident, Stop};
+use crate::idents::ident_of;
+use registry_names::{Fault, Ident};
 use registry_publish::TokenDigest;
 use registry_rows::{FromRow, first_in, read, write};
 use sqlite::{Alter, Error, Row, Transaction, params};
@@ -38,17 +39,6 @@ fn user_in(alloc: Global, rows: &[Row]) -> Result<Option<Ident>, Fault>
     match found {
         Some(row) => Ok(Some(ident_of(alloc, row.user.as_str())?)),
         None => Ok(None),
-    }
-}
-
-// No other text is ever written.
-fn ident_of(alloc: Global, text: &str) -> Result<Ident, Fault>
-    ensures { IfOk result (λ name. name ≡ text.now) }
-{
-    match Ident::parse(alloc, text) {
-        Ok(name) => Ok(name),
-        Err(Stop::Fault(fault)) => Err(fault),
-        Err(Stop::Refused(_)) => Err(Fault::Database),
     }
 }
 

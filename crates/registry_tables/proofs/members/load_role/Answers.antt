@@ -8,7 +8,7 @@ use Rattle.registry_tables.proofs.members.load_role.Goals as goal
 
 pub returns : goal.returns
 returns g c =
-    let call = rw (c.params-to_sql.ensures, c.params-to_sql-2.ensures, c.text.ensures.text, c.text-2.ensures.text) at c.in_ok-rows.ensures.shown in
+    let call = rw (c.params-to_sql.ensures, c.params-to_sql-2.ensures) at c.in_ok-rows.ensures.shown in
     let it = role_found c.args.organisation.now c.args.user.now (shown g.S.Store c.args.tx.now) (shown g.S.Store c.read.new.tx) _ c.requires.in_form call in
     record {
       stays = read_stays g.S.Store _ _ _ c.args.tx.now c.read.new.tx _ c.in_ok-rows.ensures.same_reference call (λ clean. (it clean).0);

@@ -6,7 +6,7 @@ use Rattle.registry_tables.proofs.users.has_user.Goals as goal
 
 pub returns : goal.returns
 returns g c =
-    let call = rw (c.params-to_sql.ensures, c.text.ensures.text) at c.in_ok-rows.ensures.shown in
+    let call = rw (c.params-to_sql.ensures) at c.in_ok-rows.ensures.shown in
     let it = user_found c.args.user.now (shown g.S.Store c.args.tx.now) (shown g.S.Store c.read.new.tx) _ c.requires.in_form call in
     record {
       stays = read_stays g.S.Store _ _ _ c.args.tx.now c.read.new.tx _ c.in_ok-rows.ensures.same_reference call (λ clean. (it clean).0);
