@@ -4,8 +4,8 @@ ghost use Rattle.std.specs.Prelude.{◌≡◌, ℕ, List as Sequence, IfOk, map}
 ghost use Rattle.registry_names.specs.Maps.{of, seen};
 ghost use Rattle.registry_rules.specs.State.{State};
 ghost use Rattle.registry_tables.specs.Spelled.{document, row_entry, tag_entry};
-ghost use Rattle.registry_desk.specs.Answers as answers;
-ghost use Rattle.registry_desk.specs.Answers.{packument_in, tags_in};
+ghost use Rattle.registry_history.specs.Answers as answers;
+ghost use Rattle.registry_history.specs.Answers.{packument_in, tags_in};
 ghost use Rattle.registry_desk.specs.Found.{AreRowsOf};
 
 use crate::found::Rows;
