@@ -8,12 +8,12 @@ mod rows;
 mod tables;
 
 use crate::example::{Ask, Example, Expected, Step};
-use crate::table::{PUBLISHES, QUERIES, TAGS};
+use crate::table::{DOCUMENTS, PUBLISHES, QUERIES, TAGS};
 use body::{ABC, body_of};
 use registry_desk::Registry;
 use registry_names::{Fault, Moment, Name, Stop, TagText, Ver};
 use registry_publish::PublishForm;
-use registry_rules::{Action, Credential, Reply, Request};
+use registry_rules::{Action, Asked, Credential, Reply, Request};
 use std::alloc::Global;
 
 type Outcomes = Vec<Result<Reply, Fault>>;
@@ -26,6 +26,11 @@ fn versions_are_published(rt: HostRuntime) -> Result<(), &'static str> {
 #[test]
 fn queries_are_answered(rt: HostRuntime) -> Result<(), &'static str> {
     all_have_their_replies(rt.alloc(), &QUERIES)
+}
+
+#[test]
+fn versions_have_documents(rt: HostRuntime) -> Result<(), &'static str> {
+    all_have_their_replies(rt.alloc(), &DOCUMENTS)
 }
 
 #[test]
@@ -92,6 +97,8 @@ fn action_of(alloc: Global, ask: Ask) -> Result<Action, Stop> {
         Ask::TagSet(name, tag, version) => tag_set(alloc, name, tag, version),
         Ask::TagRemove(name, tag) => tag_remove(alloc, name, tag),
         Ask::Packument(name) => packument(alloc, name),
+        Ask::VersionDoc(name, version) => version_doc(alloc, name, version),
+        Ask::LatestDoc(name) => latest_doc(alloc, name),
         Ask::Archive(name, version) => archive(alloc, name, version),
         Ask::Tags(name) => tags(alloc, name),
     }
@@ -126,6 +133,20 @@ fn tag_remove(alloc: Global, name: &str, tag: &str) -> Result<Action, Stop> {
     Ok(Action::TagRemove {
         name: Name::parse(alloc, name)?,
         tag: TagText::shape(alloc, tag)?,
+    })
+}
+
+fn version_doc(alloc: Global, name: &str, version: &str) -> Result<Action, Stop> {
+    Ok(Action::VersionDoc {
+        name: Name::parse(alloc, name)?,
+        version: Asked::Exact(Ver::parse(alloc, version)?),
+    })
+}
+
+fn latest_doc(alloc: Global, name: &str) -> Result<Action, Stop> {
+    Ok(Action::VersionDoc {
+        name: Name::parse(alloc, name)?,
+        version: Asked::Latest,
     })
 }
 
