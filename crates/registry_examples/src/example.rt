@@ -43,7 +43,7 @@ pub enum Ask {
 }
 
 /// What is answered.
-#[derive(Clone, Copy)]
+#[derive(Clone, Copy, Debug)]
 pub enum Expected {
     /// The version was published.
     Created,
