@@ -47,7 +47,7 @@ pub enum Ask {
 }
 
 /// What is answered.
-#[derive(Clone, Copy)]
+#[derive(Clone, Copy, Debug)]
 pub enum Expected {
     /// The version was published.
     Created,
