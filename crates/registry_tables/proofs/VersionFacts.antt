@@ -19,7 +19,7 @@ use Rattle.registry_rules.specs.State.{Release}
 use Rattle.registry_rows.specs.Statements.{Means, MeansQuery, scan, by_texts, in_order}
 use Rattle.registry_rows.proofs.StatementFacts.{insert_puts, insert_meets_none}
 use Rattle.registry_rows.proofs.LookUpFacts.{select_finds, select_lists, first_listed}
-use Rattle.registry_tables.specs.Spelled.{bytes_spelled, number_spelled, document, row_spelled}
+use Rattle.registry_tables.specs.Spelled.{bytes_spelled, number_spelled, document, document_spelled, row_spelled}
 use Rattle.registry_tables.proofs.FoundFacts.{some_found, some_seen}
 use Rattle.registry_tables.proofs.MappedFacts.{versions_mapped}
 
@@ -72,6 +72,19 @@ pub archive_found : (p v : Text) (old new : Shown) (rows : List Row) → Ready s
 archive_found p v old new rows form call clean =
     let it = select_finds versions_mapped archive_text (col 1 6 ∷ []) _ archive_means (p, v) bytes_spelled (λ (r : Release). r.archive) (λ id vs. refl) old new rows form call clean in
     (it.0, first_listed bytes_spelled rows _ it.1)
+
+abbrev document_text : List ℕ
+document_text = codes "SELECT manifest, deprecated FROM versions WHERE package = ?1 AND version = ?2"
+
+document_means : MeansQuery schema document_text (Select (record { lets = []; body = scan 18 (by_texts 1 1 0) (col 1 4 ∷ col 1 5 ∷ []) [] }) (codes "manifest" ∷ codes "deprecated" ∷ []))
+unfolding understood everything
+document_means = ((refl, (refl, refl)), refl)
+
+pub document_found : (p v : Text) (old new : Shown) (rows : List Row) → Ready schema old → Queried document_text (Stored p ∷ Stored v ∷ []) old new rows → HasCleanDisk new
+    → Reads schema old new × (option_map document_spelled (slice_get rows 0) ≡ option_map document (at (stored old).versions (p, v)))
+document_found p v old new rows form call clean =
+    let it = select_finds versions_mapped document_text (col 1 4 ∷ col 1 5 ∷ []) _ document_means (p, v) document_spelled document (λ id vs. refl) old new rows form call clean in
+    (it.0, first_listed document_spelled rows _ it.1)
 
 -- ---- SELECT by package
 

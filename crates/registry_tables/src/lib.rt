@@ -36,9 +36,11 @@ pub use crate::organisations::has_organisation;
 pub use crate::schema::create;
 pub use crate::spent::is_spent;
 pub use crate::statuses::load_status;
-pub use crate::tags::{has_tag, load_tags};
+pub use crate::tags::{has_tag, load_tag, load_tags};
 pub use crate::team_members::is_in_team;
 pub use crate::teams::has_team;
 pub use crate::tokens::load_token_user;
 pub use crate::users::has_user;
-pub use crate::versions::{has_version, load_archive, load_versions, put_version};
+pub use crate::versions::{
+    DocumentRow, has_version, load_archive, load_document, load_versions, put_version,
+};

@@ -9,7 +9,7 @@ ghost use Rattle.registry_rules.specs.Actions.{version_of};
 ghost use Rattle.registry_rules.specs.Changes.{release_of};
 ghost use Rattle.registry_tables.specs.Changes.{IsNew, is_unspent, version_put};
 ghost use Rattle.registry_tables.specs.Effects.{InForm, Makes, Tells, shown, stored_in};
-ghost use Rattle.registry_tables.specs.Spelled.{bytes_spelled, document, row_entry, row_spelled};
+ghost use Rattle.registry_tables.specs.Spelled.{bytes_spelled, document, document_entry, document_spelled, row_entry, row_spelled};
 
 use crate::needs::put_needs;
 use crate::spent::is_spent;
@@ -64,6 +64,33 @@ fn versions_in(alloc: Global, rows: &[Row]) -> Result<Vec<VersionRow>, Fault>
     let rows: Vec<ListedRow> = values_in(alloc, rows)?;
     let versions = rows.into_iter().map(|row| row.version).collect(alloc)?;
     Ok(versions)
+}
+
+/// What the document of a live version is made of.
+#[derive(Drop)]
+pub struct DocumentRow {
+    /// Its manifest, which is compact JSON.
+    pub manifest: Text,
+    /// The message of its deprecation. Empty where it isn't deprecated.
+    pub message: Text,
+}
+
+/// The manifest and the message of a version. None where it doesn't live.
+pub fn load_document<S: Alter>(
+    tx: &mut Transaction<'_, S>,
+    name: &Name,
+    version: &str,
+) -> Result<Option<DocumentRow>, Fault>
+    requires in_form { InForm S.Store tx.old }
+    ensures stays { Stays S.Store tx.old tx.new }
+    ensures tells { Tells S.Store tx.old tx.new result (λ found c. option_map document_entry found ≡ option_map document (at c.versions (name.now, version.now))) }
+{
+    let rows = read(
+        tx,
+        "SELECT manifest, deprecated FROM versions WHERE package = ?1 AND version = ?2",
+        params![name.text(), version],
+    )?;
+    first_in(&rows)
 }
 
 /// The archive of a version. None where it doesn't live.
@@ -168,6 +195,23 @@ impl FromRow for ListedRow {
                 manifest: Text::from(manifest),
                 message: Text::from(message),
             },
+        })
+    }
+}
+
+impl FromRow for DocumentRow {
+    ghost Seen = { Bytes × Bytes };
+
+    ghost seen = { document_entry };
+
+    ghost spelled = { document_spelled };
+
+    fn from_row(row: &Row) -> Result<DocumentRow, Error> {
+        let manifest: String = row.get(0)?;
+        let message: String = row.get(1)?;
+        Ok(DocumentRow {
+            manifest: Text::from(manifest),
+            message: Text::from(message),
         })
     }
 }
