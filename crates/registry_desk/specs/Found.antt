@@ -1,12 +1,16 @@
 -- When what was loaded for an action is what the registry holds of it.
-use Rattle.std.specs.Prelude.{◌≡◌, true, map, option_map}
+use Rattle.std.specs.Prelude.{◌≡◌, true, Some, map, option_map}
 use Rattle.registry_names.specs.Maps.{at, of, seen}
 use Rattle.registry_names.specs.Versions.{text_of_version}
+use Rattle.registry_access.specs.declared.caller.Caller.{Caller}
 use Rattle.registry_rules.specs.Actions.{is_command}
+use Rattle.registry_rules.specs.Callers.{caller_of}
 use Rattle.registry_rules.specs.Facts.{StandsAbout}
 use Rattle.registry_rules.specs.State.{State, Release}
 use Rattle.registry_rules.specs.declared.request.Action.{Action}
 use Rattle.registry_rules.specs.declared.request.Action.TheVariants.{Packument, VersionDoc, Archive, Tags}
+use Rattle.registry_rules.specs.declared.request.Request.{Request}
+use Rattle.registry_tables.specs.Contents.{Contents, registry_of}
 use Rattle.registry_tables.specs.Spelled.{document, document_entry, row_entry, tag_entry}
 use Rattle.registry_history.specs.Answers.{asked_release}
 use Rattle.registry_desk.specs.declared.found.Found.{Found}
@@ -22,6 +26,10 @@ AreRowsOf (rows.Archive archive) S (Archive p v) = archive ≡ option_map (λ (r
 AreRowsOf (rows.Tags tags) S (Tags p) = map tag_entry tags.items ≡ of S.tags p
 AreRowsOf rows.Nothing S what = is_command what ≡ true
 AreRowsOf _ S _ = ⊥
+
+-- this is the caller of the request, by what is stored
+abbrev pub IsCallerIn : Contents → Request → Caller → Type 0
+IsCallerIn c r who = Some who ≡ caller_of (registry_of c) r.who
 
 -- what decides the action, and what answers it
 pub record IsFoundFor (found : Found) (S : State) (what : Action) : Type 0 where

@@ -10,13 +10,13 @@ ghost use Rattle.registry_desk.specs.Found.{IsFoundFor};
 ghost use Rattle.registry_rules.specs.declared.request.Action.TheVariants as asked;
 ghost use Rattle.registry_rules.specs.declared.request.Asked.TheVariants as version;
 
-use registry_names::{Blob, DistTag, Fault, LATEST, Name, TagText, Ver};
+use registry_names::{Blob, DistTag, Fault, Ident, LATEST, Name, TagText, Ver};
 use registry_packument::VersionRow;
-use registry_publish::PublishForm;
+use registry_publish::{PublishForm, TokenDigest};
 use registry_rules::{About, Action, Asked, PublishFacts};
 use registry_tables::{
-    DocumentRow, has_tag, has_version, is_spent, load_archive, load_document, load_status,
-    load_tag, load_tags, load_versions,
+    DocumentRow, has_tag, has_user, has_version, is_spent, load_archive, load_document,
+    load_status, load_tag, load_tags, load_token_user, load_versions,
 };
 use sqlite::{Alter, Transaction};
 use std::alloc::Global;
@@ -62,6 +62,8 @@ pub(crate) fn find<S: Alter>(
         (λ found c. IsFoundFor found (registry_of c) what.now) }
 {
     match what {
+        Action::UserAdd { user } => find_user(tx, user),
+        Action::TokenAdd { user, digest } => find_token(alloc, tx, user, digest),
         Action::Publish { form } => find_publish(tx, form),
         Action::TagSet { name, tag, version } => find_tag_set(tx, name, tag, version),
         Action::TagRemove { name, tag } => find_tag(tx, name, tag),
@@ -70,6 +72,42 @@ pub(crate) fn find<S: Alter>(
         Action::Archive { name, version } => find_archive(tx, name, version),
         Action::Tags { name } => find_tags(alloc, tx, name),
     }
+}
+
+fn find_user<S: Alter>(tx: &mut Transaction<'_, S>, user: &Ident) -> Result<Found, Fault>
+    requires in_form { InForm S.Store tx.old }
+    ensures stays { Stays S.Store tx.old tx.new }
+    ensures tells { Tells S.Store tx.old tx.new result
+        (λ found c. IsFoundFor found (registry_of c) (asked.UserAdd user.now)) }
+{
+    let about = About::UserAdd {
+        exists: has_user(tx, user.text())?,
+    };
+    Ok(Found {
+        about,
+        rows: Rows::Nothing,
+    })
+}
+
+fn find_token<S: Alter>(
+    alloc: Global,
+    tx: &mut Transaction<'_, S>,
+    user: &Ident,
+    digest: &TokenDigest,
+) -> Result<Found, Fault>
+    requires in_form { InForm S.Store tx.old }
+    ensures stays { Stays S.Store tx.old tx.new }
+    ensures tells { Tells S.Store tx.old tx.new result
+        (λ found c. IsFoundFor found (registry_of c) (asked.TokenAdd user.now digest.now)) }
+{
+    let about = About::TokenAdd {
+        user_exists: has_user(tx, user.text())?,
+        exists: load_token_user(alloc, tx, digest)?.is_some(),
+    };
+    Ok(Found {
+        about,
+        rows: Rows::Nothing,
+    })
 }
 
 fn find_publish<S: Alter>(tx: &mut Transaction<'_, S>, form: &PublishForm) -> Result<Found, Fault>

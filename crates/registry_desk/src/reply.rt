@@ -25,7 +25,13 @@ pub(crate) fn reply(alloc: Global, what: &Action, rows: Rows) -> Result<Reply, F
 {
     match (what, rows) {
         (Action::Publish { .. }, _) => Ok(Reply::Created),
-        (Action::TagSet { .. } | Action::TagRemove { .. }, _) => Ok(Reply::Done),
+        (
+            Action::UserAdd { .. }
+            | Action::TokenAdd { .. }
+            | Action::TagSet { .. }
+            | Action::TagRemove { .. },
+            _,
+        ) => Ok(Reply::Done),
         (Action::Packument { name }, Rows::Packument { versions, tags }) => {
             Ok(Reply::Doc(packument(alloc, name, versions, tags)?))
         }

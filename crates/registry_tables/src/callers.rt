@@ -1,11 +1,14 @@
 //! Who asks.
 
-ghost use Rattle.std.specs.Prelude.{◌≡◌, IfOk};
+ghost use Rattle.std.specs.Prelude.{◌≡◌, IfOk, None};
 ghost use Rattle.registry_rows.specs.Frames.{Stays};
+ghost use Rattle.registry_rows.specs.Ready.{Reads};
+ghost use Rattle.sqlite.specs.State.{HasCleanDisk};
 ghost use Rattle.registry_rules.specs.Callers.{caller_of};
 ghost use Rattle.registry_rules.specs.declared.request.Credential.TheVariants as shown_as;
 ghost use Rattle.registry_tables.specs.Contents.{registry_of};
-ghost use Rattle.registry_tables.specs.Effects.{InForm, Knows, Tells};
+ghost use Rattle.registry_tables.specs.Effects.{InForm, Knows, Tells, shown};
+ghost use Rattle.registry_tables.specs.Schema.{schema};
 
 use crate::idents::ident_of;
 use crate::tokens::load_token_user;
@@ -27,6 +30,7 @@ pub fn load_caller<S: Alter>(
     requires in_form { InForm S.Store tx.old }
     ensures stays { Stays S.Store tx.old tx.new }
     ensures knows { Knows S.Store tx.old tx.new result (λ caller c. caller ≡ caller_of (registry_of c) who.now) }
+    ensures nobody { HasCleanDisk (shown S.Store tx.new) → IfOk result (λ caller. caller ≡ None → Reads schema (shown S.Store tx.old) (shown S.Store tx.new)) }
 {
     match who {
         Credential::Operator => Ok(Some(Caller::Operator)),
