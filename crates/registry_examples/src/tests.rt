@@ -7,18 +7,23 @@ mod rounds;
 mod rows;
 mod tables;
 
-use crate::example::{Ask, Example, Expected, Step};
-use crate::table::{DOCUMENTS, PUBLISHES, QUERIES, TAGS};
+use crate::example::{Ask, Example, Expected, Step, Who};
+use crate::table::{DOCUMENTS, PUBLISHES, QUERIES, TAGS, USERS};
 use body::{ABC, body_of};
 use outcome::{otherwise, same};
 use registry_desk::Registry;
-use registry_names::{Fault, Moment, Name, Stop, TagText, Ver};
-use registry_publish::PublishForm;
+use registry_names::{Fault, Ident, Moment, Name, Refusal, Stop, TagText, Ver};
+use registry_publish::{PublishForm, TokenDigest};
 use registry_rules::{Action, Asked, Credential, Reply, Request};
 use std::alloc::Global;
 use std::test::Fail;
 
 type Outcome = Result<Reply, Fault>;
+
+#[test]
+fn users_are_added(rt: HostRuntime) -> Result<(), Fail> {
+    all_have_their_replies(rt.alloc(), &USERS)
+}
 
 #[test]
 fn versions_are_published(rt: HostRuntime) -> Result<(), Fail> {
@@ -80,13 +85,28 @@ fn requests_of(alloc: Global, steps: &[Step]) -> Result<Vec<Request>, Stop> {
 fn request_of(alloc: Global, step: &Step) -> Result<Request, Stop> {
     Ok(Request {
         at: Moment::clamped(step.at),
-        who: Credential::Anonymous,
+        who: credential_of(alloc, step.who)?,
         what: action_of(alloc, step.ask)?,
     })
 }
 
+fn credential_of(alloc: Global, who: Who) -> Result<Credential, Stop> {
+    match who {
+        Who::Operator => Ok(Credential::Operator),
+        Who::User(user) => Ok(Credential::User(Ident::parse(alloc, user)?)),
+        Who::Token(token) => Ok(Credential::Token(digest_of(token)?)),
+        Who::Anonymous => Ok(Credential::Anonymous),
+    }
+}
+
+fn digest_of(token: &str) -> Result<TokenDigest, Stop> {
+    TokenDigest::of(token).ok_or(Stop::Refused(Refusal::BadBody))
+}
+
 fn action_of(alloc: Global, ask: Ask) -> Result<Action, Stop> {
     match ask {
+        Ask::UserAdd(user) => user_add(alloc, user),
+        Ask::TokenAdd(user, token) => token_add(alloc, user, token),
         Ask::Body(body) => publish(alloc, body),
         Ask::Publish(name, version) => publish_version(alloc, name, version),
         Ask::TagSet(name, tag, version) => tag_set(alloc, name, tag, version),
@@ -97,6 +117,19 @@ fn action_of(alloc: Global, ask: Ask) -> Result<Action, Stop> {
         Ask::Archive(name, version) => archive(alloc, name, version),
         Ask::Tags(name) => tags(alloc, name),
     }
+}
+
+fn user_add(alloc: Global, user: &str) -> Result<Action, Stop> {
+    Ok(Action::UserAdd {
+        user: Ident::parse(alloc, user)?,
+    })
+}
+
+fn token_add(alloc: Global, user: &str, token: &str) -> Result<Action, Stop> {
+    Ok(Action::TokenAdd {
+        user: Ident::parse(alloc, user)?,
+        digest: digest_of(token)?,
+    })
 }
 
 fn publish(alloc: Global, body: &str) -> Result<Action, Stop> {
