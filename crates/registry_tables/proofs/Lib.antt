@@ -1,6 +1,8 @@
+pub mod AccessFacts
 pub mod CatalogFacts
 pub mod ContentsFacts
 pub mod CreationFacts
+pub mod EffectFacts
 pub mod FoundFacts
 pub mod GrantFacts
 pub mod HeldNeedFacts

@@ -1,5 +1,5 @@
 -- What the statements on members make and show.
-use Rattle.std.proofs.Common.{◌≡◌, ℕ, List, [], ◌∷◌, pos, Option, Some, None, option_map, slice_get, Ok, refl, subst, ◌∙◌, codes}
+use Rattle.std.proofs.Common.{◌≡◌, ℕ, List, [], ◌∷◌, map, pos, Option, Some, None, option_map, slice_get, Ok, refl, subst, ◌∙◌, codes}
 use Rattle.std.proofs.lemmas.Iterator.Adapters.{option_map_id}
 use Rattle.sqlite.specs.declared.types.Value.TheVariants.{Null, Int, Text as Stored}
 use Rattle.sqlite.specs.Command.TheVariants.{Insert, Update, Select}
@@ -10,20 +10,20 @@ use Rattle.sqlite_tied.specs.Compute.{everything}
 use Rattle.sqlite_value.specs.Order.{Row}
 use Rattle.sqlite_sql.specs.Term.{Term, lit, col}
 use Rattle.registry_names.specs.Texts.{Text}
-use Rattle.registry_names.specs.Maps.{at, put}
+use Rattle.registry_names.specs.Maps.{at, of, put}
 use Rattle.registry_names.proofs.KeyFacts.{pair_key}
 use Rattle.registry_access.specs.declared.role.Role.{Role}
 use Rattle.registry_access.specs.declared.role.Role.TheVariants.{Developer, Admin, Owner}
 use Rattle.registry_rows.specs.Frames.{Wrote}
 use Rattle.registry_rows.specs.Ready.{Ready, Leaves, Reads, Queried}
-use Rattle.registry_rows.specs.Statements.{Means, MeansQuery, scan, by_texts, set_terms}
+use Rattle.registry_rows.specs.Statements.{Means, MeansQuery, scan, by_texts, in_order, set_terms}
 use Rattle.registry_rows.proofs.StatementFacts.{insert_puts, update_revises}
-use Rattle.registry_rows.proofs.LookUpFacts.{select_finds, first_listed}
+use Rattle.registry_rows.proofs.LookUpFacts.{select_finds, select_lists, first_listed, seen_as_is}
 use Rattle.registry_tables.specs.Schema.{schema}
 use Rattle.registry_tables.specs.Changes.{amended}
 use Rattle.registry_tables.specs.Contents.{contents}
 use Rattle.registry_tables.specs.Effects.{stored}
-use Rattle.registry_tables.specs.Spelled.{role_number, role_spelled}
+use Rattle.registry_tables.specs.Spelled.{member_spelled, role_number, role_spelled}
 use Rattle.registry_tables.proofs.MappedFacts.{members_mapped}
 use Rattle.registry_tables.proofs.ReviseFacts.{revised}
 
@@ -81,3 +81,19 @@ pub role_found : (o u : Text) (old new : Shown) (rows : List Row) → Ready sche
 role_found o u old new rows form call clean =
     let it = select_finds members_mapped find_text (col 1 3 ∷ []) _ find_means (o, u) role_spelled (λ (role : Role). role) (λ id vs. refl) old new rows form call clean in
     (it.0, first_listed role_spelled rows _ it.1 ∙ option_map_id (at (stored old).members (o, u)))
+
+abbrev list_text : List ℕ
+list_text = codes "SELECT user, role FROM members WHERE org = ?1 ORDER BY user"
+
+abbrev list_columns : List Term
+list_columns = col 1 2 ∷ col 1 3 ∷ []
+
+list_means : MeansQuery schema list_text (Select (record { lets = []; body = scan 6 (by_texts 0 1 0) list_columns (in_order 0 2) }) (codes "user" ∷ codes "role" ∷ []))
+unfolding understood everything
+list_means = ((refl, (refl, refl)), refl)
+
+pub members_listed : (o : Text) (old new : Shown) (rows : List Row) → Ready schema old → Queried list_text (Stored o ∷ []) old new rows → HasCleanDisk new
+    → Reads schema old new × (map member_spelled rows ≡ of (stored old).members o)
+members_listed o old new rows form call clean =
+    let it = select_lists members_mapped list_text list_columns _ list_means o member_spelled (λ (role : Role). role) (λ id vs. refl) old new rows form call clean in
+    (it.0, it.1 ∙ seen_as_is (of (stored old).members o))

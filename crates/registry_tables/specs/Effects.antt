@@ -5,7 +5,7 @@ use Rattle.sqlite.specs.State.{State as Shown, HasCleanDisk, KeepsCommit}
 use Rattle.sqlite.specs.declared.transaction.Transaction.{Transaction}
 use Rattle.sqlite_trees.specs.declared.store.Store.{Ghosts}
 use Rattle.registry_rules.specs.State.{State}
-use Rattle.registry_rows.specs.Ready.{Ready, Leaves, Reads}
+use Rattle.registry_rows.specs.Ready.{IsReady, Ready, Leaves, Reads}
 use Rattle.registry_rows.specs.Tables.{no_tables}
 use Rattle.registry_tables.specs.Schema.{schema}
 use Rattle.registry_tables.specs.Contents.{Contents, contents, registry_of}
@@ -13,7 +13,7 @@ use Rattle.registry_tables.specs.Contents.{Contents, contents, registry_of}
 -- nothing has changed, whether or not a statement has run
 pub record IsAsBefore (old new : Shown) : Type 0 where
   pub same : new.now ≡ old.now
-  pub ready : Ready schema new
+  pub ready : IsReady schema old → IsReady schema new
   pub mode : new.in_transaction ≡ old.in_transaction
   pub committed : KeepsCommit old new
 

@@ -9,6 +9,7 @@ use Rattle.registry_access.specs.declared.role.Role.{Role}
 use Rattle.registry_access.specs.declared.role.Role.TheVariants.{Developer, Admin, Owner}
 use Rattle.registry_access.specs.declared.grant.Grant.{Grant}
 use Rattle.registry_access.specs.declared.grant.Grant.TheVariants.{ReadOnly, ReadWrite}
+use Rattle.registry_packument.specs.declared.list.Member.{Member}
 use Rattle.registry_packument.specs.declared.packument.VersionRow.{VersionRow}
 use Rattle.registry_rules.specs.State.{Release}
 use Rattle.registry_rows.specs.Columns.{text_in, number_in, blob_in}
@@ -37,6 +38,13 @@ role_number Owner = 2
 -- a role alone
 abbrev pub role_spelled : Row → Role
 role_spelled r = role_of (number_in (column r 0))
+
+-- a member and his role
+abbrev pub member_spelled : Row → Text × Role
+member_spelled r = (text_in (column r 0), role_of (number_in (column r 1)))
+
+abbrev pub member_entry : Member → Text × Role
+member_entry m = (m.user, m.role)
 
 -- the number that a grant is kept as
 abbrev pub grant_number : Grant → ℕ

@@ -6,6 +6,7 @@
 //! other error by `Database`.
 #![tactic(auto)]
 
+mod access;
 mod callers;
 mod change;
 mod grants;
@@ -26,11 +27,12 @@ mod tokens;
 mod users;
 mod versions;
 
+pub use crate::access::load_access;
 pub use crate::callers::load_caller;
 pub use crate::change::make;
 pub use crate::grants::has_grant;
 pub use crate::maintainers::is_maintainer;
-pub use crate::members::load_role;
+pub use crate::members::{has_other_owner, load_members, load_role};
 pub use crate::meta::opened;
 pub use crate::organisations::has_organisation;
 pub use crate::schema::create;
