@@ -67,6 +67,25 @@ fn action_is_in_form(what: &Action)
             user.text();
             digest.as_slice();
         }
+        Action::OrgCreate {
+            organisation,
+            owner,
+        } => {
+            organisation.text();
+            owner.text();
+        }
+        Action::OrgSet {
+            organisation,
+            user,
+            ..
+        }
+        | Action::OrgRemove { organisation, user } => {
+            organisation.text();
+            user.text();
+        }
+        Action::Members { organisation } => {
+            organisation.text();
+        }
         Action::Publish { form } => parts_are_in_form(form),
         Action::TagSet { name, tag, version } => {
             name.text();
