@@ -1,11 +1,11 @@
 -- What is answered to a caller whom the registry knows.
-use Rattle.std.proofs.Common.{◌≡◌, ℕ, true, List, is_some, Option, Some, None, refl, sym, true≢false}
+use Rattle.std.proofs.Common.{◌≡◌, ℕ, true, List, Option, Some, None, refl, sym, true≢false}
 use Rattle.std.specs.Prelude.{is_ok}
 use Rattle.registry_names.specs.declared.refusal.Refusal.{Refusal}
 use Rattle.registry_access.specs.declared.caller.Caller.{Caller}
 use Rattle.registry_rules.specs.Changes.{Change}
 use Rattle.registry_rules.specs.Effects.{effects, effects_for}
-use Rattle.registry_rules.specs.Refusals.{refusal_by, refusal_for, permitted}
+use Rattle.registry_rules.specs.Refusals.{refusal_for, permitted}
 use Rattle.registry_rules.specs.State.{State}
 use Rattle.registry_rules.specs.declared.request.Action.{Action}
 

@@ -99,21 +99,27 @@ pub(crate) fn membership<'a>(
         ≡ effects.membership organisation.now user.now role old) }
 {
     let organisation = organisation.text();
-    let member = Change::PutMember {
-        organisation,
-        user,
-        role,
-        stands: old.is_some(),
-    };
-    if old.is_some() {
-        return Ok(vec![in alloc; member]?);
+    match old {
+        Some(_) => Ok(vec![in alloc;
+            Change::PutMember {
+                organisation,
+                user,
+                role,
+                stands: true
+            },
+        ]?),
+        None => Ok(vec![in alloc;
+            Change::PutMember {
+                organisation,
+                user,
+                role,
+                stands: false
+            },
+            Change::PutTeamMember {
+                organisation,
+                team: DEVELOPERS,
+                user
+            },
+        ]?),
     }
-    Ok(vec![in alloc;
-        member,
-        Change::PutTeamMember {
-            organisation,
-            team: DEVELOPERS,
-            user
-        },
-    ]?)
 }

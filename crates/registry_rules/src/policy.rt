@@ -25,8 +25,10 @@ pub(crate) fn policy_refusal(caller: &Caller, about: &About, action: &Action) ->
         (_, Action::UserAdd { .. } | Action::TokenAdd { .. } | Action::OrgCreate { .. }) => {
             unless_allowed(may_operate(caller))
         }
-        (About::OrgSet { rows, .. }, Action::OrgSet { organisation, .. })
-        | (About::OrgRemove { rows, .. }, Action::OrgRemove { organisation, .. }) => {
+        (About::OrgSet { rows, .. }, Action::OrgSet { organisation, .. }) => {
+            unless_allowed(may_manage_members(rows, caller, organisation))
+        }
+        (About::OrgRemove { rows, .. }, Action::OrgRemove { organisation, .. }) => {
             unless_allowed(may_manage_members(rows, caller, organisation))
         }
         (About::Organisation { rows }, Action::Members { organisation }) => {
