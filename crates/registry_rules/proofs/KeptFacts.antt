@@ -1,10 +1,9 @@
 -- A request in form that nothing refuses keeps what holds of all that the registry holds.
-use Rattle.std.proofs.Common.{◌≡◌, ◌≢◌, ℕ, ◌≤◌, Bool, true, false, cond, ◌||◌, is_some, Option, Some, None, refl, sym, ap, ◌∙◌, subst, true≢false}
+use Rattle.std.proofs.Common.{◌≡◌, ◌≢◌, ℕ, ◌≤◌, Bool, true, false, cond, ◌||◌, not, ◌&&◌, is_none, is_some, Option, Some, None, refl, sym, ap, ◌∙◌, subst, true≢false}
 use Rattle.std.proofs.lemmas.Bool.{and_right}
-use Rattle.std.specs.Prelude.{length, IsSome, IsTrue}
-use Rattle.registry_names.specs.Idents.{is_ident}
+use Rattle.std.specs.Prelude.{IsSome, IsTrue}
 use Rattle.registry_names.specs.Keys.{Pair, pair_is}
-use Rattle.registry_names.specs.Maps.{TextMap, at, put}
+use Rattle.registry_names.specs.Maps.{TextMap, at, put, erase}
 use Rattle.registry_names.specs.Moments.{last_second}
 use Rattle.registry_names.specs.Names.{IsName}
 use Rattle.registry_names.specs.Tags.{is_tag, latest}
@@ -13,26 +12,35 @@ use Rattle.registry_names.specs.Versions.{text_of_version}
 use Rattle.registry_names.specs.declared.status.Status.{Status}
 use Rattle.registry_names.specs.declared.status.Status.TheVariants.{Restricted}
 use Rattle.registry_names.proofs.KeyFacts.{text_key, pair_key, triple_key, same_true}
-use Rattle.registry_names.proofs.MapFacts.{at-empty, at-put, at-erase_other}
+use Rattle.registry_names.proofs.MapFacts.{at-empty, at-put, at-put_same, at-put_other, at-erase_other}
 use Rattle.registry_access.specs.Access.{Access}
 use Rattle.registry_access.specs.Hiding.{UnscopedArePublic}
 use Rattle.registry_names.specs.Names.{scope_of}
+use Rattle.registry_names.specs.declared.refusal.Refusal.TheVariants.{NotFound, LastOwner}
+use Rattle.registry_names.specs.declared.refusal.Rule.TheVariants.{A2}
+use Rattle.registry_access.specs.Callers.{role_of}
+use Rattle.registry_access.specs.Levels.{is_owner}
+use Rattle.registry_access.specs.Positions.{has_organisation}
+use Rattle.registry_access.specs.declared.role.Role.{Role}
+use Rattle.registry_access.specs.declared.role.Role.TheVariants.{Owner, Admin, Developer}
 use Rattle.registry_access.specs.declared.caller.Caller.{Caller}
 use Rattle.registry_publish.specs.Form.{FormParts}
 use Rattle.registry_rules.specs.Actions.{version_of}
 use Rattle.registry_rules.specs.Callers.{caller_of}
 use Rattle.registry_rules.specs.Changes.{all_made, release_of}
-use Rattle.registry_rules.specs.Effects.{effects_for, publication, step, step_by}
+use Rattle.registry_rules.specs.Effects.{effects_for, membership, publication, step, step_by}
 use Rattle.registry_rules.specs.Kept.{IsReleaseOf, IsWithdrawalOf, IsTagOf, IsSpelled, IsSound, IsKept}
-use Rattle.registry_rules.specs.Operations.{with_user, with_token, with_tag, without_tag}
-use Rattle.registry_rules.specs.Refusals.{publish_refusal, refusal, refusal_for, state_refusal}
+use Rattle.registry_rules.specs.Operations.{without_member, with_tag, without_tag}
+use Rattle.registry_rules.specs.Refusals.{policy_refusal, publish_refusal, refusal, refusal_for, state_refusal}
 use Rattle.registry_rules.specs.Requests.{ArePartsInForm, IsInForm, IsActionInForm}
-use Rattle.registry_rules.specs.State.{State, Release, Withdrawal, nothing, is_live, stands}
+use Rattle.registry_rules.specs.State.{State, Release, Withdrawal, nothing, has_user, is_last_owner, is_live, stands}
 use Rattle.registry_rules.specs.declared.request.Action.{Action}
-use Rattle.registry_rules.specs.declared.request.Action.TheVariants.{UserAdd, TokenAdd, Publish, TagSet, TagRemove}
+use Rattle.registry_rules.specs.declared.request.Action.TheVariants.{UserAdd, TokenAdd, OrgCreate, OrgSet, OrgRemove, Publish, TagSet, TagRemove}
 use Rattle.registry_rules.specs.declared.request.Request.{Request}
-use Rattle.registry_rules.proofs.AllowedFacts.{IsAllowed, allowed_publish, is_there, isnt_kept, second_passed, user_there}
-use Rattle.registry_rules.proofs.MadeFacts.{latest_put, tag_put}
+use Rattle.registry_rules.proofs.AllowedFacts.{IsAllowed, allowed_publish, is_there, isnt_kept, passed, not_false, first_passed, second_passed, organisation_there, user_there}
+use Rattle.registry_rules.proofs.MadeFacts.{latest_put, role_put, tag_put}
+use Rattle.registry_rules.proofs.OtherFacts.{not_the_last}
+use Rattle.registry_rules.proofs.SoundFacts.{HasOwner, user_added, token_added, organisation_created, role_given, member_joined, member_removed}
 use Rattle.registry_rules.proofs.PublishedFacts.{statuses_after, status_of, after_publish, published_is}
 use Rattle.registry_names.proofs.PutFacts.{each_put, each_left, some_before, put_there, still_there}
 
@@ -245,79 +253,65 @@ access_kept S A still spelled sound kept = record {
   sound = sound;
 }
 
-user_kept : (S : State) (u : Text) → IsTrue (is_ident u) → IsKept S → IsKept (with_user S u)
-user_kept S u form kept = access_kept S (record S.access { users = put S.access.users u tt }) (λ p h. h)
-    (record {
-      users = some_before text_key S.access.users u tt (λ w. IsTrue (is_ident w)) spelled.users form;
-      tokens = spelled.tokens;
-      organisations = spelled.organisations;
-      teams = spelled.teams;
-      statuses = spelled.statuses;
-    })
-    (record {
-      tokens = λ digest w h. still w (sound.tokens digest w h);
-      roles = λ o w h. let has = sound.roles o w h in (has.0, still w has.1);
-      owners = sound.owners;
-      first_teams = sound.first_teams;
-      teams = sound.teams;
-      team_members = sound.team_members;
-      grants = λ o t p h. let grant = sound.grants o t p h in record { team = grant.team; status = grant.status; scope = grant.scope };
-      maintainers = λ p w h. let has = sound.maintainers p w h in (has.0, still w has.1);
-      unscoped = sound.unscoped;
-    })
-    kept
-  where
-    spelled : IsSpelled S.access
-    spelled = kept.spelled
+-- one change of it
+changed_kept : (S : State) (A : Access) → ((p : Text) → IsSome (at S.access.statuses p) → IsSome (at A.statuses p)) → IsSpelled A × IsSound A → IsKept S → IsKept (record S { access = A })
+changed_kept S A still holds kept = access_kept S A still holds.0 holds.1 kept
 
-    sound : IsSound S.access
-    sound = kept.sound
+-- ---- members
 
-    still : (w : Text) → IsSome (at S.access.users w) → IsSome (at (put S.access.users u tt) w)
-    still w h = still_there text_key S.access.users u tt w h
+-- an owner is left where the role is an owner's, or another one is
+owner_given : (S : State) (o u : Text) (role : Role) → (not (is_owner (Some role)) && is_last_owner S o u) ≡ false → at S.access.roles (o, u) ≡ Some Owner → HasOwner (put S.access.roles (o, u) role) o
+owner_given S o u Owner may e = (u, at-put_same pair_key S.access.roles (o, u) Owner)
+owner_given S o u Admin may e = let other = not_the_last S o u may e in
+    (other.0, at-put_other pair_key S.access.roles (o, u) Admin (o, other.0) (and_right (is o o) (is u other.0) other.1) ∙ other.2)
+owner_given S o u Developer may e = let other = not_the_last S o u may e in
+    (other.0, at-put_other pair_key S.access.roles (o, u) Developer (o, other.0) (and_right (is o o) (is u other.0) other.1) ∙ other.2)
 
-token_kept : (S : State) (digest u : Text) → length digest ≡ 32 → IsSome (at S.access.users u) → IsKept S → IsKept (with_token S digest u)
-token_kept S digest u long there kept = access_kept S (record S.access { tokens = put S.access.tokens digest u }) (λ p h. h)
-    (record {
-      users = spelled.users;
-      tokens = some_before text_key S.access.tokens digest u (λ d. length d ≡ 32) spelled.tokens long;
-      organisations = spelled.organisations;
-      teams = spelled.teams;
-      statuses = spelled.statuses;
-    })
-    (record {
-      tokens = each_put text_key S.access.tokens digest u (λ d w. IsSome (at S.access.users w)) sound.tokens there;
-      roles = sound.roles;
-      owners = sound.owners;
-      first_teams = sound.first_teams;
-      teams = sound.teams;
-      team_members = sound.team_members;
-      grants = λ o t p h. let grant = sound.grants o t p h in record { team = grant.team; status = grant.status; scope = grant.scope };
-      maintainers = sound.maintainers;
-      unscoped = sound.unscoped;
-    })
-    kept
-  where
-    spelled : IsSpelled S.access
-    spelled = kept.spelled
+owner_stays : (S : State) (o u : Text) → is_last_owner S o u ≡ false → at S.access.roles (o, u) ≡ Some Owner → HasOwner (erase S.access.roles (o, u)) o
+owner_stays S o u may e = let other = not_the_last S o u may e in
+    (other.0, at-erase_other pair_key S.access.roles (o, u) (o, other.0) (and_right (is o o) (is u other.0) other.1) ∙ other.2)
 
-    sound : IsSound S.access
-    sound = kept.sound
+role_kept : (S : State) (o u : Text) (role : Role) (old : Option Role) → at S.access.roles (o, u) ≡ old → IsSome (at S.access.organisations o) → IsSome (at S.access.users u)
+    → (at S.access.roles (o, u) ≡ Some Owner → HasOwner (put S.access.roles (o, u) role) o) → IsKept S → IsKept (all_made S (membership o u role old))
+role_kept S o u role (Some r) e organisation user left kept =
+    subst IsKept (sym (role_put S o u role (ap is_some e))) (changed_kept S _ (λ p h. h) (role_given S.access o u role organisation user left kept.spelled kept.sound) kept)
+role_kept S o u role None e organisation user left kept =
+    changed_kept S _ (λ p h. h) (member_joined S.access o u role organisation user left kept.spelled kept.sound) kept
+
+set_kept : (S : State) (now : ℕ) (who : Caller) (o u : Text) (role : Role) → policy_refusal S.access who (OrgSet o u role) ≡ None → state_refusal S now (OrgSet o u role) ≡ None
+    → IsKept S → IsKept (all_made S (membership o u role (at S.access.roles (o, u))))
+set_kept S now who o u role policy may kept =
+    let user = passed (not (has_user S u)) NotFound _ may in
+    let owner = passed (not (is_owner (Some role)) && is_last_owner S o u) LastOwner None user.1 in
+    role_kept S o u role (at S.access.roles (o, u)) refl (organisation_there who (has_organisation S.access o) (is_owner (role_of S.access who o)) A2 policy) (not_false _ user.0)
+    (owner_given S o u role owner.0) kept
+
+removed_kept : (S : State) (now : ℕ) (o u : Text) → state_refusal S now (OrgRemove o u) ≡ None → IsKept S → IsKept (without_member S o u)
+removed_kept S now o u may kept =
+    let member = passed (is_none (at S.access.roles (o, u))) NotFound _ may in
+    let owner = passed (is_last_owner S o u) LastOwner None member.1 in
+    changed_kept S _ (λ p h. h) (member_removed S.access o u (owner_stays S o u owner.0) kept.spelled kept.sound) kept
 
 -- ---- a request
 
-action_kept : (S : State) (now : ℕ) (who : Caller) (what : Action) → now ≤ last_second → IsActionInForm what → state_refusal S now what ≡ None → IsKept S → IsKept (step_by S now who what)
-action_kept S now who (UserAdd u) moment form may kept = user_kept S u form kept
-action_kept S now who (TokenAdd u digest) moment form may kept = token_kept S digest u form.1 (user_there _ _ may) kept
-action_kept S now who (Publish f) moment form may kept = publish_kept S f now form moment may kept
-action_kept S now who (TagSet p t v) moment form may kept =
+action_kept : (S : State) (now : ℕ) (who : Caller) (what : Action) → now ≤ last_second → IsActionInForm what → policy_refusal S.access who what ≡ None → state_refusal S now what ≡ None
+    → IsKept S → IsKept (step_by S now who what)
+action_kept S now who (UserAdd u) moment form policy may kept = changed_kept S _ (λ p h. h) (user_added S.access u form kept.spelled kept.sound) kept
+action_kept S now who (TokenAdd u digest) moment form policy may kept =
+    changed_kept S _ (λ p h. h) (token_added S.access digest u form.1 (user_there _ _ may) kept.spelled kept.sound) kept
+action_kept S now who (OrgCreate o u) moment form policy may kept =
+    changed_kept S _ (λ p h. h) (organisation_created S.access o u form.0 (user_there _ _ may) kept.spelled kept.sound) kept
+action_kept S now who (OrgSet o u role) moment form policy may kept = set_kept S now who o u role policy may kept
+action_kept S now who (OrgRemove o u) moment form policy may kept = removed_kept S now o u may kept
+action_kept S now who (Publish f) moment form policy may kept = publish_kept S f now form moment may kept
+action_kept S now who (TagSet p t v) moment form policy may kept =
     subst IsKept (sym (tag_put S p t (text_of_version v) (stands S p t) (λ there. there))) (tag_set_kept S p t (text_of_version v) form.0 form.1 (is_there _ may) kept)
-action_kept S now who (TagRemove p t) moment form may kept = tag_removed_kept S p t (isnt_kept (stands S p t) (is t latest) may) kept
-action_kept S now who _ moment form may kept = kept
+action_kept S now who (TagRemove p t) moment form policy may kept = tag_removed_kept S p t (isnt_kept (stands S p t) (is t latest) may) kept
+action_kept S now who _ moment form policy may kept = kept
 
 pub step_kept : (S : State) (r : Request) → IsInForm r → refusal S r ≡ None → IsKept S → IsKept (step S r)
 step_kept S r form may kept = by_caller (caller_of S r.who) may
   where
     by_caller : (who : Option Caller) → refusal_for S r.at who r.what ≡ None → IsKept (all_made S (effects_for S r.at who r.what))
     by_caller None may = kept
-    by_caller (Some who) may = action_kept S r.at who r.what form.at form.what (second_passed _ _ may) kept
+    by_caller (Some who) may = action_kept S r.at who r.what form.at form.what (first_passed _ _ may) (second_passed _ _ may) kept
