@@ -7,19 +7,35 @@
 #![tactic(auto)]
 
 mod change;
+mod grants;
 pub mod laws;
+mod maintainers;
+mod members;
 mod meta;
 mod needs;
+mod organisations;
 mod schema;
 mod spent;
 mod statuses;
 mod tags;
+mod team_members;
+mod teams;
+mod tokens;
+mod users;
 mod versions;
 
 pub use crate::change::make;
+pub use crate::grants::has_grant;
+pub use crate::maintainers::is_maintainer;
+pub use crate::members::load_role;
 pub use crate::meta::opened;
+pub use crate::organisations::has_organisation;
 pub use crate::schema::create;
 pub use crate::spent::is_spent;
 pub use crate::statuses::load_status;
 pub use crate::tags::{has_tag, load_tags};
+pub use crate::team_members::is_in_team;
+pub use crate::teams::has_team;
+pub use crate::tokens::load_token_user;
+pub use crate::users::has_user;
 pub use crate::versions::{has_version, load_archive, load_versions, put_version};

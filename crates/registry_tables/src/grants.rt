@@ -1,0 +1,115 @@
+//! The table `grants`: what teams are granted on packages of their organisation's scope.
+
+ghost use Rattle.std.specs.Prelude.{◌≡◌, is_some, pos};
+ghost use Rattle.registry_names.specs.Maps.{at, erase, put};
+ghost use Rattle.registry_rows.specs.Frames.{Stays};
+ghost use Rattle.registry_tables.specs.Changes.{amended, with_row};
+ghost use Rattle.registry_tables.specs.Effects.{InForm, Makes, Tells};
+ghost use Rattle.registry_tables.specs.Spelled.{grant_number};
+
+use registry_access::Grant;
+use registry_names::{Fault, Ident, Name};
+use registry_rows::{read, write};
+use sqlite::{Alter, Transaction, params};
+
+/// Whether the team is granted something on the package.
+pub fn has_grant<S: Alter>(
+    tx: &mut Transaction<'_, S>,
+    organisation: &Ident,
+    team: &Ident,
+    name: &Name,
+) -> Result<bool, Fault>
+    requires in_form { InForm S.Store tx.old }
+    ensures stays { Stays S.Store tx.old tx.new }
+    ensures tells { Tells S.Store tx.old tx.new result (λ has c. has ≡ is_some (at c.grants (organisation.now, (team.now, name.now)))) }
+{
+    let rows = read(
+        tx,
+        "SELECT level FROM grants WHERE org = ?1 AND team = ?2 AND package = ?3",
+        params![organisation.text(), team.text(), name.text()],
+    )?;
+    Ok(!rows.is_empty())
+}
+
+/// Grants a team this on a package. `stands` says whether it is granted something on it already.
+pub(crate) fn put_grant<S: Alter>(
+    tx: &mut Transaction<'_, S>,
+    organisation: &str,
+    team: &str,
+    name: &str,
+    grant: Grant,
+    stands: bool,
+) -> Result<(), Fault>
+    requires in_form { InForm S.Store tx.old }
+    ensures stays { Stays S.Store tx.old tx.new }
+    ensures makes { Makes S.Store tx.old tx.new result (λ c. record c { grants = with_row c.grants (organisation.now, (team.now, name.now)) grant stands }) }
+{
+    if stands {
+        update_grant(tx, organisation, team, name, grant)
+    } else {
+        insert_grant(tx, organisation, team, name, grant)
+    }
+}
+
+fn insert_grant<S: Alter>(
+    tx: &mut Transaction<'_, S>,
+    organisation: &str,
+    team: &str,
+    name: &str,
+    grant: Grant,
+) -> Result<(), Fault>
+    requires in_form { InForm S.Store tx.old }
+    ensures stays { Stays S.Store tx.old tx.new }
+    ensures makes { Makes S.Store tx.old tx.new result (λ c. record c { grants = put c.grants (organisation.now, (team.now, name.now)) grant }) }
+{
+    write(
+        tx,
+        "INSERT INTO grants VALUES (?1, ?2, ?3, ?4)",
+        params![organisation, team, name, number_of(grant)],
+    )
+}
+
+fn update_grant<S: Alter>(
+    tx: &mut Transaction<'_, S>,
+    organisation: &str,
+    team: &str,
+    name: &str,
+    grant: Grant,
+) -> Result<(), Fault>
+    requires in_form { InForm S.Store tx.old }
+    ensures stays { Stays S.Store tx.old tx.new }
+    ensures makes { Makes S.Store tx.old tx.new result (λ c. record c { grants = amended c.grants (organisation.now, (team.now, name.now)) grant }) }
+{
+    write(
+        tx,
+        "UPDATE grants SET level = ?4 WHERE org = ?1 AND team = ?2 AND package = ?3",
+        params![organisation, team, name, number_of(grant)],
+    )
+}
+
+/// Takes from a team what it is granted on a package, if it is granted anything.
+pub(crate) fn drop_grant<S: Alter>(
+    tx: &mut Transaction<'_, S>,
+    organisation: &str,
+    team: &str,
+    name: &str,
+) -> Result<(), Fault>
+    requires in_form { InForm S.Store tx.old }
+    ensures stays { Stays S.Store tx.old tx.new }
+    ensures makes { Makes S.Store tx.old tx.new result (λ c. record c { grants = erase c.grants (organisation.now, (team.now, name.now)) }) }
+{
+    write(
+        tx,
+        "DELETE FROM grants WHERE org = ?1 AND team = ?2 AND package = ?3",
+        params![organisation, team, name],
+    )
+}
+
+fn number_of(grant: Grant) -> i64
+    ensures { result ≡ pos (grant_number grant) }
+{
+    match grant {
+        Grant::ReadOnly => 1,
+        Grant::ReadWrite => 2,
+    }
+}

@@ -1,0 +1,67 @@
+//! The table `team_members`: who is in which team. A member of a team is a member of its
+//! organisation.
+
+ghost use Rattle.std.specs.Prelude.{◌≡◌, is_some};
+ghost use Rattle.registry_names.specs.Maps.{at, erase, put};
+ghost use Rattle.registry_rows.specs.Frames.{Stays};
+ghost use Rattle.registry_tables.specs.Effects.{InForm, Makes, Tells};
+
+use registry_names::{Fault, Ident};
+use registry_rows::{read, write};
+use sqlite::{Alter, Transaction, params};
+
+/// Whether the user is in this team of the organisation.
+pub fn is_in_team<S: Alter>(
+    tx: &mut Transaction<'_, S>,
+    organisation: &Ident,
+    team: &Ident,
+    user: &Ident,
+) -> Result<bool, Fault>
+    requires in_form { InForm S.Store tx.old }
+    ensures stays { Stays S.Store tx.old tx.new }
+    ensures tells { Tells S.Store tx.old tx.new result (λ is c. is ≡ is_some (at c.team_members (organisation.now, (team.now, user.now)))) }
+{
+    let rows = read(
+        tx,
+        "SELECT user FROM team_members WHERE org = ?1 AND team = ?2 AND user = ?3",
+        params![organisation.text(), team.text(), user.text()],
+    )?;
+    Ok(!rows.is_empty())
+}
+
+/// Puts a user in a team. One who is in it is a fault, and so is a team that isn't there, or a user
+/// who isn't a member of the organisation.
+pub(crate) fn put_team_member<S: Alter>(
+    tx: &mut Transaction<'_, S>,
+    organisation: &str,
+    team: &str,
+    user: &str,
+) -> Result<(), Fault>
+    requires in_form { InForm S.Store tx.old }
+    ensures stays { Stays S.Store tx.old tx.new }
+    ensures makes { Makes S.Store tx.old tx.new result (λ c. record c { team_members = put c.team_members (organisation.now, (team.now, user.now)) tt }) }
+{
+    write(
+        tx,
+        "INSERT INTO team_members VALUES (?1, ?2, ?3)",
+        params![organisation, team, user],
+    )
+}
+
+/// Takes a user out of a team, if he is in it.
+pub(crate) fn drop_team_member<S: Alter>(
+    tx: &mut Transaction<'_, S>,
+    organisation: &str,
+    team: &str,
+    user: &str,
+) -> Result<(), Fault>
+    requires in_form { InForm S.Store tx.old }
+    ensures stays { Stays S.Store tx.old tx.new }
+    ensures makes { Makes S.Store tx.old tx.new result (λ c. record c { team_members = erase c.team_members (organisation.now, (team.now, user.now)) }) }
+{
+    write(
+        tx,
+        "DELETE FROM team_members WHERE org = ?1 AND team = ?2 AND user = ?3",
+        params![organisation, team, user],
+    )
+}
