@@ -6,6 +6,8 @@ pub mod EffectFacts
 pub mod FoundFacts
 pub mod GrantFacts
 pub mod HeldNeedFacts
+pub mod JoinedFacts
+pub mod LinkedFacts
 pub mod MaintainerFacts
 pub mod MappedFacts
 pub mod MemberFacts
@@ -20,6 +22,7 @@ pub mod StatusFacts
 pub mod StepFacts
 pub mod TagFacts
 pub mod TeamFacts
+pub mod TeamListFacts
 pub mod TeamMemberFacts
 pub mod TokenFacts
 pub mod UserFacts

@@ -1,6 +1,7 @@
 -- What the statements on members make and show.
-use Rattle.std.proofs.Common.{◌≡◌, ℕ, List, [], ◌∷◌, map, pos, Option, Some, None, option_map, slice_get, Ok, refl, subst, ◌∙◌, codes}
+use Rattle.std.proofs.Common.{◌≡◌, ℕ, Bool, ◌||◌, List, [], ◌∷◌, map, ap, pos, Option, Some, None, option_map, slice_get, Ok, refl, subst, ◌∙◌, codes}
 use Rattle.std.proofs.lemmas.Iterator.Adapters.{option_map_id}
+use Rattle.std.specs.List.{list_any}
 use Rattle.sqlite.specs.declared.types.Value.TheVariants.{Null, Int, Text as Stored}
 use Rattle.sqlite.specs.Command.TheVariants.{Insert, Update, Select}
 use Rattle.sqlite.specs.Source.TheVariants.{Values}
@@ -14,6 +15,7 @@ use Rattle.registry_names.specs.Maps.{at, of, put}
 use Rattle.registry_names.proofs.KeyFacts.{pair_key}
 use Rattle.registry_access.specs.declared.role.Role.{Role}
 use Rattle.registry_access.specs.declared.role.Role.TheVariants.{Developer, Admin, Owner}
+use Rattle.registry_packument.specs.declared.list.Member.{Member}
 use Rattle.registry_rows.specs.Frames.{Wrote}
 use Rattle.registry_rows.specs.Ready.{Ready, Leaves, Reads, Queried}
 use Rattle.registry_rows.specs.Statements.{Means, MeansQuery, scan, by_texts, in_order, set_terms}
@@ -23,7 +25,7 @@ use Rattle.registry_tables.specs.Schema.{schema}
 use Rattle.registry_tables.specs.Changes.{amended}
 use Rattle.registry_tables.specs.Contents.{contents}
 use Rattle.registry_tables.specs.Effects.{stored}
-use Rattle.registry_tables.specs.Spelled.{member_spelled, role_number, role_spelled}
+use Rattle.registry_tables.specs.Spelled.{member_entry, member_spelled, role_number, role_spelled}
 use Rattle.registry_tables.proofs.MappedFacts.{members_mapped}
 use Rattle.registry_tables.proofs.ReviseFacts.{revised}
 
@@ -97,3 +99,8 @@ pub members_listed : (o : Text) (old new : Shown) (rows : List Row) → Ready sc
 members_listed o old new rows form call clean =
     let it = select_lists members_mapped list_text list_columns _ list_means o member_spelled (λ (role : Role). role) (λ id vs. refl) old new rows form call clean in
     (it.0, it.1 ∙ seen_as_is (of (stored old).members o))
+
+-- a test of members is one of their entries
+pub any_listed : (test : Text × Role → Bool) (members : List Member) → list_any (λ m. test (member_entry m)) members ≡ list_any test (map member_entry members)
+any_listed test [] = refl
+any_listed test (m ∷ members) = ap (λ b. test (member_entry m) || b) (any_listed test members)

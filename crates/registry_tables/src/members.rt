@@ -7,9 +7,12 @@ ghost use Rattle.registry_access.specs.Levels.{is_owner};
 ghost use Rattle.registry_names.specs.Maps.{at, of, put};
 ghost use Rattle.registry_names.specs.Texts.{Text as Bytes, is};
 ghost use Rattle.registry_rows.specs.Frames.{Stays};
+ghost use Rattle.registry_rules.specs.State as spec;
 ghost use Rattle.registry_tables.specs.Changes.{amended, with_row};
+ghost use Rattle.registry_tables.specs.Contents.{registry_of};
 ghost use Rattle.registry_tables.specs.Effects.{InForm, Makes, Tells};
 ghost use Rattle.registry_tables.specs.Spelled.{member_entry, member_spelled, role_number, role_spelled};
+ghost use Rattle.registry_tables.specs.Teams.{without_member};
 
 use registry_access::Role;
 use registry_names::{Fault, Text};
@@ -78,7 +81,7 @@ pub fn has_other_owner<S: Alter>(
 ) -> Result<bool, Fault>
     requires in_form { InForm S.Store tx.old }
     ensures stays { Stays S.Store tx.old tx.new }
-    ensures tells { Tells S.Store tx.old tx.new result (λ has c. has ≡ list_any (λ (e : Bytes × Rank). not (is e.0 user.now) && is_owner (Some e.1)) (of c.members organisation.now)) }
+    ensures tells { Tells S.Store tx.old tx.new result (λ has c. has ≡ spec.has_other_owner (registry_of c) organisation.now user.now) }
 {
     let members = load_members(alloc, tx, organisation)?;
     Ok(owned_by_another(&members, user))
@@ -147,6 +150,23 @@ fn update_member<S: Alter>(
         tx,
         "UPDATE members SET role = ?3 WHERE org = ?1 AND user = ?2",
         params![organisation, user, number_of(role)],
+    )
+}
+
+/// Drops a member of an organisation, if he is one, and with that from each of its teams.
+pub(crate) fn drop_member<S: Alter>(
+    tx: &mut Transaction<'_, S>,
+    organisation: &str,
+    user: &str,
+) -> Result<(), Fault>
+    requires in_form { InForm S.Store tx.old }
+    ensures stays { Stays S.Store tx.old tx.new }
+    ensures makes { Makes S.Store tx.old tx.new result (without_member organisation.now user.now) }
+{
+    write(
+        tx,
+        "DELETE FROM members WHERE org = ?1 AND user = ?2",
+        params![organisation, user],
     )
 }
 

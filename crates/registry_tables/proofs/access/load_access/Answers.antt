@@ -11,8 +11,7 @@ pub returns-clause-tells : goal.returns-clause-tells
 returns-clause-tells g c clean =
     let were : HasCleanDisk (shown g.S.Store c.organisation_rows.new.tx) = omega (arith, c.member_rows.ensures.stays.survives.clean, clean) in
     let there = c.in_ok-organisations.ensures.tells were in
-    let known = c.in_ok-members.ensures.knows clean in
-    (
+    let known = c.in_ok-members.ensures.knows clean in (
       reads_as_before (shown g.S.Store c.args.tx.now) (shown g.S.Store c.organisation_rows.new.tx) (shown g.S.Store c.member_rows.new.tx) there.0 known.0,
       record {
         organisation = there.1 _ refl;
