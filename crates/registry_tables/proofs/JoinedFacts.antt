@@ -18,6 +18,7 @@ use Rattle.registry_names.specs.Maps.{at, entries, keys}
 use Rattle.registry_names.specs.Names.{scope_of}
 use Rattle.registry_names.proofs.TextFacts.{is_true, is_self, is_sym}
 use Rattle.registry_names.proofs.KeyFacts.{triple_key}
+use Rattle.registry_names.proofs.EntryFacts.{entries_rise}
 use Rattle.registry_names.proofs.MapFacts.{at-entries}
 use Rattle.registry_access.specs.Callers.{grants, team_granted}
 use Rattle.registry_access.specs.Levels.{is_grant}
@@ -26,7 +27,8 @@ use Rattle.registry_access.specs.declared.grant.Grant.{Grant}
 use Rattle.registry_rows.specs.Statements.{MeansQuery}
 use Rattle.registry_rows.specs.Ready.{Ready, Reads, Queried}
 use Rattle.registry_rows.proofs.ListFacts.{has_mapped, map_has}
-use Rattle.registry_rows.proofs.OrderFacts.{found_has, has_found}
+use Rattle.registry_rows.proofs.ListingFacts.{first_risen}
+use Rattle.registry_rows.proofs.OrderFacts.{found_has}
 use Rattle.registry_rows.proofs.RowFacts.{some_same}
 use Rattle.registry_parts.specs.Joins.{Side, given, first, second, comparisons, join, joins, IsJoined}
 use Rattle.registry_parts.proofs.JoinFacts.{select_joins}
@@ -74,16 +76,16 @@ module _ (c : Contents) (o u p : Text) (shown : List Grant)
       let both = and_parts _ _ k.2 in
       let own = and_parts (is o k.0.0) (is u k.0.1.1) both.0 in
       let e = has_mapped (λ (e : Triple × Unit {0}). e.0) (entries c.team_members) k.0 k.1 in
-      let x = has_found triple_key k.0 e.0.1 (entries c.team_members) (subst (λ (j : Triple). Has (entries c.team_members) (j, e.0.1)) (sym e.2) e.1) in
+      let x = first_risen triple_key k.0 e.0.1 (entries c.team_members) (entries_rise c.team_members) (subst (λ (j : Triple). Has (entries c.team_members) (j, e.0.1)) (sym e.2) e.1) in
       let h = granted_some _ g both.1 in
       let pass : joins 2 2 (Stored o ∷ Stored u ∷ Stored p ∷ []) grant_sides k.0 (k.0.0, (k.0.1.0, p)) ≡ true =
       and_from _ _ own.0 (and_from _ _ own.1 (and_from _ _ own.0 (and_from _ _ (is_self k.0.1.0) (and_from _ _ (is_self p) refl)))) in
       some_from (λ z. is_grant z g) shown h.0 ((tells h.0).1 (record {
         key = k.0;
-        value = x.0;
+        value = e.0.1;
         other_key = (k.0.0, (k.0.1.0, p));
         other = h.0;
-        there = at-entries triple_key c.team_members k.0 ∙ x.1;
+        there = at-entries triple_key c.team_members k.0 ∙ x;
         other_there = h.1;
         pass = pass;
         shown = refl;
@@ -133,8 +135,8 @@ module _ (c : Contents) (kept : GrantsInScope c) (u p : Text) (g : Grant) where
     where
       same : (k : Triple) → (pair_is (o, u) (k.0, k.1.1) && grants (at c.grants (k.0, (k.1.0, p))) g) ≡ (is k.1.1 u && grants (at c.grants (k.0, (k.1.0, p))) g)
       same k = elim (cases_Bool (grants (at c.grants (k.0, (k.1.0, p))) g)) [
-        | inl some ↦ rw (ap (is o) (some_same (sym (scope_is k some) ∙ scope)) ∙ is_self o, is_sym u k.1.1) refl
-        | inr none ↦ rw none (nothing (pair_is (o, u) (k.0, k.1.1)) ∙ sym (nothing (is k.1.1 u)))
+        | inl some ↦ ap (λ b. b && grants (at c.grants (k.0, (k.1.0, p))) g) (ap₂ (λ a b. a && b) (ap (is o) (some_same (sym (scope_is k some) ∙ scope)) ∙ is_self o) (is_sym u k.1.1))
+        | inr none ↦ ap (λ b. pair_is (o, u) (k.0, k.1.1) && b) none ∙ nothing (pair_is (o, u) (k.0, k.1.1)) ∙ sym (nothing (is k.1.1 u)) ∙ ap (λ b. is k.1.1 u && b) (sym none)
       ]
 
   pub unscoped_have_none : scope_of p ≡ None → team_granted (access_of c) u p g ≡ false

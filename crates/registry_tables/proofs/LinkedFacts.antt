@@ -35,7 +35,7 @@ unfolding everything
 members_linked = refl
 
 member_teams : IsChild schema contents member_in_teams
-member_teams = mapped_child team_members_mapped (0, 2) refl quiet_team_members _ (λ q db. refl)
+member_teams = mapped_child team_members_mapped {rest = 1} (0, 2) refl quiet_team_members _ (λ q db. refl)
 
 member_children : HasChildren schema contents table.members (member_in_teams ∷ [])
 member_children = record { linked = members_linked; each = (member_teams, tt) }
@@ -67,10 +67,10 @@ unfolding everything
 teams_linked = refl
 
 team_users : IsChild schema contents team_in_members
-team_users = mapped_child team_members_mapped (0, 1) refl quiet_team_members _ (λ q db. refl)
+team_users = mapped_child team_members_mapped {rest = 1} (0, 1) refl quiet_team_members _ (λ q db. refl)
 
 team_grants : IsChild schema contents team_in_grants
-team_grants = mapped_child grants_mapped (0, 1) refl quiet_grants _ (λ q db. refl)
+team_grants = mapped_child grants_mapped {rest = 1} (0, 1) refl quiet_grants _ (λ q db. refl)
 
 team_children : HasChildren schema contents table.teams (team_in_members ∷ team_in_grants ∷ [])
 team_children = record { linked = teams_linked; each = (team_users, (team_grants, tt)) }
