@@ -1,3 +1,4 @@
+pub mod PackageFacts
 pub mod PublishFacts
 pub mod RunFacts
 pub mod StatusFacts

@@ -44,3 +44,7 @@ list_value (Grants rows) = object (text_members grant_texts rows.items)
 -- the text of tags, each with its version
 abbrev pub tags_text : List DistTag → List ℕ
 tags_text rows = compact_text (object (text_members tag_texts rows))
+
+-- the text of members, each with his role
+abbrev pub members_text : List Member → List ℕ
+members_text rows = compact_text (object (text_members member_texts rows))
