@@ -5,6 +5,8 @@ use Rattle.registry_names.specs.Maps.{TextMap, at}
 use Rattle.registry_names.specs.Moments.{last_second}
 use Rattle.registry_names.specs.Tags.{is_tag}
 use Rattle.registry_names.specs.Texts.{Text}
+use Rattle.std.specs.Option.{option_or}
+use Rattle.registry_names.specs.declared.refusal.Refusal.{Refusal}
 use Rattle.registry_names.specs.declared.refusal.Refusal.TheVariants.{NotFound, Published, Spent, KeepsLatest, AlwaysPublic}
 use Rattle.registry_names.specs.declared.status.Status.{Status}
 use Rattle.registry_names.specs.declared.status.Status.TheVariants.{Public, Restricted}
@@ -15,7 +17,7 @@ use Rattle.registry_rules.specs.Actions.{version_of}
 use Rattle.registry_rules.specs.Changes.{release_of}
 use Rattle.registry_rules.specs.Effects.{new_status}
 use Rattle.registry_rules.specs.Kept.{IsReleaseOf}
-use Rattle.registry_rules.specs.Refusals.{is_restricted, publish_refusal, refuse, unless_there}
+use Rattle.registry_rules.specs.Refusals.{is_restricted, publish_refusal, refuse, unless_new, unless_there}
 use Rattle.registry_rules.specs.Requests.{ArePartsInForm}
 use Rattle.registry_rules.specs.State.{State, Release, is_spent}
 use Rattle.registry_names.proofs.PutFacts.{put_there}
@@ -70,3 +72,13 @@ pub isnt_kept : (there latest : Bool) → refuse (not there) NotFound (refuse la
 isnt_kept false b h = cc
 isnt_kept true true h = cc
 isnt_kept true false h = refl
+
+-- a user whose token may be added is there
+pub user_there : (there taken : Bool) → refuse (not there) NotFound (unless_new taken) ≡ None → there ≡ true
+user_there true b h = refl
+user_there false b h = cc
+
+-- what neither of two reasons turns away isn't turned away by the second
+pub second_passed : (a b : Option Refusal) → option_or a b ≡ None → b ≡ None
+second_passed None b h = h
+second_passed (Some r) b h = cc

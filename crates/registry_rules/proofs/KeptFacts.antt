@@ -1,7 +1,8 @@
 -- A request in form that nothing refuses keeps what holds of all that the registry holds.
 use Rattle.std.proofs.Common.{◌≡◌, ◌≢◌, ℕ, ◌≤◌, Bool, true, false, cond, ◌||◌, is_some, Option, Some, None, refl, sym, ap, ◌∙◌, subst, true≢false}
 use Rattle.std.proofs.lemmas.Bool.{and_right}
-use Rattle.std.specs.Prelude.{IsSome, IsTrue}
+use Rattle.std.specs.Prelude.{length, IsSome, IsTrue}
+use Rattle.registry_names.specs.Idents.{is_ident}
 use Rattle.registry_names.specs.Keys.{Pair, pair_is}
 use Rattle.registry_names.specs.Maps.{TextMap, at, put}
 use Rattle.registry_names.specs.Moments.{last_second}
@@ -22,15 +23,15 @@ use Rattle.registry_rules.specs.Actions.{version_of}
 use Rattle.registry_rules.specs.Callers.{caller_of}
 use Rattle.registry_rules.specs.Changes.{all_made, release_of}
 use Rattle.registry_rules.specs.Effects.{effects_for, publication, step, step_by}
-use Rattle.registry_rules.specs.Kept.{IsReleaseOf, IsWithdrawalOf, IsTagOf, IsAccessKept, IsKept}
-use Rattle.registry_rules.specs.Operations.{with_tag, without_tag}
+use Rattle.registry_rules.specs.Kept.{IsReleaseOf, IsWithdrawalOf, IsTagOf, IsSpelled, IsSound, IsKept}
+use Rattle.registry_rules.specs.Operations.{with_user, with_token, with_tag, without_tag}
 use Rattle.registry_rules.specs.Refusals.{publish_refusal, refusal, refusal_for, state_refusal}
 use Rattle.registry_rules.specs.Requests.{ArePartsInForm, IsInForm, IsActionInForm}
 use Rattle.registry_rules.specs.State.{State, Release, Withdrawal, nothing, is_live, stands}
 use Rattle.registry_rules.specs.declared.request.Action.{Action}
-use Rattle.registry_rules.specs.declared.request.Action.TheVariants.{Publish, TagSet, TagRemove}
+use Rattle.registry_rules.specs.declared.request.Action.TheVariants.{UserAdd, TokenAdd, Publish, TagSet, TagRemove}
 use Rattle.registry_rules.specs.declared.request.Request.{Request}
-use Rattle.registry_rules.proofs.AllowedFacts.{IsAllowed, allowed_publish, is_there, isnt_kept}
+use Rattle.registry_rules.proofs.AllowedFacts.{IsAllowed, allowed_publish, is_there, isnt_kept, second_passed, user_there}
 use Rattle.registry_rules.proofs.MadeFacts.{latest_put, tag_put}
 use Rattle.registry_rules.proofs.PublishedFacts.{statuses_after, status_of, after_publish, published_is}
 use Rattle.registry_names.proofs.PutFacts.{each_put, each_left, some_before, put_there, still_there}
@@ -40,16 +41,24 @@ use Rattle.registry_names.proofs.PutFacts.{each_put, each_left, some_before, put
 none_there : {X : Type 0} (o : Option X) → o ≡ None → IsSome o → ⊥
 none_there o e h = true≢false (sym h ∙ ap is_some e)
 
-no_access_kept : IsAccessKept nothing.access
-no_access_kept = record {
+nothing_spelled : IsSpelled nothing.access
+nothing_spelled = record {
   users = λ u h. absurd (none_there _ (at-empty text_key u) h);
-  tokens = λ digest u h. absurd (none_there _ (at-empty text_key digest) (ap is_some h));
+  tokens = λ digest h. absurd (none_there _ (at-empty text_key digest) h);
   organisations = λ o h. absurd (none_there _ (at-empty text_key o) h);
+  teams = λ o t h. absurd (none_there _ (at-empty pair_key (o, t)) h);
+  statuses = λ p h. absurd (none_there _ (at-empty text_key p) h);
+}
+
+nothing_sound : IsSound nothing.access
+nothing_sound = record {
+  tokens = λ digest u h. absurd (none_there _ (at-empty text_key digest) (ap is_some h));
   roles = λ o u h. absurd (none_there _ (at-empty pair_key (o, u)) h);
+  owners = λ o h. absurd (none_there _ (at-empty text_key o) h);
+  first_teams = λ o h. absurd (none_there _ (at-empty text_key o) h);
   teams = λ o t h. absurd (none_there _ (at-empty pair_key (o, t)) h);
   team_members = λ o t u h. absurd (none_there _ (at-empty triple_key (o, (t, u))) h);
   grants = λ o t p h. absurd (none_there _ (at-empty triple_key (o, (t, p))) h);
-  statuses = λ p h. absurd (none_there _ (at-empty text_key p) h);
   maintainers = λ p u h. absurd (none_there _ (at-empty pair_key (p, u)) h);
   unscoped = λ p u h. none_there _ (at-empty text_key p) (ap is_some h);
 }
@@ -61,24 +70,27 @@ nothing_kept = record {
   tags = λ p t v h. absurd (none_there _ (at-empty pair_key (p, t)) (ap is_some h));
   status = λ p v h. absurd (none_there _ (at-empty pair_key (p, v)) h);
   latest = λ p v h. absurd (none_there _ (at-empty pair_key (p, v)) h);
-  access = no_access_kept;
+  spelled = nothing_spelled;
+  sound = nothing_sound;
 }
 
 -- ---- a publish
 
 -- where no package loses its status
-more_statuses_kept : (A : Access) (statuses : TextMap Status) → ((p : Text) → IsSome (at A.statuses p) → IsSome (at statuses p)) → ((p : Text) → IsSome (at statuses p) → IsName p)
-    → UnscopedArePublic (record A { statuses = statuses }) → IsAccessKept A → IsAccessKept (record A { statuses = statuses })
-more_statuses_kept A statuses still named unscoped kept = record {
-  users = kept.users;
-  tokens = kept.tokens;
-  organisations = λ o h. let has = kept.organisations o h in record { name = has.name; owner = has.owner; team = has.team };
-  roles = kept.roles;
-  teams = kept.teams;
-  team_members = kept.team_members;
-  grants = λ o t p h. let grant = kept.grants o t p h in record { team = grant.team; status = still p grant.status; scope = grant.scope };
-  statuses = named;
-  maintainers = λ p u h. let has = kept.maintainers p u h in (still p has.0, has.1);
+more_statuses_spelled : (A : Access) (statuses : TextMap Status) → ((p : Text) → IsSome (at statuses p) → IsName p) → IsSpelled A → IsSpelled (record A { statuses = statuses })
+more_statuses_spelled A statuses named spelled = record { users = spelled.users; tokens = spelled.tokens; organisations = spelled.organisations; teams = spelled.teams; statuses = named }
+
+more_statuses_sound : (A : Access) (statuses : TextMap Status) → ((p : Text) → IsSome (at A.statuses p) → IsSome (at statuses p)) → UnscopedArePublic (record A { statuses = statuses })
+    → IsSound A → IsSound (record A { statuses = statuses })
+more_statuses_sound A statuses still unscoped sound = record {
+  tokens = sound.tokens;
+  roles = sound.roles;
+  owners = sound.owners;
+  first_teams = sound.first_teams;
+  teams = sound.teams;
+  team_members = sound.team_members;
+  grants = λ o t p h. let grant = sound.grants o t p h in record { team = grant.team; status = still p grant.status; scope = grant.scope };
+  maintainers = λ p u h. let has = sound.maintainers p u h in (still p has.0, has.1);
   unscoped = unscoped;
 }
 
@@ -116,8 +128,8 @@ module _ (S : State) (p v t : Text) (release : Release) (status : Option Status)
   status_stays (Some s) q h = still_there text_key S.access.statuses p s q h
 
   statuses_named : (o : Option Status) (q : Text) → IsSome (at (statuses_after S.access.statuses p o) q) → IsName q
-  statuses_named None q h = kept.access.statuses q h
-  statuses_named (Some s) q h = some_before text_key S.access.statuses p s IsName kept.access.statuses allowed.is_release.name q h
+  statuses_named None q h = kept.spelled.statuses q h
+  statuses_named (Some s) q h = some_before text_key S.access.statuses p s IsName kept.spelled.statuses allowed.is_release.name q h
 
   have_status : (k : Pair) → IsSome (at T.live k) → IsSome (at T.access.statuses k.0)
   have_status = some_before pair_key S.live (p, v) release (λ k. IsSome (at T.access.statuses k.0)) (λ k h. status_stays status k.0 (kept.status k.0 k.1 h)) allowed.has_status
@@ -157,10 +169,10 @@ module _ (S : State) (p v t : Text) (release : Release) (status : Option Status)
       (latest_here (stands S p latest) (is t latest) refl refl)
 
   statuses_are : (o : Option Status) → (scope_of p ≡ None → o ≢ Some Restricted) → (q : Text) (s : Status) → at (statuses_after S.access.statuses p o) q ≡ Some s → scope_of q ≡ None → s ≢ Restricted
-  statuses_are None may = λ q s e u f. kept.access.unscoped q u (e ∙ ap (λ (x : Status). Some x) f)
+  statuses_are None may = λ q s e u f. kept.sound.unscoped q u (e ∙ ap (λ (x : Status). Some x) f)
   statuses_are (Some status) may =
       each_put text_key S.access.statuses p status (λ q s. scope_of q ≡ None → s ≢ Restricted)
-      (λ q s e u f. kept.access.unscoped q u (e ∙ ap (λ (x : Status). Some x) f)) (λ u f. may u (ap (λ (x : Status). Some x) f))
+      (λ q s e u f. kept.sound.unscoped q u (e ∙ ap (λ (x : Status). Some x) f)) (λ u f. may u (ap (λ (x : Status). Some x) f))
 
   all_kept : IsKept T
   all_kept = record {
@@ -169,8 +181,9 @@ module _ (S : State) (p v t : Text) (release : Release) (status : Option Status)
     tags = λ q u w h. tags_are (q, u) w h;
     status = λ q w h. have_status (q, w) h;
     latest = λ q w h. have_latest (q, w) h;
-    access = more_statuses_kept S.access (statuses_after S.access.statuses p status) (status_stays status) (statuses_named status)
-        (λ q u h. statuses_are status allowed.is_public q Restricted h u refl) kept.access;
+    spelled = more_statuses_spelled S.access (statuses_after S.access.statuses p status) (statuses_named status) kept.spelled;
+    sound = more_statuses_sound S.access (statuses_after S.access.statuses p status) (status_stays status)
+        (λ q u h. statuses_are status allowed.is_public q Restricted h u refl) kept.sound;
   }
 
 publish_kept : (S : State) (f : FormParts) (now : ℕ) → ArePartsInForm f → now ≤ last_second → publish_refusal S f ≡ None → IsKept S → IsKept (all_made S (publication S now f))
@@ -202,7 +215,8 @@ tag_set_kept S p t v name tag live kept = record {
       (each_put pair_key S.tags (p, t) v (λ k w. IsTagOf S k.0 k.1 w) (λ k w e. kept.tags k.0 k.1 w e) (record { name = name; tag = tag; live = live }) (q, u) w h);
   status = kept.status;
   latest = λ q w h. still_there pair_key S.tags (p, t) v (q, latest) (kept.latest q w h);
-  access = kept.access;
+  spelled = kept.spelled;
+  sound = kept.sound;
 }
 
 tag_removed_kept : (S : State) (p t : Text) → is t latest ≡ false → IsKept S → IsKept (without_tag S p t)
@@ -212,12 +226,89 @@ tag_removed_kept S p t other kept = record {
   tags = λ q u w h. still_tag S (without_tag S p t) refl q u w (kept.tags q u w (each_left pair_key S.tags (p, t) (q, u) w h));
   status = kept.status;
   latest = λ q w h. ap is_some (at-erase_other pair_key S.tags (p, t) (q, latest) (and_right (is p q) (is t latest) other)) ∙ kept.latest q w h;
-  access = kept.access;
+  spelled = kept.spelled;
+  sound = kept.sound;
 }
+
+-- ---- who is there, and what he may do
+
+-- where no package loses its status
+access_kept : (S : State) (A : Access) → ((p : Text) → IsSome (at S.access.statuses p) → IsSome (at A.statuses p)) → IsSpelled A → IsSound A → IsKept S → IsKept (record S { access = A })
+access_kept S A still spelled sound kept = record {
+  live = kept.live;
+  spent = λ q w withdrawal h. let was = kept.spent q w withdrawal h in
+      record { name = was.name; version = was.version; published = was.published; withdrawn = was.withdrawn; status = still q was.status; gone = was.gone };
+  tags = λ q u w h. still_tag S (record S { access = A }) refl q u w (kept.tags q u w h);
+  status = λ q w h. still q (kept.status q w h);
+  latest = kept.latest;
+  spelled = spelled;
+  sound = sound;
+}
+
+user_kept : (S : State) (u : Text) → IsTrue (is_ident u) → IsKept S → IsKept (with_user S u)
+user_kept S u form kept = access_kept S (record S.access { users = put S.access.users u tt }) (λ p h. h)
+    (record {
+      users = some_before text_key S.access.users u tt (λ w. IsTrue (is_ident w)) spelled.users form;
+      tokens = spelled.tokens;
+      organisations = spelled.organisations;
+      teams = spelled.teams;
+      statuses = spelled.statuses;
+    })
+    (record {
+      tokens = λ digest w h. still w (sound.tokens digest w h);
+      roles = λ o w h. let has = sound.roles o w h in (has.0, still w has.1);
+      owners = sound.owners;
+      first_teams = sound.first_teams;
+      teams = sound.teams;
+      team_members = sound.team_members;
+      grants = λ o t p h. let grant = sound.grants o t p h in record { team = grant.team; status = grant.status; scope = grant.scope };
+      maintainers = λ p w h. let has = sound.maintainers p w h in (has.0, still w has.1);
+      unscoped = sound.unscoped;
+    })
+    kept
+  where
+    spelled : IsSpelled S.access
+    spelled = kept.spelled
+
+    sound : IsSound S.access
+    sound = kept.sound
+
+    still : (w : Text) → IsSome (at S.access.users w) → IsSome (at (put S.access.users u tt) w)
+    still w h = still_there text_key S.access.users u tt w h
+
+token_kept : (S : State) (digest u : Text) → length digest ≡ 32 → IsSome (at S.access.users u) → IsKept S → IsKept (with_token S digest u)
+token_kept S digest u long there kept = access_kept S (record S.access { tokens = put S.access.tokens digest u }) (λ p h. h)
+    (record {
+      users = spelled.users;
+      tokens = some_before text_key S.access.tokens digest u (λ d. length d ≡ 32) spelled.tokens long;
+      organisations = spelled.organisations;
+      teams = spelled.teams;
+      statuses = spelled.statuses;
+    })
+    (record {
+      tokens = each_put text_key S.access.tokens digest u (λ d w. IsSome (at S.access.users w)) sound.tokens there;
+      roles = sound.roles;
+      owners = sound.owners;
+      first_teams = sound.first_teams;
+      teams = sound.teams;
+      team_members = sound.team_members;
+      grants = λ o t p h. let grant = sound.grants o t p h in record { team = grant.team; status = grant.status; scope = grant.scope };
+      maintainers = sound.maintainers;
+      unscoped = sound.unscoped;
+    })
+    kept
+  where
+    spelled : IsSpelled S.access
+    spelled = kept.spelled
+
+    sound : IsSound S.access
+    sound = kept.sound
 
 -- ---- a request
 
 action_kept : (S : State) (now : ℕ) (who : Caller) (what : Action) → now ≤ last_second → IsActionInForm what → state_refusal S now what ≡ None → IsKept S → IsKept (step_by S now who what)
+action_kept S now who (UserAdd u) moment form may kept = user_kept S u form kept
+action_kept S now who (TokenAdd u digest) moment form may kept = token_kept S digest u form.1 (user_there _ _ may) kept
 action_kept S now who (Publish f) moment form may kept = publish_kept S f now form moment may kept
 action_kept S now who (TagSet p t v) moment form may kept =
     subst IsKept (sym (tag_put S p t (text_of_version v) (stands S p t) (λ there. there))) (tag_set_kept S p t (text_of_version v) form.0 form.1 (is_there _ may) kept)
@@ -229,4 +320,4 @@ step_kept S r form may kept = by_caller (caller_of S r.who) may
   where
     by_caller : (who : Option Caller) → refusal_for S r.at who r.what ≡ None → IsKept (all_made S (effects_for S r.at who r.what))
     by_caller None may = kept
-    by_caller (Some who) may = action_kept S r.at who r.what form.at form.what may kept
+    by_caller (Some who) may = action_kept S r.at who r.what form.at form.what (second_passed _ _ may) kept

@@ -10,14 +10,16 @@ use Rattle.registry_names.specs.declared.status.Status.{Status}
 use Rattle.registry_names.specs.declared.status.Status.TheVariants.{Public, Restricted}
 use Rattle.registry_names.proofs.KeyFacts.{text_key, pair_key, same_true}
 use Rattle.registry_names.proofs.MapFacts.{at-put, at-put_same, at-put_other, at-erase_same, at-erase_other}
+use Rattle.registry_names.proofs.PutFacts.{put_there}
+use Rattle.registry_access.specs.Access.{Access}
 use Rattle.registry_publish.specs.Form.{FormParts}
 use Rattle.registry_rules.specs.Actions.{version_of}
 use Rattle.registry_rules.specs.Changes.{release_of}
 use Rattle.registry_rules.specs.Effects.{first_status, new_status}
-use Rattle.registry_rules.specs.Laws.{AddsVersion, SetsTags, SetsStatus, IsTagChange, IsSameOf, PublishesAddVersions, PublishesSetTags, PublishesSetStatuses, SetTagsName, RemovedTagsAreGone, QueriesChangeNothing, PackagesStandApart}
+use Rattle.registry_rules.specs.Laws.{UsersAreAdded, TokensAreAdded, AddsVersion, SetsTags, SetsStatus, IsTagChange, IsSameOf, PublishesAddVersions, PublishesSetTags, PublishesSetStatuses, SetTagsName, RemovedTagsAreGone, QueriesChangeNothing, PackagesStandApart}
 use Rattle.registry_rules.specs.Operations.{with_tag, without_tag}
 use Rattle.registry_rules.specs.State.{State, stands}
-use Rattle.registry_rules.specs.declared.request.Action.TheVariants.{Publish, TagSet, TagRemove}
+use Rattle.registry_rules.specs.declared.request.Action.TheVariants.{UserAdd, TokenAdd, Publish, TagSet, TagRemove}
 use Rattle.registry_rules.proofs.MadeFacts.{latest_put, tag_put}
 use Rattle.registry_rules.proofs.PublishedFacts.{statuses_after, status_of, after_publish, published_is}
 
@@ -32,6 +34,22 @@ unlike {same} key q k differ = by_test (same q k) refl
 either_way : {X : Type 0} (b : Bool) (o : Option X) (x : X) → o ≡ Some x → cond b (Some x) o ≡ Some x
 either_way true o x e = refl
 either_way false o x e = e
+
+-- ---- users and tokens
+
+pub users_are_added : UsersAreAdded
+users_are_added S now who u = record {
+  user = put_there text_key S.access.users u tt;
+  users = λ w differ. at-put_other text_key S.access.users u tt w (unlike text_key u w differ);
+  rest = refl;
+}
+
+pub tokens_are_added : TokensAreAdded
+tokens_are_added S now who u digest = record {
+  token = at-put_same text_key S.access.tokens digest u;
+  tokens = λ d differ. at-put_other text_key S.access.tokens digest u d (unlike text_key digest d differ);
+  rest = refl;
+}
 
 -- ---- a publish
 
@@ -138,6 +156,8 @@ removed_tags_are_gone S now who p t =
 -- ---- all actions
 
 pub queries_change_nothing : QueriesChangeNothing
+queries_change_nothing S now who (UserAdd u) e = absurd (true≢false e)
+queries_change_nothing S now who (TokenAdd u digest) e = absurd (true≢false e)
 queries_change_nothing S now who (Publish f) e = absurd (true≢false e)
 queries_change_nothing S now who (TagSet p t v) e = absurd (true≢false e)
 queries_change_nothing S now who (TagRemove p t) e = absurd (true≢false e)
@@ -145,6 +165,11 @@ queries_change_nothing S now who _ e = refl
 
 same_of_itself : (S : State) (p : Text) → IsSameOf S S p
 same_of_itself S p = record { live = λ v. refl; spent = λ v. refl; tags = λ t. refl; status = refl; maintainers = λ u. refl; grants = λ o t. refl }
+
+-- where nothing of the package is changed in who may do what
+apart_in_access : (S : State) (A : Access) (p : Text) → at A.statuses p ≡ at S.access.statuses p → ((u : Text) → at A.maintainers (p, u) ≡ at S.access.maintainers (p, u))
+    → ((o t : Text) → at A.grants (o, (t, p)) ≡ at S.access.grants (o, (t, p))) → IsSameOf S (record S { access = A }) p
+apart_in_access S A p status maintainers grants = record { live = λ v. refl; spent = λ v. refl; tags = λ t. refl; status = status; maintainers = maintainers; grants = grants }
 
 -- a key of another package is another key
 elsewhere : (q p w v : Text) → is q p ≡ false → pair_is (q, w) (p, v) ≡ false
@@ -175,6 +200,8 @@ apart_from_publish S now f p other = record {
     latest_elsewhere t false = at-put_other pair_key S.tags (f.name, latest) (version_of f) (p, t) (elsewhere f.name p latest t other)
 
 pub packages_stand_apart : PackagesStandApart
+packages_stand_apart S now who (UserAdd u) p other = apart_in_access S (record S.access { users = put S.access.users u tt }) p refl (λ w. refl) (λ o t. refl)
+packages_stand_apart S now who (TokenAdd u digest) p other = apart_in_access S (record S.access { tokens = put S.access.tokens digest u }) p refl (λ w. refl) (λ o t. refl)
 packages_stand_apart S now who (Publish f) p other = subst (λ T. IsSameOf S T p) (sym (published_is S f now)) (apart_from_publish S now f p other)
 packages_stand_apart S now who (TagSet q t v) p other =
     subst (λ T. IsSameOf S T p) (sym (tag_put S q t (text_of_version v) (stands S q t) (λ there. there)))

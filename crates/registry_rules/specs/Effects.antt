@@ -11,10 +11,10 @@ use Rattle.registry_access.specs.declared.caller.Caller.{Caller}
 use Rattle.registry_publish.specs.Form.{FormParts}
 use Rattle.registry_rules.specs.Actions.{version_of}
 use Rattle.registry_rules.specs.Callers.{caller_of}
-use Rattle.registry_rules.specs.Changes.{Change, PutStatus, AddVersion, PutTag, DropTag, all_made}
+use Rattle.registry_rules.specs.Changes.{Change, AddUser, AddToken, PutStatus, AddVersion, PutTag, DropTag, all_made}
 use Rattle.registry_rules.specs.State.{State, stands}
 use Rattle.registry_rules.specs.declared.request.Action.{Action}
-use Rattle.registry_rules.specs.declared.request.Action.TheVariants.{Publish, TagSet, TagRemove}
+use Rattle.registry_rules.specs.declared.request.Action.TheVariants.{UserAdd, TokenAdd, Publish, TagSet, TagRemove}
 use Rattle.registry_rules.specs.declared.request.Request.{Request}
 
 -- ---- a publish
@@ -45,6 +45,8 @@ publication S now f = put_status f.name (new_status f.access (at S.access.status
 -- ---- all commands
 
 abbrev pub effects : State → ℕ → Caller → Action → List Change
+effects S now who (UserAdd u) = AddUser u ∷ []
+effects S now who (TokenAdd u digest) = AddToken digest u ∷ []
 effects S now who (Publish f) = publication S now f
 effects S now who (TagSet p t v) = PutTag p t (text_of_version v) (stands S p t) ∷ []
 effects S now who (TagRemove p t) = DropTag p t ∷ []

@@ -6,13 +6,13 @@ use Rattle.registry_names.specs.Versions.{text_of_version}
 use Rattle.registry_publish.specs.Form.{FormParts}
 use Rattle.registry_rules.specs.Actions.{version_of}
 use Rattle.registry_rules.specs.Callers.{caller_of}
-use Rattle.registry_rules.specs.State.{State, is_live, is_spent, has_live, stands, asked_version, lives}
+use Rattle.registry_rules.specs.State.{State, has_user, has_token, is_live, is_spent, has_live, stands, asked_version, lives}
 use Rattle.registry_rules.specs.declared.facts.About.{About}
 use Rattle.registry_rules.specs.declared.facts.About.TheVariants as about
 use Rattle.registry_rules.specs.declared.facts.Facts.{Facts}
 use Rattle.registry_rules.specs.declared.facts.PublishFacts.{PublishFacts}
 use Rattle.registry_rules.specs.declared.request.Action.{Action}
-use Rattle.registry_rules.specs.declared.request.Action.TheVariants.{Publish, TagSet, TagRemove, Packument, VersionDoc, Archive, Tags}
+use Rattle.registry_rules.specs.declared.request.Action.TheVariants.{UserAdd, TokenAdd, Publish, TagSet, TagRemove, Packument, VersionDoc, Archive, Tags}
 use Rattle.registry_rules.specs.declared.request.Request.{Request}
 
 pub record ArePublishFacts (facts : PublishFacts) (S : State) (f : FormParts) : Type 0 where
@@ -24,6 +24,8 @@ pub record ArePublishFacts (facts : PublishFacts) (S : State) (f : FormParts) : 
 
 -- what is told of an action is so. What is told of another kind of action stands for no state
 abbrev pub StandsAbout : About → State → Action → Type 0
+StandsAbout (about.UserAdd exists) S (UserAdd u) = exists ≡ has_user S u
+StandsAbout (about.TokenAdd user_exists exists) S (TokenAdd u digest) = (user_exists ≡ has_user S u) × (exists ≡ has_token S digest)
 StandsAbout (about.Publish facts) S (Publish f) = ArePublishFacts facts S f
 StandsAbout (about.TagSet version_lives tag_stands) S (TagSet p t v) = (version_lives ≡ is_live S p (text_of_version v)) × (tag_stands ≡ stands S p t)
 StandsAbout (about.TagRemove tag_stands) S (TagRemove p t) = tag_stands ≡ stands S p t

@@ -14,7 +14,27 @@ use Rattle.registry_rules.specs.Actions.{is_command, version_of, names}
 use Rattle.registry_rules.specs.Effects.{step_by}
 use Rattle.registry_rules.specs.State.{State}
 use Rattle.registry_rules.specs.declared.request.Action.{Action}
-use Rattle.registry_rules.specs.declared.request.Action.TheVariants.{Publish, TagSet, TagRemove}
+use Rattle.registry_rules.specs.declared.request.Action.TheVariants.{UserAdd, TokenAdd, Publish, TagSet, TagRemove}
+
+-- ---- users and tokens
+
+-- the user is there, and nobody else has come or gone
+pub record AddsUser (S T : State) (u : Text) : Type 0 where
+  pub user : IsSome (at T.access.users u)
+  pub users : (w : Text) → w ≢ u → at T.access.users w ≡ at S.access.users w
+  pub rest : T ≡ record S { access = record S.access { users = T.access.users } }
+
+-- the token is this user's, and no other token has changed
+pub record AddsToken (S T : State) (digest u : Text) : Type 0 where
+  pub token : at T.access.tokens digest ≡ Some u
+  pub tokens : (d : Text) → d ≢ digest → at T.access.tokens d ≡ at S.access.tokens d
+  pub rest : T ≡ record S { access = record S.access { tokens = T.access.tokens } }
+
+abbrev pub UsersAreAdded : Type 0
+UsersAreAdded = (S : State) (now : ℕ) (who : Caller) (u : Text) → AddsUser S (step_by S now who (UserAdd u)) u
+
+abbrev pub TokensAreAdded : Type 0
+TokensAreAdded = (S : State) (now : ℕ) (who : Caller) (u digest : Text) → AddsToken S (step_by S now who (TokenAdd u digest)) digest u
 
 -- ---- a publish
 

@@ -5,6 +5,14 @@ use Rattle.registry_names.specs.Maps.{at, put, erase}
 use Rattle.registry_names.specs.declared.status.Status.{Status}
 use Rattle.registry_rules.specs.State.{State, Release}
 
+-- the user is there
+abbrev pub with_user : State → Text → State
+with_user S u = record S { access = record S.access { users = put S.access.users u tt } }
+
+-- the token is this user's
+abbrev pub with_token : State → Text → Text → State
+with_token S digest u = record S { access = record S.access { tokens = put S.access.tokens digest u } }
+
 -- the package has this status
 abbrev pub with_status : State → Text → Status → State
 with_status S p status = record S { access = record S.access { statuses = put S.access.statuses p status } }

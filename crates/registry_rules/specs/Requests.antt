@@ -1,5 +1,6 @@
 -- Requests in form.
-use Rattle.std.specs.Prelude.{◌≡◌, ◌≤◌, Some, IsTrue}
+use Rattle.std.specs.Prelude.{◌≡◌, ◌≤◌, length, Some, IsTrue}
+use Rattle.registry_names.specs.Idents.{is_ident}
 use Rattle.registry_names.specs.Moments.{last_second}
 use Rattle.registry_names.specs.Names.{IsName}
 use Rattle.registry_names.specs.Tags.{is_tag}
@@ -7,7 +8,7 @@ use Rattle.registry_names.specs.Versions.{IsVersionOf, text_of_version}
 use Rattle.registry_publish.specs.Form.{FormParts, IsManifestText}
 use Rattle.registry_publish.specs.Needs.{needs_of}
 use Rattle.registry_rules.specs.declared.request.Action.{Action}
-use Rattle.registry_rules.specs.declared.request.Action.TheVariants.{Publish, TagSet, TagRemove, Packument, VersionDoc, Archive, Tags}
+use Rattle.registry_rules.specs.declared.request.Action.TheVariants.{UserAdd, TokenAdd, Publish, TagSet, TagRemove, Packument, VersionDoc, Archive, Tags}
 use Rattle.registry_rules.specs.declared.request.Asked.{Asked}
 use Rattle.registry_rules.specs.declared.request.Asked.TheVariants.{Exact, Latest}
 use Rattle.registry_rules.specs.declared.request.Request.{Request}
@@ -24,6 +25,8 @@ IsAskedInForm (Exact v) = IsVersionOf (text_of_version v) v
 IsAskedInForm Latest = Unit {0}
 
 abbrev pub IsActionInForm : Action → Type 0
+IsActionInForm (UserAdd u) = IsTrue (is_ident u)
+IsActionInForm (TokenAdd u digest) = IsTrue (is_ident u) × (length digest ≡ 32)
 IsActionInForm (Publish f) = ArePartsInForm f
 IsActionInForm (TagSet p t v) = IsName p × IsTrue (is_tag t) × IsVersionOf (text_of_version v) v
 IsActionInForm (TagRemove p t) = IsName p × IsTrue (is_tag t)

@@ -1,5 +1,5 @@
 -- What the registry holds: finite maps under names, and nothing of how they are kept.
-use Rattle.std.specs.Prelude.{ℕ, Bool, true, false, not, List, [], ◌∷◌, is_some, Option, Some, None}
+use Rattle.std.specs.Prelude.{ℕ, Bool, true, false, not, List, [], ◌∷◌, codes, is_some, Option, Some, None}
 use Rattle.registry_names.specs.Tags.{latest}
 use Rattle.registry_names.specs.Texts.{Text}
 use Rattle.registry_names.specs.Maps.{PairMap, empty, at, of}
@@ -34,6 +34,10 @@ pub record State : Type 0 where
 abbrev pub no_access : Access
 no_access = record { users = empty; tokens = empty; organisations = empty; roles = empty; teams = empty; team_members = empty; grants = empty; statuses = empty; maintainers = empty }
 
+-- the team that each organisation has
+abbrev pub developers : Text
+developers = codes "developers"
+
 -- a registry of which nothing was asked yet
 abbrev pub nothing : State
 nothing = record { access = no_access; live = empty; spent = empty; tags = empty }
@@ -43,6 +47,14 @@ nothing = record { access = no_access; live = empty; spent = empty; tags = empty
 abbrev pub is_empty : {X : Type 0} → List X → Bool
 is_empty [] = true
 is_empty (x ∷ xs) = false
+
+-- the user is there
+abbrev pub has_user : State → Text → Bool
+has_user S u = is_some (at S.access.users u)
+
+-- there is a token with this digest
+abbrev pub has_token : State → Text → Bool
+has_token S digest = is_some (at S.access.tokens digest)
 
 -- the version lives
 abbrev pub is_live : State → Text → Text → Bool

@@ -1,7 +1,7 @@
 //! What a decision changes.
 
-use registry_names::{Moment, Name, Status, Ver};
-use registry_publish::PublishForm;
+use registry_names::{Ident, Moment, Name, Status, Ver};
+use registry_publish::{PublishForm, TokenDigest};
 
 /// Changes, which are made in their order.
 pub type Changes<'a> = Vec<Change<'a>>;
@@ -10,6 +10,18 @@ pub type Changes<'a> = Vec<Change<'a>>;
 /// the request.
 #[derive(Clone, Copy)]
 pub enum Change<'a> {
+    /// There is this user.
+    AddUser {
+        /// The user.
+        user: &'a Ident,
+    },
+    /// There is this token.
+    AddToken {
+        /// The token's digest.
+        digest: &'a TokenDigest,
+        /// Whose it is.
+        user: &'a Ident,
+    },
     /// The package has this status.
     PutStatus {
         /// The package.

@@ -8,6 +8,7 @@ ghost use Rattle.registry_rules.specs.Facts.{StandsAbout, StandsFor};
 ghost use Rattle.registry_rules.specs.Refusals as spec;
 ghost use Rattle.registry_rules.specs.Refusals.{permitted, refusal};
 ghost use Rattle.registry_rules.specs.State.{State};
+ghost use Rattle.registry_access.specs.Access.{Access};
 ghost use Rattle.registry_access.specs.declared.caller.Caller.{Caller};
 
 use crate::change::{Change, Changes};
@@ -15,7 +16,9 @@ use crate::facts::{About, Facts};
 use crate::publish::{publish_changes, publish_refusal};
 use crate::request::{Action, Request};
 use crate::tags::tag_remove_refusal;
-use registry_names::{Fault, Refusal, Stop};
+use crate::users::{token_add_refusal, unless_new};
+use registry_access::{Caller, may_operate};
+use registry_names::{Fault, Refusal, Rule, Stop};
 use std::alloc::{AllocError, Global};
 
 /// Whether a request may be asked, or why it is turned away. It takes no memory.
@@ -25,12 +28,9 @@ pub fn may_ask(facts: &Facts, request: &Request) -> Result<(), Refusal>
     ensures { (S : State) → StandsFor facts.now S request.now
         → result ≡ permitted (refusal S request.now) }
 {
-    if facts.caller.is_none() {
-        return Err(Refusal::NoCaller);
-    }
-    match state_refusal(&facts.about, &request.what) {
-        Some(refusal) => Err(refusal),
-        None => Ok(()),
+    match &facts.caller {
+        None => Err(Refusal::NoCaller),
+        Some(caller) => permitted(refusal_by(caller, &facts.about, &request.what)),
     }
 }
 
@@ -54,12 +54,53 @@ pub fn decide<'a>(alloc: Global, facts: &Facts, request: &'a Request) -> Result<
     Ok(changes(alloc, &facts.about, request)?)
 }
 
+fn permitted(refusal: Option<Refusal>) -> Result<(), Refusal>
+    ensures { result ≡ spec.permitted refusal }
+{
+    match refusal {
+        Some(refusal) => Err(refusal),
+        None => Ok(()),
+    }
+}
+
+// Why this caller's action is turned away, if it is.
+fn refusal_by(caller: &Caller, about: &About, action: &Action) -> Option<Refusal>
+    ensures { (S : State) (now : ℕ) → StandsAbout about.now S action.now
+        → result ≡ spec.refusal_by S now caller.now action.now }
+{
+    policy_refusal(caller, action).or(state_refusal(about, action))
+}
+
+// Why the policy turns a caller's action away, if it does.
+fn policy_refusal(caller: &Caller, action: &Action) -> Option<Refusal>
+    ensures { (A : Access) → result ≡ spec.policy_refusal A caller.now action.now }
+{
+    match action {
+        Action::UserAdd { .. } | Action::TokenAdd { .. } => unless_allowed(may_operate(caller)),
+        _ => None,
+    }
+}
+
+fn unless_allowed(verdict: Result<Rule, Refusal>) -> Option<Refusal>
+    ensures { result ≡ spec.unless_allowed verdict }
+{
+    verdict.err()
+}
+
 // Why what an action asks for can't be had, whoever asks.
 fn state_refusal(about: &About, action: &Action) -> Option<Refusal>
     ensures { (S : State) (now : ℕ) → StandsAbout about.now S action.now
         → result ≡ spec.state_refusal S now action.now }
 {
     match (about, action) {
+        (About::UserAdd { exists }, Action::UserAdd { .. }) => unless_new(*exists),
+        (
+            About::TokenAdd {
+                user_exists,
+                exists,
+            },
+            Action::TokenAdd { .. },
+        ) => { token_add_refusal(*user_exists, *exists) }
         (About::Publish(facts), Action::Publish { form }) => publish_refusal(facts, form),
         (About::TagSet { version_lives, .. }, Action::TagSet { .. }) => unless_there(
             *version_lives,
@@ -94,6 +135,12 @@ fn changes<'a>(
         → IfOk result (λ changes. changes.items ≡ []) }
 {
     match (about, &request.what) {
+        (About::UserAdd { .. }, Action::UserAdd { user }) => {
+            Ok(vec![in alloc; Change::AddUser { user }]?)
+        }
+        (About::TokenAdd { .. }, Action::TokenAdd { user, digest }) => {
+            Ok(vec![in alloc; Change::AddToken { digest, user }]?)
+        }
         (About::Publish(facts), Action::Publish { form }) => {
             publish_changes(alloc, facts, form, &request.at)
         }

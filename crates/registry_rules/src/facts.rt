@@ -16,6 +16,18 @@ pub struct Facts {
 /// no more.
 #[derive(Drop)]
 pub enum About {
+    /// Of a user who is to be added.
+    UserAdd {
+        /// Whether he is there already.
+        exists: bool,
+    },
+    /// Of a token that is to be added.
+    TokenAdd {
+        /// Whether its user is there.
+        user_exists: bool,
+        /// Whether the token is there already.
+        exists: bool,
+    },
     /// Of a publish.
     Publish(PublishFacts),
     /// Of a tag that is to name a version.

@@ -3,7 +3,7 @@
 
 ghost use Rattle.std.specs.Prelude.{◌≡◌, None};
 ghost use Rattle.registry_rules.specs.Kept.{IsKept};
-ghost use Rattle.registry_rules.specs.Laws.{PackagesStandApart, PublishesAddVersions, PublishesSetStatuses, PublishesSetTags, QueriesChangeNothing, RemovedTagsAreGone, SetTagsName};
+ghost use Rattle.registry_rules.specs.Laws.{PackagesStandApart, PublishesAddVersions, PublishesSetStatuses, PublishesSetTags, QueriesChangeNothing, RemovedTagsAreGone, SetTagsName, TokensAreAdded, UsersAreAdded};
 ghost use Rattle.registry_rules.specs.Refusals.{refusal};
 ghost use Rattle.registry_rules.specs.Requests.{ArePartsInForm, IsActionInForm, IsAskedInForm, IsInForm};
 ghost use Rattle.registry_rules.specs.State.{State, nothing};
@@ -12,6 +12,12 @@ ghost use Rattle.registry_rules.specs.declared.request.Request.{Request};
 
 use crate::request::{Action, Asked, Request};
 use registry_publish::PublishForm;
+
+/// A user who is added is there, and a token that is added is his. Nothing else changes.
+pub fn users_and_tokens_are_added()
+    ensures users { UsersAreAdded }
+    ensures tokens { TokensAreAdded }
+{}
 
 /// A publish makes its version live, with its manifest, its archive and its moment; its tag names
 /// the version, and so does `latest` where none stood; and its package has a status. No other
@@ -54,6 +60,13 @@ fn action_is_in_form(what: &Action)
     ensures { IsActionInForm what.now }
 {
     match what {
+        Action::UserAdd { user } => {
+            user.text();
+        }
+        Action::TokenAdd { user, digest } => {
+            user.text();
+            digest.as_slice();
+        }
         Action::Publish { form } => parts_are_in_form(form),
         Action::TagSet { name, tag, version } => {
             name.text();

@@ -14,6 +14,7 @@ mod publish;
 mod reply;
 mod request;
 mod tags;
+mod users;
 
 pub use crate::change::{Change, Changes};
 pub use crate::decision::{decide, may_ask};

@@ -1,7 +1,7 @@
 //! What can be asked of the registry.
 
-use registry_names::{Moment, Name, TagText, Ver};
-use registry_publish::PublishForm;
+use registry_names::{Ident, Moment, Name, TagText, Ver};
+use registry_publish::{PublishForm, TokenDigest};
 
 /// One thing that is asked of the registry.
 pub struct Request {
@@ -25,8 +25,14 @@ impl Drop for Request {
 }
 
 /// What a caller shows of himself.
-#[derive(Clone, Copy, Debug, PartialEq, Eq)]
+#[derive(Debug, Drop)]
 pub enum Credential {
+    /// That he runs the registry.
+    Operator,
+    /// That he is this user.
+    User(Ident),
+    /// The token of a user, of which nothing is kept but its digest.
+    Token(TokenDigest),
     /// Nothing.
     Anonymous,
 }
@@ -34,6 +40,18 @@ pub enum Credential {
 /// A command, which may change the registry, or a query, which doesn't.
 #[derive(Drop)]
 pub enum Action {
+    /// The operator's command to add a user.
+    UserAdd {
+        /// The user's name.
+        user: Ident,
+    },
+    /// The operator's command to add a token of a user.
+    TokenAdd {
+        /// The user's name.
+        user: Ident,
+        /// The token's digest.
+        digest: TokenDigest,
+    },
     /// The command to publish a version of a package, for the first time or not.
     Publish {
         /// The version, with all that is published of it.
