@@ -1,5 +1,5 @@
 -- A request in form that nothing refuses keeps what holds of all that the registry holds.
-use Rattle.std.proofs.Common.{◌≡◌, ◌≢◌, ℕ, ◌≤◌, Bool, true, false, cond, ◌||◌, is_some, Option, Some, None, refl, sym, ap, ◌∙◌, subst, true≢false}
+use Rattle.std.proofs.Common.{◌≡◌, ℕ, ◌≤◌, Bool, true, false, cond, ◌||◌, is_some, Option, Some, None, refl, sym, ap, ◌∙◌, subst, true≢false}
 use Rattle.std.proofs.lemmas.Bool.{and_right}
 use Rattle.std.specs.Prelude.{length, IsSome, IsTrue}
 use Rattle.registry_names.specs.Idents.{is_ident}
@@ -11,12 +11,9 @@ use Rattle.registry_names.specs.Tags.{is_tag, latest}
 use Rattle.registry_names.specs.Texts.{Text, is}
 use Rattle.registry_names.specs.Versions.{text_of_version}
 use Rattle.registry_names.specs.declared.status.Status.{Status}
-use Rattle.registry_names.specs.declared.status.Status.TheVariants.{Restricted}
-use Rattle.registry_names.proofs.KeyFacts.{text_key, pair_key, triple_key, same_true}
+use Rattle.registry_names.proofs.KeyFacts.{text_key, pair_key, same_true}
 use Rattle.registry_names.proofs.MapFacts.{at-empty, at-put, at-erase_other}
 use Rattle.registry_access.specs.Access.{Access}
-use Rattle.registry_access.specs.Hiding.{UnscopedArePublic}
-use Rattle.registry_names.specs.Names.{scope_of}
 use Rattle.registry_access.specs.declared.caller.Caller.{Caller}
 use Rattle.registry_publish.specs.Form.{FormParts}
 use Rattle.registry_rules.specs.Actions.{version_of}
@@ -31,15 +28,13 @@ use Rattle.registry_rules.specs.State.{State, Release, Withdrawal, nothing, is_l
 use Rattle.registry_rules.specs.declared.request.Action.{Action}
 use Rattle.registry_rules.specs.declared.request.Action.TheVariants.{UserAdd, TokenAdd, Publish, TagSet, TagRemove}
 use Rattle.registry_rules.specs.declared.request.Request.{Request}
-use Rattle.registry_rules.proofs.AllowedFacts.{IsAllowed, allowed_publish, is_there, isnt_kept, second_passed, user_there}
+use Rattle.registry_rules.proofs.AllowedFacts.{IsAllowed, allowed_publish, is_there, isnt_kept, state_passed, user_there}
 use Rattle.registry_rules.proofs.MadeFacts.{latest_put, tag_put}
 use Rattle.registry_rules.proofs.PublishedFacts.{statuses_after, status_of, after_publish, published_is}
+use Rattle.registry_rules.proofs.SoundFacts.{none_there, nothing_sound, status_stays, statuses_sound, user_sound, token_sound}
 use Rattle.registry_names.proofs.PutFacts.{each_put, each_left, some_before, put_there, still_there}
 
 -- ---- nothing
-
-none_there : {X : Type 0} (o : Option X) → o ≡ None → IsSome o → ⊥
-none_there o e h = true≢false (sym h ∙ ap is_some e)
 
 nothing_spelled : IsSpelled nothing.access
 nothing_spelled = record {
@@ -48,19 +43,6 @@ nothing_spelled = record {
   organisations = λ o h. absurd (none_there _ (at-empty text_key o) h);
   teams = λ o t h. absurd (none_there _ (at-empty pair_key (o, t)) h);
   statuses = λ p h. absurd (none_there _ (at-empty text_key p) h);
-}
-
-nothing_sound : IsSound nothing.access
-nothing_sound = record {
-  tokens = λ digest u h. absurd (none_there _ (at-empty text_key digest) (ap is_some h));
-  roles = λ o u h. absurd (none_there _ (at-empty pair_key (o, u)) h);
-  owners = λ o h. absurd (none_there _ (at-empty text_key o) h);
-  first_teams = λ o h. absurd (none_there _ (at-empty text_key o) h);
-  teams = λ o t h. absurd (none_there _ (at-empty pair_key (o, t)) h);
-  team_members = λ o t u h. absurd (none_there _ (at-empty triple_key (o, (t, u))) h);
-  grants = λ o t p h. absurd (none_there _ (at-empty triple_key (o, (t, p))) h);
-  maintainers = λ p u h. absurd (none_there _ (at-empty pair_key (p, u)) h);
-  unscoped = λ p u h. none_there _ (at-empty text_key p) (ap is_some h);
 }
 
 pub nothing_kept : IsKept nothing
@@ -79,20 +61,6 @@ nothing_kept = record {
 -- where no package loses its status
 more_statuses_spelled : (A : Access) (statuses : TextMap Status) → ((p : Text) → IsSome (at statuses p) → IsName p) → IsSpelled A → IsSpelled (record A { statuses = statuses })
 more_statuses_spelled A statuses named spelled = record { users = spelled.users; tokens = spelled.tokens; organisations = spelled.organisations; teams = spelled.teams; statuses = named }
-
-more_statuses_sound : (A : Access) (statuses : TextMap Status) → ((p : Text) → IsSome (at A.statuses p) → IsSome (at statuses p)) → UnscopedArePublic (record A { statuses = statuses })
-    → IsSound A → IsSound (record A { statuses = statuses })
-more_statuses_sound A statuses still unscoped sound = record {
-  tokens = sound.tokens;
-  roles = sound.roles;
-  owners = sound.owners;
-  first_teams = sound.first_teams;
-  teams = sound.teams;
-  team_members = sound.team_members;
-  grants = λ o t p h. let grant = sound.grants o t p h in record { team = grant.team; status = still p grant.status; scope = grant.scope };
-  maintainers = λ p u h. let has = sound.maintainers p u h in (still p has.0, has.1);
-  unscoped = unscoped;
-}
 
 module _ (S : State) (p v t : Text) (release : Release) (status : Option Status) (allowed : IsAllowed S p v t release status) (kept : IsKept S) where
   abbrev here : Bool
@@ -123,16 +91,12 @@ module _ (S : State) (p v t : Text) (release : Release) (status : Option Status)
   live_are : (k : Pair) (r : Release) → at T.live k ≡ Some r → IsReleaseOf k.0 k.1 r
   live_are = each_put pair_key S.live (p, v) release (λ k r. IsReleaseOf k.0 k.1 r) (λ k r. kept.live k.0 k.1 r) allowed.is_release
 
-  status_stays : (o : Option Status) (q : Text) → IsSome (at S.access.statuses q) → IsSome (at (statuses_after S.access.statuses p o) q)
-  status_stays None q h = h
-  status_stays (Some s) q h = still_there text_key S.access.statuses p s q h
-
   statuses_named : (o : Option Status) (q : Text) → IsSome (at (statuses_after S.access.statuses p o) q) → IsName q
   statuses_named None q h = kept.spelled.statuses q h
   statuses_named (Some s) q h = some_before text_key S.access.statuses p s IsName kept.spelled.statuses allowed.is_release.name q h
 
   have_status : (k : Pair) → IsSome (at T.live k) → IsSome (at T.access.statuses k.0)
-  have_status = some_before pair_key S.live (p, v) release (λ k. IsSome (at T.access.statuses k.0)) (λ k h. status_stays status k.0 (kept.status k.0 k.1 h)) allowed.has_status
+  have_status = some_before pair_key S.live (p, v) release (λ k. IsSome (at T.access.statuses k.0)) (λ k h. status_stays S.access.statuses p status k.0 (kept.status k.0 k.1 h)) allowed.has_status
 
   -- what is live now and wasn't is what is published, and that was never withdrawn
   stays_gone : (k : Pair) (w : Withdrawal) → at S.spent k ≡ Some w → is_some (at S.live k) ≡ false → is_some (at T.live k) ≡ false
@@ -148,7 +112,7 @@ module _ (S : State) (p v t : Text) (release : Release) (status : Option Status)
     version = was.version;
     published = was.published;
     withdrawn = was.withdrawn;
-    status = status_stays status q was.status;
+    status = status_stays S.access.statuses p status q was.status;
     gone = stays_gone (q, w) withdrawal h was.gone;
   }
 
@@ -168,12 +132,6 @@ module _ (S : State) (p v t : Text) (release : Release) (status : Option Status)
       (λ k h. still_there pair_key (latest_put S.tags p v here) (p, t) v (k.0, latest) (latest_stays here k.0 (kept.latest k.0 k.1 h)))
       (latest_here (stands S p latest) (is t latest) refl refl)
 
-  statuses_are : (o : Option Status) → (scope_of p ≡ None → o ≢ Some Restricted) → (q : Text) (s : Status) → at (statuses_after S.access.statuses p o) q ≡ Some s → scope_of q ≡ None → s ≢ Restricted
-  statuses_are None may = λ q s e u f. kept.sound.unscoped q u (e ∙ ap (λ (x : Status). Some x) f)
-  statuses_are (Some status) may =
-      each_put text_key S.access.statuses p status (λ q s. scope_of q ≡ None → s ≢ Restricted)
-      (λ q s e u f. kept.sound.unscoped q u (e ∙ ap (λ (x : Status). Some x) f)) (λ u f. may u (ap (λ (x : Status). Some x) f))
-
   all_kept : IsKept T
   all_kept = record {
     live = λ q w r h. live_are (q, w) r h;
@@ -182,8 +140,7 @@ module _ (S : State) (p v t : Text) (release : Release) (status : Option Status)
     status = λ q w h. have_status (q, w) h;
     latest = λ q w h. have_latest (q, w) h;
     spelled = more_statuses_spelled S.access (statuses_after S.access.statuses p status) (statuses_named status) kept.spelled;
-    sound = more_statuses_sound S.access (statuses_after S.access.statuses p status) (status_stays status)
-        (λ q u h. statuses_are status allowed.is_public q Restricted h u refl) kept.sound;
+    sound = statuses_sound S.access p status allowed.is_public kept.sound;
   }
 
 publish_kept : (S : State) (f : FormParts) (now : ℕ) → ArePartsInForm f → now ≤ last_second → publish_refusal S f ≡ None → IsKept S → IsKept (all_made S (publication S now f))
@@ -254,27 +211,11 @@ user_kept S u form kept = access_kept S (record S.access { users = put S.access.
       teams = spelled.teams;
       statuses = spelled.statuses;
     })
-    (record {
-      tokens = λ digest w h. still w (sound.tokens digest w h);
-      roles = λ o w h. let has = sound.roles o w h in (has.0, still w has.1);
-      owners = sound.owners;
-      first_teams = sound.first_teams;
-      teams = sound.teams;
-      team_members = sound.team_members;
-      grants = λ o t p h. let grant = sound.grants o t p h in record { team = grant.team; status = grant.status; scope = grant.scope };
-      maintainers = λ p w h. let has = sound.maintainers p w h in (has.0, still w has.1);
-      unscoped = sound.unscoped;
-    })
+    (user_sound S.access u kept.sound)
     kept
   where
     spelled : IsSpelled S.access
     spelled = kept.spelled
-
-    sound : IsSound S.access
-    sound = kept.sound
-
-    still : (w : Text) → IsSome (at S.access.users w) → IsSome (at (put S.access.users u tt) w)
-    still w h = still_there text_key S.access.users u tt w h
 
 token_kept : (S : State) (digest u : Text) → length digest ≡ 32 → IsSome (at S.access.users u) → IsKept S → IsKept (with_token S digest u)
 token_kept S digest u long there kept = access_kept S (record S.access { tokens = put S.access.tokens digest u }) (λ p h. h)
@@ -285,24 +226,11 @@ token_kept S digest u long there kept = access_kept S (record S.access { tokens 
       teams = spelled.teams;
       statuses = spelled.statuses;
     })
-    (record {
-      tokens = each_put text_key S.access.tokens digest u (λ d w. IsSome (at S.access.users w)) sound.tokens there;
-      roles = sound.roles;
-      owners = sound.owners;
-      first_teams = sound.first_teams;
-      teams = sound.teams;
-      team_members = sound.team_members;
-      grants = λ o t p h. let grant = sound.grants o t p h in record { team = grant.team; status = grant.status; scope = grant.scope };
-      maintainers = sound.maintainers;
-      unscoped = sound.unscoped;
-    })
+    (token_sound S.access digest u there kept.sound)
     kept
   where
     spelled : IsSpelled S.access
     spelled = kept.spelled
-
-    sound : IsSound S.access
-    sound = kept.sound
 
 -- ---- a request
 
@@ -320,4 +248,4 @@ step_kept S r form may kept = by_caller (caller_of S r.who) may
   where
     by_caller : (who : Option Caller) → refusal_for S r.at who r.what ≡ None → IsKept (all_made S (effects_for S r.at who r.what))
     by_caller None may = kept
-    by_caller (Some who) may = action_kept S r.at who r.what form.at form.what (second_passed _ _ may) kept
+    by_caller (Some who) may = action_kept S r.at who r.what form.at form.what (state_passed S r.at who r.what may) kept

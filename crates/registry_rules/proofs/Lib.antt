@@ -4,3 +4,4 @@ pub mod KeptFacts
 pub mod LawFacts
 pub mod MadeFacts
 pub mod PublishedFacts
+pub mod SoundFacts
