@@ -1,3 +1,6 @@
+mod AccessFacts
+mod LegalFacts
+pub mod LeftFacts
 pub mod PublishFacts
 pub mod RunFacts
 pub mod StatusFacts
