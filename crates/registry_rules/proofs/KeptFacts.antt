@@ -14,24 +14,26 @@ use Rattle.registry_names.specs.declared.status.Status.{Status}
 use Rattle.registry_names.proofs.KeyFacts.{text_key, pair_key, same_true}
 use Rattle.registry_names.proofs.MapFacts.{at-empty, at-put, at-erase_other}
 use Rattle.registry_access.specs.Access.{Access}
+use Rattle.registry_access.specs.declared.role.Role.{Role}
 use Rattle.registry_access.specs.declared.caller.Caller.{Caller}
 use Rattle.registry_publish.specs.Form.{FormParts}
 use Rattle.registry_rules.specs.Actions.{version_of}
-use Rattle.registry_rules.specs.Callers.{caller_of}
+use Rattle.registry_rules.specs.Callers.{caller_of, is_known}
 use Rattle.registry_rules.specs.Changes.{all_made, release_of}
-use Rattle.registry_rules.specs.Effects.{effects_for, publication, step, step_by}
+use Rattle.registry_rules.specs.Effects.{effects_for, membership, publication, step, step_by}
 use Rattle.registry_rules.specs.Kept.{IsReleaseOf, IsWithdrawalOf, IsTagOf, IsSpelled, IsSound, IsKept}
-use Rattle.registry_rules.specs.Operations.{with_user, with_token, with_tag, without_tag}
-use Rattle.registry_rules.specs.Refusals.{publish_refusal, refusal, refusal_for, state_refusal}
+use Rattle.registry_rules.specs.Operations.{with_tag, without_tag}
+use Rattle.registry_rules.specs.Refusals.{publish_refusal, refusal, refusal_by, refusal_for}
 use Rattle.registry_rules.specs.Requests.{ArePartsInForm, IsInForm, IsActionInForm}
-use Rattle.registry_rules.specs.State.{State, Release, Withdrawal, nothing, is_live, stands}
+use Rattle.registry_rules.specs.State.{developers, State, Release, Withdrawal, nothing, is_live, stands}
 use Rattle.registry_rules.specs.declared.request.Action.{Action}
-use Rattle.registry_rules.specs.declared.request.Action.TheVariants.{UserAdd, TokenAdd, Publish, TagSet, TagRemove}
+use Rattle.registry_rules.specs.declared.request.Action.TheVariants.{UserAdd, TokenAdd, OrgCreate, OrgSet, OrgRemove, Publish, TagSet, TagRemove}
 use Rattle.registry_rules.specs.declared.request.Request.{Request}
-use Rattle.registry_rules.proofs.AllowedFacts.{IsAllowed, allowed_publish, is_there, isnt_kept, state_passed, user_there}
-use Rattle.registry_rules.proofs.MadeFacts.{latest_put, tag_put}
+use Rattle.registry_rules.proofs.AllowedFacts.{IsAllowed, allowed_publish, is_there, isnt_kept, state_passed}
+use Rattle.registry_rules.proofs.MadeFacts.{latest_put, role_put, tag_put}
+use Rattle.registry_rules.proofs.SoundFacts.{created}
+use Rattle.registry_rules.proofs.SoundSteps.{caller_known, none_there, nothing_sound, status_stays, statuses_sound, step_sound}
 use Rattle.registry_rules.proofs.PublishedFacts.{statuses_after, status_of, after_publish, published_is}
-use Rattle.registry_rules.proofs.SoundFacts.{none_there, nothing_sound, status_stays, statuses_sound, user_sound, token_sound}
 use Rattle.registry_names.proofs.PutFacts.{each_put, each_left, some_before, put_there, still_there}
 
 -- ---- nothing
@@ -202,50 +204,70 @@ access_kept S A still spelled sound kept = record {
   sound = sound;
 }
 
-user_kept : (S : State) (u : Text) → IsTrue (is_ident u) → IsKept S → IsKept (with_user S u)
-user_kept S u form kept = access_kept S (record S.access { users = put S.access.users u tt }) (λ p h. h)
-    (record {
-      users = some_before text_key S.access.users u tt (λ w. IsTrue (is_ident w)) spelled.users form;
-      tokens = spelled.tokens;
-      organisations = spelled.organisations;
-      teams = spelled.teams;
-      statuses = spelled.statuses;
-    })
-    (user_sound S.access u kept.sound)
-    kept
-  where
-    spelled : IsSpelled S.access
-    spelled = kept.spelled
+user_spelled : (A : Access) (u : Text) → IsTrue (is_ident u) → IsSpelled A → IsSpelled (record A { users = put A.users u tt })
+user_spelled A u form spelled = record {
+  users = some_before text_key A.users u tt (λ w. IsTrue (is_ident w)) spelled.users form;
+  tokens = spelled.tokens;
+  organisations = spelled.organisations;
+  teams = spelled.teams;
+  statuses = spelled.statuses;
+}
 
-token_kept : (S : State) (digest u : Text) → length digest ≡ 32 → IsSome (at S.access.users u) → IsKept S → IsKept (with_token S digest u)
-token_kept S digest u long there kept = access_kept S (record S.access { tokens = put S.access.tokens digest u }) (λ p h. h)
-    (record {
-      users = spelled.users;
-      tokens = some_before text_key S.access.tokens digest u (λ d. length d ≡ 32) spelled.tokens long;
-      organisations = spelled.organisations;
-      teams = spelled.teams;
-      statuses = spelled.statuses;
-    })
-    (token_sound S.access digest u there kept.sound)
-    kept
-  where
-    spelled : IsSpelled S.access
-    spelled = kept.spelled
+token_spelled : (A : Access) (digest u : Text) → length digest ≡ 32 → IsSpelled A → IsSpelled (record A { tokens = put A.tokens digest u })
+token_spelled A digest u long spelled = record {
+  users = spelled.users;
+  tokens = some_before text_key A.tokens digest u (λ d. length d ≡ 32) spelled.tokens long;
+  organisations = spelled.organisations;
+  teams = spelled.teams;
+  statuses = spelled.statuses;
+}
+
+organisation_spelled : (A : Access) (o u : Text) → IsTrue (is_ident o) → IsSpelled A → IsSpelled (created A o u)
+organisation_spelled A o u form spelled = record {
+  users = spelled.users;
+  tokens = spelled.tokens;
+  organisations = some_before text_key A.organisations o tt (λ p. IsTrue (is_ident p)) spelled.organisations form;
+  teams = λ p t h. some_before pair_key A.teams (o, developers) tt (λ k. IsTrue (is_ident k.1)) (λ k e. spelled.teams k.0 k.1 e) refl (p, t) h;
+  statuses = spelled.statuses;
+}
+
+role_kept : (S : State) (o u : Text) (role : Role) (old : Option Role) → at S.access.roles (o, u) ≡ old → IsSound (all_made S (membership o u role old)).access
+    → IsKept S → IsKept (all_made S (membership o u role old))
+role_kept S o u role (Some r) e sound kept =
+    let spelled = kept.spelled in
+    subst (λ (T : State). IsSound T.access → IsKept T) (sym (role_put S o u role (ap is_some e)))
+    (λ still. access_kept S _ (λ p h. h) (record { users = spelled.users; tokens = spelled.tokens; organisations = spelled.organisations; teams = spelled.teams; statuses = spelled.statuses }) still kept) sound
+role_kept S o u role None e sound kept =
+    let spelled = kept.spelled in
+    access_kept S _ (λ p h. h) (record { users = spelled.users; tokens = spelled.tokens; organisations = spelled.organisations; teams = spelled.teams; statuses = spelled.statuses }) sound kept
 
 -- ---- a request
 
-action_kept : (S : State) (now : ℕ) (who : Caller) (what : Action) → now ≤ last_second → IsActionInForm what → state_refusal S now what ≡ None → IsKept S → IsKept (step_by S now who what)
-action_kept S now who (UserAdd u) moment form may kept = user_kept S u form kept
-action_kept S now who (TokenAdd u digest) moment form may kept = token_kept S digest u form.1 (user_there _ _ may) kept
-action_kept S now who (Publish f) moment form may kept = publish_kept S f now form moment may kept
-action_kept S now who (TagSet p t v) moment form may kept =
-    subst IsKept (sym (tag_put S p t (text_of_version v) (stands S p t) (λ there. there))) (tag_set_kept S p t (text_of_version v) form.0 form.1 (is_there _ may) kept)
-action_kept S now who (TagRemove p t) moment form may kept = tag_removed_kept S p t (isnt_kept (stands S p t) (is t latest) may) kept
-action_kept S now who _ moment form may kept = kept
+action_kept : (S : State) (now : ℕ) (who : Caller) (what : Action) → now ≤ last_second → IsActionInForm what → is_known S who ≡ true → refusal_by S now who what ≡ None
+    → IsKept S → IsKept (step_by S now who what)
+action_kept S now who (UserAdd u) moment form known may kept =
+    access_kept S _ (λ p h. h) (user_spelled S.access u form kept.spelled) (step_sound S now who (UserAdd u) known may kept.sound) kept
+action_kept S now who (TokenAdd u digest) moment form known may kept =
+    access_kept S _ (λ p h. h) (token_spelled S.access digest u form.1 kept.spelled) (step_sound S now who (TokenAdd u digest) known may kept.sound) kept
+action_kept S now who (OrgCreate o u) moment form known may kept =
+    access_kept S _ (λ p h. h) (organisation_spelled S.access o u form.0 kept.spelled) (step_sound S now who (OrgCreate o u) known may kept.sound) kept
+action_kept S now who (OrgSet o u role) moment form known may kept =
+    role_kept S o u role (at S.access.roles (o, u)) refl (step_sound S now who (OrgSet o u role) known may kept.sound) kept
+action_kept S now who (OrgRemove o u) moment form known may kept =
+    let spelled = kept.spelled in
+    access_kept S _ (λ p h. h) (record { users = spelled.users; tokens = spelled.tokens; organisations = spelled.organisations; teams = spelled.teams; statuses = spelled.statuses })
+    (step_sound S now who (OrgRemove o u) known may kept.sound) kept
+action_kept S now who (Publish f) moment form known may kept = publish_kept S f now form moment (state_passed S now who (Publish f) may) kept
+action_kept S now who (TagSet p t v) moment form known may kept =
+    subst IsKept (sym (tag_put S p t (text_of_version v) (stands S p t) (λ there. there)))
+    (tag_set_kept S p t (text_of_version v) form.0 form.1 (is_there _ (state_passed S now who (TagSet p t v) may)) kept)
+action_kept S now who (TagRemove p t) moment form known may kept =
+    tag_removed_kept S p t (isnt_kept (stands S p t) (is t latest) (state_passed S now who (TagRemove p t) may)) kept
+action_kept S now who _ moment form known may kept = kept
 
 pub step_kept : (S : State) (r : Request) → IsInForm r → refusal S r ≡ None → IsKept S → IsKept (step S r)
-step_kept S r form may kept = by_caller (caller_of S r.who) may
+step_kept S r form may kept = by_caller (caller_of S r.who) refl may
   where
-    by_caller : (who : Option Caller) → refusal_for S r.at who r.what ≡ None → IsKept (all_made S (effects_for S r.at who r.what))
-    by_caller None may = kept
-    by_caller (Some who) may = action_kept S r.at who r.what form.at form.what (state_passed S r.at who r.what may) kept
+    by_caller : (who : Option Caller) → caller_of S r.who ≡ who → refusal_for S r.at who r.what ≡ None → IsKept (all_made S (effects_for S r.at who r.what))
+    by_caller None is may = kept
+    by_caller (Some who) is may = action_kept S r.at who r.what form.at form.what (caller_known S r.who who kept.sound is) may kept

@@ -1,26 +1,28 @@
 -- The laws of what commands make.
-use Rattle.std.proofs.Common.{◌≡◌, ◌≢◌, ℕ, Bool, true, false, cond, ◌&&◌, ◌||◌, is_some, Option, Some, None, refl, sym, ap, ◌∙◌, subst, true≢false, if◌then◌else◌, Ordering}
+use Rattle.std.proofs.Common.{◌≡◌, ◌≢◌, ℕ, Bool, true, false, cond, not, ◌&&◌, ◌||◌, is_some, Option, Some, None, refl, sym, ap, ◌∙◌, subst, true≢false, if◌then◌else◌, Ordering}
 use Rattle.std.specs.Prelude.{IsSome}
-use Rattle.registry_names.specs.Keys.{IsKey, Pair, pair_is}
+use Rattle.registry_names.specs.Keys.{IsKey, Pair, Triple, pair_is}
 use Rattle.registry_names.specs.Maps.{TextMap, PairMap, at, put}
 use Rattle.registry_names.specs.Tags.{latest}
 use Rattle.registry_names.specs.Texts.{Text, is}
 use Rattle.registry_names.specs.Versions.{text_of_version}
 use Rattle.registry_names.specs.declared.status.Status.{Status}
 use Rattle.registry_names.specs.declared.status.Status.TheVariants.{Public, Restricted}
-use Rattle.registry_names.proofs.KeyFacts.{text_key, pair_key, same_true}
-use Rattle.registry_names.proofs.MapFacts.{at-put, at-put_same, at-put_other, at-erase_same, at-erase_other}
+use Rattle.registry_names.proofs.KeyFacts.{text_key, pair_key, triple_key, same_true, same_self}
+use Rattle.registry_names.proofs.MapFacts.{at-put, at-put_same, at-put_other, at-erase_same, at-erase_other, at-keep}
 use Rattle.registry_names.proofs.PutFacts.{put_there}
 use Rattle.registry_access.specs.Access.{Access}
+use Rattle.registry_access.specs.declared.role.Role.{Role}
+use Rattle.registry_access.specs.declared.role.Role.TheVariants.{Owner}
 use Rattle.registry_publish.specs.Form.{FormParts}
 use Rattle.registry_rules.specs.Actions.{version_of}
-use Rattle.registry_rules.specs.Changes.{release_of}
-use Rattle.registry_rules.specs.Effects.{first_status, new_status}
-use Rattle.registry_rules.specs.Laws.{UsersAreAdded, TokensAreAdded, AddsVersion, SetsTags, SetsStatus, IsTagChange, IsSameOf, PublishesAddVersions, PublishesSetTags, PublishesSetStatuses, SetTagsName, RemovedTagsAreGone, QueriesChangeNothing, PackagesStandApart}
+use Rattle.registry_rules.specs.Changes.{all_made, release_of}
+use Rattle.registry_rules.specs.Effects.{first_status, membership, new_status}
+use Rattle.registry_rules.specs.Laws.{SetsRole, OrganisationsAreCreated, RolesAreSet, MembersAreRemoved, UsersAreAdded, TokensAreAdded, AddsVersion, SetsTags, SetsStatus, IsTagChange, IsSameOf, PublishesAddVersions, PublishesSetTags, PublishesSetStatuses, SetTagsName, RemovedTagsAreGone, QueriesChangeNothing, PackagesStandApart}
 use Rattle.registry_rules.specs.Operations.{with_tag, without_tag}
-use Rattle.registry_rules.specs.State.{State, stands}
-use Rattle.registry_rules.specs.declared.request.Action.TheVariants.{UserAdd, TokenAdd, Publish, TagSet, TagRemove}
-use Rattle.registry_rules.proofs.MadeFacts.{latest_put, tag_put}
+use Rattle.registry_rules.specs.State.{State, developers, stands}
+use Rattle.registry_rules.specs.declared.request.Action.TheVariants.{UserAdd, TokenAdd, OrgCreate, OrgSet, OrgRemove, Publish, TagSet, TagRemove}
+use Rattle.registry_rules.proofs.MadeFacts.{latest_put, role_put, tag_put}
 use Rattle.registry_rules.proofs.PublishedFacts.{statuses_after, status_of, after_publish, published_is}
 
 -- keys that differ fail the test
@@ -50,6 +52,54 @@ tokens_are_added S now who u digest = record {
   tokens = λ d differ. at-put_other text_key S.access.tokens digest u d (unlike text_key digest d differ);
   rest = refl;
 }
+
+-- ---- organisations
+
+pub organisations_are_created : OrganisationsAreCreated
+organisations_are_created S now who o u = let A = S.access in record {
+  organisation = put_there text_key A.organisations o tt;
+  owner = at-put_same pair_key A.roles (o, u) Owner;
+  team = put_there pair_key A.teams (o, developers) tt;
+  member = put_there triple_key A.team_members (o, (developers, u)) tt;
+  organisations = λ p differ. at-put_other text_key A.organisations o tt p (unlike text_key o p differ);
+  roles = λ k differ. at-put_other pair_key A.roles (o, u) Owner k (unlike pair_key _ k differ);
+  teams = λ k differ. at-put_other pair_key A.teams (o, developers) tt k (unlike pair_key _ k differ);
+  team_members = λ k differ. at-put_other triple_key A.team_members (o, (developers, u)) tt k (unlike triple_key _ k differ);
+  rest = refl;
+}
+
+role_set : (S : State) (o u : Text) (role : Role) (old : Option Role) → at S.access.roles (o, u) ≡ old → SetsRole S (all_made S (membership o u role old)) o u role
+role_set S o u role (Some r) e = subst (λ T. SetsRole S T o u role) (sym (role_put S o u role (ap is_some e))) (record {
+  role = at-put_same pair_key S.access.roles (o, u) role;
+  roles = λ k differ. at-put_other pair_key S.access.roles (o, u) role k (unlike pair_key _ k differ);
+  joins = λ none. absurd (true≢false (sym (ap is_some e) ∙ ap is_some none));
+  stays = λ had. refl;
+  team_members = λ k differ. refl;
+  rest = refl;
+})
+role_set S o u role None e = record {
+  role = at-put_same pair_key S.access.roles (o, u) role;
+  roles = λ k differ. at-put_other pair_key S.access.roles (o, u) role k (unlike pair_key _ k differ);
+  joins = λ none. put_there triple_key S.access.team_members (o, (developers, u)) tt;
+  stays = λ had. absurd (true≢false (sym had ∙ ap is_some e));
+  team_members = λ k differ. at-put_other triple_key S.access.team_members (o, (developers, u)) tt k (unlike triple_key _ k differ);
+  rest = refl;
+}
+
+pub roles_are_set : RolesAreSet
+roles_are_set S now who o u role = role_set S o u role (at S.access.roles (o, u)) refl
+
+pub members_are_removed : MembersAreRemoved
+members_are_removed S now who o u = let A = S.access in record {
+  role = at-erase_same pair_key A.roles (o, u);
+  roles = λ k differ. at-erase_other pair_key A.roles (o, u) k (unlike pair_key _ k differ);
+  teams = λ t. at-keep triple_key A.team_members stays (o, (t, u)) ∙ ap (λ b. cond (not b) (at A.team_members (o, (t, u))) None) (same_self pair_key (o, u));
+  team_members = λ p t w differ. at-keep triple_key A.team_members stays (p, (t, w)) ∙ ap (λ b. cond (not b) (at A.team_members (p, (t, w))) None) (unlike pair_key (o, u) (p, w) differ);
+  rest = refl;
+}
+  where
+    stays : Triple → Bool
+    stays k = not (is o k.0 && is u k.1.1)
 
 -- ---- a publish
 
@@ -158,6 +208,9 @@ removed_tags_are_gone S now who p t =
 pub queries_change_nothing : QueriesChangeNothing
 queries_change_nothing S now who (UserAdd u) e = absurd (true≢false e)
 queries_change_nothing S now who (TokenAdd u digest) e = absurd (true≢false e)
+queries_change_nothing S now who (OrgCreate o u) e = absurd (true≢false e)
+queries_change_nothing S now who (OrgSet o u role) e = absurd (true≢false e)
+queries_change_nothing S now who (OrgRemove o u) e = absurd (true≢false e)
 queries_change_nothing S now who (Publish f) e = absurd (true≢false e)
 queries_change_nothing S now who (TagSet p t v) e = absurd (true≢false e)
 queries_change_nothing S now who (TagRemove p t) e = absurd (true≢false e)
@@ -199,9 +252,16 @@ apart_from_publish S now f p other = record {
     latest_elsewhere t true = refl
     latest_elsewhere t false = at-put_other pair_key S.tags (f.name, latest) (version_of f) (p, t) (elsewhere f.name p latest t other)
 
+apart_from_role : (S : State) (o u : Text) (role : Role) (old : Option Role) → at S.access.roles (o, u) ≡ old → (p : Text) → IsSameOf S (all_made S (membership o u role old)) p
+apart_from_role S o u role (Some r) e p = subst (λ T. IsSameOf S T p) (sym (role_put S o u role (ap is_some e))) (apart_in_access S _ p refl (λ w. refl) (λ o t. refl))
+apart_from_role S o u role None e p = apart_in_access S _ p refl (λ w. refl) (λ o t. refl)
+
 pub packages_stand_apart : PackagesStandApart
 packages_stand_apart S now who (UserAdd u) p other = apart_in_access S (record S.access { users = put S.access.users u tt }) p refl (λ w. refl) (λ o t. refl)
 packages_stand_apart S now who (TokenAdd u digest) p other = apart_in_access S (record S.access { tokens = put S.access.tokens digest u }) p refl (λ w. refl) (λ o t. refl)
+packages_stand_apart S now who (OrgCreate o u) p other = apart_in_access S _ p refl (λ w. refl) (λ o t. refl)
+packages_stand_apart S now who (OrgSet o u role) p other = apart_from_role S o u role (at S.access.roles (o, u)) refl p
+packages_stand_apart S now who (OrgRemove o u) p other = apart_in_access S _ p refl (λ w. refl) (λ o t. refl)
 packages_stand_apart S now who (Publish f) p other = subst (λ T. IsSameOf S T p) (sym (published_is S f now)) (apart_from_publish S now f p other)
 packages_stand_apart S now who (TagSet q t v) p other =
     subst (λ T. IsSameOf S T p) (sym (tag_put S q t (text_of_version v) (stands S q t) (λ there. there)))

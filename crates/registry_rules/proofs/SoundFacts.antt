@@ -1,63 +1,32 @@
--- What stands refers to what is there, from nothing on, through each action that nothing refuses. Nothing is asked of how names are spelled.
-use Rattle.std.proofs.Common.{◌≡◌, ◌≢◌, ℕ, Bool, true, false, cond, is_some, Option, Some, None, option_map, refl, sym, ap, ◌∙◌, subst, true≢false}
+-- A change of who is there, and of what he may do, leaves what stands referring to what is there. Nothing is asked of how names are spelled.
+use Rattle.std.proofs.Common.{◌≡◌, Bool, true, false, cond, not, ◌&&◌, Option, Some, None, is_some, refl, sym, ap, ◌∙◌, subst, true≢false}
 use Rattle.std.specs.Prelude.{IsSome}
-use Rattle.registry_names.specs.Maps.{TextMap, at, put}
-use Rattle.registry_names.specs.Names.{scope_of}
-use Rattle.registry_names.specs.Texts.{Text}
-use Rattle.registry_names.specs.Versions.{text_of_version}
-use Rattle.registry_names.specs.declared.status.Status.{Status}
-use Rattle.registry_names.specs.declared.status.Status.TheVariants.{Restricted}
-use Rattle.registry_names.proofs.KeyFacts.{text_key, pair_key, triple_key}
-use Rattle.registry_names.proofs.MapFacts.{at-empty}
-use Rattle.registry_names.proofs.PutFacts.{each_put, still_there}
+use Rattle.registry_names.specs.Keys.{Pair, pair_is}
+use Rattle.registry_names.specs.Maps.{PairMap, at, put, erase, keep}
+use Rattle.registry_names.specs.Texts.{Text, is}
+use Rattle.registry_names.proofs.KeyFacts.{text_key, pair_key, triple_key, same_true}
+use Rattle.registry_names.proofs.MapFacts.{at-put_same, at-put_other, at-erase, at-erase_other, at-keep}
+use Rattle.registry_names.proofs.PutFacts.{each_put, some_before, put_there, still_there}
 use Rattle.registry_access.specs.Access.{Access}
-use Rattle.registry_access.specs.Hiding.{UnscopedArePublic}
-use Rattle.registry_access.specs.declared.caller.Caller.{Caller}
-use Rattle.registry_access.specs.declared.caller.Caller.TheVariants as caller
-use Rattle.registry_publish.specs.Form.{FormParts}
-use Rattle.registry_rules.specs.Callers.{caller_of, is_known}
-use Rattle.registry_rules.specs.Changes.{all_made}
-use Rattle.registry_rules.specs.Effects.{publication, step_by}
-use Rattle.registry_rules.specs.Kept.{IsSound}
-use Rattle.registry_rules.specs.Refusals.{publish_refusal, refusal_by}
-use Rattle.registry_rules.specs.State.{State, nothing, has_user, stands}
-use Rattle.registry_rules.specs.declared.request.Credential.{Credential}
-use Rattle.registry_rules.specs.declared.request.Credential.TheVariants.{Operator, User, Token, Anonymous}
-use Rattle.registry_rules.specs.declared.request.Action.{Action}
-use Rattle.registry_rules.specs.declared.request.Action.TheVariants.{UserAdd, TokenAdd, Publish, TagSet}
-use Rattle.registry_rules.proofs.AllowedFacts.{may_be_public, state_passed, user_there}
-use Rattle.registry_rules.proofs.MadeFacts.{tag_put}
-use Rattle.registry_rules.proofs.PublishedFacts.{statuses_after, status_of, published_is}
+use Rattle.registry_access.specs.declared.role.Role.{Role}
+use Rattle.registry_access.specs.declared.role.Role.TheVariants.{Owner}
+use Rattle.registry_rules.specs.Kept.{IsGrant, IsSound}
+use Rattle.registry_rules.specs.State.{developers}
 
--- ---- nothing
-
-pub none_there : {X : Type 0} (o : Option X) → o ≡ None → IsSome o → ⊥
-none_there o e h = true≢false (sym h ∙ ap is_some e)
-
-pub nothing_sound : IsSound nothing.access
-nothing_sound = record {
-  tokens = λ digest u h. absurd (none_there _ (at-empty text_key digest) (ap is_some h));
-  roles = λ o u h. absurd (none_there _ (at-empty pair_key (o, u)) h);
-  owners = λ o h. absurd (none_there _ (at-empty text_key o) h);
-  first_teams = λ o h. absurd (none_there _ (at-empty text_key o) h);
-  teams = λ o t h. absurd (none_there _ (at-empty pair_key (o, t)) h);
-  team_members = λ o t u h. absurd (none_there _ (at-empty triple_key (o, (t, u))) h);
-  grants = λ o t p h. absurd (none_there _ (at-empty triple_key (o, (t, p))) h);
-  maintainers = λ p u h. absurd (none_there _ (at-empty pair_key (p, u)) h);
-  unscoped = λ p u h. none_there _ (at-empty text_key p) (ap is_some h);
-}
+still_grant : (A T : Access) (o t p : Text) → (IsSome (at A.teams (o, t)) → IsSome (at T.teams (o, t))) → (IsSome (at A.statuses p) → IsSome (at T.statuses p)) → IsGrant A o t p → IsGrant T o t p
+still_grant A T o t p team status grant = record { team = team grant.team; status = status grant.status; scope = grant.scope }
 
 -- ---- users and tokens
 
-pub user_sound : (A : Access) (u : Text) → IsSound A → IsSound (record A { users = put A.users u tt })
-user_sound A u sound = record {
+pub user_added : (A : Access) (u : Text) → IsSound A → IsSound (record A { users = put A.users u tt })
+user_added A u sound = record {
   tokens = λ digest w h. still w (sound.tokens digest w h);
   roles = λ o w h. let has = sound.roles o w h in (has.0, still w has.1);
   owners = sound.owners;
   first_teams = sound.first_teams;
   teams = sound.teams;
   team_members = sound.team_members;
-  grants = λ o t p h. let grant = sound.grants o t p h in record { team = grant.team; status = grant.status; scope = grant.scope };
+  grants = λ o t p h. still_grant A (record A { users = put A.users u tt }) o t p (λ team. team) (λ status. status) (sound.grants o t p h);
   maintainers = λ p w h. let has = sound.maintainers p w h in (has.0, still w has.1);
   unscoped = sound.unscoped;
 }
@@ -65,81 +34,145 @@ user_sound A u sound = record {
     still : (w : Text) → IsSome (at A.users w) → IsSome (at (put A.users u tt) w)
     still w h = still_there text_key A.users u tt w h
 
-pub token_sound : (A : Access) (digest u : Text) → IsSome (at A.users u) → IsSound A → IsSound (record A { tokens = put A.tokens digest u })
-token_sound A digest u there sound = record {
+pub token_added : (A : Access) (digest u : Text) → IsSome (at A.users u) → IsSound A
+    → IsSound (record A { tokens = put A.tokens digest u })
+token_added A digest u there sound = record {
   tokens = each_put text_key A.tokens digest u (λ d w. IsSome (at A.users w)) sound.tokens there;
   roles = sound.roles;
   owners = sound.owners;
   first_teams = sound.first_teams;
   teams = sound.teams;
   team_members = sound.team_members;
-  grants = λ o t p h. let grant = sound.grants o t p h in record { team = grant.team; status = grant.status; scope = grant.scope };
+  grants = λ o t p h. still_grant A (record A { tokens = put A.tokens digest u }) o t p (λ team. team) (λ status. status) (sound.grants o t p h);
   maintainers = sound.maintainers;
   unscoped = sound.unscoped;
 }
 
--- ---- a publish
+-- ---- organisations
 
-more_statuses_sound : (A : Access) (statuses : TextMap Status) → ((p : Text) → IsSome (at A.statuses p) → IsSome (at statuses p)) → UnscopedArePublic (record A { statuses = statuses })
-    → IsSound A → IsSound (record A { statuses = statuses })
-more_statuses_sound A statuses still unscoped sound = record {
+abbrev pub HasOwner : PairMap Role → Text → Type 0
+HasOwner roles o = (w : Text) × (at roles (o, w) ≡ Some Owner)
+
+-- where one member alone changes his role, and the organisation keeps an owner
+owners_left : (A : Access) (roles : PairMap Role) (o u : Text) → ((k : Pair) → pair_is (o, u) k ≡ false → at roles k ≡ at A.roles k) → (at A.roles (o, u) ≡ Some Owner → HasOwner roles o) → IsSound A
+    → (p : Text) → IsSome (at A.organisations p) → HasOwner roles p
+owners_left A roles o u same here sound p h = by_test (sound.owners p h).0 (sound.owners p h).1 (pair_is (o, u) (p, (sound.owners p h).0)) refl
+  where
+    by_test : (w : Text) → at A.roles (p, w) ≡ Some Owner → (b : Bool) → pair_is (o, u) (p, w) ≡ b → HasOwner roles p
+    by_test w e true s = let one = same_true pair_key (o, u) (p, w) s in subst (HasOwner roles) (ap (λ (k : Pair). k.0) one) (here (ap (at A.roles) one ∙ e))
+    by_test w e false s = (w, same (p, w) s ∙ e)
+
+abbrev pub created : Access → Text → Text → Access
+created A o u = record A {
+  organisations = put A.organisations o tt;
+  roles = put A.roles (o, u) Owner;
+  teams = put A.teams (o, developers) tt;
+  team_members = put A.team_members (o, (developers, u)) tt;
+}
+
+pub organisation_created : (A : Access) (o u : Text) → IsSome (at A.users u) → IsSound A → IsSound (created A o u)
+organisation_created A o u there sound = record {
+  tokens = sound.tokens;
+  roles = λ p w h. some_before pair_key A.roles (o, u) Owner (λ k. IsSome (at T.organisations k.0) × IsSome (at A.users k.1))
+      (λ k e. let has = sound.roles k.0 k.1 e in (still_organisation k.0 has.0, has.1)) (organisation_here, there) (p, w) h;
+  owners = some_before text_key A.organisations o tt (HasOwner T.roles)
+      (owners_left A T.roles o u (λ k other. at-put_other pair_key A.roles (o, u) Owner k other) (λ e. owner_here) sound) owner_here;
+  first_teams = some_before text_key A.organisations o tt (λ p. IsSome (at T.teams (p, developers))) (λ p e. still_team (p, developers) (sound.first_teams p e)) team_here;
+  teams = λ p t h. some_before pair_key A.teams (o, developers) tt (λ k. IsSome (at T.organisations k.0)) (λ k e. still_organisation k.0 (sound.teams k.0 k.1 e)) organisation_here (p, t) h;
+  team_members = λ p t w h. some_before triple_key A.team_members (o, (developers, u)) tt (λ k. IsSome (at T.teams (k.0, k.1.0)) × IsSome (at T.roles (k.0, k.1.1)))
+      (λ k e. let has = sound.team_members k.0 k.1.0 k.1.1 e in (still_team (k.0, k.1.0) has.0, still_there pair_key A.roles (o, u) Owner (k.0, k.1.1) has.1))
+      (team_here, put_there pair_key A.roles (o, u) Owner) (p, (t, w)) h;
+  grants = λ p t q h. still_grant A T p t q (still_team (p, t)) (λ status. status) (sound.grants p t q h);
+  maintainers = sound.maintainers;
+  unscoped = sound.unscoped;
+}
+  where
+    T : Access
+    T = created A o u
+
+    organisation_here : IsSome (at (put A.organisations o tt) o)
+    organisation_here = put_there text_key A.organisations o tt
+
+    still_organisation : (p : Text) → IsSome (at A.organisations p) → IsSome (at (put A.organisations o tt) p)
+    still_organisation p h = still_there text_key A.organisations o tt p h
+
+    team_here : IsSome (at (put A.teams (o, developers) tt) (o, developers))
+    team_here = put_there pair_key A.teams (o, developers) tt
+
+    still_team : (k : Pair) → IsSome (at A.teams k) → IsSome (at (put A.teams (o, developers) tt) k)
+    still_team k h = still_there pair_key A.teams (o, developers) tt k h
+
+    owner_here : HasOwner (put A.roles (o, u) Owner) o
+    owner_here = (u, at-put_same pair_key A.roles (o, u) Owner)
+
+-- ---- members
+
+-- a member who has a role, while the organisation keeps an owner
+pub role_given : (A : Access) (o u : Text) (role : Role) → IsSome (at A.organisations o) → IsSome (at A.users u) → (at A.roles (o, u) ≡ Some Owner → HasOwner (put A.roles (o, u) role) o)
+    → IsSound A → IsSound (record A { roles = put A.roles (o, u) role })
+role_given A o u role organisation user left sound = record {
+  tokens = sound.tokens;
+  roles = λ p w h. some_before pair_key A.roles (o, u) role (λ k. IsSome (at A.organisations k.0) × IsSome (at A.users k.1)) (λ k e. sound.roles k.0 k.1 e) (organisation, user) (p, w) h;
+  owners = owners_left A (put A.roles (o, u) role) o u (λ k other. at-put_other pair_key A.roles (o, u) role k other) left sound;
+  first_teams = sound.first_teams;
+  teams = sound.teams;
+  team_members = λ p t w h. let has = sound.team_members p t w h in (has.0, still_there pair_key A.roles (o, u) role (p, w) has.1);
+  grants = λ p t q h. still_grant A (record A { roles = put A.roles (o, u) role }) p t q (λ team. team) (λ status. status) (sound.grants p t q h);
+  maintainers = sound.maintainers;
+  unscoped = sound.unscoped;
+}
+
+-- a member who is in a team
+pub team_joined : (A : Access) (o t u : Text) → IsSome (at A.teams (o, t)) → IsSome (at A.roles (o, u)) → IsSound A
+    → IsSound (record A { team_members = put A.team_members (o, (t, u)) tt })
+team_joined A o t u team role sound = record {
   tokens = sound.tokens;
   roles = sound.roles;
   owners = sound.owners;
   first_teams = sound.first_teams;
   teams = sound.teams;
-  team_members = sound.team_members;
-  grants = λ o t p h. let grant = sound.grants o t p h in record { team = grant.team; status = still p grant.status; scope = grant.scope };
-  maintainers = λ p u h. let has = sound.maintainers p u h in (still p has.0, has.1);
-  unscoped = unscoped;
+  team_members = λ p s w h. some_before triple_key A.team_members (o, (t, u)) tt (λ k. IsSome (at A.teams (k.0, k.1.0)) × IsSome (at A.roles (k.0, k.1.1)))
+      (λ k e. sound.team_members k.0 k.1.0 k.1.1 e) (team, role) (p, (s, w)) h;
+  grants = λ p s q h. still_grant A (record A { team_members = put A.team_members (o, (t, u)) tt }) p s q (λ team. team) (λ status. status) (sound.grants p s q h);
+  maintainers = sound.maintainers;
+  unscoped = sound.unscoped;
 }
 
-pub status_stays : (m : TextMap Status) (p : Text) (o : Option Status) (q : Text) → IsSome (at m q) → IsSome (at (statuses_after m p o) q)
-status_stays m p None q h = h
-status_stays m p (Some s) q h = still_there text_key m p s q h
+pub member_joined : (A : Access) (o u : Text) (role : Role) → IsSome (at A.organisations o) → IsSome (at A.users u) → (at A.roles (o, u) ≡ Some Owner → HasOwner (put A.roles (o, u) role) o)
+    → IsSound A
+    → IsSound (record A { roles = put A.roles (o, u) role; team_members = put A.team_members (o, (developers, u)) tt })
+member_joined A o u role organisation user left sound =
+    team_joined (record A { roles = put A.roles (o, u) role }) o developers u (sound.first_teams o organisation) (put_there pair_key A.roles (o, u) role)
+    (role_given A o u role organisation user left sound)
 
-statuses_public : (A : Access) (p : Text) (o : Option Status) → (scope_of p ≡ None → o ≢ Some Restricted) → UnscopedArePublic A → UnscopedArePublic (record A { statuses = statuses_after A.statuses p o })
-statuses_public A p None may public = public
-statuses_public A p (Some status) may public = λ q u h.
-    each_put text_key A.statuses p status (λ q s. scope_of q ≡ None → s ≢ Restricted)
-    (λ q s e u f. public q u (e ∙ ap (λ (x : Status). Some x) f)) (λ u f. may u (ap (λ (x : Status). Some x) f)) q Restricted h u refl
+-- what is there after some keys are dropped was there, under a key that isn't dropped
+pub was_kept : {X : Type 0} (b : Bool) (old : Option X) → IsSome (cond b old None) → (b ≡ true) × IsSome old
+was_kept true old h = (refl, h)
+was_kept false old h = absurd (true≢false (sym h))
 
-pub statuses_sound : (A : Access) (p : Text) (o : Option Status) → (scope_of p ≡ None → o ≢ Some Restricted) → IsSound A → IsSound (record A { statuses = statuses_after A.statuses p o })
-statuses_sound A p o may sound =
-    more_statuses_sound A (statuses_after A.statuses p o) (status_stays A.statuses p o) (statuses_public A p o may sound.unscoped) sound
+was_left : {X : Type 0} (b : Bool) (old : Option X) → IsSome (cond b None old) → IsSome old
+was_left true old h = absurd (true≢false (sym h))
+was_left false old h = h
 
-publish_sound : (S : State) (f : FormParts) (now : ℕ) → publish_refusal S f ≡ None → IsSound S.access → IsSound (all_made S (publication S now f)).access
-publish_sound S f now may sound =
-    subst (λ (T : State). IsSound T.access) (sym (published_is S f now)) (statuses_sound S.access f.name (status_of S f) (may_be_public S f may) sound)
+not_true : (b : Bool) → not b ≡ true → b ≡ false
+not_true true h = absurd (true≢false (sym h))
+not_true false h = refl
 
--- ---- all actions
+abbrev left : Access → Text → Text → Access
+left A o u = record A { roles = erase A.roles (o, u); team_members = keep A.team_members (λ k. not (is o k.0 && is u k.1.1)) }
 
-pub step_sound : (S : State) (now : ℕ) (who : Caller) (what : Action) → is_known S who ≡ true → refusal_by S now who what ≡ None → IsSound S.access → IsSound (step_by S now who what).access
-step_sound S now who (UserAdd u) known may sound = user_sound S.access u sound
-step_sound S now who (TokenAdd u digest) known may sound = token_sound S.access digest u (user_there _ _ (state_passed S now who (TokenAdd u digest) may)) sound
-step_sound S now who (Publish f) known may sound = publish_sound S f now (state_passed S now who (Publish f) may) sound
-step_sound S now who (TagSet p t v) known may sound = subst (λ (T : State). IsSound T.access) (sym (tag_put S p t (text_of_version v) (stands S p t) (λ there. there))) sound
-step_sound S now who _ known may sound = sound
-
--- ---- callers
-
-known_user : (b : Bool) (u : Text) (who : Caller) → cond b (Some (caller.User u)) None ≡ Some who → (S : State) → has_user S u ≡ b → is_known S who ≡ true
-known_user true u who e S there = ap (is_known S) same ∙ there
+pub member_removed : (A : Access) (o u : Text) → (at A.roles (o, u) ≡ Some Owner → HasOwner (erase A.roles (o, u)) o) → IsSound A → IsSound (left A o u)
+member_removed A o u owner sound = record {
+  tokens = sound.tokens;
+  roles = λ p w h. sound.roles p w (was_left _ _ (sym (ap is_some (at-erase pair_key A.roles (o, u) (p, w))) ∙ h));
+  owners = owners_left A (erase A.roles (o, u)) o u (λ k other. at-erase_other pair_key A.roles (o, u) k other) owner sound;
+  first_teams = sound.first_teams;
+  teams = sound.teams;
+  team_members = λ p t w h. stayed p t w (was_kept _ _ (sym (ap is_some (at-keep triple_key A.team_members (λ k. not (is o k.0 && is u k.1.1)) (p, (t, w)))) ∙ h));
+  grants = λ p t q h. still_grant A (left A o u) p t q (λ team. team) (λ status. status) (sound.grants p t q h);
+  maintainers = sound.maintainers;
+  unscoped = sound.unscoped;
+}
   where
-    same : who ≡ caller.User u
-    same = cc
-known_user false u who e S there = cc
-
-token_known : (S : State) (o : Option Text) (who : Caller) → ((u : Text) → o ≡ Some u → IsSome (at S.access.users u)) → option_map caller.User o ≡ Some who → is_known S who ≡ true
-token_known S None who there e = cc
-token_known S (Some u) who there e = ap (is_known S) same ∙ there u refl
-  where
-    same : who ≡ caller.User u
-    same = cc
-
--- whom a credential names is known, where tokens are users'
-pub caller_known : (S : State) (c : Credential) (who : Caller) → IsSound S.access → caller_of S c ≡ Some who → is_known S who ≡ true
-caller_known S Operator who sound e = let same : who ≡ caller.Operator = cc in ap (is_known S) same
-caller_known S (User u) who sound e = known_user (has_user S u) u who e S refl
-caller_known S (Token digest) who sound e = token_known S (at S.access.tokens digest) who (sound.tokens digest) e
-caller_known S Anonymous who sound e = let same : who ≡ caller.Anonymous = cc in ap (is_known S) same
+    stayed : (p t w : Text) → (not (is o p && is u w) ≡ true) × IsSome (at A.team_members (p, (t, w))) → IsSome (at A.teams (p, t)) × IsSome (at (erase A.roles (o, u)) (p, w))
+    stayed p t w was = let has = sound.team_members p t w was.1 in (has.0, ap is_some (at-erase_other pair_key A.roles (o, u) (p, w) (not_true _ was.0)) ∙ has.1)

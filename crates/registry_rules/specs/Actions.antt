@@ -4,12 +4,15 @@ use Rattle.registry_names.specs.Texts.{Text, is}
 use Rattle.registry_names.specs.Versions.{text_of_version}
 use Rattle.registry_publish.specs.Form.{FormParts}
 use Rattle.registry_rules.specs.declared.request.Action.{Action}
-use Rattle.registry_rules.specs.declared.request.Action.TheVariants.{UserAdd, TokenAdd, Publish, TagSet, TagRemove}
+use Rattle.registry_rules.specs.declared.request.Action.TheVariants.{UserAdd, TokenAdd, OrgCreate, OrgSet, OrgRemove, Publish, TagSet, TagRemove}
 
 -- whether it may change the registry
 abbrev pub is_command : Action → Bool
 is_command (UserAdd u) = true
 is_command (TokenAdd u digest) = true
+is_command (OrgCreate o u) = true
+is_command (OrgSet o u role) = true
+is_command (OrgRemove o u) = true
 is_command (Publish f) = true
 is_command (TagSet p t v) = true
 is_command (TagRemove p t) = true

@@ -1,6 +1,6 @@
 -- What commands make of what the registry holds, told of each map apart.
-use Rattle.std.specs.Prelude.{◌≡◌, ◌≢◌, ℕ, false, [], Some, None, IsSome}
-use Rattle.registry_names.specs.Keys.{Pair}
+use Rattle.std.specs.Prelude.{◌≡◌, ◌≢◌, ◌↔◌, ℕ, true, false, [], Some, None, IsSome}
+use Rattle.registry_names.specs.Keys.{Pair, Triple}
 use Rattle.registry_names.specs.Maps.{at}
 use Rattle.registry_names.specs.Tags.{latest}
 use Rattle.registry_names.specs.Texts.{Text}
@@ -9,12 +9,14 @@ use Rattle.registry_names.specs.declared.status.Status.{Status}
 use Rattle.registry_names.specs.declared.status.Status.TheVariants.{Public, Restricted}
 use Rattle.registry_names.specs.Names.{scope_of}
 use Rattle.registry_access.specs.declared.caller.Caller.{Caller}
+use Rattle.registry_access.specs.declared.role.Role.{Role}
+use Rattle.registry_access.specs.declared.role.Role.TheVariants.{Owner}
 use Rattle.registry_publish.specs.Form.{FormParts}
 use Rattle.registry_rules.specs.Actions.{is_command, version_of, names}
 use Rattle.registry_rules.specs.Effects.{step_by}
-use Rattle.registry_rules.specs.State.{State}
+use Rattle.registry_rules.specs.State.{State, developers, has_other_owner}
 use Rattle.registry_rules.specs.declared.request.Action.{Action}
-use Rattle.registry_rules.specs.declared.request.Action.TheVariants.{UserAdd, TokenAdd, Publish, TagSet, TagRemove}
+use Rattle.registry_rules.specs.declared.request.Action.TheVariants.{UserAdd, TokenAdd, OrgCreate, OrgSet, OrgRemove, Publish, TagSet, TagRemove}
 
 -- ---- users and tokens
 
@@ -35,6 +37,57 @@ UsersAreAdded = (S : State) (now : ℕ) (who : Caller) (u : Text) → AddsUser S
 
 abbrev pub TokensAreAdded : Type 0
 TokensAreAdded = (S : State) (now : ℕ) (who : Caller) (u digest : Text) → AddsToken S (step_by S now who (TokenAdd u digest)) digest u
+
+-- ---- organisations
+
+-- the organisation is there, with an owner and its first team, in which he is; nothing else has changed
+pub record CreatesOrganisation (S T : State) (o u : Text) : Type 0 where
+  pub organisation : IsSome (at T.access.organisations o)
+  pub owner : at T.access.roles (o, u) ≡ Some Owner
+  pub team : IsSome (at T.access.teams (o, developers))
+  pub member : IsSome (at T.access.team_members (o, (developers, u)))
+  pub organisations : (p : Text) → p ≢ o → at T.access.organisations p ≡ at S.access.organisations p
+  pub roles : (k : Pair) → k ≢ (o, u) → at T.access.roles k ≡ at S.access.roles k
+  pub teams : (k : Pair) → k ≢ (o, developers) → at T.access.teams k ≡ at S.access.teams k
+  pub team_members : (k : Triple) → k ≢ (o, (developers, u)) → at T.access.team_members k ≡ at S.access.team_members k
+  pub rest : T ≡ record S {
+    access = record S.access {
+      organisations = T.access.organisations;
+      roles = T.access.roles;
+      teams = T.access.teams;
+      team_members = T.access.team_members;
+    };
+  }
+
+-- the user has this role. Who had none joins the first team, and who had one stays where he is
+pub record SetsRole (S T : State) (o u : Text) (new : Role) : Type 0 where
+  pub role : at T.access.roles (o, u) ≡ Some new
+  pub roles : (k : Pair) → k ≢ (o, u) → at T.access.roles k ≡ at S.access.roles k
+  pub joins : at S.access.roles (o, u) ≡ None → IsSome (at T.access.team_members (o, (developers, u)))
+  pub stays : IsSome (at S.access.roles (o, u)) → T.access.team_members ≡ S.access.team_members
+  pub team_members : (k : Triple) → k ≢ (o, (developers, u)) → at T.access.team_members k ≡ at S.access.team_members k
+  pub rest : T ≡ record S { access = record S.access { roles = T.access.roles; team_members = T.access.team_members } }
+
+-- the user is no member, and in no team of the organisation; every other member stays, in all his teams
+pub record RemovesMember (S T : State) (o u : Text) : Type 0 where
+  pub role : at T.access.roles (o, u) ≡ None
+  pub roles : (k : Pair) → k ≢ (o, u) → at T.access.roles k ≡ at S.access.roles k
+  pub teams : (t : Text) → at T.access.team_members (o, (t, u)) ≡ None
+  pub team_members : (p t w : Text) → ◌≢◌ {A = Pair} (p, w) (o, u) → at T.access.team_members (p, (t, w)) ≡ at S.access.team_members (p, (t, w))
+  pub rest : T ≡ record S { access = record S.access { roles = T.access.roles; team_members = T.access.team_members } }
+
+abbrev pub OrganisationsAreCreated : Type 0
+OrganisationsAreCreated = (S : State) (now : ℕ) (who : Caller) (o u : Text) → CreatesOrganisation S (step_by S now who (OrgCreate o u)) o u
+
+abbrev pub RolesAreSet : Type 0
+RolesAreSet = (S : State) (now : ℕ) (who : Caller) (o u : Text) (role : Role) → SetsRole S (step_by S now who (OrgSet o u role)) o u role
+
+abbrev pub MembersAreRemoved : Type 0
+MembersAreRemoved = (S : State) (now : ℕ) (who : Caller) (o u : Text) → RemovesMember S (step_by S now who (OrgRemove o u)) o u
+
+-- another owner is another user who is an owner
+abbrev pub OtherOwnersAreOwners : Type 0
+OtherOwnersAreOwners = (S : State) (o u : Text) → (has_other_owner S o u ≡ true) ↔ ((w : Text) × (w ≢ u) × (at S.access.roles (o, w) ≡ Some Owner))
 
 -- ---- a publish
 

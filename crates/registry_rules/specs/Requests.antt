@@ -8,7 +8,7 @@ use Rattle.registry_names.specs.Versions.{IsVersionOf, text_of_version}
 use Rattle.registry_publish.specs.Form.{FormParts, IsManifestText}
 use Rattle.registry_publish.specs.Needs.{needs_of}
 use Rattle.registry_rules.specs.declared.request.Action.{Action}
-use Rattle.registry_rules.specs.declared.request.Action.TheVariants.{UserAdd, TokenAdd, Publish, TagSet, TagRemove, Packument, VersionDoc, Archive, Tags}
+use Rattle.registry_rules.specs.declared.request.Action.TheVariants.{UserAdd, TokenAdd, OrgCreate, OrgSet, OrgRemove, Publish, TagSet, TagRemove, Packument, VersionDoc, Archive, Tags, Members}
 use Rattle.registry_rules.specs.declared.request.Asked.{Asked}
 use Rattle.registry_rules.specs.declared.request.Asked.TheVariants.{Exact, Latest}
 use Rattle.registry_rules.specs.declared.request.Request.{Request}
@@ -27,6 +27,9 @@ IsAskedInForm Latest = Unit {0}
 abbrev pub IsActionInForm : Action → Type 0
 IsActionInForm (UserAdd u) = IsTrue (is_ident u)
 IsActionInForm (TokenAdd u digest) = IsTrue (is_ident u) × (length digest ≡ 32)
+IsActionInForm (OrgCreate o u) = IsTrue (is_ident o) × IsTrue (is_ident u)
+IsActionInForm (OrgSet o u role) = IsTrue (is_ident o) × IsTrue (is_ident u)
+IsActionInForm (OrgRemove o u) = IsTrue (is_ident o) × IsTrue (is_ident u)
 IsActionInForm (Publish f) = ArePartsInForm f
 IsActionInForm (TagSet p t v) = IsName p × IsTrue (is_tag t) × IsVersionOf (text_of_version v) v
 IsActionInForm (TagRemove p t) = IsName p × IsTrue (is_tag t)
@@ -34,6 +37,7 @@ IsActionInForm (Packument p) = IsName p
 IsActionInForm (VersionDoc p asked) = IsName p × IsAskedInForm asked
 IsActionInForm (Archive p v) = IsName p × IsVersionOf (text_of_version v) v
 IsActionInForm (Tags p) = IsName p
+IsActionInForm (Members o) = IsTrue (is_ident o)
 
 -- it is asked at a moment, and its texts are in form
 pub record IsInForm (r : Request) : Type 0 where

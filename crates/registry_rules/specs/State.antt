@@ -1,10 +1,13 @@
 -- What the registry holds: finite maps under names, and nothing of how they are kept.
-use Rattle.std.specs.Prelude.{ℕ, Bool, true, false, not, List, [], ◌∷◌, codes, is_some, Option, Some, None}
+use Rattle.std.specs.Prelude.{ℕ, Bool, true, false, not, ◌&&◌, List, [], ◌∷◌, codes, is_some, Option, Some, None}
 use Rattle.registry_names.specs.Tags.{latest}
-use Rattle.registry_names.specs.Texts.{Text}
+use Rattle.std.specs.List.{list_any}
+use Rattle.registry_names.specs.Texts.{Text, is}
 use Rattle.registry_names.specs.Maps.{PairMap, empty, at, of}
 use Rattle.registry_names.specs.Versions.{text_of_version}
 use Rattle.registry_access.specs.Access.{Access}
+use Rattle.registry_access.specs.Levels.{is_owner}
+use Rattle.registry_access.specs.declared.role.Role.{Role}
 use Rattle.registry_rules.specs.declared.request.Asked.{Asked}
 use Rattle.registry_rules.specs.declared.request.Asked.TheVariants.{Exact, Latest}
 
@@ -51,6 +54,14 @@ is_empty (x ∷ xs) = false
 -- the user is there
 abbrev pub has_user : State → Text → Bool
 has_user S u = is_some (at S.access.users u)
+
+-- another member of the organisation than the user is an owner
+abbrev pub has_other_owner : State → Text → Text → Bool
+has_other_owner S o u = list_any (λ (e : Text × Role). not (is e.0 u) && is_owner (Some e.1)) (of S.access.roles o)
+
+-- he is the one owner of the organisation
+abbrev pub is_last_owner : State → Text → Text → Bool
+is_last_owner S o u = is_owner (at S.access.roles (o, u)) && not (has_other_owner S o u)
 
 -- there is a token with this digest
 abbrev pub has_token : State → Text → Bool

@@ -1,5 +1,6 @@
 //! What a decision changes.
 
+use registry_access::Role;
 use registry_names::{Ident, Moment, Name, Status, Ver};
 use registry_publish::{PublishForm, TokenDigest};
 
@@ -20,6 +21,45 @@ pub enum Change<'a> {
         /// The token's digest.
         digest: &'a TokenDigest,
         /// Whose it is.
+        user: &'a Ident,
+    },
+    /// There is this organisation.
+    AddOrg {
+        /// The organisation.
+        organisation: &'a str,
+    },
+    /// The user is a member of the organisation, in this role.
+    PutMember {
+        /// The organisation.
+        organisation: &'a str,
+        /// The user.
+        user: &'a Ident,
+        /// What he is in it.
+        role: Role,
+        /// Whether he is a member already, in another role or in this one.
+        stands: bool,
+    },
+    /// The user is no member of the organisation, and in none of its teams.
+    DropMember {
+        /// The organisation.
+        organisation: &'a str,
+        /// The user.
+        user: &'a Ident,
+    },
+    /// The organisation has this team.
+    AddTeam {
+        /// The organisation.
+        organisation: &'a str,
+        /// The team.
+        team: &'a str,
+    },
+    /// The user is in the team of the organisation.
+    PutTeamMember {
+        /// The organisation.
+        organisation: &'a str,
+        /// The team.
+        team: &'a str,
+        /// The user.
         user: &'a Ident,
     },
     /// The package has this status.

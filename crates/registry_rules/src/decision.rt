@@ -8,17 +8,18 @@ ghost use Rattle.registry_rules.specs.Facts.{StandsAbout, StandsFor};
 ghost use Rattle.registry_rules.specs.Refusals as spec;
 ghost use Rattle.registry_rules.specs.Refusals.{permitted, refusal};
 ghost use Rattle.registry_rules.specs.State.{State};
-ghost use Rattle.registry_access.specs.Access.{Access};
 ghost use Rattle.registry_access.specs.declared.caller.Caller.{Caller};
 
 use crate::change::{Change, Changes};
 use crate::facts::{About, Facts};
+use crate::organisations::{creation, membership, org_remove_refusal, org_set_refusal};
+use crate::policy::policy_refusal;
 use crate::publish::{publish_changes, publish_refusal};
 use crate::request::{Action, Request};
 use crate::tags::tag_remove_refusal;
-use crate::users::{token_add_refusal, unless_new};
-use registry_access::{Caller, may_operate};
-use registry_names::{Fault, Refusal, Rule, Stop};
+use crate::users::{added_to_refusal, unless_new};
+use registry_access::Caller;
+use registry_names::{Fault, Refusal, Stop};
 use std::alloc::{AllocError, Global};
 
 /// Whether a request may be asked, or why it is turned away. It takes no memory.
@@ -65,31 +66,15 @@ fn permitted(refusal: Option<Refusal>) -> Result<(), Refusal>
 
 // Why this caller's action is turned away, if it is.
 fn refusal_by(caller: &Caller, about: &About, action: &Action) -> Option<Refusal>
-    ensures { (S : State) (now : ℕ) → StandsAbout about.now S action.now
+    ensures { (S : State) (now : ℕ) → StandsAbout about.now S caller.now action.now
         → result ≡ spec.refusal_by S now caller.now action.now }
 {
-    policy_refusal(caller, action).or(state_refusal(about, action))
-}
-
-// Why the policy turns a caller's action away, if it does.
-fn policy_refusal(caller: &Caller, action: &Action) -> Option<Refusal>
-    ensures { (A : Access) → result ≡ spec.policy_refusal A caller.now action.now }
-{
-    match action {
-        Action::UserAdd { .. } | Action::TokenAdd { .. } => unless_allowed(may_operate(caller)),
-        _ => None,
-    }
-}
-
-fn unless_allowed(verdict: Result<Rule, Refusal>) -> Option<Refusal>
-    ensures { result ≡ spec.unless_allowed verdict }
-{
-    verdict.err()
+    policy_refusal(caller, about, action).or(state_refusal(about, action))
 }
 
 // Why what an action asks for can't be had, whoever asks.
 fn state_refusal(about: &About, action: &Action) -> Option<Refusal>
-    ensures { (S : State) (now : ℕ) → StandsAbout about.now S action.now
+    ensures { (S : State) (who : Caller) (now : ℕ) → StandsAbout about.now S who action.now
         → result ≡ spec.state_refusal S now action.now }
 {
     match (about, action) {
@@ -100,7 +85,32 @@ fn state_refusal(about: &About, action: &Action) -> Option<Refusal>
                 exists,
             },
             Action::TokenAdd { .. },
-        ) => { token_add_refusal(*user_exists, *exists) }
+        ) => { added_to_refusal(*user_exists, *exists) }
+        (
+            About::OrgCreate {
+                owner_exists,
+                exists,
+            },
+            Action::OrgCreate { .. },
+        ) => { added_to_refusal(*owner_exists, *exists) }
+        (
+            About::OrgSet {
+                user_exists,
+                role: old,
+                other_owner,
+                ..
+            },
+            Action::OrgSet { role, .. },
+        ) => org_set_refusal(*user_exists, *old, *other_owner, *role),
+        (
+            About::OrgRemove {
+                role,
+                other_owner,
+                ..
+            },
+            Action::OrgRemove { .. },
+        ) => { org_remove_refusal(*role, *other_owner) }
+        (About::Organisation { .. }, Action::Members { .. }) => None,
         (About::Publish(facts), Action::Publish { form }) => publish_refusal(facts, form),
         (About::TagSet { version_lives, .. }, Action::TagSet { .. }) => unless_there(
             *version_lives,
@@ -129,7 +139,7 @@ fn changes<'a>(
     request: &'a Request,
 ) -> Result<Changes<'a>, AllocError>
     ensures command { IfOk result (λ changes. (S : State) (who : Caller)
-        → StandsAbout about.now S request.now.what
+        → StandsAbout about.now S who request.now.what
         → map change_of changes.items ≡ effects S request.now.at who request.now.what) }
     ensures query { is_command request.now.what ≡ false
         → IfOk result (λ changes. changes.items ≡ []) }
@@ -140,6 +150,25 @@ fn changes<'a>(
         }
         (About::TokenAdd { .. }, Action::TokenAdd { user, digest }) => {
             Ok(vec![in alloc; Change::AddToken { digest, user }]?)
+        }
+        (
+            About::OrgCreate { .. },
+            Action::OrgCreate {
+                organisation,
+                owner,
+            },
+        ) => { creation(alloc, organisation, owner) }
+        (
+            About::OrgSet { role: old, .. },
+            Action::OrgSet {
+                organisation,
+                user,
+                role,
+            },
+        ) => { membership(alloc, organisation, user, *role, *old) }
+        (About::OrgRemove { .. }, Action::OrgRemove { organisation, user }) => {
+            let organisation = organisation.text();
+            Ok(vec![in alloc; Change::DropMember { organisation, user }]?)
         }
         (About::Publish(facts), Action::Publish { form }) => {
             publish_changes(alloc, facts, form, &request.at)

@@ -3,7 +3,7 @@
 
 ghost use Rattle.std.specs.Prelude.{◌≡◌, None};
 ghost use Rattle.registry_rules.specs.Kept.{IsKept};
-ghost use Rattle.registry_rules.specs.Laws.{PackagesStandApart, PublishesAddVersions, PublishesSetStatuses, PublishesSetTags, QueriesChangeNothing, RemovedTagsAreGone, SetTagsName, TokensAreAdded, UsersAreAdded};
+ghost use Rattle.registry_rules.specs.Laws.{MembersAreRemoved, OrganisationsAreCreated, OtherOwnersAreOwners, RolesAreSet, PackagesStandApart, PublishesAddVersions, PublishesSetStatuses, PublishesSetTags, QueriesChangeNothing, RemovedTagsAreGone, SetTagsName, TokensAreAdded, UsersAreAdded};
 ghost use Rattle.registry_rules.specs.Refusals.{refusal};
 ghost use Rattle.registry_rules.specs.Requests.{ArePartsInForm, IsActionInForm, IsAskedInForm, IsInForm};
 ghost use Rattle.registry_rules.specs.State.{State, nothing};
@@ -17,6 +17,20 @@ use registry_publish::PublishForm;
 pub fn users_and_tokens_are_added()
     ensures users { UsersAreAdded }
     ensures tokens { TokensAreAdded }
+{}
+
+/// An organisation that is created has an owner and the team `developers` with him in it. A user
+/// who is given a role has it, and joins that team where he had none. A member who is removed has
+/// no role, and is in no team of the organisation. Nothing else changes.
+pub fn members_come_and_go()
+    ensures created { OrganisationsAreCreated }
+    ensures set { RolesAreSet }
+    ensures removed { MembersAreRemoved }
+{}
+
+/// Another owner of an organisation than a user is another user who is an owner of it.
+pub fn other_owners_are_owners()
+    ensures { OtherOwnersAreOwners }
 {}
 
 /// A publish makes its version live, with its manifest, its archive and its moment; its tag names
@@ -66,6 +80,25 @@ fn action_is_in_form(what: &Action)
         Action::TokenAdd { user, digest } => {
             user.text();
             digest.as_slice();
+        }
+        Action::OrgCreate {
+            organisation,
+            owner,
+        } => {
+            organisation.text();
+            owner.text();
+        }
+        Action::OrgSet {
+            organisation,
+            user,
+            ..
+        }
+        | Action::OrgRemove { organisation, user } => {
+            organisation.text();
+            user.text();
+        }
+        Action::Members { organisation } => {
+            organisation.text();
         }
         Action::Publish { form } => parts_are_in_form(form),
         Action::TagSet { name, tag, version } => {

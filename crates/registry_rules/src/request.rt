@@ -1,5 +1,6 @@
 //! What can be asked of the registry.
 
+use registry_access::Role;
 use registry_names::{Ident, Moment, Name, TagText, Ver};
 use registry_publish::{PublishForm, TokenDigest};
 
@@ -52,6 +53,31 @@ pub enum Action {
         /// The token's digest.
         digest: TokenDigest,
     },
+    /// The operator's command to create an organisation, with its first owner and its team
+    /// `developers`.
+    OrgCreate {
+        /// The organisation's name.
+        organisation: Ident,
+        /// The owner's name.
+        owner: Ident,
+    },
+    /// An owner's command to give a user a role in an organisation, whether he is a member already
+    /// or becomes one.
+    OrgSet {
+        /// The organisation's name.
+        organisation: Ident,
+        /// The user's name.
+        user: Ident,
+        /// What he is to be in it.
+        role: Role,
+    },
+    /// An owner's command to remove a member from an organisation and from its teams.
+    OrgRemove {
+        /// The organisation's name.
+        organisation: Ident,
+        /// The member's name.
+        user: Ident,
+    },
     /// The command to publish a version of a package, for the first time or not.
     Publish {
         /// The version, with all that is published of it.
@@ -97,6 +123,11 @@ pub enum Action {
     Tags {
         /// The package's name.
         name: Name,
+    },
+    /// A member's query for the members of an organisation, each with his role.
+    Members {
+        /// The organisation's name.
+        organisation: Ident,
     },
 }
 

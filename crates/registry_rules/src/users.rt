@@ -13,8 +13,8 @@ pub(crate) fn unless_new(exists: bool) -> Option<Refusal>
     if exists { Some(Refusal::Exists) } else { None }
 }
 
-/// Why a token isn't added, if it isn't: its user isn't there, or it is.
-pub(crate) fn token_add_refusal(user_exists: bool, exists: bool) -> Option<Refusal>
+/// What is a user's is added where he is there and it isn't.
+pub(crate) fn added_to_refusal(user_exists: bool, exists: bool) -> Option<Refusal>
     ensures { result ≡ spec.refuse (not user_exists) refusal.NotFound (spec.unless_new exists) }
 {
     if user_exists {
