@@ -1,6 +1,6 @@
 -- A request in form that nothing refuses keeps what holds of all that the registry holds.
 use Rattle.std.proofs.Common.{◌≡◌, ◌≢◌, ℕ, ◌≤◌, Bool, true, false, cond, ◌||◌, not, ◌&&◌, is_none, is_some, Option, Some, None, refl, sym, ap, ◌∙◌, subst, true≢false}
-use Rattle.std.proofs.lemmas.Bool.{and_right}
+use Rattle.std.proofs.lemmas.Bool.{and_parts, and_right}
 use Rattle.std.specs.Prelude.{IsSome, IsTrue}
 use Rattle.registry_names.specs.Keys.{Pair, pair_is}
 use Rattle.registry_names.specs.Maps.{TextMap, at, put, erase}
@@ -16,10 +16,10 @@ use Rattle.registry_names.proofs.MapFacts.{at-empty, at-put, at-put_same, at-put
 use Rattle.registry_access.specs.Access.{Access}
 use Rattle.registry_access.specs.Hiding.{UnscopedArePublic}
 use Rattle.registry_names.specs.Names.{scope_of}
-use Rattle.registry_names.specs.declared.refusal.Refusal.TheVariants.{NotFound, LastOwner}
-use Rattle.registry_names.specs.declared.refusal.Rule.TheVariants.{A2}
+use Rattle.registry_names.specs.declared.refusal.Refusal.TheVariants.{NotFound, LastOwner, KeepsDevelopers}
+use Rattle.registry_names.specs.declared.refusal.Rule.TheVariants.{A2, A3}
 use Rattle.registry_access.specs.Callers.{role_of}
-use Rattle.registry_access.specs.Levels.{is_owner}
+use Rattle.registry_access.specs.Levels.{is_owner, is_owner_or_admin}
 use Rattle.registry_access.specs.Positions.{has_organisation}
 use Rattle.registry_access.specs.declared.role.Role.{Role}
 use Rattle.registry_access.specs.declared.role.Role.TheVariants.{Owner, Admin, Developer}
@@ -28,19 +28,19 @@ use Rattle.registry_publish.specs.Form.{FormParts}
 use Rattle.registry_rules.specs.Actions.{version_of}
 use Rattle.registry_rules.specs.Callers.{caller_of}
 use Rattle.registry_rules.specs.Changes.{all_made, release_of}
-use Rattle.registry_rules.specs.Effects.{effects_for, membership, publication, step, step_by}
+use Rattle.registry_rules.specs.Effects.{effects_for, joining, membership, publication, step, step_by}
 use Rattle.registry_rules.specs.Kept.{IsReleaseOf, IsWithdrawalOf, IsTagOf, IsSpelled, IsSound, IsKept}
-use Rattle.registry_rules.specs.Operations.{without_member, with_tag, without_tag}
+use Rattle.registry_rules.specs.Operations.{without_member, without_team, with_tag, without_tag}
 use Rattle.registry_rules.specs.Refusals.{policy_refusal, publish_refusal, refusal, refusal_for, state_refusal}
 use Rattle.registry_rules.specs.Requests.{ArePartsInForm, IsInForm, IsActionInForm}
-use Rattle.registry_rules.specs.State.{State, Release, Withdrawal, nothing, has_user, is_last_owner, is_live, stands}
+use Rattle.registry_rules.specs.State.{State, Release, Withdrawal, nothing, developers, has_user, is_member, has_team, is_in_team, is_last_owner, is_live, stands}
 use Rattle.registry_rules.specs.declared.request.Action.{Action}
-use Rattle.registry_rules.specs.declared.request.Action.TheVariants.{UserAdd, TokenAdd, OrgCreate, OrgSet, OrgRemove, Publish, TagSet, TagRemove}
+use Rattle.registry_rules.specs.declared.request.Action.TheVariants.{UserAdd, TokenAdd, OrgCreate, OrgSet, OrgRemove, TeamCreate, TeamDestroy, TeamAdd, TeamRemove, Publish, TagSet, TagRemove}
 use Rattle.registry_rules.specs.declared.request.Request.{Request}
 use Rattle.registry_rules.proofs.AllowedFacts.{IsAllowed, allowed_publish, is_there, isnt_kept, passed, not_false, first_passed, second_passed, organisation_there, user_there}
 use Rattle.registry_rules.proofs.MadeFacts.{latest_put, role_put, tag_put}
 use Rattle.registry_rules.proofs.OtherFacts.{not_the_last}
-use Rattle.registry_rules.proofs.SoundFacts.{HasOwner, user_added, token_added, organisation_created, role_given, member_joined, member_removed}
+use Rattle.registry_rules.proofs.SoundFacts.{HasOwner, user_added, token_added, organisation_created, role_given, member_joined, member_removed, team_joined, team_created, team_destroyed, team_left}
 use Rattle.registry_rules.proofs.PublishedFacts.{statuses_after, status_of, after_publish, published_is}
 use Rattle.registry_names.proofs.PutFacts.{each_put, each_left, some_before, put_there, still_there}
 
@@ -292,6 +292,20 @@ removed_kept S now o u may kept =
     let owner = passed (is_last_owner S o u) LastOwner None member.1 in
     changed_kept S _ (λ p h. h) (member_removed S.access o u (owner_stays S o u owner.0) kept.spelled kept.sound) kept
 
+-- ---- teams
+
+joined_kept : (S : State) (o t u : Text) (inside : Bool) → (has_team S o t && is_member S o u) ≡ true → IsKept S → IsKept (all_made S (joining o t u inside))
+joined_kept S o t u true there kept = kept
+joined_kept S o t u false there kept =
+    let both = and_parts (has_team S o t) (is_member S o u) there in
+    changed_kept S _ (λ p h. h) (team_joined S.access o t u both.0 both.1 kept.spelled kept.sound) kept
+
+destroyed_kept : (S : State) (now : ℕ) (o t : Text) → state_refusal S now (TeamDestroy o t) ≡ None → IsKept S → IsKept (without_team S o t)
+destroyed_kept S now o t may kept =
+    let team = passed (not (has_team S o t)) NotFound _ may in
+    let other = passed (is t developers) KeepsDevelopers None team.1 in
+    changed_kept S _ (λ p h. h) (team_destroyed S.access o t other.0 kept.spelled kept.sound) kept
+
 -- ---- a request
 
 action_kept : (S : State) (now : ℕ) (who : Caller) (what : Action) → now ≤ last_second → IsActionInForm what → policy_refusal S.access who what ≡ None → state_refusal S now what ≡ None
@@ -303,6 +317,12 @@ action_kept S now who (OrgCreate o u) moment form policy may kept =
     changed_kept S _ (λ p h. h) (organisation_created S.access o u form.0 (user_there _ _ may) kept.spelled kept.sound) kept
 action_kept S now who (OrgSet o u role) moment form policy may kept = set_kept S now who o u role policy may kept
 action_kept S now who (OrgRemove o u) moment form policy may kept = removed_kept S now o u may kept
+action_kept S now who (TeamCreate o t) moment form policy may kept =
+    let organisation = organisation_there who (has_organisation S.access o) (is_owner_or_admin (role_of S.access who o)) A3 policy in
+    changed_kept S _ (λ p h. h) (team_created S.access o t form.1 organisation kept.spelled kept.sound) kept
+action_kept S now who (TeamDestroy o t) moment form policy may kept = destroyed_kept S now o t may kept
+action_kept S now who (TeamAdd o t u) moment form policy may kept = joined_kept S o t u (is_in_team S o t u) (is_there _ may) kept
+action_kept S now who (TeamRemove o t u) moment form policy may kept = changed_kept S _ (λ p h. h) (team_left S.access o t u kept.spelled kept.sound) kept
 action_kept S now who (Publish f) moment form policy may kept = publish_kept S f now form moment may kept
 action_kept S now who (TagSet p t v) moment form policy may kept =
     subst IsKept (sym (tag_put S p t (text_of_version v) (stands S p t) (λ there. there))) (tag_set_kept S p t (text_of_version v) form.0 form.1 (is_there _ may) kept)

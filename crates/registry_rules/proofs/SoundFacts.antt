@@ -1,8 +1,9 @@
 -- A change of who is there and what he may do keeps its texts in form, and what refers to what is there.
 use Rattle.std.proofs.Common.{◌≡◌, Bool, true, false, cond, not, ◌&&◌, Option, Some, None, is_some, refl, sym, ap, ◌∙◌, subst, true≢false}
+use Rattle.std.proofs.lemmas.Bool.{and_right}
 use Rattle.std.specs.Prelude.{length, IsSome, IsTrue}
 use Rattle.registry_names.specs.Idents.{is_ident}
-use Rattle.registry_names.specs.Keys.{Pair, pair_is}
+use Rattle.registry_names.specs.Keys.{Pair, Triple, pair_is}
 use Rattle.registry_names.specs.Maps.{PairMap, at, put, erase, keep}
 use Rattle.registry_names.specs.Texts.{Text, is}
 use Rattle.registry_names.proofs.KeyFacts.{text_key, pair_key, triple_key, same_true}
@@ -214,3 +215,82 @@ member_removed A o u owner spelled sound = (
   where
     stayed : (p t w : Text) → (not (is o p && is u w) ≡ true) × IsSome (at A.team_members (p, (t, w))) → IsSome (at A.teams (p, t)) × IsSome (at (erase A.roles (o, u)) (p, w))
     stayed p t w was = let has = sound.team_members p t w was.1 in (has.0, ap is_some (at-erase_other pair_key A.roles (o, u) (p, w) (not_true _ was.0)) ∙ has.1)
+
+-- ---- teams
+
+pub team_created : (A : Access) (o t : Text) → IsTrue (is_ident t) → IsSome (at A.organisations o) → IsSpelled A → IsSound A
+    → IsSpelled (record A { teams = put A.teams (o, t) tt }) × IsSound (record A { teams = put A.teams (o, t) tt })
+team_created A o t form organisation spelled sound = (
+  record {
+    users = spelled.users;
+    tokens = spelled.tokens;
+    organisations = spelled.organisations;
+    teams = λ p s h. some_before pair_key A.teams (o, t) tt (λ k. IsTrue (is_ident k.1)) (λ k e. spelled.teams k.0 k.1 e) form (p, s) h;
+    statuses = spelled.statuses;
+  },
+  record {
+    tokens = sound.tokens;
+    roles = sound.roles;
+    owners = sound.owners;
+    first_teams = λ p h. still (p, developers) (sound.first_teams p h);
+    teams = λ p s h. some_before pair_key A.teams (o, t) tt (λ k. IsSome (at A.organisations k.0)) (λ k e. sound.teams k.0 k.1 e) organisation (p, s) h;
+    team_members = λ p s w h. let has = sound.team_members p s w h in (still (p, s) has.0, has.1);
+    grants = λ p s q h. still_grant A (record A { teams = put A.teams (o, t) tt }) p s q (still (p, s)) (λ status. status) (sound.grants p s q h);
+    maintainers = sound.maintainers;
+    unscoped = sound.unscoped;
+  },
+)
+  where
+    still : (k : Pair) → IsSome (at A.teams k) → IsSome (at (put A.teams (o, t) tt) k)
+    still k h = still_there pair_key A.teams (o, t) tt k h
+
+abbrev of_other_team : Text → Text → Triple → Bool
+of_other_team o t k = not (is o k.0 && is t k.1.0)
+
+abbrev destroyed : Access → Text → Text → Access
+destroyed A o t = record A {
+  teams = erase A.teams (o, t);
+  team_members = keep A.team_members (of_other_team o t);
+  grants = keep A.grants (of_other_team o t);
+}
+
+pub team_destroyed : (A : Access) (o t : Text) → is t developers ≡ false → IsSpelled A → IsSound A → IsSpelled (destroyed A o t) × IsSound (destroyed A o t)
+team_destroyed A o t other spelled sound = (
+  record { users = spelled.users; tokens = spelled.tokens; organisations = spelled.organisations; teams = λ p s h. spelled.teams p s (had p s h); statuses = spelled.statuses },
+  record {
+    tokens = sound.tokens;
+    roles = sound.roles;
+    owners = sound.owners;
+    first_teams = λ p h. still p developers (and_right (is o p) (is t developers) other) (sound.first_teams p h);
+    teams = λ p s h. sound.teams p s (had p s h);
+    team_members = λ p s w h. let was = was_kept _ _ (sym (ap is_some (at-keep triple_key A.team_members (of_other_team o t) (p, (s, w)))) ∙ h) in
+        let has = sound.team_members p s w was.1 in (still p s (not_true _ was.0) has.0, has.1);
+    grants = λ p s q h. let was = was_kept _ _ (sym (ap is_some (at-keep triple_key A.grants (of_other_team o t) (p, (s, q)))) ∙ h) in
+        still_grant A (destroyed A o t) p s q (still p s (not_true _ was.0)) (λ status. status) (sound.grants p s q was.1);
+    maintainers = sound.maintainers;
+    unscoped = sound.unscoped;
+  },
+)
+  where
+    had : (p s : Text) → IsSome (at (erase A.teams (o, t)) (p, s)) → IsSome (at A.teams (p, s))
+    had p s h = was_left (is o p && is t s) (at A.teams (p, s)) (sym (ap is_some (at-erase pair_key A.teams (o, t) (p, s))) ∙ h)
+
+    still : (p s : Text) → (is o p && is t s) ≡ false → IsSome (at A.teams (p, s)) → IsSome (at (erase A.teams (o, t)) (p, s))
+    still p s differ h = ap is_some (at-erase_other pair_key A.teams (o, t) (p, s) differ) ∙ h
+
+pub team_left : (A : Access) (o t u : Text) → IsSpelled A → IsSound A
+    → IsSpelled (record A { team_members = erase A.team_members (o, (t, u)) }) × IsSound (record A { team_members = erase A.team_members (o, (t, u)) })
+team_left A o t u spelled sound = (
+  record { users = spelled.users; tokens = spelled.tokens; organisations = spelled.organisations; teams = spelled.teams; statuses = spelled.statuses },
+  record {
+    tokens = sound.tokens;
+    roles = sound.roles;
+    owners = sound.owners;
+    first_teams = sound.first_teams;
+    teams = sound.teams;
+    team_members = λ p s w h. sound.team_members p s w (was_left _ _ (sym (ap is_some (at-erase triple_key A.team_members (o, (t, u)) (p, (s, w)))) ∙ h));
+    grants = λ p s q h. still_grant A (record A { team_members = erase A.team_members (o, (t, u)) }) p s q (λ team. team) (λ status. status) (sound.grants p s q h);
+    maintainers = sound.maintainers;
+    unscoped = sound.unscoped;
+  },
+)

@@ -1,5 +1,5 @@
 -- What each command changes where nothing refuses it: one equation a command. A query changes nothing.
-use Rattle.std.specs.Prelude.{ℕ, List, [], ◌∷◌, ◌++◌, ◌||◌, true, false, is_some, Option, Some, None, if◌then◌else◌}
+use Rattle.std.specs.Prelude.{ℕ, Bool, List, [], ◌∷◌, ◌++◌, ◌||◌, true, false, is_some, Option, Some, None, if◌then◌else◌}
 use Rattle.registry_names.specs.Tags.{latest}
 use Rattle.registry_names.specs.Texts.{Text, is}
 use Rattle.registry_names.specs.Maps.{at}
@@ -29,6 +29,12 @@ creation o u = AddOrg o ∷ PutMember o u Owner false ∷ AddTeam o developers �
 abbrev pub membership : Text → Text → Role → Option Role → List Change
 membership o u role (Some old) = PutMember o u role true ∷ []
 membership o u role None = PutMember o u role false ∷ PutTeamMember o developers u ∷ []
+
+-- ---- teams
+
+-- who is in the team already stays in it
+abbrev pub joining : Text → Text → Text → Bool → List Change
+joining o t u inside = if inside then [] else PutTeamMember o t u ∷ []
 
 -- ---- a publish
 
@@ -65,7 +71,7 @@ effects S now who (OrgSet o u role) = membership o u role (at S.access.roles (o,
 effects S now who (OrgRemove o u) = DropMember o u ∷ []
 effects S now who (TeamCreate o t) = AddTeam o t ∷ []
 effects S now who (TeamDestroy o t) = DropTeam o t ∷ []
-effects S now who (TeamAdd o t u) = if is_in_team S o t u then [] else PutTeamMember o t u ∷ []
+effects S now who (TeamAdd o t u) = joining o t u (is_in_team S o t u)
 effects S now who (TeamRemove o t u) = DropTeamMember o t u ∷ []
 effects S now who (Publish f) = publication S now f
 effects S now who (TagSet p t v) = PutTag p t (text_of_version v) (stands S p t) ∷ []

@@ -1,10 +1,10 @@
 //! The decision on teams.
 
-ghost use Rattle.std.specs.Prelude.{◌≡◌, not, IfOk, map, None, [], ◌∷◌, if◌then◌else◌};
+ghost use Rattle.std.specs.Prelude.{◌≡◌, not, IfOk, map, None};
 ghost use Rattle.registry_names.specs.Texts.{is};
 ghost use Rattle.registry_names.specs.declared.refusal.Refusal.TheVariants as refusal;
-ghost use Rattle.registry_rules.specs.Changes as changes;
 ghost use Rattle.registry_rules.specs.Changes.{change_of};
+ghost use Rattle.registry_rules.specs.Effects.{joining};
 ghost use Rattle.registry_rules.specs.Refusals as spec;
 ghost use Rattle.registry_rules.specs.State.{developers};
 
@@ -44,7 +44,7 @@ pub(crate) fn team_joined<'a>(
     is_in_team: bool,
 ) -> Result<Changes<'a>, AllocError>
     ensures { IfOk result (λ changes. map change_of changes.items
-        ≡ if is_in_team then [] else changes.PutTeamMember organisation.now team.now user.now ∷ []) }
+        ≡ joining organisation.now team.now user.now is_in_team) }
 {
     if is_in_team {
         return Ok(Vec::new(alloc));
