@@ -1,5 +1,5 @@
 -- A request in form that nothing refuses keeps what holds of all that the registry holds.
-use Rattle.std.proofs.Common.{◌≡◌, ℕ, ◌≤◌, Bool, true, false, cond, ◌||◌, is_some, Option, Some, None, refl, sym, ap, ◌∙◌, subst, true≢false}
+use Rattle.std.proofs.Common.{◌≡◌, ℕ, ◌≤◌, Bool, true, false, cond, ◌||◌, is_some, Option, Some, None, refl, sym, ap, ◌∙◌, subst, true≢false, ◌&&◌}
 use Rattle.std.proofs.lemmas.Bool.{and_right}
 use Rattle.std.specs.Prelude.{length, IsSome, IsTrue}
 use Rattle.registry_names.specs.Idents.{is_ident}
@@ -12,7 +12,7 @@ use Rattle.registry_names.specs.Texts.{Text, is}
 use Rattle.registry_names.specs.Versions.{text_of_version}
 use Rattle.registry_names.specs.declared.status.Status.{Status}
 use Rattle.registry_names.proofs.KeyFacts.{text_key, pair_key, same_true}
-use Rattle.registry_names.proofs.MapFacts.{at-empty, at-put, at-erase_other}
+use Rattle.registry_names.proofs.MapFacts.{at-empty, at-put, at-erase_other, at-erase}
 use Rattle.registry_access.specs.Access.{Access}
 use Rattle.registry_access.specs.declared.role.Role.{Role}
 use Rattle.registry_access.specs.declared.caller.Caller.{Caller}
@@ -20,18 +20,18 @@ use Rattle.registry_publish.specs.Form.{FormParts}
 use Rattle.registry_rules.specs.Actions.{version_of}
 use Rattle.registry_rules.specs.Callers.{caller_of, is_known}
 use Rattle.registry_rules.specs.Changes.{all_made, release_of}
-use Rattle.registry_rules.specs.Effects.{effects_for, membership, publication, step, step_by}
+use Rattle.registry_rules.specs.Effects.{effects_for, joining, membership, publication, step, step_by}
 use Rattle.registry_rules.specs.Kept.{IsReleaseOf, IsWithdrawalOf, IsTagOf, IsSpelled, IsSound, IsKept}
 use Rattle.registry_rules.specs.Operations.{with_tag, without_tag}
 use Rattle.registry_rules.specs.Refusals.{publish_refusal, refusal, refusal_by, refusal_for}
 use Rattle.registry_rules.specs.Requests.{ArePartsInForm, IsInForm, IsActionInForm}
-use Rattle.registry_rules.specs.State.{developers, State, Release, Withdrawal, nothing, is_live, stands}
+use Rattle.registry_rules.specs.State.{developers, State, Release, Withdrawal, nothing, is_live, stands, is_in_team}
 use Rattle.registry_rules.specs.declared.request.Action.{Action}
-use Rattle.registry_rules.specs.declared.request.Action.TheVariants.{UserAdd, TokenAdd, OrgCreate, OrgSet, OrgRemove, Publish, TagSet, TagRemove}
+use Rattle.registry_rules.specs.declared.request.Action.TheVariants.{UserAdd, TokenAdd, OrgCreate, OrgSet, OrgRemove, TeamCreate, TeamDestroy, TeamAdd, TeamRemove, Publish, TagSet, TagRemove}
 use Rattle.registry_rules.specs.declared.request.Request.{Request}
 use Rattle.registry_rules.proofs.AllowedFacts.{IsAllowed, allowed_publish, is_there, isnt_kept, state_passed}
 use Rattle.registry_rules.proofs.MadeFacts.{latest_put, role_put, tag_put}
-use Rattle.registry_rules.proofs.SoundFacts.{created}
+use Rattle.registry_rules.proofs.SoundFacts.{created, destroyed, was_left}
 use Rattle.registry_rules.proofs.SoundSteps.{caller_known, none_there, nothing_sound, status_stays, statuses_sound, step_sound}
 use Rattle.registry_rules.proofs.PublishedFacts.{statuses_after, status_of, after_publish, published_is}
 use Rattle.registry_names.proofs.PutFacts.{each_put, each_left, some_before, put_there, still_there}
@@ -231,6 +231,30 @@ organisation_spelled A o u form spelled = record {
   statuses = spelled.statuses;
 }
 
+team_spelled : (A : Access) (o t : Text) → IsTrue (is_ident t) → IsSpelled A → IsSpelled (record A { teams = put A.teams (o, t) tt })
+team_spelled A o t form spelled = record {
+  users = spelled.users;
+  tokens = spelled.tokens;
+  organisations = spelled.organisations;
+  teams = λ p s h. some_before pair_key A.teams (o, t) tt (λ k. IsTrue (is_ident k.1)) (λ k e. spelled.teams k.0 k.1 e) form (p, s) h;
+  statuses = spelled.statuses;
+}
+
+team_gone_spelled : (A : Access) (o t : Text) → IsSpelled A → IsSpelled (destroyed A o t)
+team_gone_spelled A o t spelled = record {
+  users = spelled.users;
+  tokens = spelled.tokens;
+  organisations = spelled.organisations;
+  teams = λ p s h. spelled.teams p s (was_left (is o p && is t s) (at A.teams (p, s)) (sym (ap is_some (at-erase pair_key A.teams (o, t) (p, s))) ∙ h));
+  statuses = spelled.statuses;
+}
+
+joined_kept : (S : State) (o t u : Text) (inside : Bool) → IsSound (all_made S (joining o t u inside)).access → IsKept S → IsKept (all_made S (joining o t u inside))
+joined_kept S o t u true sound kept = kept
+joined_kept S o t u false sound kept =
+    let spelled = kept.spelled in
+    access_kept S _ (λ p h. h) (record { users = spelled.users; tokens = spelled.tokens; organisations = spelled.organisations; teams = spelled.teams; statuses = spelled.statuses }) sound kept
+
 role_kept : (S : State) (o u : Text) (role : Role) (old : Option Role) → at S.access.roles (o, u) ≡ old → IsSound (all_made S (membership o u role old)).access
     → IsKept S → IsKept (all_made S (membership o u role old))
 role_kept S o u role (Some r) e sound kept =
@@ -257,6 +281,16 @@ action_kept S now who (OrgRemove o u) moment form known may kept =
     let spelled = kept.spelled in
     access_kept S _ (λ p h. h) (record { users = spelled.users; tokens = spelled.tokens; organisations = spelled.organisations; teams = spelled.teams; statuses = spelled.statuses })
     (step_sound S now who (OrgRemove o u) known may kept.sound) kept
+action_kept S now who (TeamCreate o t) moment form known may kept =
+    access_kept S _ (λ p h. h) (team_spelled S.access o t form.1 kept.spelled) (step_sound S now who (TeamCreate o t) known may kept.sound) kept
+action_kept S now who (TeamDestroy o t) moment form known may kept =
+    access_kept S _ (λ p h. h) (team_gone_spelled S.access o t kept.spelled) (step_sound S now who (TeamDestroy o t) known may kept.sound) kept
+action_kept S now who (TeamAdd o t u) moment form known may kept =
+    joined_kept S o t u (is_in_team S o t u) (step_sound S now who (TeamAdd o t u) known may kept.sound) kept
+action_kept S now who (TeamRemove o t u) moment form known may kept =
+    let spelled = kept.spelled in
+    access_kept S _ (λ p h. h) (record { users = spelled.users; tokens = spelled.tokens; organisations = spelled.organisations; teams = spelled.teams; statuses = spelled.statuses })
+    (step_sound S now who (TeamRemove o t u) known may kept.sound) kept
 action_kept S now who (Publish f) moment form known may kept = publish_kept S f now form moment (state_passed S now who (Publish f) may) kept
 action_kept S now who (TagSet p t v) moment form known may kept =
     subst IsKept (sym (tag_put S p t (text_of_version v) (stands S p t) (λ there. there)))

@@ -1,7 +1,8 @@
 -- A change of who is there, and of what he may do, leaves what stands referring to what is there. Nothing is asked of how names are spelled.
 use Rattle.std.proofs.Common.{◌≡◌, Bool, true, false, cond, not, ◌&&◌, Option, Some, None, is_some, refl, sym, ap, ◌∙◌, subst, true≢false}
+use Rattle.std.proofs.lemmas.Bool.{and_right}
 use Rattle.std.specs.Prelude.{IsSome}
-use Rattle.registry_names.specs.Keys.{Pair, pair_is}
+use Rattle.registry_names.specs.Keys.{Pair, Triple, pair_is}
 use Rattle.registry_names.specs.Maps.{PairMap, at, put, erase, keep}
 use Rattle.registry_names.specs.Texts.{Text, is}
 use Rattle.registry_names.proofs.KeyFacts.{text_key, pair_key, triple_key, same_true}
@@ -150,7 +151,7 @@ pub was_kept : {X : Type 0} (b : Bool) (old : Option X) → IsSome (cond b old N
 was_kept true old h = (refl, h)
 was_kept false old h = absurd (true≢false (sym h))
 
-was_left : {X : Type 0} (b : Bool) (old : Option X) → IsSome (cond b None old) → IsSome old
+pub was_left : {X : Type 0} (b : Bool) (old : Option X) → IsSome (cond b None old) → IsSome old
 was_left true old h = absurd (true≢false (sym h))
 was_left false old h = h
 
@@ -176,3 +177,67 @@ member_removed A o u owner sound = record {
   where
     stayed : (p t w : Text) → (not (is o p && is u w) ≡ true) × IsSome (at A.team_members (p, (t, w))) → IsSome (at A.teams (p, t)) × IsSome (at (erase A.roles (o, u)) (p, w))
     stayed p t w was = let has = sound.team_members p t w was.1 in (has.0, ap is_some (at-erase_other pair_key A.roles (o, u) (p, w) (not_true _ was.0)) ∙ has.1)
+
+-- ---- teams
+
+pub team_created : (A : Access) (o t : Text) → IsSome (at A.organisations o) → IsSound A
+    → IsSound (record A { teams = put A.teams (o, t) tt })
+team_created A o t organisation sound = record {
+  tokens = sound.tokens;
+  roles = sound.roles;
+  owners = sound.owners;
+  first_teams = λ p h. still (p, developers) (sound.first_teams p h);
+  teams = λ p s h. some_before pair_key A.teams (o, t) tt (λ k. IsSome (at A.organisations k.0)) (λ k e. sound.teams k.0 k.1 e) organisation (p, s) h;
+  team_members = λ p s w h. let has = sound.team_members p s w h in (still (p, s) has.0, has.1);
+  grants = λ p s q h. still_grant A (record A { teams = put A.teams (o, t) tt }) p s q (still (p, s)) (λ status. status) (sound.grants p s q h);
+  maintainers = sound.maintainers;
+  unscoped = sound.unscoped;
+}
+  where
+    still : (k : Pair) → IsSome (at A.teams k) → IsSome (at (put A.teams (o, t) tt) k)
+    still k h = still_there pair_key A.teams (o, t) tt k h
+
+abbrev of_other_team : Text → Text → Triple → Bool
+of_other_team o t k = not (is o k.0 && is t k.1.0)
+
+abbrev pub destroyed : Access → Text → Text → Access
+destroyed A o t = record A {
+  teams = erase A.teams (o, t);
+  team_members = keep A.team_members (of_other_team o t);
+  grants = keep A.grants (of_other_team o t);
+}
+
+pub team_destroyed : (A : Access) (o t : Text) → is t developers ≡ false → IsSound A → IsSound (destroyed A o t)
+team_destroyed A o t other sound = record {
+  tokens = sound.tokens;
+  roles = sound.roles;
+  owners = sound.owners;
+  first_teams = λ p h. still p developers (and_right (is o p) (is t developers) other) (sound.first_teams p h);
+  teams = λ p s h. sound.teams p s (had p s h);
+  team_members = λ p s w h. let was = was_kept _ _ (sym (ap is_some (at-keep triple_key A.team_members (of_other_team o t) (p, (s, w)))) ∙ h) in
+      let has = sound.team_members p s w was.1 in (still p s (not_true _ was.0) has.0, has.1);
+  grants = λ p s q h. let was = was_kept _ _ (sym (ap is_some (at-keep triple_key A.grants (of_other_team o t) (p, (s, q)))) ∙ h) in
+      still_grant A (destroyed A o t) p s q (still p s (not_true _ was.0)) (λ status. status) (sound.grants p s q was.1);
+  maintainers = sound.maintainers;
+  unscoped = sound.unscoped;
+}
+  where
+    had : (p s : Text) → IsSome (at (erase A.teams (o, t)) (p, s)) → IsSome (at A.teams (p, s))
+    had p s h = was_left (is o p && is t s) (at A.teams (p, s)) (sym (ap is_some (at-erase pair_key A.teams (o, t) (p, s))) ∙ h)
+
+    still : (p s : Text) → (is o p && is t s) ≡ false → IsSome (at A.teams (p, s)) → IsSome (at (erase A.teams (o, t)) (p, s))
+    still p s differ h = ap is_some (at-erase_other pair_key A.teams (o, t) (p, s) differ) ∙ h
+
+pub team_left : (A : Access) (o t u : Text) → IsSound A
+    → IsSound (record A { team_members = erase A.team_members (o, (t, u)) })
+team_left A o t u sound = record {
+  tokens = sound.tokens;
+  roles = sound.roles;
+  owners = sound.owners;
+  first_teams = sound.first_teams;
+  teams = sound.teams;
+  team_members = λ p s w h. sound.team_members p s w (was_left _ _ (sym (ap is_some (at-erase triple_key A.team_members (o, (t, u)) (p, (s, w)))) ∙ h));
+  grants = λ p s q h. still_grant A (record A { team_members = erase A.team_members (o, (t, u)) }) p s q (λ team. team) (λ status. status) (sound.grants p s q h);
+  maintainers = sound.maintainers;
+  unscoped = sound.unscoped;
+}

@@ -1,6 +1,6 @@
 -- What stands refers to what is there, from nothing on, through each action that nothing refuses. Nothing is asked of how names are spelled.
 use Rattle.std.proofs.Common.{◌≡◌, ◌≢◌, ℕ, Bool, true, false, cond, not, ◌&&◌, is_none, is_some, Option, Some, None, option_map, refl, sym, ap, ◌∙◌, subst, true≢false}
-use Rattle.std.proofs.lemmas.Bool.{and_right}
+use Rattle.std.proofs.lemmas.Bool.{and_parts, and_right}
 use Rattle.std.specs.Prelude.{IsSome}
 use Rattle.registry_names.specs.Maps.{TextMap, at, put, erase}
 use Rattle.registry_names.specs.Names.{scope_of}
@@ -11,11 +11,11 @@ use Rattle.registry_names.specs.declared.status.Status.TheVariants.{Restricted}
 use Rattle.registry_names.proofs.KeyFacts.{text_key, pair_key, triple_key}
 use Rattle.registry_names.proofs.MapFacts.{at-empty, at-put_same, at-put_other, at-erase_other}
 use Rattle.registry_names.proofs.PutFacts.{each_put, still_there}
-use Rattle.registry_names.specs.declared.refusal.Refusal.TheVariants.{NotFound, LastOwner}
-use Rattle.registry_names.specs.declared.refusal.Rule.TheVariants.{A2}
+use Rattle.registry_names.specs.declared.refusal.Refusal.TheVariants.{NotFound, LastOwner, KeepsDevelopers}
+use Rattle.registry_names.specs.declared.refusal.Rule.TheVariants.{A2, A3}
 use Rattle.registry_access.specs.Access.{Access}
 use Rattle.registry_access.specs.Callers.{role_of}
-use Rattle.registry_access.specs.Levels.{is_owner}
+use Rattle.registry_access.specs.Levels.{is_owner, is_owner_or_admin}
 use Rattle.registry_access.specs.Positions.{has_organisation}
 use Rattle.registry_access.specs.declared.role.Role.{Role}
 use Rattle.registry_access.specs.declared.role.Role.TheVariants.{Owner, Admin, Developer}
@@ -25,20 +25,20 @@ use Rattle.registry_access.specs.declared.caller.Caller.TheVariants as caller
 use Rattle.registry_publish.specs.Form.{FormParts}
 use Rattle.registry_rules.specs.Callers.{caller_of, is_known}
 use Rattle.registry_rules.specs.Changes.{all_made}
-use Rattle.registry_rules.specs.Effects.{membership, publication, step_by}
-use Rattle.registry_rules.specs.Operations.{without_member}
+use Rattle.registry_rules.specs.Effects.{joining, membership, publication, step_by}
+use Rattle.registry_rules.specs.Operations.{without_member, without_team}
 use Rattle.registry_rules.specs.Kept.{IsSound}
 use Rattle.registry_rules.specs.Refusals.{policy_refusal, publish_refusal, refusal_by, state_refusal}
-use Rattle.registry_rules.specs.State.{State, nothing, has_user, is_last_owner, stands}
+use Rattle.registry_rules.specs.State.{State, nothing, developers, has_team, has_user, is_in_team, is_last_owner, is_member, stands}
 use Rattle.registry_rules.specs.declared.request.Credential.{Credential}
 use Rattle.registry_rules.specs.declared.request.Credential.TheVariants.{Operator, User, Token, Anonymous}
 use Rattle.registry_rules.specs.declared.request.Action.{Action}
-use Rattle.registry_rules.specs.declared.request.Action.TheVariants.{UserAdd, TokenAdd, OrgCreate, OrgSet, OrgRemove, Publish, TagSet}
-use Rattle.registry_rules.proofs.AllowedFacts.{may_be_public, not_false, organisation_there, passed, policy_passed, state_passed, user_there}
+use Rattle.registry_rules.specs.declared.request.Action.TheVariants.{UserAdd, TokenAdd, OrgCreate, OrgSet, OrgRemove, TeamCreate, TeamDestroy, TeamAdd, TeamRemove, Publish, TagSet}
+use Rattle.registry_rules.proofs.AllowedFacts.{is_there, may_be_public, not_false, organisation_there, passed, policy_passed, state_passed, user_there}
 use Rattle.registry_rules.proofs.MadeFacts.{role_put, tag_put}
 use Rattle.registry_rules.proofs.OtherFacts.{not_the_last}
 use Rattle.registry_rules.proofs.PublishedFacts.{statuses_after, status_of, published_is}
-use Rattle.registry_rules.proofs.SoundFacts.{HasOwner, user_added, token_added, organisation_created, role_given, member_joined, member_removed}
+use Rattle.registry_rules.proofs.SoundFacts.{HasOwner, user_added, token_added, organisation_created, role_given, member_joined, member_removed, team_created, team_destroyed, team_joined, team_left}
 
 -- ---- nothing
 
@@ -92,6 +92,22 @@ removed_sound S now o u may sound =
     let owner = passed (is_last_owner S o u) LastOwner None member.1 in
     member_removed S.access o u (owner_stays S o u owner.0) sound
 
+-- ---- teams
+
+team_sound : (S : State) (now : ℕ) (who : Caller) (o t : Text) → policy_refusal S.access who (TeamCreate o t) ≡ None → IsSound S.access → IsSound (record S.access { teams = put S.access.teams (o, t) tt })
+team_sound S now who o t policy sound =
+    team_created S.access o t (organisation_there who (has_organisation S.access o) (is_owner_or_admin (role_of S.access who o)) A3 policy) sound
+
+joined_sound : (S : State) (o t u : Text) (inside : Bool) → (has_team S o t && is_member S o u) ≡ true → IsSound S.access → IsSound (all_made S (joining o t u inside)).access
+joined_sound S o t u true there sound = sound
+joined_sound S o t u false there sound = let both = and_parts (has_team S o t) (is_member S o u) there in team_joined S.access o t u both.0 both.1 sound
+
+destroyed_sound : (S : State) (now : ℕ) (o t : Text) → state_refusal S now (TeamDestroy o t) ≡ None → IsSound S.access → IsSound (without_team S o t).access
+destroyed_sound S now o t may sound =
+    let team = passed (not (has_team S o t)) NotFound _ may in
+    let other = passed (is t developers) KeepsDevelopers None team.1 in
+    team_destroyed S.access o t other.0 sound
+
 -- ---- a publish
 
 more_statuses_sound : (A : Access) (statuses : TextMap Status) → ((p : Text) → IsSome (at A.statuses p) → IsSome (at statuses p)) → UnscopedArePublic (record A { statuses = statuses })
@@ -135,6 +151,10 @@ step_sound S now who (OrgCreate o u) known may sound = organisation_created S.ac
 step_sound S now who (OrgSet o u role) known may sound =
     set_sound S now who o u role (policy_passed S now who (OrgSet o u role) may) (state_passed S now who (OrgSet o u role) may) sound
 step_sound S now who (OrgRemove o u) known may sound = removed_sound S now o u (state_passed S now who (OrgRemove o u) may) sound
+step_sound S now who (TeamCreate o t) known may sound = team_sound S now who o t (policy_passed S now who (TeamCreate o t) may) sound
+step_sound S now who (TeamDestroy o t) known may sound = destroyed_sound S now o t (state_passed S now who (TeamDestroy o t) may) sound
+step_sound S now who (TeamAdd o t u) known may sound = joined_sound S o t u (is_in_team S o t u) (is_there _ (state_passed S now who (TeamAdd o t u) may)) sound
+step_sound S now who (TeamRemove o t u) known may sound = team_left S.access o t u sound
 step_sound S now who (Publish f) known may sound = publish_sound S f now (state_passed S now who (Publish f) may) sound
 step_sound S now who (TagSet p t v) known may sound = subst (λ (T : State). IsSound T.access) (sym (tag_put S p t (text_of_version v) (stands S p t) (λ there. there))) sound
 step_sound S now who _ known may sound = sound
