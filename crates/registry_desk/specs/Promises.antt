@@ -9,7 +9,7 @@ use Rattle.registry_tables.specs.Contents.{Contents, contents, registry_of}
 use Rattle.registry_tables.specs.Effects.{registry_in, stored}
 use Rattle.registry_history.specs.Headline.{Headline}
 use Rattle.registry_history.specs.History.{Entry, Legal, after}
-use Rattle.registry_history.specs.Readings.{Says}
+use Rattle.registry_history.specs.Says.{Says}
 use Rattle.registry_desk.specs.Resting.{SettlesOne, end_stored, ends_replied, next_stored, settled_by}
 use Rattle.registry_history.specs.Runs.{Outcome, IsAnswer, Ran, grown, history}
 

@@ -1,4 +1,6 @@
-pub mod PackageFacts
+mod AccessFacts
+mod LegalFacts
+pub mod LeftFacts
 pub mod PublishFacts
 pub mod RunFacts
 pub mod StatusFacts

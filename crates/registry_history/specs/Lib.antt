@@ -1,5 +1,7 @@
+pub mod AccessReadings
 pub mod Answers
 pub mod Headline
 pub mod History
 pub mod Readings
 pub mod Runs
+pub mod Says

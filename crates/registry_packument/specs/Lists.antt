@@ -48,3 +48,7 @@ tags_text rows = compact_text (object (text_members tag_texts rows))
 -- the text of members, each with his role
 abbrev pub members_text : List Member → List ℕ
 members_text rows = compact_text (object (text_members member_texts rows))
+
+-- the text of names
+abbrev pub names_text : List (List ℕ) → List ℕ
+names_text names = compact_text (array (text_items names))

@@ -21,7 +21,8 @@ use Rattle.registry_rules.specs.Actions.{version_of}
 use Rattle.registry_rules.specs.Changes.{release_of}
 use Rattle.registry_rules.specs.Effects.{new_status}
 use Rattle.registry_rules.specs.Kept.{IsReleaseOf}
-use Rattle.registry_rules.specs.Refusals.{is_restricted, publish_refusal, refuse, unless_allowed, unless_new, unless_there}
+use Rattle.registry_rules.specs.Refusals.{is_restricted, policy_refusal, publish_refusal, refusal_by, refuse, state_refusal, unless_allowed, unless_new, unless_there}
+use Rattle.registry_rules.specs.declared.request.Action.{Action}
 use Rattle.registry_rules.specs.Requests.{ArePartsInForm}
 use Rattle.registry_rules.specs.State.{State, Release, is_spent}
 use Rattle.registry_names.proofs.PutFacts.{put_there}
@@ -56,6 +57,10 @@ new_is_public p None None may u e = public (scope_of p) u e
     public None h e = cc
     public (Some s) h e = cc
 
+-- a publish that nothing refuses restricts no package without a scope
+pub may_be_public : (S : State) (f : FormParts) → publish_refusal S f ≡ None → scope_of f.name ≡ None → status_of S f ≢ Some Restricted
+may_be_public S f may = new_is_public f.name f.access _ (may_publish _ (is_spent S f.name (version_of f)) _ may).1
+
 pub allowed_publish : (S : State) (f : FormParts) (now : ℕ) → ArePartsInForm f → now ≤ last_second → publish_refusal S f ≡ None
     → IsAllowed S f.name (version_of f) f.tag (release_of f now) (status_of S f)
 allowed_publish S f now form moment may = let passed = may_publish _ (is_spent S f.name (version_of f)) _ may in record {
@@ -63,7 +68,7 @@ allowed_publish S f now form moment may = let passed = may_publish _ (is_spent S
   is_tagged = form.tag;
   is_new = passed.0;
   has_status = has_new_status S.access.statuses f.name f.access _ refl;
-  is_public = new_is_public f.name f.access _ passed.1;
+  is_public = may_be_public S f may;
 }
 
 -- what is asked for is there
@@ -106,3 +111,10 @@ first_passed (Some r) b h = cc
 pub second_passed : (a b : Option Refusal) → option_or a b ≡ None → b ≡ None
 second_passed None b h = h
 second_passed (Some r) b h = cc
+
+-- an action that nothing turns away is let by the policy, and nothing stands in its way
+pub policy_passed : (S : State) (now : ℕ) (who : Caller) (what : Action) → refusal_by S now who what ≡ None → policy_refusal S.access who what ≡ None
+policy_passed S now who what = first_passed (policy_refusal S.access who what) (state_refusal S now what)
+
+pub state_passed : (S : State) (now : ℕ) (who : Caller) (what : Action) → refusal_by S now who what ≡ None → state_refusal S now what ≡ None
+state_passed S now who what = second_passed (policy_refusal S.access who what) (state_refusal S now what)

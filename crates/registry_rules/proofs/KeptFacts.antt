@@ -1,53 +1,42 @@
 -- A request in form that nothing refuses keeps what holds of all that the registry holds.
-use Rattle.std.proofs.Common.{◌≡◌, ◌≢◌, ℕ, ◌≤◌, Bool, true, false, cond, ◌||◌, not, ◌&&◌, is_none, is_some, Option, Some, None, refl, sym, ap, ◌∙◌, subst, true≢false}
+use Rattle.std.proofs.Common.{◌≡◌, ℕ, ◌≤◌, Bool, true, false, cond, ◌||◌, is_some, Option, Some, None, refl, sym, ap, ◌∙◌, subst, true≢false, ◌&&◌}
 use Rattle.std.proofs.lemmas.Bool.{and_right}
-use Rattle.std.specs.Prelude.{IsSome, IsTrue}
+use Rattle.std.specs.Prelude.{length, IsSome, IsTrue}
+use Rattle.registry_names.specs.Idents.{is_ident}
 use Rattle.registry_names.specs.Keys.{Pair, pair_is}
-use Rattle.registry_names.specs.Maps.{TextMap, at, put, erase}
+use Rattle.registry_names.specs.Maps.{TextMap, at, put}
 use Rattle.registry_names.specs.Moments.{last_second}
 use Rattle.registry_names.specs.Names.{IsName}
 use Rattle.registry_names.specs.Tags.{is_tag, latest}
 use Rattle.registry_names.specs.Texts.{Text, is}
 use Rattle.registry_names.specs.Versions.{text_of_version}
 use Rattle.registry_names.specs.declared.status.Status.{Status}
-use Rattle.registry_names.specs.declared.status.Status.TheVariants.{Restricted}
-use Rattle.registry_names.proofs.KeyFacts.{text_key, pair_key, triple_key, same_true}
-use Rattle.registry_names.proofs.MapFacts.{at-empty, at-put, at-put_same, at-put_other, at-erase_other}
+use Rattle.registry_names.proofs.KeyFacts.{text_key, pair_key, same_true}
+use Rattle.registry_names.proofs.MapFacts.{at-empty, at-put, at-erase_other, at-erase}
 use Rattle.registry_access.specs.Access.{Access}
-use Rattle.registry_access.specs.Hiding.{UnscopedArePublic}
-use Rattle.registry_names.specs.Names.{scope_of}
-use Rattle.registry_names.specs.declared.refusal.Refusal.TheVariants.{NotFound, LastOwner}
-use Rattle.registry_names.specs.declared.refusal.Rule.TheVariants.{A2}
-use Rattle.registry_access.specs.Callers.{role_of}
-use Rattle.registry_access.specs.Levels.{is_owner}
-use Rattle.registry_access.specs.Positions.{has_organisation}
 use Rattle.registry_access.specs.declared.role.Role.{Role}
-use Rattle.registry_access.specs.declared.role.Role.TheVariants.{Owner, Admin, Developer}
 use Rattle.registry_access.specs.declared.caller.Caller.{Caller}
 use Rattle.registry_publish.specs.Form.{FormParts}
 use Rattle.registry_rules.specs.Actions.{version_of}
-use Rattle.registry_rules.specs.Callers.{caller_of}
+use Rattle.registry_rules.specs.Callers.{caller_of, is_known}
 use Rattle.registry_rules.specs.Changes.{all_made, release_of}
-use Rattle.registry_rules.specs.Effects.{effects_for, membership, publication, step, step_by}
+use Rattle.registry_rules.specs.Effects.{effects_for, joining, membership, publication, step, step_by}
 use Rattle.registry_rules.specs.Kept.{IsReleaseOf, IsWithdrawalOf, IsTagOf, IsSpelled, IsSound, IsKept}
-use Rattle.registry_rules.specs.Operations.{without_member, with_tag, without_tag}
-use Rattle.registry_rules.specs.Refusals.{policy_refusal, publish_refusal, refusal, refusal_for, state_refusal}
+use Rattle.registry_rules.specs.Operations.{with_tag, without_tag}
+use Rattle.registry_rules.specs.Refusals.{publish_refusal, refusal, refusal_by, refusal_for}
 use Rattle.registry_rules.specs.Requests.{ArePartsInForm, IsInForm, IsActionInForm}
-use Rattle.registry_rules.specs.State.{State, Release, Withdrawal, nothing, has_user, is_last_owner, is_live, stands}
+use Rattle.registry_rules.specs.State.{developers, State, Release, Withdrawal, nothing, is_live, stands, is_in_team}
 use Rattle.registry_rules.specs.declared.request.Action.{Action}
-use Rattle.registry_rules.specs.declared.request.Action.TheVariants.{UserAdd, TokenAdd, OrgCreate, OrgSet, OrgRemove, Publish, TagSet, TagRemove}
+use Rattle.registry_rules.specs.declared.request.Action.TheVariants.{UserAdd, TokenAdd, OrgCreate, OrgSet, OrgRemove, TeamCreate, TeamDestroy, TeamAdd, TeamRemove, Publish, TagSet, TagRemove}
 use Rattle.registry_rules.specs.declared.request.Request.{Request}
-use Rattle.registry_rules.proofs.AllowedFacts.{IsAllowed, allowed_publish, is_there, isnt_kept, passed, not_false, first_passed, second_passed, organisation_there, user_there}
+use Rattle.registry_rules.proofs.AllowedFacts.{IsAllowed, allowed_publish, is_there, isnt_kept, state_passed}
 use Rattle.registry_rules.proofs.MadeFacts.{latest_put, role_put, tag_put}
-use Rattle.registry_rules.proofs.OtherFacts.{not_the_last}
-use Rattle.registry_rules.proofs.SoundFacts.{HasOwner, user_added, token_added, organisation_created, role_given, member_joined, member_removed}
+use Rattle.registry_rules.proofs.SoundFacts.{created, destroyed, was_left}
+use Rattle.registry_rules.proofs.SoundSteps.{caller_known, none_there, nothing_sound, status_stays, statuses_sound, step_sound}
 use Rattle.registry_rules.proofs.PublishedFacts.{statuses_after, status_of, after_publish, published_is}
 use Rattle.registry_names.proofs.PutFacts.{each_put, each_left, some_before, put_there, still_there}
 
 -- ---- nothing
-
-none_there : {X : Type 0} (o : Option X) → o ≡ None → IsSome o → ⊥
-none_there o e h = true≢false (sym h ∙ ap is_some e)
 
 nothing_spelled : IsSpelled nothing.access
 nothing_spelled = record {
@@ -56,19 +45,6 @@ nothing_spelled = record {
   organisations = λ o h. absurd (none_there _ (at-empty text_key o) h);
   teams = λ o t h. absurd (none_there _ (at-empty pair_key (o, t)) h);
   statuses = λ p h. absurd (none_there _ (at-empty text_key p) h);
-}
-
-nothing_sound : IsSound nothing.access
-nothing_sound = record {
-  tokens = λ digest u h. absurd (none_there _ (at-empty text_key digest) (ap is_some h));
-  roles = λ o u h. absurd (none_there _ (at-empty pair_key (o, u)) h);
-  owners = λ o h. absurd (none_there _ (at-empty text_key o) h);
-  first_teams = λ o h. absurd (none_there _ (at-empty text_key o) h);
-  teams = λ o t h. absurd (none_there _ (at-empty pair_key (o, t)) h);
-  team_members = λ o t u h. absurd (none_there _ (at-empty triple_key (o, (t, u))) h);
-  grants = λ o t p h. absurd (none_there _ (at-empty triple_key (o, (t, p))) h);
-  maintainers = λ p u h. absurd (none_there _ (at-empty pair_key (p, u)) h);
-  unscoped = λ p u h. none_there _ (at-empty text_key p) (ap is_some h);
 }
 
 pub nothing_kept : IsKept nothing
@@ -87,20 +63,6 @@ nothing_kept = record {
 -- where no package loses its status
 more_statuses_spelled : (A : Access) (statuses : TextMap Status) → ((p : Text) → IsSome (at statuses p) → IsName p) → IsSpelled A → IsSpelled (record A { statuses = statuses })
 more_statuses_spelled A statuses named spelled = record { users = spelled.users; tokens = spelled.tokens; organisations = spelled.organisations; teams = spelled.teams; statuses = named }
-
-more_statuses_sound : (A : Access) (statuses : TextMap Status) → ((p : Text) → IsSome (at A.statuses p) → IsSome (at statuses p)) → UnscopedArePublic (record A { statuses = statuses })
-    → IsSound A → IsSound (record A { statuses = statuses })
-more_statuses_sound A statuses still unscoped sound = record {
-  tokens = sound.tokens;
-  roles = sound.roles;
-  owners = sound.owners;
-  first_teams = sound.first_teams;
-  teams = sound.teams;
-  team_members = sound.team_members;
-  grants = λ o t p h. let grant = sound.grants o t p h in record { team = grant.team; status = still p grant.status; scope = grant.scope };
-  maintainers = λ p u h. let has = sound.maintainers p u h in (still p has.0, has.1);
-  unscoped = unscoped;
-}
 
 module _ (S : State) (p v t : Text) (release : Release) (status : Option Status) (allowed : IsAllowed S p v t release status) (kept : IsKept S) where
   abbrev here : Bool
@@ -131,16 +93,12 @@ module _ (S : State) (p v t : Text) (release : Release) (status : Option Status)
   live_are : (k : Pair) (r : Release) → at T.live k ≡ Some r → IsReleaseOf k.0 k.1 r
   live_are = each_put pair_key S.live (p, v) release (λ k r. IsReleaseOf k.0 k.1 r) (λ k r. kept.live k.0 k.1 r) allowed.is_release
 
-  status_stays : (o : Option Status) (q : Text) → IsSome (at S.access.statuses q) → IsSome (at (statuses_after S.access.statuses p o) q)
-  status_stays None q h = h
-  status_stays (Some s) q h = still_there text_key S.access.statuses p s q h
-
   statuses_named : (o : Option Status) (q : Text) → IsSome (at (statuses_after S.access.statuses p o) q) → IsName q
   statuses_named None q h = kept.spelled.statuses q h
   statuses_named (Some s) q h = some_before text_key S.access.statuses p s IsName kept.spelled.statuses allowed.is_release.name q h
 
   have_status : (k : Pair) → IsSome (at T.live k) → IsSome (at T.access.statuses k.0)
-  have_status = some_before pair_key S.live (p, v) release (λ k. IsSome (at T.access.statuses k.0)) (λ k h. status_stays status k.0 (kept.status k.0 k.1 h)) allowed.has_status
+  have_status = some_before pair_key S.live (p, v) release (λ k. IsSome (at T.access.statuses k.0)) (λ k h. status_stays S.access.statuses p status k.0 (kept.status k.0 k.1 h)) allowed.has_status
 
   -- what is live now and wasn't is what is published, and that was never withdrawn
   stays_gone : (k : Pair) (w : Withdrawal) → at S.spent k ≡ Some w → is_some (at S.live k) ≡ false → is_some (at T.live k) ≡ false
@@ -156,7 +114,7 @@ module _ (S : State) (p v t : Text) (release : Release) (status : Option Status)
     version = was.version;
     published = was.published;
     withdrawn = was.withdrawn;
-    status = status_stays status q was.status;
+    status = status_stays S.access.statuses p status q was.status;
     gone = stays_gone (q, w) withdrawal h was.gone;
   }
 
@@ -176,12 +134,6 @@ module _ (S : State) (p v t : Text) (release : Release) (status : Option Status)
       (λ k h. still_there pair_key (latest_put S.tags p v here) (p, t) v (k.0, latest) (latest_stays here k.0 (kept.latest k.0 k.1 h)))
       (latest_here (stands S p latest) (is t latest) refl refl)
 
-  statuses_are : (o : Option Status) → (scope_of p ≡ None → o ≢ Some Restricted) → (q : Text) (s : Status) → at (statuses_after S.access.statuses p o) q ≡ Some s → scope_of q ≡ None → s ≢ Restricted
-  statuses_are None may = λ q s e u f. kept.sound.unscoped q u (e ∙ ap (λ (x : Status). Some x) f)
-  statuses_are (Some status) may =
-      each_put text_key S.access.statuses p status (λ q s. scope_of q ≡ None → s ≢ Restricted)
-      (λ q s e u f. kept.sound.unscoped q u (e ∙ ap (λ (x : Status). Some x) f)) (λ u f. may u (ap (λ (x : Status). Some x) f))
-
   all_kept : IsKept T
   all_kept = record {
     live = λ q w r h. live_are (q, w) r h;
@@ -190,8 +142,7 @@ module _ (S : State) (p v t : Text) (release : Release) (status : Option Status)
     status = λ q w h. have_status (q, w) h;
     latest = λ q w h. have_latest (q, w) h;
     spelled = more_statuses_spelled S.access (statuses_after S.access.statuses p status) (statuses_named status) kept.spelled;
-    sound = more_statuses_sound S.access (statuses_after S.access.statuses p status) (status_stays status)
-        (λ q u h. statuses_are status allowed.is_public q Restricted h u refl) kept.sound;
+    sound = statuses_sound S.access p status allowed.is_public kept.sound;
   }
 
 publish_kept : (S : State) (f : FormParts) (now : ℕ) → ArePartsInForm f → now ≤ last_second → publish_refusal S f ≡ None → IsKept S → IsKept (all_made S (publication S now f))
@@ -253,65 +204,104 @@ access_kept S A still spelled sound kept = record {
   sound = sound;
 }
 
--- one change of it
-changed_kept : (S : State) (A : Access) → ((p : Text) → IsSome (at S.access.statuses p) → IsSome (at A.statuses p)) → IsSpelled A × IsSound A → IsKept S → IsKept (record S { access = A })
-changed_kept S A still holds kept = access_kept S A still holds.0 holds.1 kept
+user_spelled : (A : Access) (u : Text) → IsTrue (is_ident u) → IsSpelled A → IsSpelled (record A { users = put A.users u tt })
+user_spelled A u form spelled = record {
+  users = some_before text_key A.users u tt (λ w. IsTrue (is_ident w)) spelled.users form;
+  tokens = spelled.tokens;
+  organisations = spelled.organisations;
+  teams = spelled.teams;
+  statuses = spelled.statuses;
+}
 
--- ---- members
+token_spelled : (A : Access) (digest u : Text) → length digest ≡ 32 → IsSpelled A → IsSpelled (record A { tokens = put A.tokens digest u })
+token_spelled A digest u long spelled = record {
+  users = spelled.users;
+  tokens = some_before text_key A.tokens digest u (λ d. length d ≡ 32) spelled.tokens long;
+  organisations = spelled.organisations;
+  teams = spelled.teams;
+  statuses = spelled.statuses;
+}
 
--- an owner is left where the role is an owner's, or another one is
-owner_given : (S : State) (o u : Text) (role : Role) → (not (is_owner (Some role)) && is_last_owner S o u) ≡ false → at S.access.roles (o, u) ≡ Some Owner → HasOwner (put S.access.roles (o, u) role) o
-owner_given S o u Owner may e = (u, at-put_same pair_key S.access.roles (o, u) Owner)
-owner_given S o u Admin may e = let other = not_the_last S o u may e in
-    (other.0, at-put_other pair_key S.access.roles (o, u) Admin (o, other.0) (and_right (is o o) (is u other.0) other.1) ∙ other.2)
-owner_given S o u Developer may e = let other = not_the_last S o u may e in
-    (other.0, at-put_other pair_key S.access.roles (o, u) Developer (o, other.0) (and_right (is o o) (is u other.0) other.1) ∙ other.2)
+organisation_spelled : (A : Access) (o u : Text) → IsTrue (is_ident o) → IsSpelled A → IsSpelled (created A o u)
+organisation_spelled A o u form spelled = record {
+  users = spelled.users;
+  tokens = spelled.tokens;
+  organisations = some_before text_key A.organisations o tt (λ p. IsTrue (is_ident p)) spelled.organisations form;
+  teams = λ p t h. some_before pair_key A.teams (o, developers) tt (λ k. IsTrue (is_ident k.1)) (λ k e. spelled.teams k.0 k.1 e) refl (p, t) h;
+  statuses = spelled.statuses;
+}
 
-owner_stays : (S : State) (o u : Text) → is_last_owner S o u ≡ false → at S.access.roles (o, u) ≡ Some Owner → HasOwner (erase S.access.roles (o, u)) o
-owner_stays S o u may e = let other = not_the_last S o u may e in
-    (other.0, at-erase_other pair_key S.access.roles (o, u) (o, other.0) (and_right (is o o) (is u other.0) other.1) ∙ other.2)
+team_spelled : (A : Access) (o t : Text) → IsTrue (is_ident t) → IsSpelled A → IsSpelled (record A { teams = put A.teams (o, t) tt })
+team_spelled A o t form spelled = record {
+  users = spelled.users;
+  tokens = spelled.tokens;
+  organisations = spelled.organisations;
+  teams = λ p s h. some_before pair_key A.teams (o, t) tt (λ k. IsTrue (is_ident k.1)) (λ k e. spelled.teams k.0 k.1 e) form (p, s) h;
+  statuses = spelled.statuses;
+}
 
-role_kept : (S : State) (o u : Text) (role : Role) (old : Option Role) → at S.access.roles (o, u) ≡ old → IsSome (at S.access.organisations o) → IsSome (at S.access.users u)
-    → (at S.access.roles (o, u) ≡ Some Owner → HasOwner (put S.access.roles (o, u) role) o) → IsKept S → IsKept (all_made S (membership o u role old))
-role_kept S o u role (Some r) e organisation user left kept =
-    subst IsKept (sym (role_put S o u role (ap is_some e))) (changed_kept S _ (λ p h. h) (role_given S.access o u role organisation user left kept.spelled kept.sound) kept)
-role_kept S o u role None e organisation user left kept =
-    changed_kept S _ (λ p h. h) (member_joined S.access o u role organisation user left kept.spelled kept.sound) kept
+team_gone_spelled : (A : Access) (o t : Text) → IsSpelled A → IsSpelled (destroyed A o t)
+team_gone_spelled A o t spelled = record {
+  users = spelled.users;
+  tokens = spelled.tokens;
+  organisations = spelled.organisations;
+  teams = λ p s h. spelled.teams p s (was_left (is o p && is t s) (at A.teams (p, s)) (sym (ap is_some (at-erase pair_key A.teams (o, t) (p, s))) ∙ h));
+  statuses = spelled.statuses;
+}
 
-set_kept : (S : State) (now : ℕ) (who : Caller) (o u : Text) (role : Role) → policy_refusal S.access who (OrgSet o u role) ≡ None → state_refusal S now (OrgSet o u role) ≡ None
-    → IsKept S → IsKept (all_made S (membership o u role (at S.access.roles (o, u))))
-set_kept S now who o u role policy may kept =
-    let user = passed (not (has_user S u)) NotFound _ may in
-    let owner = passed (not (is_owner (Some role)) && is_last_owner S o u) LastOwner None user.1 in
-    role_kept S o u role (at S.access.roles (o, u)) refl (organisation_there who (has_organisation S.access o) (is_owner (role_of S.access who o)) A2 policy) (not_false _ user.0)
-    (owner_given S o u role owner.0) kept
+joined_kept : (S : State) (o t u : Text) (inside : Bool) → IsSound (all_made S (joining o t u inside)).access → IsKept S → IsKept (all_made S (joining o t u inside))
+joined_kept S o t u true sound kept = kept
+joined_kept S o t u false sound kept =
+    let spelled = kept.spelled in
+    access_kept S _ (λ p h. h) (record { users = spelled.users; tokens = spelled.tokens; organisations = spelled.organisations; teams = spelled.teams; statuses = spelled.statuses }) sound kept
 
-removed_kept : (S : State) (now : ℕ) (o u : Text) → state_refusal S now (OrgRemove o u) ≡ None → IsKept S → IsKept (without_member S o u)
-removed_kept S now o u may kept =
-    let member = passed (is_none (at S.access.roles (o, u))) NotFound _ may in
-    let owner = passed (is_last_owner S o u) LastOwner None member.1 in
-    changed_kept S _ (λ p h. h) (member_removed S.access o u (owner_stays S o u owner.0) kept.spelled kept.sound) kept
+role_kept : (S : State) (o u : Text) (role : Role) (old : Option Role) → at S.access.roles (o, u) ≡ old → IsSound (all_made S (membership o u role old)).access
+    → IsKept S → IsKept (all_made S (membership o u role old))
+role_kept S o u role (Some r) e sound kept =
+    let spelled = kept.spelled in
+    subst (λ (T : State). IsSound T.access → IsKept T) (sym (role_put S o u role (ap is_some e)))
+    (λ still. access_kept S _ (λ p h. h) (record { users = spelled.users; tokens = spelled.tokens; organisations = spelled.organisations; teams = spelled.teams; statuses = spelled.statuses }) still kept) sound
+role_kept S o u role None e sound kept =
+    let spelled = kept.spelled in
+    access_kept S _ (λ p h. h) (record { users = spelled.users; tokens = spelled.tokens; organisations = spelled.organisations; teams = spelled.teams; statuses = spelled.statuses }) sound kept
 
 -- ---- a request
 
-action_kept : (S : State) (now : ℕ) (who : Caller) (what : Action) → now ≤ last_second → IsActionInForm what → policy_refusal S.access who what ≡ None → state_refusal S now what ≡ None
+action_kept : (S : State) (now : ℕ) (who : Caller) (what : Action) → now ≤ last_second → IsActionInForm what → is_known S who ≡ true → refusal_by S now who what ≡ None
     → IsKept S → IsKept (step_by S now who what)
-action_kept S now who (UserAdd u) moment form policy may kept = changed_kept S _ (λ p h. h) (user_added S.access u form kept.spelled kept.sound) kept
-action_kept S now who (TokenAdd u digest) moment form policy may kept =
-    changed_kept S _ (λ p h. h) (token_added S.access digest u form.1 (user_there _ _ may) kept.spelled kept.sound) kept
-action_kept S now who (OrgCreate o u) moment form policy may kept =
-    changed_kept S _ (λ p h. h) (organisation_created S.access o u form.0 (user_there _ _ may) kept.spelled kept.sound) kept
-action_kept S now who (OrgSet o u role) moment form policy may kept = set_kept S now who o u role policy may kept
-action_kept S now who (OrgRemove o u) moment form policy may kept = removed_kept S now o u may kept
-action_kept S now who (Publish f) moment form policy may kept = publish_kept S f now form moment may kept
-action_kept S now who (TagSet p t v) moment form policy may kept =
-    subst IsKept (sym (tag_put S p t (text_of_version v) (stands S p t) (λ there. there))) (tag_set_kept S p t (text_of_version v) form.0 form.1 (is_there _ may) kept)
-action_kept S now who (TagRemove p t) moment form policy may kept = tag_removed_kept S p t (isnt_kept (stands S p t) (is t latest) may) kept
-action_kept S now who _ moment form policy may kept = kept
+action_kept S now who (UserAdd u) moment form known may kept =
+    access_kept S _ (λ p h. h) (user_spelled S.access u form kept.spelled) (step_sound S now who (UserAdd u) known may kept.sound) kept
+action_kept S now who (TokenAdd u digest) moment form known may kept =
+    access_kept S _ (λ p h. h) (token_spelled S.access digest u form.1 kept.spelled) (step_sound S now who (TokenAdd u digest) known may kept.sound) kept
+action_kept S now who (OrgCreate o u) moment form known may kept =
+    access_kept S _ (λ p h. h) (organisation_spelled S.access o u form.0 kept.spelled) (step_sound S now who (OrgCreate o u) known may kept.sound) kept
+action_kept S now who (OrgSet o u role) moment form known may kept =
+    role_kept S o u role (at S.access.roles (o, u)) refl (step_sound S now who (OrgSet o u role) known may kept.sound) kept
+action_kept S now who (OrgRemove o u) moment form known may kept =
+    let spelled = kept.spelled in
+    access_kept S _ (λ p h. h) (record { users = spelled.users; tokens = spelled.tokens; organisations = spelled.organisations; teams = spelled.teams; statuses = spelled.statuses })
+    (step_sound S now who (OrgRemove o u) known may kept.sound) kept
+action_kept S now who (TeamCreate o t) moment form known may kept =
+    access_kept S _ (λ p h. h) (team_spelled S.access o t form.1 kept.spelled) (step_sound S now who (TeamCreate o t) known may kept.sound) kept
+action_kept S now who (TeamDestroy o t) moment form known may kept =
+    access_kept S _ (λ p h. h) (team_gone_spelled S.access o t kept.spelled) (step_sound S now who (TeamDestroy o t) known may kept.sound) kept
+action_kept S now who (TeamAdd o t u) moment form known may kept =
+    joined_kept S o t u (is_in_team S o t u) (step_sound S now who (TeamAdd o t u) known may kept.sound) kept
+action_kept S now who (TeamRemove o t u) moment form known may kept =
+    let spelled = kept.spelled in
+    access_kept S _ (λ p h. h) (record { users = spelled.users; tokens = spelled.tokens; organisations = spelled.organisations; teams = spelled.teams; statuses = spelled.statuses })
+    (step_sound S now who (TeamRemove o t u) known may kept.sound) kept
+action_kept S now who (Publish f) moment form known may kept = publish_kept S f now form moment (state_passed S now who (Publish f) may) kept
+action_kept S now who (TagSet p t v) moment form known may kept =
+    subst IsKept (sym (tag_put S p t (text_of_version v) (stands S p t) (λ there. there)))
+    (tag_set_kept S p t (text_of_version v) form.0 form.1 (is_there _ (state_passed S now who (TagSet p t v) may)) kept)
+action_kept S now who (TagRemove p t) moment form known may kept =
+    tag_removed_kept S p t (isnt_kept (stands S p t) (is t latest) (state_passed S now who (TagRemove p t) may)) kept
+action_kept S now who _ moment form known may kept = kept
 
 pub step_kept : (S : State) (r : Request) → IsInForm r → refusal S r ≡ None → IsKept S → IsKept (step S r)
-step_kept S r form may kept = by_caller (caller_of S r.who) may
+step_kept S r form may kept = by_caller (caller_of S r.who) refl may
   where
-    by_caller : (who : Option Caller) → refusal_for S r.at who r.what ≡ None → IsKept (all_made S (effects_for S r.at who r.what))
-    by_caller None may = kept
-    by_caller (Some who) may = action_kept S r.at who r.what form.at form.what (first_passed _ _ may) (second_passed _ _ may) kept
+    by_caller : (who : Option Caller) → caller_of S r.who ≡ who → refusal_for S r.at who r.what ≡ None → IsKept (all_made S (effects_for S r.at who r.what))
+    by_caller None is may = kept
+    by_caller (Some who) is may = action_kept S r.at who r.what form.at form.what (caller_known S r.who who kept.sound is) may kept

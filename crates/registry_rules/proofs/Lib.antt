@@ -6,3 +6,4 @@ pub mod MadeFacts
 pub mod OtherFacts
 pub mod PublishedFacts
 pub mod SoundFacts
+pub mod SoundSteps

@@ -1,5 +1,5 @@
 -- What each command changes where nothing refuses it: one equation a command. A query changes nothing.
-use Rattle.std.specs.Prelude.{ℕ, List, [], ◌∷◌, ◌++◌, ◌||◌, true, false, is_some, Option, Some, None, if◌then◌else◌}
+use Rattle.std.specs.Prelude.{ℕ, Bool, List, [], ◌∷◌, ◌++◌, ◌||◌, true, false, is_some, Option, Some, None, if◌then◌else◌}
 use Rattle.registry_names.specs.Tags.{latest}
 use Rattle.registry_names.specs.Texts.{Text, is}
 use Rattle.registry_names.specs.Maps.{at}
@@ -13,10 +13,10 @@ use Rattle.registry_access.specs.declared.role.Role.TheVariants.{Owner}
 use Rattle.registry_publish.specs.Form.{FormParts}
 use Rattle.registry_rules.specs.Actions.{version_of}
 use Rattle.registry_rules.specs.Callers.{caller_of}
-use Rattle.registry_rules.specs.Changes.{Change, AddUser, AddToken, AddOrg, PutMember, DropMember, AddTeam, PutTeamMember, PutStatus, AddVersion, PutTag, DropTag, all_made}
-use Rattle.registry_rules.specs.State.{State, developers, stands}
+use Rattle.registry_rules.specs.Changes.{Change, AddUser, AddToken, AddOrg, PutMember, DropMember, AddTeam, PutTeamMember, DropTeamMember, DropTeam, PutStatus, AddVersion, PutTag, DropTag, all_made}
+use Rattle.registry_rules.specs.State.{State, developers, is_in_team, stands}
 use Rattle.registry_rules.specs.declared.request.Action.{Action}
-use Rattle.registry_rules.specs.declared.request.Action.TheVariants.{UserAdd, TokenAdd, OrgCreate, OrgSet, OrgRemove, Publish, TagSet, TagRemove}
+use Rattle.registry_rules.specs.declared.request.Action.TheVariants.{UserAdd, TokenAdd, OrgCreate, OrgSet, OrgRemove, TeamCreate, TeamDestroy, TeamAdd, TeamRemove, Publish, TagSet, TagRemove}
 use Rattle.registry_rules.specs.declared.request.Request.{Request}
 
 -- ---- organisations
@@ -29,6 +29,12 @@ creation o u = AddOrg o ∷ PutMember o u Owner false ∷ AddTeam o developers �
 abbrev pub membership : Text → Text → Role → Option Role → List Change
 membership o u role (Some old) = PutMember o u role true ∷ []
 membership o u role None = PutMember o u role false ∷ PutTeamMember o developers u ∷ []
+
+-- ---- teams
+
+-- who is in the team already stays in it
+abbrev pub joining : Text → Text → Text → Bool → List Change
+joining o t u inside = if inside then [] else PutTeamMember o t u ∷ []
 
 -- ---- a publish
 
@@ -63,6 +69,10 @@ effects S now who (TokenAdd u digest) = AddToken digest u ∷ []
 effects S now who (OrgCreate o u) = creation o u
 effects S now who (OrgSet o u role) = membership o u role (at S.access.roles (o, u))
 effects S now who (OrgRemove o u) = DropMember o u ∷ []
+effects S now who (TeamCreate o t) = AddTeam o t ∷ []
+effects S now who (TeamDestroy o t) = DropTeam o t ∷ []
+effects S now who (TeamAdd o t u) = joining o t u (is_in_team S o t u)
+effects S now who (TeamRemove o t u) = DropTeamMember o t u ∷ []
 effects S now who (Publish f) = publication S now f
 effects S now who (TagSet p t v) = PutTag p t (text_of_version v) (stands S p t) ∷ []
 effects S now who (TagRemove p t) = DropTag p t ∷ []

@@ -13,13 +13,13 @@ use Rattle.registry_access.specs.declared.rows.AccessRows.{AccessRows}
 use Rattle.registry_publish.specs.Form.{FormParts}
 use Rattle.registry_rules.specs.Actions.{version_of}
 use Rattle.registry_rules.specs.Callers.{caller_of}
-use Rattle.registry_rules.specs.State.{State, has_user, has_other_owner, has_token, is_live, is_spent, has_live, stands, asked_version, lives}
+use Rattle.registry_rules.specs.State.{State, has_user, has_team, is_member, is_in_team, has_other_owner, has_token, is_live, is_spent, has_live, stands, asked_version, lives}
 use Rattle.registry_rules.specs.declared.facts.About.{About}
 use Rattle.registry_rules.specs.declared.facts.About.TheVariants as about
 use Rattle.registry_rules.specs.declared.facts.Facts.{Facts}
 use Rattle.registry_rules.specs.declared.facts.PublishFacts.{PublishFacts}
 use Rattle.registry_rules.specs.declared.request.Action.{Action}
-use Rattle.registry_rules.specs.declared.request.Action.TheVariants.{UserAdd, TokenAdd, OrgCreate, OrgSet, OrgRemove, Publish, TagSet, TagRemove, Packument, VersionDoc, Archive, Tags, Members}
+use Rattle.registry_rules.specs.declared.request.Action.TheVariants.{UserAdd, TokenAdd, OrgCreate, OrgSet, OrgRemove, TeamCreate, TeamDestroy, TeamAdd, TeamRemove, Publish, TagSet, TagRemove, Packument, VersionDoc, Archive, Tags, Members, Teams, TeamMembers}
 use Rattle.registry_rules.specs.declared.request.Request.{Request}
 
 pub record ArePublishFacts (facts : PublishFacts) (S : State) (f : FormParts) : Type 0 where
@@ -44,6 +44,17 @@ pub record AreOrgRemoveFacts (rows : AccessRows) (old : Option Role) (other : Bo
   pub role : old ≡ at S.access.roles (o, u)
   pub other_owner : other ≡ has_other_owner S o u
 
+pub record AreTeamAddFacts (rows : AccessRows) (there member already : Bool) (S : State) (who : Caller) (o t u : Text) : Type 0 where
+  pub rows_say : SayOf rows S who o
+  pub team_exists : there ≡ has_team S o t
+  pub is_member : member ≡ is_member S o u
+  pub is_in_team : already ≡ is_in_team S o t u
+
+pub record AreTeamRemoveFacts (rows : AccessRows) (there inside : Bool) (S : State) (who : Caller) (o t u : Text) : Type 0 where
+  pub rows_say : SayOf rows S who o
+  pub team_exists : there ≡ has_team S o t
+  pub is_in_team : inside ≡ is_in_team S o t u
+
 -- What is told of a caller's action is so. What is told of another kind of action stands for no state
 abbrev pub StandsAbout : About → State → Caller → Action → Type 0
 StandsAbout (about.UserAdd exists) S who (UserAdd u) = exists ≡ has_user S u
@@ -51,6 +62,10 @@ StandsAbout (about.TokenAdd user_exists exists) S who (TokenAdd u digest) = (use
 StandsAbout (about.OrgCreate owner_exists exists) S who (OrgCreate o u) = (owner_exists ≡ has_user S u) × (exists ≡ has_organisation S.access o)
 StandsAbout (about.OrgSet rows user_exists role other_owner) S who (OrgSet o u new) = AreOrgSetFacts rows user_exists role other_owner S who o u
 StandsAbout (about.OrgRemove rows role other_owner) S who (OrgRemove o u) = AreOrgRemoveFacts rows role other_owner S who o u
+StandsAbout (about.TeamCreate rows exists) S who (TeamCreate o t) = SayOf rows S who o × (exists ≡ has_team S o t)
+StandsAbout (about.TeamDestroy rows exists) S who (TeamDestroy o t) = SayOf rows S who o × (exists ≡ has_team S o t)
+StandsAbout (about.TeamAdd rows team_exists member already) S who (TeamAdd o t u) = AreTeamAddFacts rows team_exists member already S who o t u
+StandsAbout (about.TeamRemove rows team_exists inside) S who (TeamRemove o t u) = AreTeamRemoveFacts rows team_exists inside S who o t u
 StandsAbout (about.Publish facts) S who (Publish f) = ArePublishFacts facts S f
 StandsAbout (about.TagSet version_lives tag_stands) S who (TagSet p t v) = (version_lives ≡ is_live S p (text_of_version v)) × (tag_stands ≡ stands S p t)
 StandsAbout (about.TagRemove tag_stands) S who (TagRemove p t) = tag_stands ≡ stands S p t
@@ -59,6 +74,8 @@ StandsAbout (about.Version found) S who (Archive p v) = found ≡ is_live S p (t
 StandsAbout (about.Package found) S who (Packument p) = found ≡ has_live S p
 StandsAbout (about.Package found) S who (Tags p) = found ≡ has_live S p
 StandsAbout (about.Organisation rows) S who (Members o) = SayOf rows S who o
+StandsAbout (about.Organisation rows) S who (Teams o) = SayOf rows S who o
+StandsAbout (about.Team rows exists) S who (TeamMembers o t) = SayOf rows S who o × (exists ≡ has_team S o t)
 StandsAbout _ S who _ = ⊥
 
 -- The facts are what the registry holds for the request. Of an action of nobody nothing has to be told

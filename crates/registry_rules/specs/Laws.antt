@@ -1,5 +1,5 @@
 -- What commands make of what the registry holds, told of each map apart.
-use Rattle.std.specs.Prelude.{◌≡◌, ◌≢◌, ◌↔◌, ℕ, true, false, [], Some, None, IsSome}
+use Rattle.std.specs.Prelude.{◌≡◌, ◌≢◌, ◌↔◌, ℕ, true, false, [], Some, None, IsSome, if◌then◌else◌}
 use Rattle.registry_names.specs.Keys.{Pair, Triple}
 use Rattle.registry_names.specs.Maps.{at}
 use Rattle.registry_names.specs.Tags.{latest}
@@ -12,11 +12,12 @@ use Rattle.registry_access.specs.declared.caller.Caller.{Caller}
 use Rattle.registry_access.specs.declared.role.Role.{Role}
 use Rattle.registry_access.specs.declared.role.Role.TheVariants.{Owner}
 use Rattle.registry_publish.specs.Form.{FormParts}
-use Rattle.registry_rules.specs.Actions.{is_command, version_of, names}
+use Rattle.registry_rules.specs.Actions.{is_command, version_of, names, ends_team}
 use Rattle.registry_rules.specs.Effects.{step_by}
+use Rattle.registry_rules.specs.Kept.{IsSound}
 use Rattle.registry_rules.specs.State.{State, developers, has_other_owner}
 use Rattle.registry_rules.specs.declared.request.Action.{Action}
-use Rattle.registry_rules.specs.declared.request.Action.TheVariants.{UserAdd, TokenAdd, OrgCreate, OrgSet, OrgRemove, Publish, TagSet, TagRemove}
+use Rattle.registry_rules.specs.declared.request.Action.TheVariants.{UserAdd, TokenAdd, OrgCreate, OrgSet, OrgRemove, TeamCreate, TeamDestroy, TeamAdd, TeamRemove, Publish, TagSet, TagRemove}
 
 -- ---- users and tokens
 
@@ -89,6 +90,51 @@ MembersAreRemoved = (S : State) (now : ℕ) (who : Caller) (o u : Text) → Remo
 abbrev pub OtherOwnersAreOwners : Type 0
 OtherOwnersAreOwners = (S : State) (o u : Text) → (has_other_owner S o u ≡ true) ↔ ((w : Text) × (w ≢ u) × (at S.access.roles (o, w) ≡ Some Owner))
 
+-- ---- teams
+
+-- the organisation has the team, and no other team has come or gone
+pub record CreatesTeam (S T : State) (o t : Text) : Type 0 where
+  pub team : IsSome (at T.access.teams (o, t))
+  pub teams : (k : Pair) → k ≢ (o, t) → at T.access.teams k ≡ at S.access.teams k
+  pub rest : T ≡ record S { access = record S.access { teams = T.access.teams } }
+
+-- nobody is in the team, and it is granted nothing
+pub record IsEmptyTeam (S : State) (o t : Text) : Type 0 where
+  pub members : (u : Text) → at S.access.team_members (o, (t, u)) ≡ None
+  pub grants : (p : Text) → at S.access.grants (o, (t, p)) ≡ None
+
+-- the team is gone, with all that was said of it, and no other team has changed
+pub record DestroysTeam (S T : State) (o t : Text) : Type 0 where
+  pub team : at T.access.teams (o, t) ≡ None
+  pub teams : (k : Pair) → k ≢ (o, t) → at T.access.teams k ≡ at S.access.teams k
+  pub emptied : IsEmptyTeam T o t
+  pub team_members : (p s u : Text) → ◌≢◌ {A = Pair} (p, s) (o, t) → at T.access.team_members (p, (s, u)) ≡ at S.access.team_members (p, (s, u))
+  pub grants : (p s q : Text) → ◌≢◌ {A = Pair} (p, s) (o, t) → at T.access.grants (p, (s, q)) ≡ at S.access.grants (p, (s, q))
+  pub rest : T ≡ record S { access = record S.access { teams = T.access.teams; team_members = T.access.team_members; grants = T.access.grants } }
+
+-- who is in this team alone has changed, and of these this one
+pub record IsTeamMemberChange (S T : State) (o t u : Text) : Type 0 where
+  pub team_members : (k : Triple) → k ≢ (o, (t, u)) → at T.access.team_members k ≡ at S.access.team_members k
+  pub rest : T ≡ record S { access = record S.access { team_members = T.access.team_members } }
+
+abbrev pub TeamsAreCreated : Type 0
+TeamsAreCreated = (S : State) (now : ℕ) (who : Caller) (o t : Text) → CreatesTeam S (step_by S now who (TeamCreate o t)) o t
+
+-- also one of a name that a destroyed team had
+abbrev pub NewTeamsAreEmpty : Type 0
+NewTeamsAreEmpty = (S : State) (now : ℕ) (who : Caller) (o t : Text) → IsSound S.access → at S.access.teams (o, t) ≡ None → IsEmptyTeam (step_by S now who (TeamCreate o t)) o t
+
+abbrev pub TeamsAreDestroyed : Type 0
+TeamsAreDestroyed = (S : State) (now : ℕ) (who : Caller) (o t : Text) → DestroysTeam S (step_by S now who (TeamDestroy o t)) o t
+
+abbrev pub TeamMembersAreAdded : Type 0
+TeamMembersAreAdded = (S : State) (now : ℕ) (who : Caller) (o t u : Text) → let T = step_by S now who (TeamAdd o t u) in
+    IsSome (at T.access.team_members (o, (t, u))) × IsTeamMemberChange S T o t u
+
+abbrev pub TeamMembersAreRemoved : Type 0
+TeamMembersAreRemoved = (S : State) (now : ℕ) (who : Caller) (o t u : Text) → let T = step_by S now who (TeamRemove o t u) in
+    (at T.access.team_members (o, (t, u)) ≡ None) × IsTeamMemberChange S T o t u
+
 -- ---- a publish
 
 -- its version lives, with its manifest, its archive and its moment, and no other version changes
@@ -146,15 +192,15 @@ RemovedTagsAreGone = (S : State) (now : ℕ) (who : Caller) (p t : Text) → let
 abbrev pub QueriesChangeNothing : Type 0
 QueriesChangeNothing = (S : State) (now : ℕ) (who : Caller) (what : Action) → is_command what ≡ false → step_by S now who what ≡ S
 
--- all that is held of the package is the same
-pub record IsSameOf (S T : State) (p : Text) : Type 0 where
+-- all that is held of the package is the same, but that a team that this action ends is granted nothing on it
+pub record IsApart (S T : State) (what : Action) (p : Text) : Type 0 where
   pub live : (v : Text) → at T.live (p, v) ≡ at S.live (p, v)
   pub spent : (v : Text) → at T.spent (p, v) ≡ at S.spent (p, v)
   pub tags : (t : Text) → at T.tags (p, t) ≡ at S.tags (p, t)
   pub status : at T.access.statuses p ≡ at S.access.statuses p
   pub maintainers : (u : Text) → at T.access.maintainers (p, u) ≡ at S.access.maintainers (p, u)
-  pub grants : (o t : Text) → at T.access.grants (o, (t, p)) ≡ at S.access.grants (o, (t, p))
+  pub grants : (o t : Text) → at T.access.grants (o, (t, p)) ≡ (if ends_team what o t then None else at S.access.grants (o, (t, p)))
 
 -- an action changes nothing of a package that it doesn't name
 abbrev pub PackagesStandApart : Type 0
-PackagesStandApart = (S : State) (now : ℕ) (who : Caller) (what : Action) (p : Text) → names what p ≡ false → IsSameOf S (step_by S now who what) p
+PackagesStandApart = (S : State) (now : ℕ) (who : Caller) (what : Action) (p : Text) → names what p ≡ false → IsApart S (step_by S now who what) what p

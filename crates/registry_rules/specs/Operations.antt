@@ -43,6 +43,20 @@ with_team S o t = record S { access = record S.access { teams = put S.access.tea
 abbrev pub with_team_member : State → Text → Text → Text → State
 with_team_member S o t u = record S { access = record S.access { team_members = put S.access.team_members (o, (t, u)) tt } }
 
+-- the user isn't in the team
+abbrev pub without_team_member : State → Text → Text → Text → State
+without_team_member S o t u = record S { access = record S.access { team_members = erase S.access.team_members (o, (t, u)) } }
+
+-- the team isn't there; nobody is in it, and it is granted nothing
+abbrev pub without_team : State → Text → Text → State
+without_team S o t = record S {
+  access = record S.access {
+    teams = erase S.access.teams (o, t);
+    team_members = keep S.access.team_members (λ k. not (is o k.0 && is t k.1.0));
+    grants = keep S.access.grants (λ k. not (is o k.0 && is t k.1.0));
+  };
+}
+
 -- the package has this status
 abbrev pub with_status : State → Text → Status → State
 with_status S p status = record S { access = record S.access { statuses = put S.access.statuses p status } }

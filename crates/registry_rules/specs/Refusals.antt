@@ -6,22 +6,22 @@ use Rattle.registry_names.specs.Texts.{Text, is}
 use Rattle.registry_names.specs.Maps.{at}
 use Rattle.registry_names.specs.Versions.{text_of_version}
 use Rattle.registry_names.specs.declared.refusal.Refusal.{Refusal}
-use Rattle.registry_names.specs.declared.refusal.Refusal.TheVariants.{NoCaller, NotFound, LastOwner, Exists, Published, Spent, KeepsLatest, AlwaysPublic}
+use Rattle.registry_names.specs.declared.refusal.Refusal.TheVariants.{NoCaller, NotFound, LastOwner, KeepsDevelopers, Exists, Published, Spent, KeepsLatest, AlwaysPublic}
 use Rattle.registry_names.specs.declared.status.Status.{Status}
 use Rattle.registry_names.specs.declared.status.Status.TheVariants.{Public, Restricted}
 use Rattle.registry_names.specs.Names.{scope_of}
 use Rattle.registry_access.specs.Access.{Access}
 use Rattle.registry_access.specs.Callers.{role_of}
 use Rattle.registry_access.specs.Levels.{is_owner}
-use Rattle.registry_access.specs.Policy.{Verdict, may_operate, may_manage_members, may_see_organisation}
+use Rattle.registry_access.specs.Policy.{Verdict, may_operate, may_manage_members, may_manage_teams, may_see_organisation}
 use Rattle.registry_access.specs.Positions.{has_organisation}
 use Rattle.registry_access.specs.declared.caller.Caller.{Caller}
 use Rattle.registry_publish.specs.Form.{FormParts}
 use Rattle.registry_rules.specs.Actions.{version_of}
 use Rattle.registry_rules.specs.Callers.{caller_of}
-use Rattle.registry_rules.specs.State.{State, has_user, has_token, is_last_owner, is_live, is_spent, has_live, stands, asked_version, lives}
+use Rattle.registry_rules.specs.State.{State, developers, has_user, has_token, is_member, has_team, is_in_team, is_last_owner, is_live, is_spent, has_live, stands, asked_version, lives}
 use Rattle.registry_rules.specs.declared.request.Action.{Action}
-use Rattle.registry_rules.specs.declared.request.Action.TheVariants.{UserAdd, TokenAdd, OrgCreate, OrgSet, OrgRemove, Publish, TagSet, TagRemove, Packument, VersionDoc, Archive, Tags, Members}
+use Rattle.registry_rules.specs.declared.request.Action.TheVariants.{UserAdd, TokenAdd, OrgCreate, OrgSet, OrgRemove, TeamCreate, TeamDestroy, TeamAdd, TeamRemove, Publish, TagSet, TagRemove, Packument, VersionDoc, Archive, Tags, Members, Teams, TeamMembers}
 use Rattle.registry_rules.specs.declared.request.Request.{Request}
 
 abbrev pub refuse : Bool → Refusal → Option Refusal → Option Refusal
@@ -54,6 +54,12 @@ policy_refusal A who (TokenAdd u digest) = unless_allowed (may_operate who)
 policy_refusal A who (OrgCreate o u) = unless_allowed (may_operate who)
 policy_refusal A who (OrgSet o u role) = unless_allowed (may_manage_members who (has_organisation A o) (role_of A who o))
 policy_refusal A who (OrgRemove o u) = unless_allowed (may_manage_members who (has_organisation A o) (role_of A who o))
+policy_refusal A who (TeamCreate o t) = unless_allowed (may_manage_teams who (has_organisation A o) (role_of A who o))
+policy_refusal A who (TeamDestroy o t) = unless_allowed (may_manage_teams who (has_organisation A o) (role_of A who o))
+policy_refusal A who (TeamAdd o t u) = unless_allowed (may_manage_teams who (has_organisation A o) (role_of A who o))
+policy_refusal A who (TeamRemove o t u) = unless_allowed (may_manage_teams who (has_organisation A o) (role_of A who o))
+policy_refusal A who (Teams o) = unless_allowed (may_see_organisation who (has_organisation A o) (role_of A who o))
+policy_refusal A who (TeamMembers o t) = unless_allowed (may_see_organisation who (has_organisation A o) (role_of A who o))
 policy_refusal A who (Members o) = unless_allowed (may_see_organisation who (has_organisation A o) (role_of A who o))
 policy_refusal A who _ = None
 
@@ -69,13 +75,17 @@ publish_refusal S f = refuse (is_live S f.name (version_of f)) Published
 abbrev pub tag_refusal : Bool → Text → Option Refusal
 tag_refusal there t = refuse (not there) NotFound (refuse (is t latest) KeepsLatest None)
 
--- At this moment. What is there already isn't added; a token is a user's, and so are a role and an organisation, which keeps an owner. A tag is set to a live version alone, and only such a one has a document and an archive; a package without a live version has no packument and no tags
+-- At this moment. What is there already isn't added, and what isn't there isn't found. An organisation keeps an owner and its first team, and members alone are in its teams. A tag is set to a live version alone, and only such a one has a document and an archive; a package without a live version has no packument and no tags
 abbrev pub state_refusal : State → ℕ → Action → Option Refusal
 state_refusal S now (UserAdd u) = unless_new (has_user S u)
 state_refusal S now (TokenAdd u digest) = refuse (not (has_user S u)) NotFound (unless_new (has_token S digest))
 state_refusal S now (OrgCreate o u) = refuse (not (has_user S u)) NotFound (unless_new (has_organisation S.access o))
 state_refusal S now (OrgSet o u role) = refuse (not (has_user S u)) NotFound (refuse (not (is_owner (Some role)) && is_last_owner S o u) LastOwner None)
 state_refusal S now (OrgRemove o u) = refuse (is_none (at S.access.roles (o, u))) NotFound (refuse (is_last_owner S o u) LastOwner None)
+state_refusal S now (TeamCreate o t) = unless_new (has_team S o t)
+state_refusal S now (TeamDestroy o t) = refuse (not (has_team S o t)) NotFound (refuse (is t developers) KeepsDevelopers None)
+state_refusal S now (TeamAdd o t u) = unless_there (has_team S o t && is_member S o u)
+state_refusal S now (TeamRemove o t u) = unless_there (has_team S o t && is_in_team S o t u)
 state_refusal S now (Publish f) = publish_refusal S f
 state_refusal S now (TagSet p t v) = unless_there (is_live S p (text_of_version v))
 state_refusal S now (TagRemove p t) = tag_refusal (stands S p t) t
@@ -84,6 +94,8 @@ state_refusal S now (VersionDoc p asked) = unless_there (lives S p (asked_versio
 state_refusal S now (Archive p v) = unless_there (is_live S p (text_of_version v))
 state_refusal S now (Tags p) = unless_there (has_live S p)
 state_refusal S now (Members o) = None
+state_refusal S now (Teams o) = None
+state_refusal S now (TeamMembers o t) = unless_there (has_team S o t)
 
 -- ---- requests
 

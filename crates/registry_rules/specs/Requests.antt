@@ -8,7 +8,7 @@ use Rattle.registry_names.specs.Versions.{IsVersionOf, text_of_version}
 use Rattle.registry_publish.specs.Form.{FormParts, IsManifestText}
 use Rattle.registry_publish.specs.Needs.{needs_of}
 use Rattle.registry_rules.specs.declared.request.Action.{Action}
-use Rattle.registry_rules.specs.declared.request.Action.TheVariants.{UserAdd, TokenAdd, OrgCreate, OrgSet, OrgRemove, Publish, TagSet, TagRemove, Packument, VersionDoc, Archive, Tags, Members}
+use Rattle.registry_rules.specs.declared.request.Action.TheVariants.{UserAdd, TokenAdd, OrgCreate, OrgSet, OrgRemove, TeamCreate, TeamDestroy, TeamAdd, TeamRemove, Publish, TagSet, TagRemove, Packument, VersionDoc, Archive, Tags, Members, Teams, TeamMembers}
 use Rattle.registry_rules.specs.declared.request.Asked.{Asked}
 use Rattle.registry_rules.specs.declared.request.Asked.TheVariants.{Exact, Latest}
 use Rattle.registry_rules.specs.declared.request.Request.{Request}
@@ -30,6 +30,10 @@ IsActionInForm (TokenAdd u digest) = IsTrue (is_ident u) × (length digest ≡ 3
 IsActionInForm (OrgCreate o u) = IsTrue (is_ident o) × IsTrue (is_ident u)
 IsActionInForm (OrgSet o u role) = IsTrue (is_ident o) × IsTrue (is_ident u)
 IsActionInForm (OrgRemove o u) = IsTrue (is_ident o) × IsTrue (is_ident u)
+IsActionInForm (TeamCreate o t) = IsTrue (is_ident o) × IsTrue (is_ident t)
+IsActionInForm (TeamDestroy o t) = IsTrue (is_ident o) × IsTrue (is_ident t)
+IsActionInForm (TeamAdd o t u) = IsTrue (is_ident o) × IsTrue (is_ident t) × IsTrue (is_ident u)
+IsActionInForm (TeamRemove o t u) = IsTrue (is_ident o) × IsTrue (is_ident t) × IsTrue (is_ident u)
 IsActionInForm (Publish f) = ArePartsInForm f
 IsActionInForm (TagSet p t v) = IsName p × IsTrue (is_tag t) × IsVersionOf (text_of_version v) v
 IsActionInForm (TagRemove p t) = IsName p × IsTrue (is_tag t)
@@ -38,6 +42,8 @@ IsActionInForm (VersionDoc p asked) = IsName p × IsAskedInForm asked
 IsActionInForm (Archive p v) = IsName p × IsVersionOf (text_of_version v) v
 IsActionInForm (Tags p) = IsName p
 IsActionInForm (Members o) = IsTrue (is_ident o)
+IsActionInForm (Teams o) = IsTrue (is_ident o)
+IsActionInForm (TeamMembers o t) = IsTrue (is_ident o) × IsTrue (is_ident t)
 
 -- it is asked at a moment, and its texts are in form
 pub record IsInForm (r : Request) : Type 0 where

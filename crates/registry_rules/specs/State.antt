@@ -55,6 +55,18 @@ is_empty (x ∷ xs) = false
 abbrev pub has_user : State → Text → Bool
 has_user S u = is_some (at S.access.users u)
 
+-- the user is a member of the organisation
+abbrev pub is_member : State → Text → Text → Bool
+is_member S o u = is_some (at S.access.roles (o, u))
+
+-- the organisation has the team
+abbrev pub has_team : State → Text → Text → Bool
+has_team S o t = is_some (at S.access.teams (o, t))
+
+-- the user is in the team
+abbrev pub is_in_team : State → Text → Text → Text → Bool
+is_in_team S o t u = is_some (at S.access.team_members (o, (t, u)))
+
 -- another member of the organisation than the user is an owner
 abbrev pub has_other_owner : State → Text → Text → Bool
 has_other_owner S o u = list_any (λ (e : Text × Role). not (is e.0 u) && is_owner (Some e.1)) (of S.access.roles o)

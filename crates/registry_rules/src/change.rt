@@ -62,6 +62,22 @@ pub enum Change<'a> {
         /// The user.
         user: &'a Ident,
     },
+    /// The user isn't in the team of the organisation.
+    DropTeamMember {
+        /// The organisation.
+        organisation: &'a str,
+        /// The team.
+        team: &'a str,
+        /// The user.
+        user: &'a Ident,
+    },
+    /// The organisation hasn't this team; nobody is in it, and it is granted nothing.
+    DropTeam {
+        /// The organisation.
+        organisation: &'a str,
+        /// The team.
+        team: &'a str,
+    },
     /// The package has this status.
     PutStatus {
         /// The package.

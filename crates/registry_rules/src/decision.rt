@@ -17,6 +17,7 @@ use crate::policy::policy_refusal;
 use crate::publish::{publish_changes, publish_refusal};
 use crate::request::{Action, Request};
 use crate::tags::tag_remove_refusal;
+use crate::teams::{team_destroy_refusal, team_joined};
 use crate::users::{added_to_refusal, unless_new};
 use registry_access::Caller;
 use registry_names::{Fault, Refusal, Stop};
@@ -110,7 +111,28 @@ fn state_refusal(about: &About, action: &Action) -> Option<Refusal>
             },
             Action::OrgRemove { .. },
         ) => { org_remove_refusal(*role, *other_owner) }
-        (About::Organisation { .. }, Action::Members { .. }) => None,
+        (About::TeamCreate { exists, .. }, Action::TeamCreate { .. }) => unless_new(*exists),
+        (About::TeamDestroy { exists, .. }, Action::TeamDestroy { team, .. }) => {
+            team_destroy_refusal(*exists, team)
+        }
+        (
+            About::TeamAdd {
+                team_exists,
+                is_member,
+                ..
+            },
+            Action::TeamAdd { .. },
+        ) => { unless_there(*team_exists && *is_member) }
+        (
+            About::TeamRemove {
+                team_exists,
+                is_in_team,
+                ..
+            },
+            Action::TeamRemove { .. },
+        ) => { unless_there(*team_exists && *is_in_team) }
+        (About::Organisation { .. }, Action::Members { .. } | Action::Teams { .. }) => None,
+        (About::Team { exists, .. }, Action::TeamMembers { .. }) => unless_there(*exists),
         (About::Publish(facts), Action::Publish { form }) => publish_refusal(facts, form),
         (About::TagSet { version_lives, .. }, Action::TagSet { .. }) => unless_there(
             *version_lives,
@@ -169,6 +191,39 @@ fn changes<'a>(
         (About::OrgRemove { .. }, Action::OrgRemove { organisation, user }) => {
             let organisation = organisation.text();
             Ok(vec![in alloc; Change::DropMember { organisation, user }]?)
+        }
+        (About::TeamCreate { .. }, Action::TeamCreate { organisation, team }) => {
+            let (organisation, team) = (organisation.text(), team.text());
+            Ok(vec![in alloc; Change::AddTeam { organisation, team }]?)
+        }
+        (About::TeamDestroy { .. }, Action::TeamDestroy { organisation, team }) => {
+            let (organisation, team) = (organisation.text(), team.text());
+            Ok(vec![in alloc; Change::DropTeam { organisation, team }]?)
+        }
+        (
+            About::TeamAdd { is_in_team, .. },
+            Action::TeamAdd {
+                organisation,
+                team,
+                user,
+            },
+        ) => { team_joined(alloc, organisation, team, user, *is_in_team) }
+        (
+            About::TeamRemove { .. },
+            Action::TeamRemove {
+                organisation,
+                team,
+                user,
+            },
+        ) => {
+            let (organisation, team) = (organisation.text(), team.text());
+            Ok(vec![in alloc;
+                Change::DropTeamMember {
+                    organisation,
+                    team,
+                    user
+                },
+            ]?)
         }
         (About::Publish(facts), Action::Publish { form }) => {
             publish_changes(alloc, facts, form, &request.at)

@@ -56,6 +56,47 @@ pub enum About {
         /// Whether another member of it is an owner.
         other_owner: bool,
     },
+    /// Of a team that is to be created.
+    TeamCreate {
+        /// The organisation, and the caller in it.
+        rows: AccessRows,
+        /// Whether the team is there already.
+        exists: bool,
+    },
+    /// Of a team that is to be destroyed.
+    TeamDestroy {
+        /// The organisation, and the caller in it.
+        rows: AccessRows,
+        /// Whether the team is there.
+        exists: bool,
+    },
+    /// Of a member who is to be in a team.
+    TeamAdd {
+        /// The organisation, and the caller in it.
+        rows: AccessRows,
+        /// Whether the team is there.
+        team_exists: bool,
+        /// Whether the user is a member of the organisation.
+        is_member: bool,
+        /// Whether he is in the team already.
+        is_in_team: bool,
+    },
+    /// Of a member who is to leave a team.
+    TeamRemove {
+        /// The organisation, and the caller in it.
+        rows: AccessRows,
+        /// Whether the team is there.
+        team_exists: bool,
+        /// Whether the user is in the team.
+        is_in_team: bool,
+    },
+    /// Of a query about a team.
+    Team {
+        /// The organisation, and the caller in it.
+        rows: AccessRows,
+        /// Whether the team is there.
+        exists: bool,
+    },
     /// Of a query about an organisation.
     Organisation {
         /// The organisation, and the caller in it.

@@ -3,7 +3,7 @@
 
 ghost use Rattle.std.specs.Prelude.{◌≡◌, None};
 ghost use Rattle.registry_rules.specs.Kept.{IsKept};
-ghost use Rattle.registry_rules.specs.Laws.{MembersAreRemoved, OrganisationsAreCreated, OtherOwnersAreOwners, RolesAreSet, PackagesStandApart, PublishesAddVersions, PublishesSetStatuses, PublishesSetTags, QueriesChangeNothing, RemovedTagsAreGone, SetTagsName, TokensAreAdded, UsersAreAdded};
+ghost use Rattle.registry_rules.specs.Laws.{NewTeamsAreEmpty, TeamMembersAreAdded, TeamMembersAreRemoved, TeamsAreCreated, TeamsAreDestroyed, MembersAreRemoved, OrganisationsAreCreated, OtherOwnersAreOwners, RolesAreSet, PackagesStandApart, PublishesAddVersions, PublishesSetStatuses, PublishesSetTags, QueriesChangeNothing, RemovedTagsAreGone, SetTagsName, TokensAreAdded, UsersAreAdded};
 ghost use Rattle.registry_rules.specs.Refusals.{refusal};
 ghost use Rattle.registry_rules.specs.Requests.{ArePartsInForm, IsActionInForm, IsAskedInForm, IsInForm};
 ghost use Rattle.registry_rules.specs.State.{State, nothing};
@@ -28,6 +28,17 @@ pub fn members_come_and_go()
     ensures removed { MembersAreRemoved }
 {}
 
+/// A team that is created is there, and empty, whatever an older one of its name was. A team that
+/// is destroyed is gone, with its members and its grants. Who is put into a team is in it, and who
+/// is taken out isn't. Nothing else changes.
+pub fn teams_come_and_go()
+    ensures created { TeamsAreCreated }
+    ensures new { NewTeamsAreEmpty }
+    ensures destroyed { TeamsAreDestroyed }
+    ensures added { TeamMembersAreAdded }
+    ensures removed { TeamMembersAreRemoved }
+{}
+
 /// Another owner of an organisation than a user is another user who is an owner of it.
 pub fn other_owners_are_owners()
     ensures { OtherOwnersAreOwners }
@@ -48,7 +59,8 @@ pub fn tags_are_set_and_removed()
     ensures removed { RemovedTagsAreGone }
 {}
 
-/// A query changes nothing, and a command nothing of a package that it doesn't name.
+/// A query changes nothing, and a command nothing of a package that it doesn't name, but that a
+/// team that is destroyed is granted nothing on it.
 pub fn packages_stand_apart()
     ensures queries { QueriesChangeNothing }
     ensures packages { PackagesStandApart }
@@ -97,8 +109,28 @@ fn action_is_in_form(what: &Action)
             organisation.text();
             user.text();
         }
-        Action::Members { organisation } => {
+        Action::Members { organisation } | Action::Teams { organisation } => {
             organisation.text();
+        }
+        Action::TeamCreate { organisation, team }
+        | Action::TeamDestroy { organisation, team }
+        | Action::TeamMembers { organisation, team } => {
+            organisation.text();
+            team.text();
+        }
+        Action::TeamAdd {
+            organisation,
+            team,
+            user,
+        }
+        | Action::TeamRemove {
+            organisation,
+            team,
+            user,
+        } => {
+            organisation.text();
+            team.text();
+            user.text();
         }
         Action::Publish { form } => parts_are_in_form(form),
         Action::TagSet { name, tag, version } => {

@@ -16,6 +16,7 @@ mod publish;
 mod reply;
 mod request;
 mod tags;
+mod teams;
 mod users;
 
 pub use crate::change::{Change, Changes};

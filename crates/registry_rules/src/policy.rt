@@ -31,7 +31,25 @@ pub(crate) fn policy_refusal(caller: &Caller, about: &About, action: &Action) ->
         (About::OrgRemove { rows, .. }, Action::OrgRemove { organisation, .. }) => {
             unless_allowed(may_manage_members(rows, caller, organisation))
         }
+        (About::TeamCreate { rows, .. }, Action::TeamCreate { organisation, .. }) => {
+            unless_allowed(may_manage_teams(rows, caller, organisation))
+        }
+        (About::TeamDestroy { rows, .. }, Action::TeamDestroy { organisation, .. }) => {
+            unless_allowed(may_manage_teams(rows, caller, organisation))
+        }
+        (About::TeamAdd { rows, .. }, Action::TeamAdd { organisation, .. }) => {
+            unless_allowed(may_manage_teams(rows, caller, organisation))
+        }
+        (About::TeamRemove { rows, .. }, Action::TeamRemove { organisation, .. }) => {
+            unless_allowed(may_manage_teams(rows, caller, organisation))
+        }
         (About::Organisation { rows }, Action::Members { organisation }) => {
+            unless_allowed(may_see_organisation(rows, caller, organisation))
+        }
+        (About::Organisation { rows }, Action::Teams { organisation }) => {
+            unless_allowed(may_see_organisation(rows, caller, organisation))
+        }
+        (About::Team { rows, .. }, Action::TeamMembers { organisation, .. }) => {
             unless_allowed(may_see_organisation(rows, caller, organisation))
         }
         _ => None,
@@ -54,6 +72,18 @@ fn may_manage_members(
         (role_of A caller.now organisation.now) }
 {
     allowed(rows, caller, &Ask::OrgMembers(organisation))
+}
+
+fn may_manage_teams(
+    rows: &AccessRows,
+    caller: &Caller,
+    organisation: &Ident,
+) -> Result<Rule, Refusal>
+    ensures { (A : Access) → SameOrganisation (state_of rows.now) A caller.now organisation.now
+        → result ≡ policy.may_manage_teams caller.now (has_organisation A organisation.now)
+        (role_of A caller.now organisation.now) }
+{
+    allowed(rows, caller, &Ask::OrgTeams(organisation))
 }
 
 fn may_see_organisation(

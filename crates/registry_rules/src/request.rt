@@ -78,6 +78,40 @@ pub enum Action {
         /// The member's name.
         user: Ident,
     },
+    /// An owner's or admin's command to create a team of an organisation, with nobody in it.
+    TeamCreate {
+        /// The organisation's name.
+        organisation: Ident,
+        /// The team's name.
+        team: Ident,
+    },
+    /// An owner's or admin's command to destroy a team other than `developers`, with all that it is
+    /// granted.
+    TeamDestroy {
+        /// The organisation's name.
+        organisation: Ident,
+        /// The team's name.
+        team: Ident,
+    },
+    /// An owner's or admin's command to put a member of an organisation into one of its teams,
+    /// whether he is in it already or not.
+    TeamAdd {
+        /// The organisation's name.
+        organisation: Ident,
+        /// The team's name.
+        team: Ident,
+        /// The member's name.
+        user: Ident,
+    },
+    /// An owner's or admin's command to take a member out of a team.
+    TeamRemove {
+        /// The organisation's name.
+        organisation: Ident,
+        /// The team's name.
+        team: Ident,
+        /// The member's name.
+        user: Ident,
+    },
     /// The command to publish a version of a package, for the first time or not.
     Publish {
         /// The version, with all that is published of it.
@@ -128,6 +162,18 @@ pub enum Action {
     Members {
         /// The organisation's name.
         organisation: Ident,
+    },
+    /// A member's query for the teams of an organisation.
+    Teams {
+        /// The organisation's name.
+        organisation: Ident,
+    },
+    /// A member's query for those who are in a team.
+    TeamMembers {
+        /// The organisation's name.
+        organisation: Ident,
+        /// The team's name.
+        team: Ident,
     },
 }
 

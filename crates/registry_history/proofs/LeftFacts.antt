@@ -1,0 +1,52 @@
+-- What an action leaves, each map by itself.
+use Rattle.std.proofs.Common.{◌≡◌, ℕ, ◌||◌, refl}
+use Rattle.registry_names.specs.Maps.{MapBy, at, put}
+use Rattle.registry_names.specs.Tags.{latest}
+use Rattle.registry_names.specs.Texts.{is}
+use Rattle.registry_names.specs.Versions.{text_of_version}
+use Rattle.registry_access.specs.declared.caller.Caller.{Caller}
+use Rattle.registry_access.specs.declared.role.Role.{Role}
+use Rattle.registry_rules.specs.Actions.{version_of}
+use Rattle.registry_rules.specs.Changes.{all_made, release_of}
+use Rattle.registry_rules.specs.Effects.{joining, membership, step_by}
+use Rattle.registry_rules.specs.Operations.{with_tag}
+use Rattle.registry_rules.specs.State.{State, developers, is_in_team, stands}
+use Rattle.registry_rules.specs.declared.request.Action.{Action}
+use Rattle.registry_rules.specs.declared.request.Action.TheVariants.{OrgSet, TeamAdd, Publish, TagSet}
+use Rattle.registry_rules.proofs.MadeFacts.{role_put, tag_put}
+use Rattle.registry_rules.proofs.PublishedFacts.{after_publish, published_is, status_of}
+
+-- the entry at a key, which was there already or is put
+abbrev pub joined : {K : Type 0} {cmp : K → K → Ordering} → MapBy cmp (Unit {0}) → Bool → K → MapBy cmp (Unit {0})
+joined m there k = cond there m (put m k tt)
+
+-- what an action leaves, whether what it puts stood before or not
+abbrev pub left_by : State → ℕ → Caller → Action → State
+left_by S now who (OrgSet o u role) = record S {
+  access = record S.access {
+    roles = put S.access.roles (o, u) role;
+    team_members = joined S.access.team_members (is_some (at S.access.roles (o, u))) (o, (developers, u));
+  };
+}
+left_by S now who (TeamAdd o t u) = record S { access = record S.access { team_members = joined S.access.team_members (is_in_team S o t u) (o, (t, u)) } }
+left_by S now who (Publish f) = after_publish S f.name (version_of f) f.tag (release_of f now) (status_of S f) (stands S f.name latest || is f.tag latest)
+left_by S now who (TagSet p t v) = with_tag S p t (text_of_version v)
+left_by S now who what = step_by S now who what
+
+role_left : (S : State) (o u : Text) (role : Role) (old : Option Role) → at S.access.roles (o, u) ≡ old → all_made S (membership o u role old) ≡ record S {
+  access = record S.access { roles = put S.access.roles (o, u) role; team_members = joined S.access.team_members (is_some old) (o, (developers, u)) };
+}
+role_left S o u role (Some r) e = role_put S o u role (ap is_some e)
+role_left S o u role None e = refl
+
+team_left : (S : State) (o t u : Text) (inside : Bool)
+    → all_made S (joining o t u inside) ≡ record S { access = record S.access { team_members = joined S.access.team_members inside (o, (t, u)) } }
+team_left S o t u true = refl
+team_left S o t u false = refl
+
+pub left_is : (S : State) (now : ℕ) (who : Caller) (what : Action) → step_by S now who what ≡ left_by S now who what
+left_is S now who (OrgSet o u role) = role_left S o u role (at S.access.roles (o, u)) refl
+left_is S now who (TeamAdd o t u) = team_left S o t u (is_in_team S o t u)
+left_is S now who (Publish f) = published_is S f now
+left_is S now who (TagSet p t v) = tag_put S p t (text_of_version v) (stands S p t) (λ there. there)
+left_is S now who what = refl

@@ -1,0 +1,112 @@
+-- What a history says of who is there, and in what, by the last entry that speaks of it, and a state of which it says so.
+-- No reading shares a word with what a step makes: each is a recursion over the entries, and an entry
+-- that speaks of something else says nothing.
+use Rattle.std.specs.Prelude.{◌≡◌, Bool, false, not, ◌&&◌, ◌||◌, List, [], ◌∷◌, is_some, is_none, Option, Some, None, if◌then◌else◌}
+use Rattle.registry_names.specs.Texts.{Text, is}
+use Rattle.registry_names.specs.Maps.{at}
+use Rattle.registry_access.specs.Access.{Access}
+use Rattle.registry_access.specs.declared.role.Role.{Role}
+use Rattle.registry_access.specs.declared.role.Role.TheVariants.{Owner}
+use Rattle.registry_rules.specs.State.{developers}
+use Rattle.registry_rules.specs.declared.request.Action.{Action}
+use Rattle.registry_rules.specs.declared.request.Action.TheVariants.{UserAdd, TokenAdd, OrgCreate, OrgSet, OrgRemove, TeamCreate, TeamDestroy, TeamAdd, TeamRemove}
+use Rattle.registry_history.specs.History.{Entry}
+use Rattle.registry_history.specs.Readings.{or_before, unless_ended}
+
+-- ---- users, tokens and organisations, which never go
+
+-- whether a command adds this user
+abbrev pub adds_user : Action → Text → Bool
+adds_user (UserAdd v) u = is v u
+adds_user _ u = false
+
+-- whether the user was ever added
+abbrev pub user_added : List Entry → Text → Bool
+user_added [] u = false
+user_added (e ∷ h) u = adds_user e.what u || user_added h u
+
+-- the user to whom a command gives the token of this digest
+abbrev pub gives_token : Action → Text → Option Text
+gives_token (TokenAdd u d) digest = if is d digest then Some u else None
+gives_token _ digest = None
+
+-- the user to whom the token of this digest was given last
+abbrev pub token_user : List Entry → Text → Option Text
+token_user [] digest = None
+token_user (e ∷ h) digest = or_before (gives_token e.what digest) (token_user h digest)
+
+-- whether a command creates this organisation
+abbrev pub creates : Action → Text → Bool
+creates (OrgCreate q u) o = is q o
+creates _ o = false
+
+-- whether the organisation was ever created
+abbrev pub created : List Entry → Text → Bool
+created [] o = false
+created (e ∷ h) o = creates e.what o || created h o
+
+-- ---- roles
+
+-- The role that a command gives a user in an organisation: who creates one is given as its owner
+abbrev pub gives_role : Action → Text → Text → Option Role
+gives_role (OrgCreate q v) o u = if is q o && is v u then Some Owner else None
+gives_role (OrgSet q v r) o u = if is q o && is v u then Some r else None
+gives_role _ o u = None
+
+-- whether it takes the user out of the organisation
+abbrev pub removes : Action → Text → Text → Bool
+removes (OrgRemove q v) o u = is q o && is v u
+removes _ o u = false
+
+-- a user has the role that he was given last, unless he was removed since
+abbrev pub role : List Entry → Text → Text → Option Role
+role [] o u = None
+role (e ∷ h) o u = or_before (gives_role e.what o u) (unless_ended (removes e.what o u) (role h o u))
+
+-- ---- teams
+
+-- whether a command creates this team: each organisation is created with its first one
+abbrev pub creates_team : Action → Text → Text → Bool
+creates_team (OrgCreate q u) o t = is q o && is developers t
+creates_team (TeamCreate q s) o t = is q o && is s t
+creates_team _ o t = false
+
+-- whether it destroys the team
+abbrev pub destroys : Action → Text → Text → Bool
+destroys (TeamDestroy q s) o t = is q o && is s t
+destroys _ o t = false
+
+-- a team stands that was created, unless it was destroyed since
+abbrev pub team_stands : List Entry → Text → Text → Bool
+team_stands [] o t = false
+team_stands (e ∷ h) o t = creates_team e.what o t || (not (destroys e.what o t) && team_stands h o t)
+
+-- Whether a command brings a user into a team: the owner with whom an organisation is created, and who is given a role in it and had none before, come into the first one
+abbrev pub joins : Action → Option Role → Text → Text → Text → Bool
+joins (OrgCreate q v) before o t u = is q o && is developers t && is v u
+joins (OrgSet q v r) before o t u = is q o && is developers t && is v u && is_none before
+joins (TeamAdd q s v) before o t u = is q o && is s t && is v u
+joins _ before o t u = false
+
+-- whether it takes the user out of the team: out of it alone, or out of the organisation, or the team is destroyed
+abbrev pub leaves : Action → Text → Text → Text → Bool
+leaves (TeamRemove q s v) o t u = is q o && is s t && is v u
+leaves (OrgRemove q v) o t u = is q o && is v u
+leaves (TeamDestroy q s) o t u = is q o && is s t
+leaves _ o t u = false
+
+-- a user is in a team whom a command brought into it, unless one took him out since
+abbrev pub in_team : List Entry → Text → Text → Text → Bool
+in_team [] o t u = false
+in_team (e ∷ h) o t u = joins e.what (role h o u) o t u || (not (leaves e.what o t u) && in_team h o t u)
+
+-- ---- a state of which the history speaks
+
+-- Users, tokens, organisations, roles, teams and members of teams are the history's.
+pub record HasAccess (h : List Entry) (A : Access) : Type 0 where
+  pub users : (u : Text) → is_some (at A.users u) ≡ user_added h u
+  pub tokens : (digest : Text) → at A.tokens digest ≡ token_user h digest
+  pub organisations : (o : Text) → is_some (at A.organisations o) ≡ created h o
+  pub roles : (o u : Text) → at A.roles (o, u) ≡ role h o u
+  pub teams : (o t : Text) → is_some (at A.teams (o, t)) ≡ team_stands h o t
+  pub team_members : (o t u : Text) → is_some (at A.team_members (o, (t, u))) ≡ in_team h o t u
