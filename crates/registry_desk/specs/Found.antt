@@ -1,6 +1,6 @@
 -- When what was loaded for an action is what the registry holds of it.
 use Rattle.std.specs.Prelude.{◌≡◌, true, Some, map, option_map}
-use Rattle.registry_names.specs.Maps.{at, of, seen}
+use Rattle.registry_names.specs.Maps.{at, keys, of, pairs_of, parts, seen}
 use Rattle.registry_names.specs.Versions.{text_of_version}
 use Rattle.registry_access.specs.declared.caller.Caller.{Caller}
 use Rattle.registry_rules.specs.Actions.{is_command}
@@ -8,7 +8,7 @@ use Rattle.registry_rules.specs.Callers.{caller_of}
 use Rattle.registry_rules.specs.Facts.{StandsAbout}
 use Rattle.registry_rules.specs.State.{State, Release}
 use Rattle.registry_rules.specs.declared.request.Action.{Action}
-use Rattle.registry_rules.specs.declared.request.Action.TheVariants.{Packument, VersionDoc, Archive, Tags, Members}
+use Rattle.registry_rules.specs.declared.request.Action.TheVariants.{Packument, VersionDoc, Archive, Tags, Members, Teams, TeamMembers}
 use Rattle.registry_rules.specs.declared.request.Request.{Request}
 use Rattle.registry_tables.specs.Contents.{Contents, registry_of}
 use Rattle.registry_tables.specs.Spelled.{document, document_entry, member_entry, row_entry, tag_entry}
@@ -25,6 +25,8 @@ AreRowsOf (rows.Document found) S (VersionDoc p asked) = option_map document_ent
 AreRowsOf (rows.Archive archive) S (Archive p v) = archive ≡ option_map (λ (r : Release). r.archive) (at S.live (p, text_of_version v))
 AreRowsOf (rows.Tags tags) S (Tags p) = map tag_entry tags.items ≡ of S.tags p
 AreRowsOf (rows.Members members) S (Members o) = map member_entry members.items ≡ of S.access.roles o
+AreRowsOf (rows.Names names) S (Teams o) = names.items ≡ keys (of S.access.teams o)
+AreRowsOf (rows.Names names) S (TeamMembers o t) = names.items ≡ keys (parts (pairs_of S.access.team_members o) t)
 AreRowsOf rows.Nothing S what = is_command what ≡ true
 AreRowsOf _ S _ = ⊥
 

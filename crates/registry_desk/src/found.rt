@@ -13,14 +13,14 @@ ghost use Rattle.registry_rules.specs.declared.request.Action.TheVariants as ask
 ghost use Rattle.registry_rules.specs.declared.request.Asked.TheVariants as which;
 
 use registry_access::Caller;
-use registry_names::{Blob, DistTag, Fault, Ident, LATEST, Name, TagText, Ver};
+use registry_names::{Blob, DistTag, Fault, Ident, LATEST, Name, TagText, Text, Ver};
 use registry_packument::{Member, VersionRow};
 use registry_publish::{PublishForm, TokenDigest};
 use registry_rules::{About, Action, Asked, PublishFacts};
 use registry_tables::{
-    DocumentRow, has_organisation, has_other_owner, has_tag, has_user, has_version, is_spent,
-    load_access, load_archive, load_document, load_members, load_role, load_status, load_tag,
-    load_tags, load_token_user, load_versions,
+    DocumentRow, has_organisation, has_other_owner, has_tag, has_team, has_user, has_version,
+    is_in_team, is_spent, load_access, load_archive, load_document, load_members, load_role,
+    load_status, load_tag, load_tags, load_team_users, load_teams, load_token_user, load_versions,
 };
 use sqlite::{Alter, Transaction};
 use std::alloc::Global;
@@ -54,6 +54,8 @@ pub(crate) enum Rows {
     Tags(Vec<DistTag>),
     /// The members of an organisation, in byte order of their names.
     Members(Vec<Member>),
+    /// The teams of an organisation, or who is in a team, in byte order.
+    Names(Vec<Text>),
 }
 
 /// Loads what decides and what answers a caller's action.
@@ -83,6 +85,22 @@ pub(crate) fn find<S: Alter>(
         Action::OrgRemove { organisation, user } => {
             find_member(alloc, tx, caller, organisation, user)
         }
+        Action::TeamCreate { organisation, team } => {
+            find_new_team(alloc, tx, caller, organisation, team)
+        }
+        Action::TeamDestroy { organisation, team } => {
+            find_old_team(alloc, tx, caller, organisation, team)
+        }
+        Action::TeamAdd {
+            organisation,
+            team,
+            user,
+        } => find_new_team_member(alloc, tx, caller, organisation, team, user),
+        Action::TeamRemove {
+            organisation,
+            team,
+            user,
+        } => find_old_team_member(alloc, tx, caller, organisation, team, user),
         Action::Publish { form } => find_publish(tx, form),
         Action::TagSet { name, tag, version } => find_tag_set(tx, name, tag, version),
         Action::TagRemove { name, tag } => find_tag(tx, name, tag),
@@ -91,6 +109,10 @@ pub(crate) fn find<S: Alter>(
         Action::Archive { name, version } => find_archive(tx, name, version),
         Action::Tags { name } => find_tags(alloc, tx, name),
         Action::Members { organisation } => find_members(alloc, tx, caller, organisation),
+        Action::Teams { organisation } => find_teams(alloc, tx, caller, organisation),
+        Action::TeamMembers { organisation, team } => {
+            find_team_members(alloc, tx, caller, organisation, team)
+        }
     }
 }
 
@@ -213,6 +235,141 @@ fn find_members<S: Alter>(
     Ok(Found {
         about: About::Organisation { rows },
         rows: Rows::Members(members),
+    })
+}
+
+fn find_new_team<S: Alter>(
+    alloc: Global,
+    tx: &mut Transaction<'_, S>,
+    caller: &Caller,
+    organisation: &Ident,
+    team: &Ident,
+) -> Result<Found, Fault>
+    requires in_form { InForm S.Store tx.old }
+    ensures stays { Stays S.Store tx.old tx.new }
+    ensures tells { Tells S.Store tx.old tx.new result (λ found c.
+        IsFoundFor found (registry_of c) caller.now (asked.TeamCreate organisation.now team.now)) }
+{
+    let about = About::TeamCreate {
+        rows: load_access(alloc, tx, caller, organisation.text())?,
+        exists: has_team(tx, organisation.text(), team.text())?,
+    };
+    Ok(Found {
+        about,
+        rows: Rows::Nothing,
+    })
+}
+
+fn find_old_team<S: Alter>(
+    alloc: Global,
+    tx: &mut Transaction<'_, S>,
+    caller: &Caller,
+    organisation: &Ident,
+    team: &Ident,
+) -> Result<Found, Fault>
+    requires in_form { InForm S.Store tx.old }
+    ensures stays { Stays S.Store tx.old tx.new }
+    ensures tells { Tells S.Store tx.old tx.new result (λ found c.
+        IsFoundFor found (registry_of c) caller.now (asked.TeamDestroy organisation.now team.now)) }
+{
+    let about = About::TeamDestroy {
+        rows: load_access(alloc, tx, caller, organisation.text())?,
+        exists: has_team(tx, organisation.text(), team.text())?,
+    };
+    Ok(Found {
+        about,
+        rows: Rows::Nothing,
+    })
+}
+
+fn find_new_team_member<S: Alter>(
+    alloc: Global,
+    tx: &mut Transaction<'_, S>,
+    caller: &Caller,
+    organisation: &Ident,
+    team: &Ident,
+    user: &Ident,
+) -> Result<Found, Fault>
+    requires in_form { InForm S.Store tx.old }
+    ensures stays { Stays S.Store tx.old tx.new }
+    ensures tells { Tells S.Store tx.old tx.new result (λ found c.
+        IsFoundFor found (registry_of c) caller.now (asked.TeamAdd organisation.now team.now user.now)) }
+{
+    let about = About::TeamAdd {
+        rows: load_access(alloc, tx, caller, organisation.text())?,
+        team_exists: has_team(tx, organisation.text(), team.text())?,
+        is_member: load_role(tx, organisation.text(), user.text())?.is_some(),
+        is_in_team: is_in_team(tx, organisation.text(), team.text(), user.text())?,
+    };
+    Ok(Found {
+        about,
+        rows: Rows::Nothing,
+    })
+}
+
+fn find_old_team_member<S: Alter>(
+    alloc: Global,
+    tx: &mut Transaction<'_, S>,
+    caller: &Caller,
+    organisation: &Ident,
+    team: &Ident,
+    user: &Ident,
+) -> Result<Found, Fault>
+    requires in_form { InForm S.Store tx.old }
+    ensures stays { Stays S.Store tx.old tx.new }
+    ensures tells { Tells S.Store tx.old tx.new result (λ found c.
+        IsFoundFor found (registry_of c) caller.now (asked.TeamRemove organisation.now team.now user.now)) }
+{
+    let about = About::TeamRemove {
+        rows: load_access(alloc, tx, caller, organisation.text())?,
+        team_exists: has_team(tx, organisation.text(), team.text())?,
+        is_in_team: is_in_team(tx, organisation.text(), team.text(), user.text())?,
+    };
+    Ok(Found {
+        about,
+        rows: Rows::Nothing,
+    })
+}
+
+fn find_teams<S: Alter>(
+    alloc: Global,
+    tx: &mut Transaction<'_, S>,
+    caller: &Caller,
+    organisation: &Ident,
+) -> Result<Found, Fault>
+    requires in_form { InForm S.Store tx.old }
+    ensures stays { Stays S.Store tx.old tx.new }
+    ensures tells { Tells S.Store tx.old tx.new result (λ found c.
+        IsFoundFor found (registry_of c) caller.now (asked.Teams organisation.now)) }
+{
+    let rows = load_access(alloc, tx, caller, organisation.text())?;
+    let teams = load_teams(alloc, tx, organisation.text())?;
+    Ok(Found {
+        about: About::Organisation { rows },
+        rows: Rows::Names(teams),
+    })
+}
+
+fn find_team_members<S: Alter>(
+    alloc: Global,
+    tx: &mut Transaction<'_, S>,
+    caller: &Caller,
+    organisation: &Ident,
+    team: &Ident,
+) -> Result<Found, Fault>
+    requires in_form { InForm S.Store tx.old }
+    ensures stays { Stays S.Store tx.old tx.new }
+    ensures tells { Tells S.Store tx.old tx.new result (λ found c.
+        IsFoundFor found (registry_of c) caller.now (asked.TeamMembers organisation.now team.now)) }
+{
+    let about = About::Team {
+        rows: load_access(alloc, tx, caller, organisation.text())?,
+        exists: has_team(tx, organisation.text(), team.text())?,
+    };
+    let users = load_team_users(alloc, tx, organisation.text(), team.text())?;
+    Ok(Found {
+        about,
+        rows: Rows::Names(users),
     })
 }
 

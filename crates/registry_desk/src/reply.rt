@@ -31,6 +31,10 @@ pub(crate) fn reply(alloc: Global, what: &Action, rows: Rows) -> Result<Reply, F
             | Action::OrgCreate { .. }
             | Action::OrgSet { .. }
             | Action::OrgRemove { .. }
+            | Action::TeamCreate { .. }
+            | Action::TeamDestroy { .. }
+            | Action::TeamAdd { .. }
+            | Action::TeamRemove { .. }
             | Action::TagSet { .. }
             | Action::TagRemove { .. },
             _,
@@ -45,6 +49,9 @@ pub(crate) fn reply(alloc: Global, what: &Action, rows: Rows) -> Result<Reply, F
         (Action::Tags { .. }, Rows::Tags(tags)) => Ok(Reply::Doc(tags_of(alloc, tags)?)),
         (Action::Members { .. }, Rows::Members(members)) => {
             Ok(Reply::Doc(members_of(alloc, members)?))
+        }
+        (Action::Teams { .. } | Action::TeamMembers { .. }, Rows::Names(names)) => {
+            Ok(Reply::Doc(list_text(alloc, &List::Names(names))?))
         }
         _ => Err(Fault::Database),
     }

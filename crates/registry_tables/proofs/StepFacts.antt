@@ -4,7 +4,7 @@ use Rattle.registry_names.specs.Texts.{Text}
 use Rattle.registry_names.specs.Maps.{at, put}
 use Rattle.registry_names.specs.declared.status.Status.{Status}
 use Rattle.registry_access.specs.declared.role.Role.{Role}
-use Rattle.registry_rules.specs.Changes.{Change, AddUser, AddToken, AddOrg, PutMember, DropMember, AddTeam, PutTeamMember, PutStatus, AddVersion, PutTag, DropTag, made, all_made}
+use Rattle.registry_rules.specs.Changes.{Change, AddUser, AddToken, AddOrg, PutMember, DropMember, AddTeam, PutTeamMember, DropTeamMember, DropTeam, PutStatus, AddVersion, PutTag, DropTag, made, all_made}
 use Rattle.registry_rules.specs.Operations.{with_member, with_status, with_tag}
 use Rattle.registry_tables.specs.Changes.{stored_by, all_stored}
 use Rattle.registry_tables.specs.Contents.{Contents, registry_of}
@@ -33,6 +33,8 @@ change_makes (PutMember o u role false) c = refl
 change_makes (DropMember o u) c = refl
 change_makes (AddTeam o t) c = refl
 change_makes (PutTeamMember o t u) c = refl
+change_makes (DropTeamMember o t u) c = refl
+change_makes (DropTeam o t) c = refl
 change_makes (PutStatus p status true) c = status_either c p status (is_some (at c.packages p))
 change_makes (PutStatus p status false) c = refl
 change_makes (AddVersion f now) c = refl

@@ -1,5 +1,6 @@
 -- What the statements on teams make and show.
-use Rattle.std.proofs.Common.{◌≡◌, ◌==◌, ℕ, List, [], ◌∷◌, not, is_some, length, Ok, refl, codes}
+use Rattle.std.proofs.Common.{◌≡◌, ◌==◌, ℕ, List, [], ◌∷◌, map, not, is_some, length, Ok, refl, sym, ap, ◌∙◌, codes}
+use Rattle.std.proofs.lemmas.Simd.{map-map}
 use Rattle.sqlite.specs.declared.types.Value.TheVariants.{Null, Text as Stored}
 use Rattle.sqlite.specs.Command.TheVariants.{Insert, Select}
 use Rattle.sqlite.specs.Source.TheVariants.{Values}
@@ -9,14 +10,16 @@ use Rattle.sqlite_tied.specs.Compute.{everything}
 use Rattle.sqlite_value.specs.Order.{Row}
 use Rattle.sqlite_sql.specs.Term.{Term, lit, col}
 use Rattle.registry_names.specs.Texts.{Text}
-use Rattle.registry_names.specs.Maps.{at, put}
+use Rattle.registry_names.specs.Maps.{at, keys, of, put}
 use Rattle.registry_rows.specs.Frames.{Wrote}
 use Rattle.registry_rows.specs.Ready.{Ready, Leaves, Reads, Queried}
-use Rattle.registry_rows.specs.Statements.{Means, MeansQuery, scan, by_texts}
+use Rattle.registry_rows.specs.Statements.{Means, MeansQuery, scan, by_texts, in_order}
 use Rattle.registry_rows.proofs.StatementFacts.{insert_puts}
+use Rattle.registry_rows.proofs.LookUpFacts.{select_lists, seen_as_is}
 use Rattle.registry_tables.specs.Schema.{schema}
 use Rattle.registry_tables.specs.Contents.{contents}
 use Rattle.registry_tables.specs.Effects.{stored}
+use Rattle.registry_tables.specs.Teams.{text_spelled}
 use Rattle.registry_tables.proofs.FoundFacts.{there_found}
 use Rattle.registry_tables.proofs.MappedFacts.{teams_mapped}
 
@@ -48,3 +51,20 @@ find_means = ((refl, (refl, refl)), refl)
 pub team_found : (o t : Text) (old new : Shown) (rows : List Row) → Ready schema old → Queried find_text (Stored o ∷ Stored t ∷ []) old new rows → HasCleanDisk new
     → Reads schema old new × (not (length rows == 0) ≡ is_some (at (stored old).teams (o, t)))
 team_found o t = there_found teams_mapped find_text (col 1 2 ∷ []) _ find_means (o, t)
+
+abbrev list_text : List ℕ
+list_text = codes "SELECT team FROM teams WHERE org = ?1 ORDER BY team"
+
+list_means : MeansQuery schema list_text (Select (record { lets = []; body = scan 8 (by_texts 0 1 0) (col 1 2 ∷ []) (in_order 0 2) }) (codes "team" ∷ []))
+unfolding understood everything
+list_means = ((refl, (refl, refl)), refl)
+
+-- a team that is there
+abbrev team_entry : Row → Text × Unit {0}
+team_entry r = (text_spelled r, tt)
+
+pub teams_listed : (o : Text) (old new : Shown) (rows : List Row) → Ready schema old → Queried list_text (Stored o ∷ []) old new rows → HasCleanDisk new
+    → Reads schema old new × (map text_spelled rows ≡ keys (of (stored old).teams o))
+teams_listed o old new rows form call clean =
+    let it = select_lists teams_mapped list_text (col 1 2 ∷ []) _ list_means o team_entry (λ (u : Unit {0}). u) (λ id vs. refl) old new rows form call clean in
+    (it.0, sym (map-map (λ (e : Text × Unit {0}). e.0) team_entry rows) ∙ ap keys (it.1 ∙ seen_as_is (of (stored old).teams o)))

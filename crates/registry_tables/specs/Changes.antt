@@ -4,10 +4,10 @@ use Rattle.std.specs.declared.cmp.Ordering.{Ordering}
 use Rattle.registry_names.specs.Maps.{MapBy, at, put, erase}
 use Rattle.registry_publish.specs.Form.{FormParts}
 use Rattle.registry_rules.specs.Actions.{version_of}
-use Rattle.registry_rules.specs.Changes.{Change, AddUser, AddToken, AddOrg, PutMember, DropMember, AddTeam, PutTeamMember, PutStatus, AddVersion, PutTag, DropTag, release_of}
+use Rattle.registry_rules.specs.Changes.{Change, AddUser, AddToken, AddOrg, PutMember, DropMember, AddTeam, PutTeamMember, DropTeamMember, DropTeam, PutStatus, AddVersion, PutTag, DropTag, release_of}
 use Rattle.registry_tables.specs.Contents.{Contents}
 use Rattle.registry_tables.specs.Needs.{with_needs}
-use Rattle.registry_tables.specs.Teams.{without_member}
+use Rattle.registry_tables.specs.Teams.{without_member, without_team}
 
 -- a key that is there has this value
 abbrev pub amended : {K X : Type 0} {cmp : K → K → Ordering} → MapBy cmp X → K → X → MapBy cmp X
@@ -32,6 +32,8 @@ stored_by (PutMember o u role stands) c = record c { members = with_row c.member
 stored_by (DropMember o u) c = without_member o u c
 stored_by (AddTeam o t) c = record c { teams = put c.teams (o, t) tt }
 stored_by (PutTeamMember o t u) c = record c { team_members = put c.team_members (o, (t, u)) tt }
+stored_by (DropTeamMember o t u) c = record c { team_members = erase c.team_members (o, (t, u)) }
+stored_by (DropTeam o t) c = without_team o t c
 stored_by (PutStatus p status stands) c = record c { packages = with_row c.packages p status stands }
 stored_by (AddVersion f now) c = version_put f now c
 stored_by (PutTag p t v stands) c = record c { tags = with_row c.tags (p, t) v stands }

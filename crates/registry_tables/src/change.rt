@@ -9,8 +9,8 @@ use crate::members::{drop_member, put_member};
 use crate::organisations::add_organisation;
 use crate::statuses::put_status;
 use crate::tags::{drop_tag, put_tag};
-use crate::team_members::put_team_member;
-use crate::teams::add_team;
+use crate::team_members::{drop_team_member, put_team_member};
+use crate::teams::{add_team, drop_team};
 use crate::tokens::add_token;
 use crate::users::add_user;
 use crate::versions::put_version;
@@ -45,6 +45,12 @@ pub fn make<S: Alter>(tx: &mut Transaction<'_, S>, change: &Change<'_>) -> Resul
             team,
             user,
         } => put_team_member(tx, organisation, team, user.text()),
+        Change::DropTeamMember {
+            organisation,
+            team,
+            user,
+        } => drop_team_member(tx, organisation, team, user.text()),
+        Change::DropTeam { organisation, team } => drop_team(tx, organisation, team),
         Change::PutStatus {
             package,
             status,

@@ -40,7 +40,7 @@ pub use crate::spent::is_spent;
 pub use crate::statuses::load_status;
 pub use crate::tags::{has_tag, load_tag, load_tags};
 pub use crate::team_members::{is_in_team, load_team_users, load_user_teams};
-pub use crate::teams::has_team;
+pub use crate::teams::{has_team, load_teams};
 pub use crate::tokens::load_token_user;
 pub use crate::users::has_user;
 pub use crate::versions::{

@@ -107,7 +107,8 @@ pub fn load_user_teams<S: Alter>(
     texts_in(alloc, &rows)
 }
 
-fn texts_in(alloc: Global, rows: &[Row]) -> Result<Vec<Text>, Fault>
+/// The texts that the rows spell, one each.
+pub(crate) fn texts_in(alloc: Global, rows: &[Row]) -> Result<Vec<Text>, Fault>
     ensures { IfOk result (λ texts. texts.items ≡ map text_spelled rows.now) }
 {
     let rows: Vec<TextRow> = values_in(alloc, rows)?;

@@ -1,14 +1,16 @@
 //! The table `teams`: the teams of every organisation.
 
 ghost use Rattle.std.specs.Prelude.{◌≡◌, is_some};
-ghost use Rattle.registry_names.specs.Maps.{at, put};
+ghost use Rattle.registry_names.specs.Maps.{at, keys, of, put};
 ghost use Rattle.registry_rows.specs.Frames.{Stays};
 ghost use Rattle.registry_tables.specs.Effects.{InForm, Makes, Tells};
 ghost use Rattle.registry_tables.specs.Teams.{without_team};
 
-use registry_names::Fault;
+use crate::team_members::texts_in;
+use registry_names::{Fault, Text};
 use registry_rows::{read, write};
 use sqlite::{Alter, Transaction, params};
+use std::alloc::Global;
 
 /// Whether the organisation has this team.
 pub fn has_team<S: Alter>(
@@ -26,6 +28,24 @@ pub fn has_team<S: Alter>(
         params![organisation, team],
     )?;
     Ok(!rows.is_empty())
+}
+
+/// The teams of an organisation, in byte order.
+pub fn load_teams<S: Alter>(
+    alloc: Global,
+    tx: &mut Transaction<'_, S>,
+    organisation: &str,
+) -> Result<Vec<Text>, Fault>
+    requires in_form { InForm S.Store tx.old }
+    ensures stays { Stays S.Store tx.old tx.new }
+    ensures tells { Tells S.Store tx.old tx.new result (λ teams c. teams.items ≡ keys (of c.teams organisation.now)) }
+{
+    let rows = read(
+        tx,
+        "SELECT team FROM teams WHERE org = ?1 ORDER BY team",
+        params![organisation],
+    )?;
+    texts_in(alloc, &rows)
 }
 
 /// Adds a team without members to an organisation. One of its name is a fault, and so is an

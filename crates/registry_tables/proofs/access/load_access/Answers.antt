@@ -21,8 +21,7 @@ returns-clause-tells g c clean =
       grants = c.new-3.result;
       packages = c.new-4.result;
       maintainers = c.new-5.result;
-    } in
-    (
+    } in (
       reads_as_before (shown g.S.Store c.args.tx.now) (shown g.S.Store c.organisation_rows.new.tx) (shown g.S.Store c.member_rows.new.tx) there.0 known.0,
       record {
         organisation = there.1 rows refl;
