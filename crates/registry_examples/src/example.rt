@@ -1,5 +1,6 @@
 //! The form of an example.
 
+use registry_access::Role;
 use registry_names::Refusal;
 
 /// Requests to an empty registry, and what is answered.
@@ -44,6 +45,26 @@ pub enum Ask {
     UserAdd(&'static str),
     /// To add a token: its user, and its text.
     TokenAdd(&'static str, &'static str),
+    /// To create an organisation: its name, and its owner.
+    OrgCreate(&'static str, &'static str),
+    /// To give a user a role in an organisation.
+    OrgSet(&'static str, &'static str, Role),
+    /// To let a user leave an organisation.
+    OrgRemove(&'static str, &'static str),
+    /// To create a team of an organisation.
+    TeamCreate(&'static str, &'static str),
+    /// To destroy a team of an organisation.
+    TeamDestroy(&'static str, &'static str),
+    /// To put a user in a team: organisation, team and user.
+    TeamAdd(&'static str, &'static str, &'static str),
+    /// To take a user out of a team: organisation, team and user.
+    TeamRemove(&'static str, &'static str, &'static str),
+    /// The members of an organisation.
+    Members(&'static str),
+    /// The teams of an organisation.
+    Teams(&'static str),
+    /// The members of a team: organisation and team.
+    TeamMembers(&'static str, &'static str),
     /// The publication of a body as it stands.
     Body(&'static str),
     /// The publication of a version whose manifest has its name and its version alone, with the

@@ -7,9 +7,11 @@
 #![tactic(auto)]
 
 mod example;
+mod people;
 mod table;
 #[cfg(test)]
 mod tests;
 
-pub use crate::example::{Ask, Example, Expected, Step};
+pub use crate::example::{Ask, Example, Expected, Step, Who};
+pub use crate::people::{ORGANISATIONS, TEAMS, USERS};
 pub use crate::table::{PUBLISHES, QUERIES, TAGS};

@@ -3,17 +3,20 @@
 
 mod body;
 mod outcome;
+mod people;
 mod rounds;
 mod rows;
 mod tables;
 
 use crate::example::{Ask, Example, Expected, Step, Who};
-use crate::table::{DOCUMENTS, PUBLISHES, QUERIES, TAGS, USERS};
+use crate::people::{ORGANISATIONS, TEAMS, USERS};
+use crate::table::{DOCUMENTS, PUBLISHES, QUERIES, TAGS};
 use body::{ABC, body_of};
 use outcome::{otherwise, same};
+use people::digest_of;
 use registry_desk::Registry;
 use registry_names::{Fault, Ident, Moment, Name, Refusal, Stop, TagText, Ver};
-use registry_publish::{PublishForm, TokenDigest};
+use registry_publish::PublishForm;
 use registry_rules::{Action, Asked, Credential, Reply, Request};
 use std::alloc::Global;
 use std::test::Fail;
@@ -23,6 +26,16 @@ type Outcome = Result<Reply, Fault>;
 #[test]
 fn users_are_added(rt: HostRuntime) -> Result<(), Fail> {
     all_have_their_replies(rt.alloc(), &USERS)
+}
+
+#[test]
+fn organisations_have_members(rt: HostRuntime) -> Result<(), Fail> {
+    all_have_their_replies(rt.alloc(), &ORGANISATIONS)
+}
+
+#[test]
+fn teams_come_and_go(rt: HostRuntime) -> Result<(), Fail> {
+    all_have_their_replies(rt.alloc(), &TEAMS)
 }
 
 #[test]
@@ -99,14 +112,15 @@ fn credential_of(alloc: Global, who: Who) -> Result<Credential, Stop> {
     }
 }
 
-fn digest_of(token: &str) -> Result<TokenDigest, Stop> {
-    TokenDigest::of(token).ok_or(Stop::Refused(Refusal::BadBody))
+fn action_of(alloc: Global, ask: Ask) -> Result<Action, Stop> {
+    match people::action_of(alloc, ask)? {
+        Some(action) => Ok(action),
+        None => package_action_of(alloc, ask),
+    }
 }
 
-fn action_of(alloc: Global, ask: Ask) -> Result<Action, Stop> {
+fn package_action_of(alloc: Global, ask: Ask) -> Result<Action, Stop> {
     match ask {
-        Ask::UserAdd(user) => user_add(alloc, user),
-        Ask::TokenAdd(user, token) => token_add(alloc, user, token),
         Ask::Body(body) => publish(alloc, body),
         Ask::Publish(name, version) => publish_version(alloc, name, version),
         Ask::TagSet(name, tag, version) => tag_set(alloc, name, tag, version),
@@ -116,20 +130,8 @@ fn action_of(alloc: Global, ask: Ask) -> Result<Action, Stop> {
         Ask::LatestDoc(name) => latest_doc(alloc, name),
         Ask::Archive(name, version) => archive(alloc, name, version),
         Ask::Tags(name) => tags(alloc, name),
+        _ => Err(Stop::Refused(Refusal::BadBody)),
     }
-}
-
-fn user_add(alloc: Global, user: &str) -> Result<Action, Stop> {
-    Ok(Action::UserAdd {
-        user: Ident::parse(alloc, user)?,
-    })
-}
-
-fn token_add(alloc: Global, user: &str, token: &str) -> Result<Action, Stop> {
-    Ok(Action::TokenAdd {
-        user: Ident::parse(alloc, user)?,
-        digest: digest_of(token)?,
-    })
 }
 
 fn publish(alloc: Global, body: &str) -> Result<Action, Stop> {
