@@ -1,12 +1,16 @@
+pub mod ArchiveFacts
 pub mod CatalogFacts
 pub mod ContentsFacts
 pub mod CreationFacts
 pub mod FoundFacts
 pub mod HeldNeedFacts
+pub mod KeptArchiveFacts
+pub mod LiveFacts
 pub mod MappedFacts
 pub mod MetaFacts
 pub mod NeedFacts
 pub mod OpeningFacts
+pub mod ReferenceFacts
 pub mod ReviseFacts
 pub mod SchemaFacts
 pub mod SpentFacts

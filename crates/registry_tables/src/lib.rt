@@ -6,6 +6,7 @@
 //! other error by `Database`.
 #![tactic(auto)]
 
+mod archives;
 mod change;
 pub mod laws;
 mod meta;
@@ -16,10 +17,11 @@ mod statuses;
 mod tags;
 mod versions;
 
+pub use crate::archives::load_archive;
 pub use crate::change::make;
 pub use crate::meta::opened;
 pub use crate::schema::create;
 pub use crate::spent::is_spent;
 pub use crate::statuses::load_status;
 pub use crate::tags::{has_tag, load_tags};
-pub use crate::versions::{has_version, load_archive, load_versions, put_version};
+pub use crate::versions::{has_live, has_version, load_versions, put_version};
