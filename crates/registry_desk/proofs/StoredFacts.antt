@@ -11,9 +11,9 @@ use Rattle.registry_tables.specs.Effects.{registry_in, stored}
 use Rattle.registry_tables.specs.Needs.{HoldsNeeds}
 use Rattle.registry_desk.specs.Promises.{Answered, IsSure, Keeps, KeepsForm, RanTo, Served, Stays, StaysRun, Stepped, Stored, SurvivesOne, SurvivesRun, WasOpen}
 use Rattle.registry_desk.specs.Resting.{SettlesOne, end_stored, ends_replied, next_stored, settled_by}
-use Rattle.registry_desk.specs.Runs.{Outcome, Answers, next}
+use Rattle.registry_history.specs.Runs.{Outcome, Answers, next}
 use Rattle.registry_desk.proofs.KeepingFacts.{registry_next}
-use Rattle.registry_desk.proofs.RunFacts.{ran_none, ran_push}
+use Rattle.registry_history.proofs.RunFacts.{ran_none, ran_push}
 
 -- ---- one request more
 

@@ -6,8 +6,9 @@ use Rattle.registry_rules.specs.Actions.{is_command}
 use Rattle.registry_rules.specs.Facts.{StandsAbout}
 use Rattle.registry_rules.specs.State.{State, Release}
 use Rattle.registry_rules.specs.declared.request.Action.{Action}
-use Rattle.registry_rules.specs.declared.request.Action.TheVariants.{Packument, Archive, Tags}
-use Rattle.registry_tables.specs.Spelled.{document, row_entry, tag_entry}
+use Rattle.registry_rules.specs.declared.request.Action.TheVariants.{Packument, VersionDoc, Archive, Tags}
+use Rattle.registry_tables.specs.Spelled.{document, document_entry, row_entry, tag_entry}
+use Rattle.registry_history.specs.Answers.{asked_release}
 use Rattle.registry_desk.specs.declared.found.Found.{Found}
 use Rattle.registry_desk.specs.declared.found.Rows.{Rows}
 use Rattle.registry_desk.specs.declared.found.Rows.TheVariants as rows
@@ -16,6 +17,7 @@ use Rattle.registry_desk.specs.declared.found.Rows.TheVariants as rows
 abbrev pub AreRowsOf : Rows → State → Action → Type 0
 AreRowsOf (rows.Packument versions tags) S (Packument p) =
     (map row_entry versions.items ≡ map (seen document) (of S.live p)) × (map tag_entry tags.items ≡ of S.tags p)
+AreRowsOf (rows.Document found) S (VersionDoc p asked) = option_map document_entry found ≡ option_map document (asked_release S p asked)
 AreRowsOf (rows.Archive archive) S (Archive p v) = archive ≡ option_map (λ (r : Release). r.archive) (at S.live (p, text_of_version v))
 AreRowsOf (rows.Tags tags) S (Tags p) = map tag_entry tags.items ≡ of S.tags p
 AreRowsOf rows.Nothing S what = is_command what ≡ true

@@ -1,8 +1,3 @@
-pub mod Answers
 pub mod Found
-pub mod Headline
-pub mod History
 pub mod Promises
-pub mod Readings
 pub mod Resting
-pub mod Runs

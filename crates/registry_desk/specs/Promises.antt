@@ -7,11 +7,11 @@ use Rattle.registry_rules.specs.State.{nothing}
 use Rattle.registry_rules.specs.declared.request.Request.{Request}
 use Rattle.registry_tables.specs.Contents.{Contents, contents, registry_of}
 use Rattle.registry_tables.specs.Effects.{registry_in, stored}
-use Rattle.registry_desk.specs.Headline.{Headline}
-use Rattle.registry_desk.specs.History.{Entry, Legal, after}
-use Rattle.registry_desk.specs.Readings.{Says}
+use Rattle.registry_history.specs.Headline.{Headline}
+use Rattle.registry_history.specs.History.{Entry, Legal, after}
+use Rattle.registry_history.specs.Readings.{Says}
 use Rattle.registry_desk.specs.Resting.{SettlesOne, end_stored, ends_replied, next_stored, settled_by}
-use Rattle.registry_desk.specs.Runs.{Outcome, IsAnswer, Ran, grown, history}
+use Rattle.registry_history.specs.Runs.{Outcome, IsAnswer, Ran, grown, history}
 
 -- an open after a crash finds what is stored now, and nothing else
 abbrev pub IsSure : Shown → Type 0

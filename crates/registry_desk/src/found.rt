@@ -1,17 +1,22 @@
 //! What the tables hold of an action. Nothing is changed.
 
+ghost use Rattle.std.specs.Prelude.{◌≡◌, option_map};
+ghost use Rattle.registry_history.specs.Answers.{asked_release};
 ghost use Rattle.registry_rows.specs.Frames.{Stays};
 ghost use Rattle.registry_tables.specs.Contents.{registry_of};
 ghost use Rattle.registry_tables.specs.Effects.{InForm, Tells};
+ghost use Rattle.registry_tables.specs.Spelled.{document, document_entry};
 ghost use Rattle.registry_desk.specs.Found.{IsFoundFor};
 ghost use Rattle.registry_rules.specs.declared.request.Action.TheVariants as asked;
+ghost use Rattle.registry_rules.specs.declared.request.Asked.TheVariants as version;
 
 use registry_names::{Blob, DistTag, Fault, LATEST, Name, TagText, Ver};
 use registry_packument::VersionRow;
 use registry_publish::PublishForm;
-use registry_rules::{About, Action, PublishFacts};
+use registry_rules::{About, Action, Asked, PublishFacts};
 use registry_tables::{
-    has_tag, has_version, is_spent, load_archive, load_status, load_tags, load_versions,
+    DocumentRow, has_tag, has_version, is_spent, load_archive, load_document, load_status,
+    load_tag, load_tags, load_versions,
 };
 use sqlite::{Alter, Transaction};
 use std::alloc::Global;
@@ -37,6 +42,8 @@ pub(crate) enum Rows {
         /// The tags, in byte order.
         tags: Vec<DistTag>,
     },
+    /// The manifest and the message of a version, if that lives.
+    Document(Option<DocumentRow>),
     /// The archive of a version, if that lives.
     Archive(Option<Blob>),
     /// The tags of a package, in byte order.
@@ -59,6 +66,7 @@ pub(crate) fn find<S: Alter>(
         Action::TagSet { name, tag, version } => find_tag_set(tx, name, tag, version),
         Action::TagRemove { name, tag } => find_tag(tx, name, tag),
         Action::Packument { name } => find_packument(alloc, tx, name),
+        Action::VersionDoc { name, version } => find_document(tx, name, version),
         Action::Archive { name, version } => find_archive(tx, name, version),
         Action::Tags { name } => find_tags(alloc, tx, name),
     }
@@ -142,6 +150,44 @@ fn find_packument<S: Alter>(
         },
         rows: Rows::Packument { versions, tags },
     })
+}
+
+fn find_document<S: Alter>(
+    tx: &mut Transaction<'_, S>,
+    name: &Name,
+    version: &Asked,
+) -> Result<Found, Fault>
+    requires in_form { InForm S.Store tx.old }
+    ensures stays { Stays S.Store tx.old tx.new }
+    ensures tells { Tells S.Store tx.old tx.new result
+        (λ found c. IsFoundFor found (registry_of c) (asked.VersionDoc name.now version.now)) }
+{
+    let document = match version {
+        Asked::Exact(version) => load_document(tx, name, version.text())?,
+        Asked::Latest => load_latest(tx, name)?,
+    };
+    Ok(Found {
+        about: About::Version {
+            lives: document.is_some(),
+        },
+        rows: Rows::Document(document),
+    })
+}
+
+// The manifest and the message of the version that `latest` names, if it stands.
+fn load_latest<S: Alter>(
+    tx: &mut Transaction<'_, S>,
+    name: &Name,
+) -> Result<Option<DocumentRow>, Fault>
+    requires in_form { InForm S.Store tx.old }
+    ensures stays { Stays S.Store tx.old tx.new }
+    ensures tells { Tells S.Store tx.old tx.new result (λ found c. option_map document_entry found
+        ≡ option_map document (asked_release (registry_of c) name.now version.Latest)) }
+{
+    match load_tag(tx, name, LATEST)? {
+        Some(version) => load_document(tx, name, version.as_str()),
+        None => Ok(None),
+    }
 }
 
 fn find_archive<S: Alter>(

@@ -6,7 +6,6 @@
 
 mod answer;
 mod found;
-pub mod laws;
 mod registry;
 mod reply;
 

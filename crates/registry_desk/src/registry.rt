@@ -8,7 +8,7 @@ ghost use Rattle.registry_tables.specs.Contents.{contents};
 ghost use Rattle.registry_tables.specs.Effects.{registry_in, stored};
 ghost use Rattle.registry_tables.specs.Fresh.{fresh};
 ghost use Rattle.registry_tables.specs.Needs.{HoldsNeeds};
-ghost use Rattle.registry_desk.specs.Headline.{Headline};
+ghost use Rattle.registry_history.specs.Headline.{Headline};
 ghost use Rattle.registry_desk.specs.Promises.{Answered, GrowsHistory, HasHeadline, Keeps, KeepsForm, RanTo, Served, Stays, StaysRun, Stepped, Stored, SurvivesOne, SurvivesRun, WasOpen, WritesHistory};
 ghost use Rattle.registry_desk.specs.Resting.{Rests};
 

@@ -1,17 +1,21 @@
 //! The reply to a request that isn't turned away.
 
-ghost use Rattle.std.specs.Prelude.{◌≡◌, ℕ, List as Sequence, IfOk, map};
+ghost use Rattle.std.specs.Prelude.{◌≡◌, ℕ, List as Sequence, Some, IfOk, map};
 ghost use Rattle.registry_names.specs.Maps.{of, seen};
+ghost use Rattle.registry_packument.specs.Documents.{document_text};
 ghost use Rattle.registry_rules.specs.State.{State};
 ghost use Rattle.registry_tables.specs.Spelled.{document, row_entry, tag_entry};
-ghost use Rattle.registry_desk.specs.Answers as answers;
-ghost use Rattle.registry_desk.specs.Answers.{packument_in, tags_in};
+ghost use Rattle.registry_history.specs.Answers as answers;
+ghost use Rattle.registry_history.specs.Answers.{packument_in, tags_in};
 ghost use Rattle.registry_desk.specs.Found.{AreRowsOf};
 
 use crate::found::Rows;
 use registry_names::{DistTag, Fault, Name, Text};
-use registry_packument::{List, PackHead, VersionRow, VersionRows, list_text, packument_text};
+use registry_packument::{
+    List, PackHead, VersionRow, VersionRows, list_text, packument_text, version_text,
+};
 use registry_rules::{Action, Reply};
+use registry_tables::DocumentRow;
 use std::alloc::Global;
 
 /// The reply to an action, of the rows that answer it.
@@ -24,6 +28,9 @@ pub(crate) fn reply(alloc: Global, what: &Action, rows: Rows) -> Result<Reply, F
         (Action::TagSet { .. } | Action::TagRemove { .. }, _) => Ok(Reply::Done),
         (Action::Packument { name }, Rows::Packument { versions, tags }) => {
             Ok(Reply::Doc(packument(alloc, name, versions, tags)?))
+        }
+        (Action::VersionDoc { .. }, Rows::Document(Some(row))) => {
+            Ok(Reply::Doc(document(alloc, &row)?))
         }
         (Action::Archive { .. }, Rows::Archive(Some(archive))) => Ok(Reply::Bytes(archive)),
         (Action::Tags { .. }, Rows::Tags(tags)) => Ok(Reply::Doc(tags_of(alloc, tags)?)),
@@ -49,6 +56,13 @@ fn packument(
         return Err(Fault::Database);
     };
     packument_text(alloc, &PackHead { name, tags }, &mut source)
+}
+
+// The document of a version, with its message where it has one.
+fn document(alloc: Global, row: &DocumentRow) -> Result<Text, Fault>
+    ensures { IfOk result (λ text. document_text row.now.manifest row.now.message ≡ Some text) }
+{
+    version_text(alloc, row.manifest.as_str(), row.message.as_str())
 }
 
 // The text of a package's tags.

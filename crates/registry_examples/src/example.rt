@@ -36,6 +36,10 @@ pub enum Ask {
     TagRemove(&'static str, &'static str),
     /// The packument of a package.
     Packument(&'static str),
+    /// The document of a version of a package.
+    VersionDoc(&'static str, &'static str),
+    /// The document of the version that a package's tag `latest` names.
+    LatestDoc(&'static str),
     /// The archive of a version of a package.
     Archive(&'static str, &'static str),
     /// The tags of a package.
@@ -43,7 +47,7 @@ pub enum Ask {
 }
 
 /// What is answered.
-#[derive(Clone, Copy)]
+#[derive(Clone, Copy, Debug)]
 pub enum Expected {
     /// The version was published.
     Created,

@@ -247,6 +247,75 @@ pub static QUERIES: [Example; 3] = [
     },
 ];
 
+/// A version's document is its manifest.
+pub static DOCUMENTS: [Example; 2] = [
+    Example {
+        shows: "a version's document is found by its text, and latest's by the tag",
+        steps: &[
+            Step {
+                at: 1,
+                ask: Ask::Body(NEXT_BODY),
+                expected: Expected::Created,
+            },
+            Step {
+                at: 2,
+                ask: Ask::Body(LATER_BODY),
+                expected: Expected::Created,
+            },
+            Step {
+                at: 3,
+                ask: Ask::VersionDoc("kit", "1.1.0"),
+                expected: Expected::Doc(r#"{"name":"kit","version":"1.1.0"}"#),
+            },
+            Step {
+                at: 3,
+                ask: Ask::LatestDoc("kit"),
+                expected: Expected::Doc(r#"{"name":"kit","version":"1.0.0"}"#),
+            },
+            Step {
+                at: 3,
+                ask: Ask::VersionDoc("kit", "1.2.0"),
+                expected: Expected::Refused(Refusal::NotFound),
+            },
+            Step {
+                at: 4,
+                ask: Ask::TagSet("kit", "latest", "1.1.0"),
+                expected: Expected::Done,
+            },
+            Step {
+                at: 4,
+                ask: Ask::LatestDoc("kit"),
+                expected: Expected::Doc(r#"{"name":"kit","version":"1.1.0"}"#),
+            },
+        ],
+    },
+    Example {
+        shows: "a package that was never published has no document",
+        steps: &[
+            Step {
+                at: 1,
+                ask: Ask::LatestDoc("kit"),
+                expected: Expected::Refused(Refusal::NotFound),
+            },
+            Step {
+                at: 1,
+                ask: Ask::Body(KIT_BODY),
+                expected: Expected::Created,
+            },
+            Step {
+                at: 1,
+                ask: Ask::VersionDoc("kit", "1.0.0"),
+                expected: Expected::Refused(Refusal::NotFound),
+            },
+            Step {
+                at: 1,
+                ask: Ask::LatestDoc("kit"),
+                expected: Expected::Refused(Refusal::NotFound),
+            },
+        ],
+    },
+];
+
 /// Tags name versions.
 pub static TAGS: [Example; 3] = [
     Example {

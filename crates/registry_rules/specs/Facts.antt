@@ -6,13 +6,13 @@ use Rattle.registry_names.specs.Versions.{text_of_version}
 use Rattle.registry_publish.specs.Form.{FormParts}
 use Rattle.registry_rules.specs.Actions.{version_of}
 use Rattle.registry_rules.specs.Callers.{caller_of}
-use Rattle.registry_rules.specs.State.{State, is_live, is_spent, has_live, stands}
+use Rattle.registry_rules.specs.State.{State, is_live, is_spent, has_live, stands, asked_version, lives}
 use Rattle.registry_rules.specs.declared.facts.About.{About}
 use Rattle.registry_rules.specs.declared.facts.About.TheVariants as about
 use Rattle.registry_rules.specs.declared.facts.Facts.{Facts}
 use Rattle.registry_rules.specs.declared.facts.PublishFacts.{PublishFacts}
 use Rattle.registry_rules.specs.declared.request.Action.{Action}
-use Rattle.registry_rules.specs.declared.request.Action.TheVariants.{Publish, TagSet, TagRemove, Packument, Archive, Tags}
+use Rattle.registry_rules.specs.declared.request.Action.TheVariants.{Publish, TagSet, TagRemove, Packument, VersionDoc, Archive, Tags}
 use Rattle.registry_rules.specs.declared.request.Request.{Request}
 
 pub record ArePublishFacts (facts : PublishFacts) (S : State) (f : FormParts) : Type 0 where
@@ -27,9 +27,10 @@ abbrev pub StandsAbout : About → State → Action → Type 0
 StandsAbout (about.Publish facts) S (Publish f) = ArePublishFacts facts S f
 StandsAbout (about.TagSet version_lives tag_stands) S (TagSet p t v) = (version_lives ≡ is_live S p (text_of_version v)) × (tag_stands ≡ stands S p t)
 StandsAbout (about.TagRemove tag_stands) S (TagRemove p t) = tag_stands ≡ stands S p t
-StandsAbout (about.Version lives) S (Archive p v) = lives ≡ is_live S p (text_of_version v)
-StandsAbout (about.Package lives) S (Packument p) = lives ≡ has_live S p
-StandsAbout (about.Package lives) S (Tags p) = lives ≡ has_live S p
+StandsAbout (about.Version found) S (VersionDoc p asked) = found ≡ lives S p (asked_version S p asked)
+StandsAbout (about.Version found) S (Archive p v) = found ≡ is_live S p (text_of_version v)
+StandsAbout (about.Package found) S (Packument p) = found ≡ has_live S p
+StandsAbout (about.Package found) S (Tags p) = found ≡ has_live S p
 StandsAbout _ S _ = ⊥
 
 -- the facts are what the registry holds for the request

@@ -12,9 +12,9 @@ use Rattle.registry_access.specs.declared.caller.Caller.{Caller}
 use Rattle.registry_publish.specs.Form.{FormParts}
 use Rattle.registry_rules.specs.Actions.{version_of}
 use Rattle.registry_rules.specs.Callers.{caller_of}
-use Rattle.registry_rules.specs.State.{State, is_live, is_spent, has_live, stands}
+use Rattle.registry_rules.specs.State.{State, is_live, is_spent, has_live, stands, asked_version, lives}
 use Rattle.registry_rules.specs.declared.request.Action.{Action}
-use Rattle.registry_rules.specs.declared.request.Action.TheVariants.{Publish, TagSet, TagRemove, Packument, Archive, Tags}
+use Rattle.registry_rules.specs.declared.request.Action.TheVariants.{Publish, TagSet, TagRemove, Packument, VersionDoc, Archive, Tags}
 use Rattle.registry_rules.specs.declared.request.Request.{Request}
 
 abbrev pub refuse : Bool → Refusal → Option Refusal → Option Refusal
@@ -41,12 +41,13 @@ publish_refusal S f = refuse (is_live S f.name (version_of f)) Published
 abbrev pub tag_refusal : Bool → Text → Option Refusal
 tag_refusal there t = refuse (not there) NotFound (refuse (is t latest) KeepsLatest None)
 
--- At this moment. A tag is set to a live version alone, and only such a one has an archive; a package without a live version has no packument and no tags
+-- At this moment. A tag is set to a live version alone, and only such a one has a document and an archive; a package without a live version has no packument and no tags
 abbrev pub state_refusal : State → ℕ → Action → Option Refusal
 state_refusal S now (Publish f) = publish_refusal S f
 state_refusal S now (TagSet p t v) = unless_there (is_live S p (text_of_version v))
 state_refusal S now (TagRemove p t) = tag_refusal (stands S p t) t
 state_refusal S now (Packument p) = unless_there (has_live S p)
+state_refusal S now (VersionDoc p asked) = unless_there (lives S p (asked_version S p asked))
 state_refusal S now (Archive p v) = unless_there (is_live S p (text_of_version v))
 state_refusal S now (Tags p) = unless_there (has_live S p)
 

@@ -8,7 +8,9 @@ use Rattle.registry_publish.specs.Form.{FormParts, IsManifestText}
 use Rattle.registry_publish.specs.Integrity.{integrity_text}
 use Rattle.registry_publish.specs.Needs.{needs_of}
 use Rattle.registry_rules.specs.declared.request.Action.{Action}
-use Rattle.registry_rules.specs.declared.request.Action.TheVariants.{Publish, TagSet, TagRemove, Packument, Archive, Tags}
+use Rattle.registry_rules.specs.declared.request.Action.TheVariants.{Publish, TagSet, TagRemove, Packument, VersionDoc, Archive, Tags}
+use Rattle.registry_rules.specs.declared.request.Asked.{Asked}
+use Rattle.registry_rules.specs.declared.request.Asked.TheVariants.{Exact, Latest}
 use Rattle.registry_rules.specs.declared.request.Request.{Request}
 
 pub record ArePartsInForm (f : FormParts) : Type 0 where
@@ -19,11 +21,16 @@ pub record ArePartsInForm (f : FormParts) : Type 0 where
   pub needs : needs_of f.manifest ≡ Some f.needs
   pub integrity : f.integrity ≡ integrity_text f.archive
 
+abbrev pub IsAskedInForm : Asked → Type 0
+IsAskedInForm (Exact v) = IsVersionOf (text_of_version v) v
+IsAskedInForm Latest = Unit {0}
+
 abbrev pub IsActionInForm : Action → Type 0
 IsActionInForm (Publish f) = ArePartsInForm f
 IsActionInForm (TagSet p t v) = IsName p × IsTrue (is_tag t) × IsVersionOf (text_of_version v) v
 IsActionInForm (TagRemove p t) = IsName p × IsTrue (is_tag t)
 IsActionInForm (Packument p) = IsName p
+IsActionInForm (VersionDoc p asked) = IsName p × IsAskedInForm asked
 IsActionInForm (Archive p v) = IsName p × IsVersionOf (text_of_version v) v
 IsActionInForm (Tags p) = IsName p
 

@@ -1,8 +1,12 @@
 -- What the registry holds: finite maps under names, and nothing of how they are kept.
-use Rattle.std.specs.Prelude.{ℕ, Bool, true, false, not, List, [], ◌∷◌, is_some}
+use Rattle.std.specs.Prelude.{ℕ, Bool, true, false, not, List, [], ◌∷◌, is_some, Option, Some, None}
+use Rattle.registry_names.specs.Tags.{latest}
 use Rattle.registry_names.specs.Texts.{Text}
 use Rattle.registry_names.specs.Maps.{PairMap, empty, at, of}
+use Rattle.registry_names.specs.Versions.{text_of_version}
 use Rattle.registry_access.specs.Access.{Access}
+use Rattle.registry_rules.specs.declared.request.Asked.{Asked}
+use Rattle.registry_rules.specs.declared.request.Asked.TheVariants.{Exact, Latest}
 
 -- a version that was published and not withdrawn
 pub record Release : Type 0 where
@@ -55,3 +59,13 @@ has_live S p = not (is_empty (of S.live p))
 -- the tag stands
 abbrev pub stands : State → Text → Text → Bool
 stands S p t = is_some (at S.tags (p, t))
+
+-- the version that is asked for: this one, or the one that `latest` names, if it stands
+abbrev pub asked_version : State → Text → Asked → Option Text
+asked_version S p (Exact v) = Some (text_of_version v)
+asked_version S p Latest = at S.tags (p, latest)
+
+-- there is such a version, and it lives
+abbrev pub lives : State → Text → Option Text → Bool
+lives S p None = false
+lives S p (Some v) = is_live S p v

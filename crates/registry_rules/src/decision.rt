@@ -67,7 +67,7 @@ fn state_refusal(about: &About, action: &Action) -> Option<Refusal>
         (About::TagRemove { tag_stands }, Action::TagRemove { tag, .. }) => {
             tag_remove_refusal(*tag_stands, tag)
         }
-        (About::Version { lives }, Action::Archive { .. })
+        (About::Version { lives }, Action::VersionDoc { .. } | Action::Archive { .. })
         | (About::Package { lives }, Action::Packument { .. } | Action::Tags { .. }) => {
             unless_there(*lives)
         }

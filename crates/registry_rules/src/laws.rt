@@ -5,12 +5,12 @@ ghost use Rattle.std.specs.Prelude.{◌≡◌, None};
 ghost use Rattle.registry_rules.specs.Kept.{IsKept};
 ghost use Rattle.registry_rules.specs.Laws.{PackagesStandApart, PublishesAddVersions, PublishesSetStatuses, PublishesSetTags, QueriesChangeNothing, RemovedTagsAreGone, SetTagsName};
 ghost use Rattle.registry_rules.specs.Refusals.{refusal};
-ghost use Rattle.registry_rules.specs.Requests.{ArePartsInForm, IsActionInForm, IsInForm};
+ghost use Rattle.registry_rules.specs.Requests.{ArePartsInForm, IsActionInForm, IsAskedInForm, IsInForm};
 ghost use Rattle.registry_rules.specs.State.{State, nothing};
 ghost use Rattle.registry_rules.specs.Effects.{step};
 ghost use Rattle.registry_rules.specs.declared.request.Request.{Request};
 
-use crate::request::{Action, Request};
+use crate::request::{Action, Asked, Request};
 use registry_publish::PublishForm;
 
 /// A publish makes its version live, with its manifest, its archive and its moment; its tag names
@@ -64,6 +64,10 @@ fn action_is_in_form(what: &Action)
             name.text();
             tag.text();
         }
+        Action::VersionDoc { name, version } => {
+            name.text();
+            asked_is_in_form(version);
+        }
         Action::Archive { name, version } => {
             name.text();
             version.text();
@@ -71,6 +75,17 @@ fn action_is_in_form(what: &Action)
         Action::Packument { name } | Action::Tags { name } => {
             name.text();
         }
+    }
+}
+
+fn asked_is_in_form(version: &Asked)
+    ensures { IsAskedInForm version.now }
+{
+    match version {
+        Asked::Exact(version) => {
+            version.text();
+        }
+        Asked::Latest => {}
     }
 }
 

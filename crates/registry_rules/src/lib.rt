@@ -19,4 +19,4 @@ pub use crate::change::{Change, Changes};
 pub use crate::decision::{decide, may_ask};
 pub use crate::facts::{About, Facts, PublishFacts};
 pub use crate::reply::Reply;
-pub use crate::request::{Action, Credential, Request};
+pub use crate::request::{Action, Asked, Credential, Request};

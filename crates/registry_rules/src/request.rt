@@ -61,6 +61,13 @@ pub enum Action {
         /// The package's name.
         name: Name,
     },
+    /// The query for the document of a live version, which is its manifest.
+    VersionDoc {
+        /// The package's name.
+        name: Name,
+        /// The version.
+        version: Asked,
+    },
     /// The query for the archive of a live version.
     Archive {
         /// The package's name.
@@ -73,4 +80,13 @@ pub enum Action {
         /// The package's name.
         name: Name,
     },
+}
+
+/// Which version of a package is asked for.
+#[derive(Drop)]
+pub enum Asked {
+    /// This one.
+    Exact(Ver),
+    /// The one that the tag `latest` names.
+    Latest,
 }

@@ -16,6 +16,14 @@ use Rattle.registry_tables.proofs.FoundFacts.{some_seen}
 pub lives_as_row : (c : Contents) (k : Pair) → is_some (at (live_of c) k) ≡ is_some (at c.versions k)
 lives_as_row c k = ap is_some (at-revise pair_key c.versions (with_bytes c) k) ∙ some_seen (with_bytes c k) (at c.versions k)
 
+-- its document is in its row
+pub document_as_row : (c : Contents) (k : Pair) → option_map document (at (live_of c) k) ≡ option_map document (at c.versions k)
+document_as_row c k = ap (option_map document) (at-revise pair_key c.versions (with_bytes c) k) ∙ each (at c.versions k)
+  where
+    each : (o : Option Release) → option_map document (option_map (with_bytes c k) o) ≡ option_map document o
+    each None = refl
+    each (Some release) = refl
+
 -- what doesn't change is seen alike in the part under a first text
 parts_seen : {Y : Type 0} (g : Release → Y) (f : Pair → Release → Release) → ((k : Pair) (x : Release) → g (f k x) ≡ g x) → (es : List (Pair × Release)) (p : Text)
     → map (seen g) (parts (map (λ (e : Pair × Release). (e.0, f e.0 e.1)) es) p) ≡ map (seen g) (parts es p)

@@ -1,5 +1,5 @@
 -- What the statements on tags make and show.
-use Rattle.std.proofs.Common.{◌≡◌, ◌==◌, ℕ, List, [], ◌∷◌, map, not, Option, Some, None, is_some, length, subst, Ok, refl, ap, ◌∙◌, codes}
+use Rattle.std.proofs.Common.{◌≡◌, ◌==◌, ℕ, List, [], ◌∷◌, map, not, Option, Some, None, is_some, option_map, slice_get, length, subst, Ok, refl, ap, ◌∙◌, codes}
 use Rattle.std.proofs.lemmas.Iterator.Adapters.{option_map_id}
 use Rattle.sqlite.specs.declared.types.Value.TheVariants.{Null, Text as Stored}
 use Rattle.sqlite_value.specs.Order.{Row}
@@ -16,7 +16,7 @@ use Rattle.registry_rows.specs.Frames.{Wrote}
 use Rattle.registry_rows.specs.Statements.{Means, MeansQuery, IsUncascaded, scan, by_texts, in_order, set_terms}
 use Rattle.registry_rows.specs.Ready.{Ready, Leaves, Reads, Queried}
 use Rattle.registry_rows.proofs.StatementFacts.{insert_puts, update_revises, delete_erases}
-use Rattle.registry_rows.proofs.LookUpFacts.{select_finds, select_lists, seen_as_is}
+use Rattle.registry_rows.proofs.LookUpFacts.{select_finds, select_lists, first_listed, seen_as_is}
 use Rattle.registry_tables.specs.Schema.{schema}
 use Rattle.registry_tables.specs.Schema as table
 use Rattle.registry_tables.specs.Changes.{amended}
@@ -93,6 +93,12 @@ pub tag_found : (p t : Text) (old new : Shown) (rows : List Row) → Ready schem
 tag_found p t old new rows form call clean =
     let it = select_finds tags_mapped find_text (col 1 3 ∷ []) _ find_means (p, t) named_spelled (λ (v : Text). v) (λ id vs. refl) old new rows form call clean in
     (it.0, some_found named_spelled rows _ it.1 ∙ ap is_some (option_map_id (at (stored old).tags (p, t))))
+
+pub tag_named : (p t : Text) (old new : Shown) (rows : List Row) → Ready schema old → Queried find_text (Stored p ∷ Stored t ∷ []) old new rows → HasCleanDisk new
+    → Reads schema old new × (option_map named_spelled (slice_get rows 0) ≡ at (stored old).tags (p, t))
+tag_named p t old new rows form call clean =
+    let it = select_finds tags_mapped find_text (col 1 3 ∷ []) _ find_means (p, t) named_spelled (λ (v : Text). v) (λ id vs. refl) old new rows form call clean in
+    (it.0, first_listed named_spelled rows _ it.1 ∙ option_map_id (at (stored old).tags (p, t)))
 
 abbrev list_text : List ℕ
 list_text = codes "SELECT tag, version FROM tags WHERE package = ?1 ORDER BY tag"

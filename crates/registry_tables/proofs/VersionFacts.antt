@@ -1,5 +1,5 @@
 -- What the statements on versions make and show.
-use Rattle.std.proofs.Common.{◌≡◌, ◌==◌, ℕ, List, [], ◌∷◌, pos, map, not, is_some, length, None, Ok, refl, sym, ap, ◌∙◌, codes}
+use Rattle.std.proofs.Common.{◌≡◌, ◌==◌, ℕ, List, [], ◌∷◌, pos, map, not, is_some, length, option_map, slice_get, None, Ok, refl, sym, ap, ◌∙◌, codes}
 use Rattle.sqlite.specs.declared.types.Value.TheVariants.{Null, Int, Text as Stored, Blob}
 use Rattle.sqlite.specs.Command.TheVariants.{Insert, Select}
 use Rattle.sqlite.specs.Source.TheVariants.{Values}
@@ -19,9 +19,9 @@ use Rattle.registry_rules.specs.State.{Release, has_live}
 use Rattle.registry_rows.specs.Statements.{Means, MeansQuery, scan, by_texts, in_order}
 use Rattle.registry_rows.proofs.StatementFacts.{insert_puts, insert_meets_none}
 use Rattle.registry_rows.proofs.LookUpFacts.{select_finds, select_lists, first_listed}
-use Rattle.registry_tables.specs.Spelled.{number_spelled, document, row_spelled, version_spelled}
+use Rattle.registry_tables.specs.Spelled.{number_spelled, document, document_spelled, row_spelled, version_spelled}
 use Rattle.registry_tables.proofs.FoundFacts.{some_found, some_seen}
-use Rattle.registry_tables.proofs.LiveFacts.{documents_as_rows, lives_as_row, lives_as_rows, some_listed}
+use Rattle.registry_tables.proofs.LiveFacts.{document_as_row, documents_as_rows, lives_as_row, lives_as_rows, some_listed}
 use Rattle.registry_tables.proofs.MappedFacts.{versions_mapped}
 
 -- ---- INSERT
@@ -60,6 +60,19 @@ pub version_found : (p v : Text) (old new : Shown) (rows : List Row) → Ready s
 version_found p v old new rows form call clean =
     let it = select_finds versions_mapped find_text (col 1 3 ∷ []) _ find_means (p, v) number_spelled (λ (r : Release). r.at) (λ id vs. refl) old new rows form call clean in
     (it.0, some_found number_spelled rows _ it.1 ∙ some_seen (λ (r : Release). r.at) (at (stored old).versions (p, v)) ∙ sym (lives_as_row (stored old) (p, v)))
+
+abbrev document_text : List ℕ
+document_text = codes "SELECT manifest, deprecated FROM versions WHERE package = ?1 AND version = ?2"
+
+document_means : MeansQuery schema document_text (Select (record { lets = []; body = scan 18 (by_texts 1 1 0) (col 1 4 ∷ col 1 5 ∷ []) [] }) (codes "manifest" ∷ codes "deprecated" ∷ []))
+unfolding understood everything
+document_means = ((refl, (refl, refl)), refl)
+
+pub document_found : (p v : Text) (old new : Shown) (rows : List Row) → Ready schema old → Queried document_text (Stored p ∷ Stored v ∷ []) old new rows → HasCleanDisk new
+    → Reads schema old new × (option_map document_spelled (slice_get rows 0) ≡ option_map document (at (live_of (stored old)) (p, v)))
+document_found p v old new rows form call clean =
+    let it = select_finds versions_mapped document_text (col 1 4 ∷ col 1 5 ∷ []) _ document_means (p, v) document_spelled document (λ id vs. refl) old new rows form call clean in
+    (it.0, first_listed document_spelled rows _ it.1 ∙ sym (document_as_row (stored old) (p, v)))
 
 -- ---- SELECT by package
 

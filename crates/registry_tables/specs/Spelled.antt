@@ -10,6 +10,7 @@ use Rattle.registry_packument.specs.declared.packument.VersionRow.{VersionRow}
 use Rattle.registry_rules.specs.State.{Release}
 use Rattle.registry_rows.specs.Columns.{text_in, number_in, int_in, blob_in}
 use Rattle.registry_tables.specs.Contents.{status_of}
+use Rattle.registry_tables.specs.declared.versions.DocumentRow.{DocumentRow}
 
 -- bytes alone
 abbrev pub bytes_spelled : Row → List ℕ
@@ -45,6 +46,13 @@ version_spelled r = (text_in (column r 0), tt)
 -- of a live version, its manifest and its message
 abbrev pub document : Release → Text × Text
 document r = (r.manifest, r.message)
+
+-- a manifest and its message
+abbrev pub document_spelled : Row → Text × Text
+document_spelled r = (text_in (column r 0), text_in (column r 1))
+
+abbrev pub document_entry : DocumentRow → Text × Text
+document_entry d = (d.manifest, d.message)
 
 -- a version that a tag names, alone
 abbrev pub named_spelled : Row → Text

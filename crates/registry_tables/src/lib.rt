@@ -23,5 +23,7 @@ pub use crate::meta::opened;
 pub use crate::schema::create;
 pub use crate::spent::is_spent;
 pub use crate::statuses::load_status;
-pub use crate::tags::{has_tag, load_tags};
-pub use crate::versions::{has_live, has_version, load_versions, put_version};
+pub use crate::tags::{has_tag, load_tag, load_tags};
+pub use crate::versions::{
+    DocumentRow, has_live, has_version, load_document, load_versions, put_version,
+};

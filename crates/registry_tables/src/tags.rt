@@ -1,15 +1,15 @@
 //! The table `tags`: the dist-tags of every package. A tag names a live version.
 
-ghost use Rattle.std.specs.Prelude.{◌≡◌, IfOk, is_some, map};
+ghost use Rattle.std.specs.Prelude.{◌≡◌, IfOk, is_some, map, option_map, slice_get};
 ghost use Rattle.registry_names.specs.Maps.{at, erase, of, put};
 ghost use Rattle.registry_names.specs.Texts.{Text as Bytes};
 ghost use Rattle.registry_rows.specs.Frames.{Stays};
 ghost use Rattle.registry_tables.specs.Changes.{amended, with_row};
 ghost use Rattle.registry_tables.specs.Effects.{InForm, Makes, Tells};
-ghost use Rattle.registry_tables.specs.Spelled.{tag_entry, tag_spelled};
+ghost use Rattle.registry_tables.specs.Spelled.{named_spelled, tag_entry, tag_spelled};
 
 use registry_names::{DistTag, Fault, Name, Text};
-use registry_rows::{FromRow, read, values_in, write};
+use registry_rows::{FromRow, first_in, read, values_in, write};
 use sqlite::{Alter, Error, Row, Transaction, params};
 use std::alloc::Global;
 
@@ -25,6 +25,31 @@ pub fn has_tag<S: Alter>(tx: &mut Transaction<'_, S>, name: &Name, tag: &str) ->
         params![name.text(), tag],
     )?;
     Ok(!rows.is_empty())
+}
+
+/// The version that a tag of a package names. None where the tag doesn't stand.
+pub fn load_tag<S: Alter>(
+    tx: &mut Transaction<'_, S>,
+    name: &Name,
+    tag: &str,
+) -> Result<Option<Text>, Fault>
+    requires in_form { InForm S.Store tx.old }
+    ensures stays { Stays S.Store tx.old tx.new }
+    ensures tells { Tells S.Store tx.old tx.new result (λ named c. named ≡ at c.tags (name.now, tag.now)) }
+{
+    let rows = read(
+        tx,
+        "SELECT version FROM tags WHERE package = ?1 AND tag = ?2",
+        params![name.text(), tag],
+    )?;
+    named_in(&rows)
+}
+
+fn named_in(rows: &[Row]) -> Result<Option<Text>, Fault>
+    ensures { IfOk result (λ named. named ≡ option_map named_spelled (slice_get rows.now 0)) }
+{
+    let found: Option<NamedRow> = first_in(rows)?;
+    Ok(found.map(|row| row.version))
 }
 
 /// The tags of a package, in byte order.
@@ -121,6 +146,26 @@ pub(crate) fn drop_tag<S: Alter>(
         "DELETE FROM tags WHERE package = ?1 AND tag = ?2",
         params![name, tag],
     )
+}
+
+#[derive(Drop)]
+struct NamedRow {
+    version: Text,
+}
+
+impl FromRow for NamedRow {
+    ghost Seen = { Bytes };
+
+    ghost seen = { λ row. row.version };
+
+    ghost spelled = { named_spelled };
+
+    fn from_row(row: &Row) -> Result<NamedRow, Error> {
+        let version: String = row.get(0)?;
+        Ok(NamedRow {
+            version: Text::from(version),
+        })
+    }
 }
 
 #[derive(Drop)]

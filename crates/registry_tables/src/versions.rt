@@ -1,6 +1,6 @@
 //! The table `versions`: the live versions of every package.
 
-ghost use Rattle.std.specs.Prelude.{◌≡◌, IfOk, None, OnOk, is_some, map};
+ghost use Rattle.std.specs.Prelude.{◌≡◌, IfOk, None, OnOk, is_some, map, option_map};
 ghost use Rattle.sqlite.specs.State.{HasCleanDisk};
 ghost use Rattle.registry_names.specs.Maps.{at, of, put, seen};
 ghost use Rattle.registry_names.specs.Texts.{Text as Bytes};
@@ -10,7 +10,7 @@ ghost use Rattle.registry_rules.specs.State as state;
 ghost use Rattle.registry_tables.specs.Changes.{IsNew, is_unspent, row_of, version_put};
 ghost use Rattle.registry_tables.specs.Contents.{live_of, registry_of};
 ghost use Rattle.registry_tables.specs.Effects.{InForm, Makes, Tells, shown, stored_in};
-ghost use Rattle.registry_tables.specs.Spelled.{document, row_entry, row_spelled};
+ghost use Rattle.registry_tables.specs.Spelled.{document, document_entry, document_spelled, row_entry, row_spelled};
 
 use crate::archives::put_archive;
 use crate::needs::put_needs;
@@ -19,7 +19,7 @@ use crate::statuses::load_status;
 use registry_names::{Fault, Moment, Name, Text};
 use registry_packument::VersionRow;
 use registry_publish::PublishForm;
-use registry_rows::{FromRow, read, values_in, write};
+use registry_rows::{FromRow, first_in, read, values_in, write};
 use sqlite::{Alter, Error, Row, Transaction, params};
 use std::alloc::Global;
 
@@ -80,6 +80,33 @@ fn versions_in(alloc: Global, rows: &[Row]) -> Result<Vec<VersionRow>, Fault>
     let rows: Vec<ListedRow> = values_in(alloc, rows)?;
     let versions = rows.into_iter().map(|row| row.version).collect(alloc)?;
     Ok(versions)
+}
+
+/// What the document of a live version is made of.
+#[derive(Drop)]
+pub struct DocumentRow {
+    /// Its manifest, which is compact JSON.
+    pub manifest: Text,
+    /// The message of its deprecation. Empty where it isn't deprecated.
+    pub message: Text,
+}
+
+/// The manifest and the message of a version. None where it doesn't live.
+pub fn load_document<S: Alter>(
+    tx: &mut Transaction<'_, S>,
+    name: &Name,
+    version: &str,
+) -> Result<Option<DocumentRow>, Fault>
+    requires in_form { InForm S.Store tx.old }
+    ensures stays { Stays S.Store tx.old tx.new }
+    ensures tells { Tells S.Store tx.old tx.new result (λ found c. option_map document_entry found ≡ option_map document (at (live_of c) (name.now, version.now))) }
+{
+    let rows = read(
+        tx,
+        "SELECT manifest, deprecated FROM versions WHERE package = ?1 AND version = ?2",
+        params![name.text(), version],
+    )?;
+    first_in(&rows)
 }
 
 /// Puts the version of a form, published at this moment and not deprecated, with its archive and
@@ -159,6 +186,23 @@ impl FromRow for ListedRow {
                 manifest: Text::from(manifest),
                 message: Text::from(message),
             },
+        })
+    }
+}
+
+impl FromRow for DocumentRow {
+    ghost Seen = { Bytes × Bytes };
+
+    ghost seen = { document_entry };
+
+    ghost spelled = { document_spelled };
+
+    fn from_row(row: &Row) -> Result<DocumentRow, Error> {
+        let manifest: String = row.get(0)?;
+        let message: String = row.get(1)?;
+        Ok(DocumentRow {
+            manifest: Text::from(manifest),
+            message: Text::from(message),
         })
     }
 }

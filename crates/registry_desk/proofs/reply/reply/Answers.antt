@@ -2,7 +2,7 @@ use Rattle.std.proofs.Common.{◌∙◌, ap, sym, subst₂}
 use Rattle.registry_names.specs.Texts.{Text}
 use Rattle.registry_rules.specs.declared.reply.Reply.TheVariants.{Doc}
 use Rattle.registry_rules.specs.declared.request.Action.{Action}
-use Rattle.registry_desk.specs.Answers.{reply}
+use Rattle.registry_history.specs.Answers.{reply}
 use Rattle.registry_desk.specs.Found.{AreRowsOf}
 use Rattle.registry_desk.specs.declared.found.Rows.{Rows}
 use Rattle.registry_desk.proofs.reply.reply.Goals as goal

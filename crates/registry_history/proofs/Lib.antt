@@ -1,0 +1,5 @@
+pub mod PublishFacts
+pub mod RunFacts
+pub mod StatusFacts
+pub mod TagFacts
+pub mod VersionFacts

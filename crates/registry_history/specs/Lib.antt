@@ -1,0 +1,5 @@
+pub mod Answers
+pub mod Headline
+pub mod History
+pub mod Readings
+pub mod Runs
