@@ -15,8 +15,8 @@ use registry_packument::VersionRow;
 use registry_publish::PublishForm;
 use registry_rules::{About, Action, Asked, PublishFacts};
 use registry_tables::{
-    DocumentRow, has_tag, has_version, is_spent, load_archive, load_document, load_status,
-    load_tag, load_tags, load_versions,
+    DocumentRow, has_live, has_tag, has_version, is_spent, load_archive, load_document,
+    load_status, load_tag, load_tags, load_versions,
 };
 use sqlite::{Alter, Transaction};
 use std::alloc::Global;
@@ -219,12 +219,12 @@ fn find_tags<S: Alter>(
     ensures tells { Tells S.Store tx.old tx.new result
         (λ found c. IsFoundFor found (registry_of c) (asked.Tags name.now)) }
 {
-    let versions = load_versions(alloc, tx, name)?;
+    let about = About::Package {
+        lives: has_live(tx, name)?,
+    };
     let tags = load_tags(alloc, tx, name)?;
     Ok(Found {
-        about: About::Package {
-            lives: !versions.is_empty(),
-        },
+        about,
         rows: Rows::Tags(tags),
     })
 }

@@ -61,20 +61,22 @@ first_whole : (integrity : Text) (bytes : List ℕ) (es : List (ℤ × Archive))
     → option_map (λ (e : ℤ × List ℕ). e.0) (find (λ (e : ℤ × List ℕ). is bytes e.1) (map (seen bytes_of) (filter (λ (e : ℤ × Archive). is integrity e.1.integrity) es)))
     ≡ option_map (λ (e : ℤ × Archive). e.0) (find (λ (e : ℤ × Archive). is_archive integrity bytes e.1) es)
 first_whole integrity bytes [] = refl
-first_whole integrity bytes (e ∷ es) = each (is integrity e.1.integrity) (is bytes e.1.bytes) refl refl
+first_whole integrity bytes (e ∷ es) = each (is integrity e.1.integrity) (is bytes e.1.bytes) refl refl (first_whole integrity bytes es)
   where
     each : (a b : Bool) → is integrity e.1.integrity ≡ a → is bytes e.1.bytes ≡ b
+        → option_map (λ (e : ℤ × List ℕ). e.0) (find (λ (e : ℤ × List ℕ). is bytes e.1) (map (seen bytes_of) (filter (λ (e : ℤ × Archive). is integrity e.1.integrity) es)))
+        ≡ option_map (λ (e : ℤ × Archive). e.0) (find (λ (e : ℤ × Archive). is_archive integrity bytes e.1) es)
         → option_map (λ (e : ℤ × List ℕ). e.0) (find (λ (e : ℤ × List ℕ). is bytes e.1) (map (seen bytes_of) (cond (is integrity e.1.integrity) (e ∷ filter (λ (e : ℤ × Archive). is integrity e.1.integrity) es) (filter (λ (e : ℤ × Archive). is integrity e.1.integrity) es))))
         ≡ option_map (λ (e : ℤ × Archive). e.0) (cond (is integrity e.1.integrity && is bytes e.1.bytes) (Some e) (find (λ (e : ℤ × Archive). is_archive integrity bytes e.1) es))
-    each true true p q = rw (p, q) refl
-    each true false p q = rw (p, q) (first_whole integrity bytes es)
-    each false b p q = rw p (first_whole integrity bytes es)
+    each true true p q rest = rw (p, q) refl
+    each true false p q rest = rw (p, q) rest
+    each false b p q rest = rw p rest
 
 pub archive_listed : (integrity : Text) (bytes : List ℕ) (old new : Shown) (rows : List Row) → Ready schema old → Queried list_text (Stored integrity ∷ []) old new rows → HasCleanDisk new
     → Reads schema old new × (number_among bytes (map archive_spelled rows) ≡ number_of integrity bytes (stored old).archives)
 archive_listed integrity bytes old new rows form call clean =
     let it = select_has_by (by_number_given archives_numbered) 1 (Stored integrity) refl (λ (a : Archive). is integrity a.integrity) (λ vs. refl) list_text (col 1 0 ∷ col 1 3 ∷ []) _ list_means
-        archive_spelled bytes_of (λ id vs. refl) old new rows form call clean in
+    archive_spelled bytes_of (λ id vs. refl) old new rows form call clean in
     (it.0, ap (number_among bytes) it.1 ∙ first_whole integrity bytes (entries (stored old).archives))
 
 -- ---- SELECT by number

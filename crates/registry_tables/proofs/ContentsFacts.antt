@@ -1,5 +1,6 @@
 -- What the tables hold is told by their rows alone.
 use Rattle.std.proofs.Common.{◌≡◌, [], refl}
+use Rattle.sqlite_sql.specs.Ops.{unary}
 use Rattle.registry_names.specs.Maps.{rows, empty}
 use Rattle.registry_rows.specs.Counting.{count_in}
 use Rattle.registry_rows.specs.KeyKinds.{numbers, map_by}
@@ -33,5 +34,5 @@ contents_depend old new (users, (tokens, (orgs, (members, (teams, (team_members,
 }
 
 pub no_rows : contents (λ _. []) ≡ no_contents
-unfolding rows empty
+unfolding rows empty unary
 no_rows = refl

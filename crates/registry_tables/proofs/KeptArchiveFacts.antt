@@ -211,65 +211,55 @@ others_keep_archives c d versions held archives h = record {
   bare = λ k release e. h.bare k release (sym (ap (λ (m : PairMap Release). at m k) versions) ∙ e);
 }
 
-pub version_keeps_archives : (f : FormParts) (now : ℕ) (c : Contents) → f.integrity ≡ integrity_text f.archive → is_some (at c.versions (f.name, version_of f)) ≡ false → HoldsArchives c → HoldsArchives (version_put f now c)
-version_keeps_archives f now c integrity new h = record {
-  lives = λ k. ap is_some (held_at f now c k) ∙ both k (pair_is key k) ∙ sym (ap is_some (at-put pair_key c.versions key (row_of f now) k));
-  stored = put_held_stored f now c h.stored;
-  had = λ n a e. owner n a (stood_before f.integrity f.archive c n a e);
-  integrity = λ n a e. whole n a (stood_before f.integrity f.archive c n a e);
-  once = λ m n a b e g same. once m n a b same (stood_before f.integrity f.archive c m a e) (stood_before f.integrity f.archive c n b g);
-  bare = λ k release e. bare k release (pair_is key k) (sym (at-put pair_key c.versions key (row_of f now) k) ∙ e);
-}
-  where
-    abbrev key : Pair
-    key = (f.name, version_of f)
+module _ (f : FormParts) (now : ℕ) (c : Contents) (integrity : f.integrity ≡ integrity_text f.archive) (new : is_some (at c.versions (f.name, version_of f)) ≡ false) (h : HoldsArchives c) where
+  -- what stands after stood before, or is the form's
+  abbrev IsBefore : ℤ → Archive → Type 0
+  IsBefore n a = (at c.archives n ≡ Some a) ⊎ ((number_of f.integrity f.archive c.archives ≡ None) × (n ≡ number f now c) × (a ≡ new_archive f.integrity f.archive c))
 
-    abbrev number : ℤ
-    number = archive_number f.integrity f.archive c
+  both_live : (k : Pair) (b : Bool) → is_some (cond b (Some (number f now c)) (at c.held k)) ≡ is_some (cond b (Some (row_of f now)) (at c.versions k))
+  both_live k true = refl
+  both_live k false = h.lives k
 
-    abbrev after : Contents
-    after = version_put f now c
+  none_held : at c.held (key f now c) ≡ None
+  none_held = none_at (at c.held (key f now c)) (h.lives (key f now c) ∙ new)
 
-    abbrev one : Archive
-    one = record { integrity = f.integrity; bytes = f.archive }
+  owner : (n : ℤ) (a : Archive) → IsBefore n a → (k : Pair) × (at (after f now c).held k ≡ Some n)
+  owner n a (inl e) =
+      let it = h.had n a e in
+      elim (cases_Bool (pair_is (key f now c) it.0)) [
+        | inl same ↦ absurd (let none = sym none_held ∙ ap (at c.held) (same_true pair_key (key f now c) it.0 same) ∙ it.1 in cc)
+        | inr other ↦ (it.0, at-put_other pair_key c.held (key f now c) (number f now c) it.0 other ∙ it.1)
+      ]
+  owner n a (inr it) = (key f now c, at-put_same pair_key c.held (key f now c) (number f now c) ∙ ap (λ (i : ℤ). Some i) (sym it.1))
 
-    abbrev IsBefore : ℤ → Archive → Type 0
-    IsBefore n a = (at c.archives n ≡ Some a) ⊎ ((number_of f.integrity f.archive c.archives ≡ None) × (n ≡ number) × (a ≡ one))
+  whole : (n : ℤ) (a : Archive) → IsBefore n a → a.integrity ≡ integrity_text a.bytes
+  whole n a (inl e) = h.integrity n a e
+  whole n a (inr it) = subst (λ (b : Archive). b.integrity ≡ integrity_text b.bytes) (sym it.2) integrity
 
-    both : (k : Pair) (b : Bool) → is_some (cond b (Some number) (at c.held k)) ≡ is_some (cond b (Some (row_of f now)) (at c.versions k))
-    both k true = refl
-    both k false = h.lives k
+  -- the bytes of an archive that stood can't be the form's, where none was found
+  never : (n : ℤ) (a : Archive) → at c.archives n ≡ Some a → number_of f.integrity f.archive c.archives ≡ None → a.bytes ≡ f.archive → ⊥
+  never n a e none same =
+      let i : f.integrity ≡ a.integrity = integrity ∙ ap integrity_text (sym same) ∙ sym (h.integrity n a e) in
+      let is_it : is_archive f.integrity f.archive a ≡ true =
+      and_from _ _ (ap (is f.integrity) (sym i) ∙ same_self text_key f.integrity) (ap (is f.archive) same ∙ same_self text_key f.archive) in
+      true≢false (sym is_it ∙ none_stands f.integrity f.archive c.archives none n a e)
 
-    none_held : at c.held key ≡ None
-    none_held = none_at (at c.held key) (h.lives key ∙ new)
+  once_after : (m n : ℤ) (a b : Archive) → a.bytes ≡ b.bytes → IsBefore m a → IsBefore n b → m ≡ n
+  once_after m n a b same (inl e) (inl g) = h.once m n a b e g same
+  once_after m n a b same (inl e) (inr it) = absurd (never m a e it.0 (same ∙ ap (λ (x : Archive). x.bytes) it.2))
+  once_after m n a b same (inr it) (inl g) = absurd (never n b g it.0 (sym same ∙ ap (λ (x : Archive). x.bytes) it.2))
+  once_after m n a b same (inr it) (inr that) = it.1 ∙ sym that.1
 
-    owner : (n : ℤ) (a : Archive) → IsBefore n a → (k : Pair) × (at after.held k ≡ Some n)
-    owner n a (inl e) =
-        let it = h.had n a e in
-        elim (cases_Bool (pair_is key it.0)) [
-          | inl same ↦ absurd (let none = sym none_held ∙ ap (at c.held) (same_true pair_key key it.0 same) ∙ it.1 in cc)
-          | inr other ↦ (it.0, at-put_other pair_key c.held key number it.0 other ∙ it.1)
-        ]
-    owner n a (inr it) = (key, at-put_same pair_key c.held key number ∙ ap (λ (i : ℤ). Some i) (sym it.1))
+  bare_after : (k : Pair) (release : Release) (b : Bool) → cond b (Some (row_of f now)) (at c.versions k) ≡ Some release → release.archive ≡ []
+  bare_after k release true e = let same : row_of f now ≡ release = cc in ap (λ (r : Release). r.archive) (sym same)
+  bare_after k release false e = h.bare k release e
 
-    whole : (n : ℤ) (a : Archive) → IsBefore n a → a.integrity ≡ integrity_text a.bytes
-    whole n a (inl e) = h.integrity n a e
-    whole n a (inr it) = subst (λ (b : Archive). b.integrity ≡ integrity_text b.bytes) (sym it.2) integrity
-
-    -- the bytes of an archive that stood can't be the new ones
-    never : (n : ℤ) (a : Archive) → at c.archives n ≡ Some a → number_of f.integrity f.archive c.archives ≡ None → a.bytes ≡ f.archive → ⊥
-    never n a e none same =
-        let i : f.integrity ≡ a.integrity = integrity ∙ ap integrity_text (sym same) ∙ sym (h.integrity n a e) in
-        let is_it : is_archive f.integrity f.archive a ≡ true =
-        and_from _ _ (ap (is f.integrity) (sym i) ∙ same_self text_key f.integrity) (ap (is f.archive) same ∙ same_self text_key f.archive) in
-        true≢false (sym is_it ∙ none_stands f.integrity f.archive c.archives none n a e)
-
-    once : (m n : ℤ) (a b : Archive) → a.bytes ≡ b.bytes → IsBefore m a → IsBefore n b → m ≡ n
-    once m n a b same (inl e) (inl g) = h.once m n a b e g same
-    once m n a b same (inl e) (inr it) = absurd (never m a e it.0 (same ∙ ap (λ (x : Archive). x.bytes) it.2))
-    once m n a b same (inr it) (inl g) = absurd (never n b g it.0 (sym same ∙ ap (λ (x : Archive). x.bytes) it.2))
-    once m n a b same (inr it) (inr that) = it.1 ∙ sym that.1
-
-    bare : (k : Pair) (release : Release) (b : Bool) → cond b (Some (row_of f now)) (at c.versions k) ≡ Some release → release.archive ≡ []
-    bare k release true e = let same : row_of f now ≡ release = cc in ap (λ (r : Release). r.archive) (sym same)
-    bare k release false e = h.bare k release e
+  pub version_keeps_archives : HoldsArchives (version_put f now c)
+  version_keeps_archives = record {
+    lives = λ k. ap is_some (held_at f now c k) ∙ both_live k (pair_is (key f now c) k) ∙ sym (ap is_some (at-put pair_key c.versions (key f now c) (row_of f now) k));
+    stored = put_held_stored f now c h.stored;
+    had = λ n a e. owner n a (stood_before f.integrity f.archive c n a e);
+    integrity = λ n a e. whole n a (stood_before f.integrity f.archive c n a e);
+    once = λ m n a b e g same. once_after m n a b same (stood_before f.integrity f.archive c m a e) (stood_before f.integrity f.archive c n b g);
+    bare = λ k release e. bare_after k release (pair_is (key f now c) k) (sym (at-put pair_key c.versions (key f now c) (row_of f now) k) ∙ e);
+  }

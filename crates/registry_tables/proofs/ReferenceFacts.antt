@@ -12,7 +12,8 @@ use Rattle.sqlite_sql.specs.declared.ops.BinaryOp.TheVariants.{Compare}
 use Rattle.sqlite_sql.specs.declared.ops.CompareOp.TheVariants.{Eq}
 use Rattle.sqlite_sql.specs.Ops.{binary, is_true}
 use Rattle.sqlite_schema.specs.declared.schema.Action.TheVariants.{NoAction, Cascade}
-use Rattle.sqlite_schema.specs.Rules.{agree, parent_key}
+use Rattle.sqlite_schema.specs.Rules.{agree, has_null, parent_key}
+use Rattle.sqlite_tied.specs.Compute.{everything}
 use Rattle.sqlite_rules.specs.Lists.{Has}
 use Rattle.sqlite_rules.proofs.ListLemmas.{all_has, has_got}
 use Rattle.registry_names.specs.Keys.{Pair}
@@ -50,6 +51,14 @@ held_values id (a ∷ b ∷ c ∷ []) r e h =
     (id, h.0.0, h.1.0.0, h.1.1.0.0, e ∙ ap (λ v. id ∷ v ∷ b ∷ c ∷ []) h.0.1 ∙ ap (λ v. id ∷ Stored h.0.0 ∷ v ∷ c ∷ []) h.1.0.1 ∙ ap (λ v. id ∷ Stored h.0.0 ∷ Stored h.1.0.0 ∷ v ∷ []) h.1.1.0.1)
 held_values id (a ∷ b ∷ c ∷ d ∷ vs) r e h = absurd h.1.1.1
 
+to_archives : parent_key schema.tables (reference (3 ∷ []) (codes "archives") NoAction) ≡ Some (table.archives.tree, 0 ∷ [], plain)
+unfolding everything
+to_archives = refl
+
+to_versions : parent_key schema.tables (reference (1 ∷ 2 ∷ []) (codes "versions") Cascade) ≡ Some (table.versions.tree, 1 ∷ 2 ∷ [], plain)
+unfolding everything
+to_versions = refl
+
 module _ (s : State) (ready : IsReady schema s) where
   held_row : (r : Row) → Has (s.now.trees table.held.tree) r → HeldRow r
   held_row r h =
@@ -71,10 +80,10 @@ module _ (s : State) (ready : IsReady schema s) where
       let values = row.2 in
       let whole = values.4 in
       let m = values.3 in
-      let parent = parent_of schema s ready table.held (has_got schema.tables 15 table.held refl) (reference (3 ∷ []) (codes "archives") NoAction) (inr (inl refl)) table.archives.tree (0 ∷ []) refl r row.1 (rw whole refl) in
+      let parent = parent_of schema s ready table.held (has_got schema.tables 15 table.held refl) (reference (3 ∷ []) (codes "archives") NoAction) (inr (inl refl)) table.archives.tree (0 ∷ []) to_archives r row.1 (subst (λ x. has_null (3 ∷ []) x ≡ false) (sym whole) refl) in
       let p = parent.0 in
       let rowid_is : rowid p ≡ Int (numbers.of_row p) = number_is (rowid p) (all_has _ (s.now.trees table.archives.tree) p (table_rowids schema s 16 table.archives ready refl).1 parent.1) in
-      let agrees : is_true (binary (Compare Eq Binary) (rowid p) (Int m)) ≡ true = (and_parts _ _ (rw whole at parent.2)).0 in
+      let agrees : is_true (binary (Compare Eq Binary) (rowid p) (Int m)) ≡ true = (and_parts _ _ (subst (λ x. agree plain (0 ∷ []) p (3 ∷ []) x ≡ true) whole parent.2)).0 in
       let same : m ≡ numbers.of_row p = same_true number_key m (numbers.of_row p) (sym (number_test (numbers.of_row p) m) ∙ subst (λ v. is_true (binary (Compare Eq Binary) v (Int m)) ≡ true) rowid_is agrees) in
       let is : m ≡ n = sym (ap (λ (x : Row). int_in (column (drop 1 x) 2)) whole) ∙ row.4 in
       let there = (rows_tell_by (by_number_given archives_numbered) s ready (numbers.of_row p) (archive_in (drop 1 p))).1 (p, parent.1, refl, refl) in
@@ -90,13 +99,15 @@ module _ (s : State) (ready : IsReady schema s) where
       let whole = values.4 in
       let v = values.1 in
       let w = values.2 in
-      let parent = parent_of schema s ready table.held (has_got schema.tables 15 table.held refl) (reference (1 ∷ 2 ∷ []) (codes "versions") Cascade) (inl refl) table.versions.tree (1 ∷ 2 ∷ []) refl r row.1 (rw whole refl) in
+      let parent = parent_of schema s ready table.held (has_got schema.tables 15 table.held refl) (reference (1 ∷ 2 ∷ []) (codes "versions") Cascade) (inl refl) table.versions.tree (1 ∷ 2 ∷ []) to_versions r row.1 (subst (λ x. has_null (1 ∷ 2 ∷ []) x ≡ false) (sym whole) refl) in
       let p = parent.0 in
       let parts = row_parts p (all_has _ (s.now.trees table.versions.tree) p (table_rowids schema s 9 table.versions ready refl).1 parent.1) in
       let texts = texts_of versions_mapped s ready p parent.1 in
-      let both = and_parts _ _ (subst (λ (x : Row). agree plain (1 ∷ 2 ∷ []) x (1 ∷ 2 ∷ []) r ≡ true) parts.1 parent.2) in
-      let first : v ≡ text_in (column (drop 1 p) 0) = told v (column (drop 1 p) 0) texts.0 (rw whole at both.0) in
-      let second : w ≡ text_in (column (drop 1 p) 1) = told w (column (drop 1 p) 1) texts.1 (and_parts _ _ (rw whole at both.1)).0 in
+      let agrees : agree plain (1 ∷ 2 ∷ []) (parts.0 ∷ drop 1 p) (1 ∷ 2 ∷ []) (values.0 ∷ Stored v ∷ Stored w ∷ Int values.3 ∷ []) ≡ true =
+      subst (λ (x : Row). agree plain (1 ∷ 2 ∷ []) x (1 ∷ 2 ∷ []) (values.0 ∷ Stored v ∷ Stored w ∷ Int values.3 ∷ []) ≡ true) parts.1 (subst (λ (x : Row). agree plain (1 ∷ 2 ∷ []) p (1 ∷ 2 ∷ []) x ≡ true) whole parent.2) in
+      let both = and_parts _ _ agrees in
+      let first : v ≡ text_in (column (drop 1 p) 0) = told v (column (drop 1 p) 0) texts.0 both.0 in
+      let second : w ≡ text_in (column (drop 1 p) 1) = told w (column (drop 1 p) 1) texts.1 (and_parts _ _ both.1).0 in
       let is : (v, w) ≡ k = sym (ap (key_of 1) whole) ∙ row.3 in
       let key : k ≡ key_of 1 p = sym is ∙ ap₂ (λ (a b : Text). (a, b)) first second in
       let there = (rows_tell_by (by_texts_given versions_mapped) s ready (key_of 1 p) (release_in (drop 1 p))).1 (p, parent.1, refl, refl) in

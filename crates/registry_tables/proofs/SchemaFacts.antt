@@ -104,16 +104,16 @@ all_add : AddsAll 0 (take 16 creation)
 unfolding creation
 all_add = (adds_users, (adds_tokens, (adds_orgs, (adds_members, (adds_teams, (adds_team_members, (adds_packages, (adds_grants, (adds_owners, (adds_versions, (adds_spent, (adds_tags, (adds_needs, (adds_meta, (adds_need_ranges, (adds_held, tt))))))))))))))))
 
+first_length : length (take 16 creation) ≡ 16
+unfolding creation
+first_length = refl
+
 -- each of the first sixteen
 pub adds : (i : ℕ) → i < 16 → AddsTable i (get_or creation i [])
 adds i within =
-    let long : length (take 16 creation) ≡ 16 = length_is in
+    let long : length (take 16 creation) ≡ 16 = first_length in
     let same : 0 + i ≡ i = omega arith in
     subst (λ sql. AddsTable i sql) (get_or-take 16 creation i [] within) (subst (λ k. AddsTable k (get_or (take 16 creation) i [])) same (each_adds (take 16 creation) 0 i all_add (omega (arith, long, within))))
-  where
-    length_is : length (take 16 creation) ≡ 16
-    unfolding creation
-    length_is = refl
 
 pub creation_length : length creation ≡ 18
 unfolding creation

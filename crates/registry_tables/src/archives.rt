@@ -84,7 +84,11 @@ fn load_bytes<S: Alter>(tx: &mut Transaction<'_, S>, number: i64) -> Result<Blob
     ensures stays { Stays S.Store tx.old tx.new }
     ensures tells { Tells S.Store tx.old tx.new result (λ bytes c. option_map (λ a. a.bytes) (at c.archives number) ≡ Some bytes) }
 {
-    let rows = read(tx, "SELECT bytes FROM archives WHERE id = ?1", params![number])?;
+    let rows = read(
+        tx,
+        "SELECT bytes FROM archives WHERE id = ?1",
+        params![number],
+    )?;
     bytes_in(&rows)
 }
 
@@ -112,11 +116,7 @@ pub(crate) fn put_archive<S: Alter>(
 }
 
 // The number of the archive with these bytes, which is added where none is stored.
-fn store<S: Alter>(
-    tx: &mut Transaction<'_, S>,
-    integrity: &str,
-    bytes: &[u8],
-) -> Result<i64, Fault>
+fn store<S: Alter>(tx: &mut Transaction<'_, S>, integrity: &str, bytes: &[u8]) -> Result<i64, Fault>
     requires under_way { IsUnderWay S.Store tx.old }
     ensures stays { Stays S.Store tx.old tx.new }
     ensures makes { Makes S.Store tx.old tx.new result (with_archive integrity.now bytes.now) }
