@@ -1,16 +1,18 @@
 -- What the statements on archives make and show.
-use Rattle.std.proofs.Common.{◌≡◌, ℕ, ℤ, List, [], ◌∷◌, map, filter, Bool, true, false, cond, ◌&&◌, Option, Some, None, is_some, option_map, slice_get, Ok, refl, sym, ap, subst, ◌∙◌, codes}
+use Rattle.std.proofs.Common.{◌≡◌, ℕ, ℤ, ◌+◌, ◌<◌, List, [], ◌∷◌, length, drop, get_or, map, filter, Bool, true, false, cond, ◌&&◌, Option, Some, None, is_some, option_map, slice_get, Ok, refl, sym, ap, subst, ◌∙◌, codes}
 use Rattle.std.specs.Prelude.{unwrap_or, if◌then◌else◌}
 use Rattle.std.specs.List.{find}
+use Rattle.std.proofs.lemmas.List.{drop_more}
 use Rattle.std.proofs.lemmas.Iterator.Adapters.{option_map_id}
 use Rattle.sqlite.specs.declared.types.Value.TheVariants.{Null, Int, Blob, Text as Stored}
 use Rattle.sqlite.specs.Listing.{understood}
 use Rattle.sqlite.specs.State.{State as Shown, HasCleanDisk}
 use Rattle.sqlite_tied.specs.Compute.{everything}
-use Rattle.sqlite_value.specs.Order.{Row}
+use Rattle.sqlite_value.specs.Order.{Row, column}
 use Rattle.sqlite_sql.specs.Term.{Term, lit, col}
 use Rattle.registry_names.specs.Texts.{Text, is}
 use Rattle.registry_names.specs.Maps.{at, put, entries, seen}
+use Rattle.registry_rows.specs.Columns.{blob_in, int_in}
 use Rattle.registry_rows.specs.Counting.{TakesNext}
 use Rattle.registry_rows.specs.Frames.{Wrote}
 use Rattle.registry_rows.specs.KeyKinds.{NumberMap, numbers}
@@ -78,6 +80,20 @@ archive_listed integrity bytes old new rows form call clean =
     let it = select_has_by (by_number_given archives_numbered) 1 (Stored integrity) refl (λ (a : Archive). is integrity a.integrity) (λ vs. refl) list_text (col 1 0 ∷ col 1 3 ∷ []) _ list_means
     archive_spelled bytes_of (λ id vs. refl) old new rows form call clean in
     (it.0, ap (number_among bytes) it.1 ∙ first_whole integrity bytes (entries (stored old).archives))
+
+-- an archive with other bytes is passed over
+pub among_next : (bytes : List ℕ) (rows : List Row) (i : ℕ) (r : Row) → i < length rows → r ≡ get_or rows i r → is bytes (blob_in (column r 1)) ≡ false
+    → number_among bytes (map archive_spelled (drop i rows)) ≡ number_among bytes (map archive_spelled (drop (i + 1) rows))
+among_next bytes rows i r within is_row other =
+    ap (λ l. number_among bytes (map archive_spelled l)) (drop_more rows i r within ∙ ap (λ (x : Row). x ∷ drop (i + 1) rows) (sym is_row))
+    ∙ ap (λ b. option_map (λ (e : ℤ × List ℕ). e.0) (cond b (Some (archive_spelled r)) (find (λ (e : ℤ × List ℕ). is bytes e.1) (map archive_spelled (drop (i + 1) rows))))) other
+
+-- and one with these bytes is found
+pub among_here : (bytes : List ℕ) (rows : List Row) (i : ℕ) (r : Row) → i < length rows → r ≡ get_or rows i r → is bytes (blob_in (column r 1)) ≡ true
+    → number_among bytes (map archive_spelled (drop i rows)) ≡ Some (int_in (column r 0))
+among_here bytes rows i r within is_row same =
+    ap (λ l. number_among bytes (map archive_spelled l)) (drop_more rows i r within ∙ ap (λ (x : Row). x ∷ drop (i + 1) rows) (sym is_row))
+    ∙ ap (λ b. option_map (λ (e : ℤ × List ℕ). e.0) (cond b (Some (archive_spelled r)) (find (λ (e : ℤ × List ℕ). is bytes e.1) (map archive_spelled (drop (i + 1) rows))))) same
 
 -- ---- SELECT by number
 

@@ -36,7 +36,7 @@ first_made n few =
     rw (tables, indexes) refl
 
 -- the text takes what the first so many made to what one more makes
-abbrev MakesNext : ℕ → Type 0
+abbrev MakesNext : ℕ → Type 1
 MakesNext n = (old new : State) (count : ℕ) → (HasCleanDisk old → Blank (schema_after n) old) → Executed (get_or creation n []) [] old new (Ok count) → HasCleanDisk new → Blank (schema_after (suc n)) new
 
 add_table : (n : ℕ) → n < 16 → MakesNext n

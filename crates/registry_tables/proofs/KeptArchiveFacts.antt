@@ -52,12 +52,12 @@ found_stands integrity bytes m n e = go (find (entry_is integrity bytes) (entrie
 
 none_passes : {A : Type 0} (test : A → Bool) (es : List A) (x : A) → find test es ≡ None → Has es x → test x ≡ false
 none_passes test [] x none h = absurd h
-none_passes test (e ∷ es) x none h = each (test e) refl h
+none_passes test (e ∷ es) x none h = each (test e) refl none h (none_passes test es x)
   where
-    each : (b : Bool) → test e ≡ b → Has (e ∷ es) x → test x ≡ false
-    each true t h = absurd (let found = rw t at none in cc)
-    each false t (inl is) = subst (λ y. test y ≡ false) is t
-    each false t (inr later) = none_passes test es x (rw t at none) later
+    each : (b : Bool) → test e ≡ b → cond b (Some e) (find test es) ≡ None → Has (e ∷ es) x → (find test es ≡ None → Has es x → test x ≡ false) → test x ≡ false
+    each true t none h rest = absurd cc
+    each false t none (inl is) rest = subst (λ y. test y ≡ false) is t
+    each false t none (inr later) rest = rest none later
 
 -- where none is found, no archive is the one
 pub none_stands : (integrity : Text) (bytes : List ℕ) (m : NumberMap Archive) → number_of integrity bytes m ≡ None → (n : ℤ) (a : Archive) → at m n ≡ Some a → is_archive integrity bytes a ≡ false

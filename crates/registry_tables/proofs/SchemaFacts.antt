@@ -1,5 +1,5 @@
 -- What the CREATE texts mean: each adds the next table of the schema.
-use Rattle.std.proofs.Common.{◌≡◌, ℕ, zero, suc, ◌+◌, ◌<◌, List, [], ◌∷◌, length, get_or, take, Err, arith, refl, subst}
+use Rattle.std.proofs.Common.{◌≡◌, ℕ, zero, suc, ◌+◌, ◌<◌, List, [], ◌∷◌, length, get_or, get_or-take, take, Err, arith, refl, subst}
 use Rattle.sqlite.specs.Listing.{understood}
 use Rattle.sqlite_catalog.specs.Change.{created}
 use Rattle.sqlite_schema.specs.declared.schema.Table.{Table}

@@ -1,4 +1,5 @@
-use Rattle.std.proofs.Common.{◌∙◌, ap, arith, option_map, sym}
+use Rattle.std.proofs.lemmas.Int.{to_z-of_z}
+use Rattle.std.proofs.Common.{SFits, w64, rules, ◌∙◌, ap, arith, option_map, sym}
 use Rattle.sqlite.specs.Effect.{Database}
 use Rattle.sqlite.specs.State.{HasCleanDisk}
 use Rattle.registry_names.specs.Maps.{at}
@@ -16,7 +17,8 @@ returns-in-Some-clause-tells g c clean =
     let mid = shown g.S.Store c.held_archive.new.tx in
     let were : HasCleanDisk mid = omega (arith, c.load_bytes.ensures.stays.survives.clean, clean) in
     let first = c.in_ok-number.ensures.tells were in
-    let second = c.in_ok-load_bytes.ensures.tells clean in
+    let fits : SFits w64 c.in-Some.number = search rules in
+    let second = rw (to_z-of_z w64 c.in-Some.number fits) at c.in_ok-load_bytes.ensures.tells clean in
     let ready = c.requires.in_form (omega (arith, c.held_archive.ensures.stays.survives.clean, were)) first.0.was_open in
     let held = sym first.1 ∙ c.in-Some.is in (
       reads_then schema old mid (shown g.S.Store c.load_bytes.new.tx) first.0 second.0,
