@@ -56,7 +56,7 @@ none_passes test (e ∷ es) x none h = each (test e) refl none h (none_passes te
   where
     each : (b : Bool) → test e ≡ b → cond b (Some e) (find test es) ≡ None → Has (e ∷ es) x → (find test es ≡ None → Has es x → test x ≡ false) → test x ≡ false
     each true t none h rest = absurd cc
-    each false t none (inl is) rest = subst (λ y. test y ≡ false) is t
+    each false t none (inl is) rest = subst (λ y. test y ≡ false) (sym is) t
     each false t none (inr later) rest = rest none later
 
 -- where none is found, no archive is the one
