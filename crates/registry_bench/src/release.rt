@@ -10,6 +10,20 @@ const REST: &str =
 /// An archive in base64: three bytes.
 pub const ARCHIVE: &str = "YWJj";
 
+/// How often the number of a version stands in its long archive, so that this has 1,026 bytes.
+const LONG: usize = 171;
+
+/// Which archive a version is published with.
+#[derive(Clone, Copy)]
+pub enum Archive {
+    /// The same three bytes for all.
+    Shared,
+    /// Six bytes of its own.
+    Own,
+    /// Some 1,000 bytes of its own.
+    Long,
+}
+
 /// A version of a package, each a number from 0 on.
 #[derive(Clone, Copy)]
 pub struct Release {
@@ -28,6 +42,22 @@ impl Release {
     /// The version's text, as `1.3.0`.
     pub fn version_text(self, alloc: Global) -> Result<String, AllocError> {
         format!(in alloc; "1.{}.0", self.version)
+    }
+
+    /// Its archive in base64.
+    pub fn archive(self, alloc: Global, archive: Archive) -> Result<String, AllocError> {
+        match archive {
+            Archive::Shared => String::from_str(alloc, ARCHIVE),
+            Archive::Own => self.number_text(alloc),
+            Archive::Long => self.number_text(alloc)?.repeat(alloc, LONG),
+        }
+    }
+
+    // Eight digits that no other release has, where packages and versions are below 10,000.
+    fn number_text(self, alloc: Global) -> Result<String, AllocError> {
+        let package = self.package % 10_000;
+        let version = self.version % 10_000;
+        format!(in alloc; "{package:04}{version:04}")
     }
 
     /// The body that publishes it with this archive in base64.

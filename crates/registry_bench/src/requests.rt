@@ -1,17 +1,18 @@
 //! Requests about releases, at moment 0.
 
 use crate::failure::Failure;
-use crate::release::{ARCHIVE, Release};
+use crate::release::{Archive, Release};
 use registry_desk::Registry;
-use registry_names::{Moment, Stop};
+use registry_names::{Moment, Stop, Ver};
 use registry_publish::PublishForm;
 use registry_rules::{Action, Credential, Reply, Request};
 use sqlite::Alter;
 use std::alloc::Global;
 
-/// The publish of a release.
-pub fn publish(alloc: Global, release: Release) -> Result<Request, Stop> {
-    let body = release.body(alloc, ARCHIVE)?;
+/// The publish of a release with this archive.
+pub fn publish(alloc: Global, release: Release, archive: Archive) -> Result<Request, Stop> {
+    let archive = release.archive(alloc, archive)?;
+    let body = release.body(alloc, &archive)?;
     let form = PublishForm::read(alloc, body.as_bytes())?;
     Ok(request(Action::Publish { form }))
 }
@@ -20,6 +21,13 @@ pub fn publish(alloc: Global, release: Release) -> Result<Request, Stop> {
 pub fn packument(alloc: Global, release: Release) -> Result<Request, Stop> {
     let name = release.name(alloc)?;
     Ok(request(Action::Packument { name }))
+}
+
+/// The query of the release's archive.
+pub fn archive(alloc: Global, release: Release) -> Result<Request, Stop> {
+    let name = release.name(alloc)?;
+    let version = Ver::parse(alloc, &release.version_text(alloc)?)?;
+    Ok(request(Action::Archive { name, version }))
 }
 
 fn request(what: Action) -> Request {

@@ -1,7 +1,7 @@
 //! Ten rounds of a publish and a packument.
 
 use crate::failure::Failure;
-use crate::release::Release;
+use crate::release::{Archive, Release};
 use crate::requests::{packument, publish};
 use registry_desk::Registry;
 use registry_names::{Fault, Stop};
@@ -37,7 +37,7 @@ fn release(version: u32) -> Release {
 fn requests(alloc: Global) -> Result<Vec<Request>, Stop> {
     let mut requests = Vec::new(alloc);
     for version in 0..ROUNDS {
-        requests.push(publish(alloc, release(version))?)?;
+        requests.push(publish(alloc, release(version), Archive::Shared)?)?;
         requests.push(packument(alloc, release(version))?)?;
     }
     Ok(requests)

@@ -2,8 +2,8 @@
 
 use crate::failure::Failure;
 use crate::measurement::{Measurement, start};
-use crate::release::Release;
-use crate::requests::{ask_all, packument, publish};
+use crate::release::{Archive, Release};
+use crate::requests::{archive, ask_all, packument, publish};
 use registry_desk::Registry;
 use registry_names::Stop;
 use registry_rules::Request;
@@ -11,28 +11,41 @@ use sqlite::Alter;
 use std::alloc::Global;
 use std::time::Clock;
 
-/// Requests of one kind about each version of some packages: what they are called, the number of
-/// the first package, and that behind the last.
+/// Requests of one kind about each of these versions of some packages. Of both, the number of the
+/// first and that behind the last.
 #[derive(Clone, Copy)]
-pub enum Stage {
-    /// The publish of the version.
-    Publish(&'static str, u32, u32),
-    /// The packument of the package.
-    Packument(&'static str, u32, u32),
+pub struct Stage {
+    /// What they are called.
+    pub what: &'static str,
+    /// What is asked about each version.
+    pub ask: Ask,
+    /// The packages.
+    pub packages: (u32, u32),
+    /// The versions of each.
+    pub versions: (u32, u32),
 }
 
-/// Asks the requests of each stage, where a package has so many versions, and prints how long those
-/// of each take.
+/// What is asked about a version.
+#[derive(Clone, Copy)]
+pub enum Ask {
+    /// Its publish, with this archive.
+    Publish(Archive),
+    /// The packument of its package.
+    Packument,
+    /// Its archive.
+    Archive,
+}
+
+/// Asks the requests of each stage, and prints how long those of each take.
 pub fn print_stages<R: Print + Clock, S: Alter>(
     rt: &R,
     alloc: Global,
     registry: &mut Registry<S>,
     stages: &[Stage],
-    versions: u32,
 ) -> Result<(), Failure> {
     for stage in stages {
-        let requests = stage.requests(alloc, versions)?;
-        print_stage(rt, alloc, registry, stage.what(), &requests)?;
+        let requests = stage.requests(alloc)?;
+        print_stage(rt, alloc, registry, stage.what, &requests)?;
     }
     Ok(())
 }
@@ -50,16 +63,11 @@ fn print_stage<R: Print + Clock, S: Alter>(
 }
 
 impl Stage {
-    fn what(self) -> &'static str {
-        match self {
-            Stage::Publish(what, _, _) | Stage::Packument(what, _, _) => what,
-        }
-    }
-
     // First the requests about the first version of each package.
-    fn requests(self, alloc: Global, versions: u32) -> Result<Vec<Request>, Stop> {
+    fn requests(self, alloc: Global) -> Result<Vec<Request>, Stop> {
         let mut requests = Vec::new(alloc);
-        for version in 0..versions {
+        let (first, end) = self.versions;
+        for version in first..end {
             self.push_each(alloc, &mut requests, version)?;
         }
         Ok(requests)
@@ -72,7 +80,7 @@ impl Stage {
         requests: &mut Vec<Request>,
         version: u32,
     ) -> Result<(), Stop> {
-        let (Stage::Publish(_, first, end) | Stage::Packument(_, first, end)) = self;
+        let (first, end) = self.packages;
         for package in first..end {
             requests.push(self.request(alloc, Release { package, version })?)?;
         }
@@ -80,9 +88,10 @@ impl Stage {
     }
 
     fn request(self, alloc: Global, release: Release) -> Result<Request, Stop> {
-        match self {
-            Stage::Publish(..) => publish(alloc, release),
-            Stage::Packument(..) => packument(alloc, release),
+        match self.ask {
+            Ask::Publish(archive) => publish(alloc, release, archive),
+            Ask::Packument => packument(alloc, release),
+            Ask::Archive => archive(alloc, release),
         }
     }
 }

@@ -8,11 +8,11 @@ use Rattle.registry_rules.specs.State.{State}
 use Rattle.registry_rules.specs.declared.request.Request.{Request}
 use Rattle.registry_tables.specs.Contents.{Contents, contents}
 use Rattle.registry_tables.specs.Effects.{registry_in, stored}
+use Rattle.registry_tables.specs.Archives.{HoldsArchives}
 use Rattle.registry_tables.specs.Needs.{HoldsNeeds}
-use Rattle.registry_desk.specs.Promises.{Answered, IsSure, Keeps, KeepsForm, RanTo, Served, Stays, StaysRun, Stepped, Stored, SurvivesOne, SurvivesRun, WasOpen}
+use Rattle.registry_desk.specs.Promises.{Answered, IsSure, Keeps, KeepsForm, Moves, RanTo, Served, Stays, StaysRun, Stepped, Stored, SurvivesOne, SurvivesRun, WasOpen}
 use Rattle.registry_desk.specs.Resting.{SettlesOne, end_stored, ends_replied, next_stored, settled_by}
 use Rattle.registry_history.specs.Runs.{Outcome, Answers, next}
-use Rattle.registry_desk.proofs.KeepingFacts.{registry_next}
 use Rattle.registry_history.proofs.RunFacts.{ran_none, ran_push}
 
 -- ---- one request more
@@ -57,8 +57,10 @@ pub record HasAnswered (old new : Shown) (r : Request) (o : Outcome) : Type 0 wh
   pub served : Served old new o
   pub opened : WasOpen old new
   pub step : Stepped old new r o
+  pub moves : Moves old new r o
   pub form : KeepsForm old new
   pub needs : Keeps old new HoldsNeeds
+  pub archives : Keeps old new HoldsArchives
   pub survives : SurvivesOne old new r
   pub stays : Stays new o
 
@@ -67,6 +69,7 @@ pub record HasRun (old new : Shown) (rs : List Request) (os : List Outcome) : Ty
   pub stored : Stored old new rs os
   pub form : KeepsForm old new
   pub needs : Keeps old new HoldsNeeds
+  pub archives : Keeps old new HoldsArchives
   pub survives : SurvivesRun old new rs os
   pub stays : StaysRun new os
 
@@ -76,6 +79,7 @@ has_run_none s = record {
   stored = λ clean on. refl;
   form = λ clean on kept. kept;
   needs = λ clean on holds. holds;
+  archives = λ clean on holds. holds;
   survives = record { clean = omega arith; shield = λ h. h; counts = omega arith; limit = refl; closes = λ _ on. inl on; crash = λ _ db left. inl left };
   stays = λ clean replied. absurd (true≢false (sym replied));
 }
@@ -88,11 +92,12 @@ has_run_more old mid new rs os r o run made =
     λ db clean is. settled_now (registry_in old) (stored old) (contents db) rs os r o (run.ran (before clean)).answers (is.1 ∙ ap (settled_by r) (run.stored (before clean) is.0)) in
     record {
       ran = λ clean. ran_push (registry_in old) (registry_in mid) (registry_in new) mid.is_open new.is_open rs os r o (run.ran (before clean)) (made.answer clean) (made.served clean) (made.opened clean)
-          (λ on. registry_next (stored mid) (stored new) r o (made.step clean on));
+          (made.moves clean);
       stored = λ clean on. made.step clean on ∙ ap (next_stored r o) (run.stored (before clean) (made.opened clean on))
           ∙ sym (end_stored_push (registry_in old) (stored old) rs os r o (run.ran (before clean)).answers);
       form = λ clean on kept. made.form clean on (run.form (before clean) (made.opened clean on) kept);
       needs = λ clean on holds. made.needs clean on (run.needs (before clean) (made.opened clean on) holds);
+      archives = λ clean on holds. made.archives clean on (run.archives (before clean) (made.opened clean on) holds);
       survives = survives_then old mid new _ _ (λ db. SettlesOne (rs ++ r ∷ []) (os ++ o ∷ []) (stored old) (contents db))
           (λ clean db settles. settled_before (registry_in old) (stored old) (contents db) rs os r o (run.ran (before clean)).answers settles) (λ clean db is. left db clean is) run.survives made.survives;
       stays = λ clean replied. on_reply (IsSure new) o (made.stays clean) (subst IsTrue (last_replied os o) replied);

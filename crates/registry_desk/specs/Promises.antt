@@ -11,7 +11,7 @@ use Rattle.registry_history.specs.Headline.{Headline}
 use Rattle.registry_history.specs.History.{Entry, Legal, after}
 use Rattle.registry_history.specs.Says.{Says}
 use Rattle.registry_desk.specs.Resting.{SettlesOne, end_stored, ends_replied, next_stored, settled_by}
-use Rattle.registry_history.specs.Runs.{Outcome, IsAnswer, Ran, grown, history}
+use Rattle.registry_history.specs.Runs.{Outcome, IsAnswer, Ran, grown, history, next}
 
 -- an open after a crash finds what is stored now, and nothing else
 abbrev pub IsSure : Shown → Type 0
@@ -51,6 +51,10 @@ module _ (old new : Shown) where
   -- what is stored is changed as the outcome says
   abbrev pub Stepped : Request → Outcome → Type 0
   Stepped r o = HasCleanDisk new → IsTrue new.is_open → stored new ≡ next_stored r o (stored old)
+
+  -- the registry's state goes on as the outcome says
+  abbrev pub Moves : Request → Outcome → Type 0
+  Moves r o = HasCleanDisk new → IsTrue new.is_open → registry_in new ≡ next (registry_in old) r o
 
   -- a legal history of what is held goes on with the request where it was accepted
   abbrev pub GrowsHistory : Request → Outcome → Type 0

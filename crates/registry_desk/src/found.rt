@@ -18,9 +18,10 @@ use registry_packument::{Member, VersionRow};
 use registry_publish::{PublishForm, TokenDigest};
 use registry_rules::{About, Action, Asked, PublishFacts};
 use registry_tables::{
-    DocumentRow, has_organisation, has_other_owner, has_tag, has_team, has_user, has_version,
-    is_in_team, is_spent, load_access, load_archive, load_document, load_members, load_role,
-    load_status, load_tag, load_tags, load_team_users, load_teams, load_token_user, load_versions,
+    DocumentRow, has_live, has_organisation, has_other_owner, has_tag, has_team, has_user,
+    has_version, is_in_team, is_spent, load_access, load_archive, load_document, load_members,
+    load_role, load_status, load_tag, load_tags, load_team_users, load_teams, load_token_user,
+    load_versions,
 };
 use sqlite::{Alter, Transaction};
 use std::alloc::Global;
@@ -537,12 +538,12 @@ fn find_tags<S: Alter>(
     ensures tells { Tells S.Store tx.old tx.new result
         (λ found c. (who : Caller) → IsFoundFor found (registry_of c) who (asked.Tags name.now)) }
 {
-    let versions = load_versions(alloc, tx, name)?;
+    let about = About::Package {
+        lives: has_live(tx, name)?,
+    };
     let tags = load_tags(alloc, tx, name)?;
     Ok(Found {
-        about: About::Package {
-            lives: !versions.is_empty(),
-        },
+        about,
         rows: Rows::Tags(tags),
     })
 }

@@ -4,12 +4,13 @@ ghost use Rattle.std.specs.Prelude.{◌≡◌, IfErr, IfOk, IsTrue, List, OnErr,
 ghost use Rattle.sqlite.specs.Held.{state};
 ghost use Rattle.sqlite.specs.State.{HasCleanDisk, Survives};
 ghost use Rattle.sqlite.specs.Steps.{IsEmpty, over_memory};
+ghost use Rattle.registry_tables.specs.Archives.{HoldsArchives};
 ghost use Rattle.registry_tables.specs.Contents.{contents};
 ghost use Rattle.registry_tables.specs.Effects.{registry_in, stored};
 ghost use Rattle.registry_tables.specs.Fresh.{fresh};
 ghost use Rattle.registry_tables.specs.Needs.{HoldsNeeds};
 ghost use Rattle.registry_history.specs.Headline.{Headline};
-ghost use Rattle.registry_desk.specs.Promises.{Answered, GrowsHistory, HasHeadline, Keeps, KeepsForm, RanTo, Served, Stays, StaysRun, Stepped, Stored, SurvivesOne, SurvivesRun, WasOpen, WritesHistory};
+ghost use Rattle.registry_desk.specs.Promises.{Answered, GrowsHistory, HasHeadline, Keeps, KeepsForm, Moves, RanTo, Served, Stays, StaysRun, Stepped, Stored, SurvivesOne, SurvivesRun, WasOpen, WritesHistory};
 ghost use Rattle.registry_desk.specs.Resting.{Rests};
 
 use crate::answer::answered_inside;
@@ -55,6 +56,7 @@ impl Registry<MemStore> {
     pub fn in_memory(alloc: Global) -> Result<Registry<MemStore>, Fault>
         ensures fresh { IfOk result (λ r. stored (state over_memory r) ≡ fresh) }
         ensures needs { IfOk result (λ r. HoldsNeeds (stored (state over_memory r))) }
+        ensures archives { IfOk result (λ r. HoldsArchives (stored (state over_memory r))) }
         ensures served { IfOk result (λ r. IsTrue (state over_memory r).is_open) }
     {
         let Ok(mut conn) = Connection::open_in_memory(alloc) else {
@@ -94,10 +96,13 @@ impl<S: Alter> Registry<S> {
         ensures opened { WasOpen (state S.Store self.old) (state S.Store self.new) }
         ensures step { Stepped (state S.Store self.old) (state S.Store self.new)
             request.now result }
+        ensures moves { Moves (state S.Store self.old) (state S.Store self.new)
+            request.now result }
         ensures history { GrowsHistory (state S.Store self.old) (state S.Store self.new)
             request.now result }
         ensures form { KeepsForm (state S.Store self.old) (state S.Store self.new) }
         ensures needs { Keeps (state S.Store self.old) (state S.Store self.new) HoldsNeeds }
+        ensures archives { Keeps (state S.Store self.old) (state S.Store self.new) HoldsArchives }
         ensures survives { SurvivesOne (state S.Store self.old) (state S.Store self.new)
             request.now }
         ensures stays { Stays (state S.Store self.new) result }
@@ -126,6 +131,7 @@ impl<S: Alter> Registry<S> {
             (state S.Store self.new) requests.now outcomes.items) }
         ensures form { KeepsForm (state S.Store self.old) (state S.Store self.new) }
         ensures needs { Keeps (state S.Store self.old) (state S.Store self.new) HoldsNeeds }
+        ensures archives { Keeps (state S.Store self.old) (state S.Store self.new) HoldsArchives }
         ensures survives { IfOk result (λ outcomes. SurvivesRun (state S.Store self.old)
             (state S.Store self.new) requests.now outcomes.items) }
         ensures stays { IfOk result (λ outcomes.

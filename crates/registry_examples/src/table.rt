@@ -144,7 +144,7 @@ pub static PUBLISHES: [Example; 4] = [
 ];
 
 /// Queries answer with what was published.
-pub static QUERIES: [Example; 3] = [
+pub static QUERIES: [Example; 4] = [
     Example {
         shows: "latest follows the last publish, and versions stand in byte order of their texts",
         steps: &[
@@ -275,6 +275,41 @@ pub static QUERIES: [Example; 3] = [
                 who: Who::Anonymous,
                 ask: Ask::Archive("kit", "1.0.1"),
                 expected: Expected::Refused(Refusal::NotFound),
+            },
+        ],
+    },
+    Example {
+        shows: "versions with one archive both give it",
+        steps: &[
+            Step {
+                at: 100,
+                ask: Ask::Body(KIT_BODY),
+                expected: Expected::Created,
+            },
+            Step {
+                at: 101,
+                ask: Ask::Publish("@lab/kit", "1.1.0"),
+                expected: Expected::Created,
+            },
+            Step {
+                at: 102,
+                ask: Ask::Publish("kid", "1.0.0"),
+                expected: Expected::Created,
+            },
+            Step {
+                at: 103,
+                ask: Ask::Archive("@lab/kit", "1.0.0"),
+                expected: Expected::Bytes("abc"),
+            },
+            Step {
+                at: 103,
+                ask: Ask::Archive("@lab/kit", "1.1.0"),
+                expected: Expected::Bytes("abc"),
+            },
+            Step {
+                at: 103,
+                ask: Ask::Archive("kid", "1.0.0"),
+                expected: Expected::Bytes("abc"),
             },
         ],
     },

@@ -14,6 +14,7 @@ pub mod KeyedFacts
 pub mod RowFacts
 pub mod ChangeFacts
 pub mod ReadyFacts
+pub mod ReferenceFacts
 pub mod SetFacts
 pub mod StatementFacts
 pub mod OrderFacts

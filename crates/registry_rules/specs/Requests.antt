@@ -6,6 +6,7 @@ use Rattle.registry_names.specs.Names.{IsName}
 use Rattle.registry_names.specs.Tags.{is_tag}
 use Rattle.registry_names.specs.Versions.{IsVersionOf, text_of_version}
 use Rattle.registry_publish.specs.Form.{FormParts, IsManifestText}
+use Rattle.registry_publish.specs.Integrity.{integrity_text}
 use Rattle.registry_publish.specs.Needs.{needs_of}
 use Rattle.registry_rules.specs.declared.request.Action.{Action}
 use Rattle.registry_rules.specs.declared.request.Action.TheVariants.{UserAdd, TokenAdd, OrgCreate, OrgSet, OrgRemove, TeamCreate, TeamDestroy, TeamAdd, TeamRemove, Publish, TagSet, TagRemove, Packument, VersionDoc, Archive, Tags, Members, Teams, TeamMembers}
@@ -19,6 +20,7 @@ pub record ArePartsInForm (f : FormParts) : Type 0 where
   pub tag : IsTrue (is_tag f.tag)
   pub manifest : IsManifestText f.name f.version f.manifest
   pub needs : needs_of f.manifest ≡ Some f.needs
+  pub integrity : f.integrity ≡ integrity_text f.archive
 
 abbrev pub IsAskedInForm : Asked → Type 0
 IsAskedInForm (Exact v) = IsVersionOf (text_of_version v) v

@@ -175,4 +175,5 @@ fn parts_are_in_form(form: &PublishForm)
     form.tag();
     form.manifest_text();
     form.needs();
+    form.integrity();
 }

@@ -1,15 +1,18 @@
 -- What the tables hold is told by their rows alone.
 use Rattle.std.proofs.Common.{◌≡◌, [], refl}
+use Rattle.sqlite_sql.specs.Ops.{unary}
 use Rattle.registry_names.specs.Maps.{rows, empty}
-use Rattle.registry_rows.specs.KeyKinds.{bytes, map_by}
+use Rattle.registry_rows.specs.Counting.{count_in}
+use Rattle.registry_rows.specs.KeyKinds.{bytes, numbers, map_by}
 use Rattle.registry_rows.specs.Rows.{map_of}
 use Rattle.registry_rows.specs.Ready.{DependsOn}
+use Rattle.registry_tables.specs.Schema as table
 use Rattle.registry_tables.specs.Schema.{schema}
-use Rattle.registry_tables.specs.Contents.{contents, nothing_in, user_in, role_in, grant_in, status_in, release_in, withdrawal_in, named_in, number_named_in}
+use Rattle.registry_tables.specs.Contents.{contents, archive_in, held_in, nothing_in, user_in, role_in, grant_in, status_in, release_in, withdrawal_in, named_in, number_named_in}
 use Rattle.registry_tables.specs.Fresh.{no_contents}
 
 pub contents_depend : DependsOn schema contents
-contents_depend old new (users, (tokens, (orgs, (members, (teams, (team_members, (packages, (grants, (owners, (versions, (spent, (tags, (needs, (meta, (need_ranges, none))))))))))))))) = λ i. record {
+contents_depend old new (users, (tokens, (orgs, (members, (teams, (team_members, (packages, (grants, (owners, (versions, (spent, (tags, (needs, (meta, (need_ranges, (held, (archives, (counters, none)))))))))))))))))) = λ i. record {
   users = map_of 0 nothing_in (users i);
   tokens = map_by bytes user_in (tokens i);
   orgs = map_of 0 nothing_in (orgs i);
@@ -25,8 +28,11 @@ contents_depend old new (users, (tokens, (orgs, (members, (teams, (team_members,
   needs = map_of 2 nothing_in (needs i);
   meta = map_of 0 number_named_in (meta i);
   need_ranges = map_of 3 nothing_in (need_ranges i);
+  held = map_of 1 held_in (held i);
+  archives = map_by numbers archive_in (archives i);
+  last_archive = count_in table.archives.name (counters i);
 }
 
 pub no_rows : contents (λ _. []) ≡ no_contents
-unfolding rows empty
+unfolding rows empty unary
 no_rows = refl

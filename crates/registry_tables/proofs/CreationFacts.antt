@@ -1,5 +1,7 @@
 -- The tables made one after another, each of them empty.
-use Rattle.std.proofs.Common.{◌≡◌, ℕ, zero, suc, ◌+◌, ◌<◌, List, [], length, get_or, refl, Result, OnOk, Ok, Err, arith, sym, ap, subst, ◌∙◌}
+use Rattle.std.proofs.Common.{◌≡◌, inl, inr, ℕ, zero, suc, ◌+◌, ◌<◌, ◌≤◌, false, List, [], length, get_or, refl, Result, OnOk, Ok, Err, arith, sym, ap, subst, ◌∙◌}
+use Rattle.std.specs.Prelude.{nat_lt}
+use Rattle.std.proofs.lemmas.Bool.{cases_lt, le-ltb}
 use Rattle.sqlite_trees.specs.declared.store.Store.{Ghosts}
 use Rattle.sqlite.specs.State.{State, HasCleanDisk, ExecutesIn}
 use Rattle.sqlite.specs.declared.transaction.Transaction.{Transaction}
@@ -11,22 +13,52 @@ use Rattle.registry_rows.specs.Tables.{no_tables}
 use Rattle.registry_rows.specs.Frames.{Wrote}
 use Rattle.registry_rows.specs.Ready.{Ready, Blank, Leaves, Executed}
 use Rattle.registry_rows.proofs.ReadyFacts.{inside}
-use Rattle.registry_rows.proofs.CreateFacts.{create_adds, creates_ready, blank_holds}
+use Rattle.registry_rows.proofs.CreateFacts.{create_adds, create_adds_counter, creates_ready, index_keeps_blank, blank_holds}
+use Rattle.registry_tables.specs.Schema as table
 use Rattle.registry_tables.specs.Schema.{schema}
 use Rattle.registry_tables.specs.Contents.{contents}
 use Rattle.registry_tables.specs.Creation.{creation}
 use Rattle.registry_tables.specs.Effects.{HasNoTables, InForm, Makes, shown, stored_in}
-use Rattle.registry_tables.specs.Fresh.{HasMade, first_tables, fresh, no_contents, schema_number, with_number}
+use Rattle.registry_tables.specs.Fresh.{HasMade, first_tables, fresh, no_contents, schema_after, schema_number, with_number}
 use Rattle.registry_tables.proofs.ContentsFacts.{contents_depend, no_rows}
-use Rattle.registry_tables.proofs.SchemaFacts.{AddsTable, adds, users_exists}
+use Rattle.registry_tables.proofs.SchemaFacts.{AddsTable, adds, creation_length, means_archives, means_index, users_exists}
 
 add_first : (sql : List ℕ) → AddsTable 0 sql → (old new : State) (count : ℕ) → Ready no_tables old → Executed sql [] old new (Ok count) → HasCleanDisk new → Blank (first_tables 1) new
 add_first sql it old new count form call clean = inside (Blank (first_tables 1) new) no_tables sql [] old new (Ok count) form call clean (λ n ready ran on.
     let made = creates_ready no_tables sql it.table old new it.means ready n ran in
     subst (λ s. Blank s new) it.next (record { ready = made.0; empty = (made.2, tt); mode = on }))
 
-add_table : (n : ℕ) (sql : List ℕ) → AddsTable n sql → (old new : State) (count : ℕ) → (HasCleanDisk old → Blank (first_tables n) old) → Executed sql [] old new (Ok count) → HasCleanDisk new → Blank (first_tables (suc n)) new
-add_table n sql it old new count made call clean = subst (λ s. Blank s new) it.next (create_adds (first_tables n) sql it.table it.means old new (Ok count) made call clean)
+-- the tables with a primary key of columns are made first
+first_made : (n : ℕ) → n ≤ 16 → schema_after n ≡ first_tables n
+first_made n few =
+    let tables : nat_lt 16 n ≡ false = le-ltb 16 n few in
+    let indexes : nat_lt 17 n ≡ false = le-ltb 17 n (omega (arith, few)) in
+    rw (tables, indexes) refl
+
+-- the text takes what the first so many made to what one more makes
+abbrev MakesNext : ℕ → Type 1
+MakesNext n = (old new : State) (count : ℕ) → (HasCleanDisk old → Blank (schema_after n) old) → Executed (get_or creation n []) [] old new (Ok count) → HasCleanDisk new → Blank (schema_after (suc n)) new
+
+add_table : (n : ℕ) → n < 16 → MakesNext n
+add_table n few old new count made call clean =
+    let it = adds n few in
+    subst (λ s. Blank s new) (it.next ∙ sym (first_made (suc n) few))
+    (create_adds (first_tables n) (get_or creation n []) it.table it.means old new (Ok count) (λ before. subst (λ s. Blank s old) (first_made n (omega (arith, few))) (made before)) call clean)
+
+add_archives : MakesNext 16
+add_archives old new count made call clean = create_adds_counter (first_tables 16) (get_or creation 16 []) (record table.archives { tree = 0 }) means_archives old new (Ok count) made call clean
+
+add_index : MakesNext 17
+add_index old new count made call clean = index_keeps_blank (schema_after 17) (get_or creation 17 []) 16 table.archives (record table.archives_by_integrity { tree = 0 }) means_index old new (Ok count) made call clean
+
+add_next : (n : ℕ) → n < 18 → MakesNext n
+add_next n few = elim (cases_lt n 16) [
+  | inl early ↦ add_table n early
+  | inr late ↦ elim (cases_lt n 17) [
+    | inl early ↦ let is : 16 ≡ n = omega (arith, late, early) in subst MakesNext is add_archives
+    | inr later ↦ let is : 17 ≡ n = omega (arith, later, few) in subst MakesNext is add_index
+  ]
+]
 
 -- a text that isn't understood isn't run
 never_run : (schema : Schema) (sql : List ℕ) (e : CompileError) → understood schema sql ≡ Err e → (old new : State) (count : ℕ) → Ready schema old → Executed sql [] old new (Ok count) → ¬ HasCleanDisk new
@@ -39,10 +71,10 @@ module _ {S : Type 0} (store : Ghosts S) where
   pub makes_next : (i : ℕ) (first old new : Transaction S) → i < length creation → (i ≡ 0 → old ≡ first) → (0 < i → HasNoTables store first → HasMade store i old)
       → Wrote (get_or creation i []) [] (shown store old) (shown store new) → HasNoTables store first → HasMade store (i + 1) new
   makes_next zero first old new within idle made call none =
-      add_first (get_or creation 0 []) (adds 0 within) (shown store old) (shown store new) call.0 (subst (HasNoTables store) (sym (idle refl)) none) call.1
+      add_first (get_or creation 0 []) (adds 0 (omega arith)) (shown store old) (shown store new) call.0 (subst (HasNoTables store) (sym (idle refl)) none) call.1
   makes_next (suc n) first old new within idle made call none =
       let same : suc (suc n) ≡ suc n + 1 = omega arith in
-      subst (λ k. HasMade store k new) same (add_table (suc n) (get_or creation (suc n) []) (adds (suc n) within) (shown store old) (shown store new) call.0 (made (omega arith) none) call.1)
+      subst (λ k. HasMade store k new) same (add_next (suc n) (omega (arith, creation_length, within)) (shown store old) (shown store new) call.0 (made (omega arith) none) call.1)
 
   -- where the tables were there, no text is run
   pub refuses_next : (i : ℕ) (first old new : Transaction S) → (i ≡ 0 → old ≡ first) → (0 < i → InForm store first → ¬ HasCleanDisk (shown store old))
@@ -52,7 +84,7 @@ module _ {S : Type 0} (store : Ghosts S) where
   refuses_next (suc n) first old new idle refused call form = λ clean. refused (omega arith) form (omega (arith, call.1.survives.clean, clean))
 
   -- the number of the schema is put when all tables are there
-  pub numbered : {E : Type 0} (old new : Transaction S) (r : Result (Unit {0}) E) → HasMade store 15 old → (HasCleanDisk (shown store new) → HasCleanDisk (shown store old))
+  pub numbered : {E : Type 0} (old new : Transaction S) (r : Result (Unit {0}) E) → HasMade store 18 old → (HasCleanDisk (shown store new) → HasCleanDisk (shown store old))
       → (InForm store old → Makes store old new r (λ c. with_number c schema_number)) → HasCleanDisk (shown store new) → OnOk r (Leaves schema contents fresh (shown store new))
   numbered old new r made before put clean =
       let blank : Blank schema (shown store old) = made (before clean) in

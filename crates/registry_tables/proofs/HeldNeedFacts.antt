@@ -11,10 +11,9 @@ use Rattle.registry_publish.specs.Needs.{needs_of}
 use Rattle.registry_publish.specs.declared.need.Need.{Need}
 use Rattle.registry_rules.specs.State.{Release}
 use Rattle.registry_rules.specs.Actions.{version_of}
-use Rattle.registry_rules.specs.Changes.{release_of}
 use Rattle.registry_rows.specs.TextKeys.{TextsMap}
 use Rattle.registry_rows.proofs.TextKeyFacts.{texts_key}
-use Rattle.registry_tables.specs.Changes.{version_put}
+use Rattle.registry_tables.specs.Changes.{row_of, version_put}
 use Rattle.registry_tables.specs.Contents.{Contents}
 use Rattle.registry_tables.specs.Fresh.{fresh}
 use Rattle.registry_tables.specs.Needs.{need_key, with_need, with_needs, names_range, names_if_any, HoldsNeeds}
@@ -69,11 +68,11 @@ pub version_holds : (f : FormParts) (now : ℕ) (c : Contents) → needs_of f.ma
 version_holds f now c needs new h = record {
   stored = λ p v target range.
       at-with_needs c.need_ranges f.name (version_of f) f.needs p v target range ∙ each p v target range (pair_is (f.name, version_of f) (p, v)) refl
-      ∙ sym (ap (named_of target range) (at-put pair_key c.versions (f.name, version_of f) (release_of f now) (p, v)));
+      ∙ sym (ap (named_of target range) (at-put pair_key c.versions (f.name, version_of f) (row_of f now) (p, v)));
 }
   where
     each : (p v target range : Text) (b : Bool) → pair_is (f.name, version_of f) (p, v) ≡ b
-        → ((b && names_range target range f.needs) || is_some (at c.need_ranges (p, (v, (target, range))))) ≡ named_of target range (cond b (Some (release_of f now)) (at c.versions (p, v)))
+        → ((b && names_range target range f.needs) || is_some (at c.need_ranges (p, (v, (target, range))))) ≡ named_of target range (cond b (Some (row_of f now)) (at c.versions (p, v)))
     each p v target range true same =
         ap (λ o. names_range target range f.needs || o)
         (h.stored p v target range ∙ ap (λ (q : Pair). named_of target range (at c.versions q)) (sym (same_true pair_key (f.name, version_of f) (p, v) same))

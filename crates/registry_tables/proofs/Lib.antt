@@ -1,4 +1,5 @@
 pub mod AccessFacts
+pub mod ArchiveFacts
 pub mod CatalogFacts
 pub mod ContentsFacts
 pub mod CreationFacts
@@ -7,7 +8,9 @@ pub mod FoundFacts
 pub mod GrantFacts
 pub mod HeldNeedFacts
 pub mod JoinedFacts
+pub mod KeptArchiveFacts
 pub mod LinkedFacts
+pub mod LiveFacts
 pub mod MaintainerFacts
 pub mod MappedFacts
 pub mod MemberFacts
@@ -15,6 +18,7 @@ pub mod MetaFacts
 pub mod NeedFacts
 pub mod OpeningFacts
 pub mod OrganisationFacts
+pub mod ReferenceFacts
 pub mod ReviseFacts
 pub mod SchemaFacts
 pub mod SpentFacts

@@ -1,9 +1,11 @@
 -- Each table gives one map of what is stored.
 use Rattle.std.proofs.Common.{refl}
-use Rattle.registry_rows.specs.Ready.{IsMapped, IsMappedByBytes}
+use Rattle.sqlite_tied.specs.Compute.{everything}
+use Rattle.registry_rows.specs.Counting.{IsCounted}
+use Rattle.registry_rows.specs.Ready.{IsMapped, IsMappedByBytes, IsNumbered}
 use Rattle.registry_tables.specs.Schema.{schema}
 use Rattle.registry_tables.specs.Schema as table
-use Rattle.registry_tables.specs.Contents.{contents, nothing_in, user_in, role_in, grant_in, status_in, release_in, withdrawal_in, named_in}
+use Rattle.registry_tables.specs.Contents.{contents, archive_in, held_in, nothing_in, user_in, role_in, grant_in, status_in, release_in, withdrawal_in, named_in}
 use Rattle.registry_tables.proofs.ContentsFacts.{contents_depend}
 
 pub users_mapped : IsMapped schema contents 0 table.users 0 nothing_in (λ c m. record c { users = m })
@@ -44,3 +46,13 @@ need_ranges_mapped = record { found = refl; shape = refl; indexed = refl; plain 
 
 pub spent_mapped : IsMapped schema contents 10 table.spent 1 withdrawal_in (λ c m. record c { spent = m })
 spent_mapped = record { found = refl; shape = refl; indexed = refl; plain = refl; texts = refl; depends = contents_depend; alone = λ db rows. refl }
+
+pub held_mapped : IsMapped schema contents 15 table.held 1 held_in (λ c m. record c { held = m })
+held_mapped = record { found = refl; shape = refl; indexed = refl; plain = refl; texts = refl; depends = contents_depend; alone = λ db rows. refl }
+
+pub archives_numbered : IsNumbered schema contents 16 table.archives archive_in (λ c m. record c { archives = m })
+archives_numbered = record { found = refl; shape = refl; plain = refl; depends = contents_depend; alone = λ db rows. refl }
+
+pub archives_counted : IsCounted schema contents table.archives table.counters.tree (λ c n. record c { last_archive = n })
+unfolding everything
+archives_counted = record { counts = refl; sequence_is = refl; apart = refl; quiet = refl; counted = λ db rows. refl }

@@ -1,15 +1,15 @@
 -- What the CREATE texts mean: each adds the next table of the schema.
-use Rattle.std.proofs.Common.{◌≡◌, ℕ, zero, suc, ◌+◌, ◌<◌, List, [], ◌∷◌, length, get_or, Err, arith, refl, subst}
+use Rattle.std.proofs.Common.{◌≡◌, ℕ, zero, suc, ◌+◌, ◌<◌, List, [], ◌∷◌, length, get_or, get_or-take, take, Err, arith, refl, subst}
 use Rattle.sqlite.specs.Listing.{understood}
 use Rattle.sqlite_catalog.specs.Change.{created}
 use Rattle.sqlite_schema.specs.declared.schema.Table.{Table}
 use Rattle.sqlite_resolve.specs.declared.error.CompileError.TheVariants.{Exists}
 use Rattle.sqlite_tied.specs.Compute.{everything}
-use Rattle.registry_rows.specs.Statements.{MeansTable}
+use Rattle.registry_rows.specs.Statements.{MeansTable, MeansFirstCounted, MeansIndex}
 use Rattle.registry_tables.specs.Schema as table
 use Rattle.registry_tables.specs.Schema.{schema}
 use Rattle.registry_tables.specs.Creation.{creation}
-use Rattle.registry_tables.specs.Fresh.{first_tables}
+use Rattle.registry_tables.specs.Fresh.{first_tables, schema_after}
 
 -- where the first so many tables are there, the text adds the next
 pub record AddsTable (n : ℕ) (sql : List ℕ) : Type 0 where
@@ -77,6 +77,19 @@ adds_need_ranges : AddsTable 14 (get_or creation 14 [])
 unfolding understood everything creation
 adds_need_ranges = record { table = record table.need_ranges { tree = 0 }; means = record { command = (refl, (refl, refl)); text = refl; defined = refl; bare = refl }; next = refl }
 
+adds_held : AddsTable 15 (get_or creation 15 [])
+unfolding understood everything creation
+adds_held = record { table = record table.held { tree = 0 }; means = record { command = (refl, (refl, refl)); text = refl; defined = refl; bare = refl }; next = refl }
+
+-- the archives are the first table that counts
+pub means_archives : MeansFirstCounted (first_tables 16) (get_or creation 16 []) (record table.archives { tree = 0 })
+unfolding understood everything creation
+means_archives = record { command = (refl, (refl, refl)); text = refl; defined = refl; first = refl }
+
+pub means_index : MeansIndex (schema_after 17) (get_or creation 17 []) 16 table.archives (record table.archives_by_integrity { tree = 0 })
+unfolding understood everything creation
+means_index = record { command = (refl, (refl, refl)); text = refl; found = refl; defined = refl }
+
 -- the texts add tables one after another
 abbrev AddsAll : ℕ → List (List ℕ) → Type 0
 AddsAll n [] = Unit {0}
@@ -87,14 +100,22 @@ each_adds [] n i all within = absurd (omega arith)
 each_adds (sql ∷ sqls) n zero all within = let same : n ≡ n + 0 = omega arith in subst (λ k. AddsTable k sql) same all.0
 each_adds (sql ∷ sqls) n (suc i) all within = let same : suc n + i ≡ n + suc i = omega arith in subst (λ k. AddsTable k (get_or sqls i [])) same (each_adds sqls (suc n) i all.1 (omega arith))
 
-all_add : AddsAll 0 creation
+all_add : AddsAll 0 (take 16 creation)
 unfolding creation
-all_add = (adds_users, (adds_tokens, (adds_orgs, (adds_members, (adds_teams, (adds_team_members, (adds_packages, (adds_grants, (adds_owners, (adds_versions, (adds_spent, (adds_tags, (adds_needs, (adds_meta, (adds_need_ranges, tt)))))))))))))))
+all_add = (adds_users, (adds_tokens, (adds_orgs, (adds_members, (adds_teams, (adds_team_members, (adds_packages, (adds_grants, (adds_owners, (adds_versions, (adds_spent, (adds_tags, (adds_needs, (adds_meta, (adds_need_ranges, (adds_held, tt))))))))))))))))
 
-pub adds : (i : ℕ) → i < length creation → AddsTable i (get_or creation i [])
-adds i within = let same : 0 + i ≡ i = omega arith in subst (λ k. AddsTable k (get_or creation i [])) same (each_adds creation 0 i all_add within)
+first_length : length (take 16 creation) ≡ 16
+unfolding creation
+first_length = refl
 
-pub creation_length : length creation ≡ 15
+-- each of the first sixteen
+pub adds : (i : ℕ) → i < 16 → AddsTable i (get_or creation i [])
+adds i within =
+    let long : length (take 16 creation) ≡ 16 = first_length in
+    let same : 0 + i ≡ i = omega arith in
+    subst (λ sql. AddsTable i sql) (get_or-take 16 creation i [] within) (subst (λ k. AddsTable k (get_or (take 16 creation) i [])) same (each_adds (take 16 creation) 0 i all_add (omega (arith, long, within))))
+
+pub creation_length : length creation ≡ 18
 unfolding creation
 creation_length = refl
 

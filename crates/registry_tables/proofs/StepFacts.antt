@@ -6,8 +6,10 @@ use Rattle.registry_names.specs.declared.status.Status.{Status}
 use Rattle.registry_access.specs.declared.role.Role.{Role}
 use Rattle.registry_rules.specs.Changes.{Change, AddUser, AddToken, AddOrg, PutMember, DropMember, AddTeam, PutTeamMember, DropTeamMember, DropTeam, PutStatus, AddVersion, PutTag, DropTag, made, all_made}
 use Rattle.registry_rules.specs.Operations.{with_member, with_status, with_tag}
+use Rattle.registry_tables.specs.Archives.{HeldAreStored}
 use Rattle.registry_tables.specs.Changes.{stored_by, all_stored}
 use Rattle.registry_tables.specs.Contents.{Contents, registry_of}
+use Rattle.registry_tables.proofs.KeptArchiveFacts.{live_put, put_held_stored}
 
 role_either : (c : Contents) (o u : Text) (role : Role) (there : Bool)
     → registry_of (record c { members = if there then put c.members (o, u) role else c.members }) ≡ (if there then with_member (registry_of c) o u role else registry_of c)
@@ -24,24 +26,40 @@ tag_either : (c : Contents) (p t v : Text) (there : Bool)
 tag_either c p t v true = refl
 tag_either c p t v false = refl
 
-pub change_makes : (change : Change) (c : Contents) → registry_of (stored_by change c) ≡ made (registry_of c) change
-change_makes (AddUser u) c = refl
-change_makes (AddToken digest u) c = refl
-change_makes (AddOrg o) c = refl
-change_makes (PutMember o u role true) c = role_either c o u role (is_some (at c.members (o, u)))
-change_makes (PutMember o u role false) c = refl
-change_makes (DropMember o u) c = refl
-change_makes (AddTeam o t) c = refl
-change_makes (PutTeamMember o t u) c = refl
-change_makes (DropTeamMember o t u) c = refl
-change_makes (DropTeam o t) c = refl
-change_makes (PutStatus p status true) c = status_either c p status (is_some (at c.packages p))
-change_makes (PutStatus p status false) c = refl
-change_makes (AddVersion f now) c = refl
-change_makes (PutTag p t v true) c = tag_either c p t v (is_some (at c.tags (p, t)))
-change_makes (PutTag p t v false) c = refl
-change_makes (DropTag p t) c = refl
+pub change_makes : (change : Change) (c : Contents) → HeldAreStored c → registry_of (stored_by change c) ≡ made (registry_of c) change
+change_makes (AddUser u) c held = refl
+change_makes (AddToken digest u) c held = refl
+change_makes (AddOrg o) c held = refl
+change_makes (PutMember o u role true) c held = role_either c o u role (is_some (at c.members (o, u)))
+change_makes (PutMember o u role false) c held = refl
+change_makes (DropMember o u) c held = refl
+change_makes (AddTeam o t) c held = refl
+change_makes (PutTeamMember o t u) c held = refl
+change_makes (DropTeamMember o t u) c held = refl
+change_makes (DropTeam o t) c held = refl
+change_makes (PutStatus p status true) c held = status_either c p status (is_some (at c.packages p))
+change_makes (PutStatus p status false) c held = refl
+change_makes (AddVersion f now) c held = ap (λ live. record (registry_of c) { live = live }) (live_put f now c held)
+change_makes (PutTag p t v true) c held = tag_either c p t v (is_some (at c.tags (p, t)))
+change_makes (PutTag p t v false) c held = refl
+change_makes (DropTag p t) c held = refl
 
-pub changes_make : (changes : List Change) (c : Contents) → registry_of (all_stored changes c) ≡ all_made (registry_of c) changes
-changes_make [] c = refl
-changes_make (change ∷ changes) c = changes_make changes (stored_by change c) ∙ ap (λ S. all_made S changes) (change_makes change c)
+-- what is held stays stored
+pub change_keeps : (change : Change) (c : Contents) → HeldAreStored c → HeldAreStored (stored_by change c)
+change_keeps (AddUser u) c held = held
+change_keeps (AddToken digest u) c held = held
+change_keeps (AddOrg o) c held = held
+change_keeps (PutMember o u role stands) c held = held
+change_keeps (DropMember o u) c held = held
+change_keeps (AddTeam o t) c held = held
+change_keeps (PutTeamMember o t u) c held = held
+change_keeps (DropTeamMember o t u) c held = held
+change_keeps (DropTeam o t) c held = held
+change_keeps (PutStatus p status stands) c held = held
+change_keeps (AddVersion f now) c held = put_held_stored f now c held
+change_keeps (PutTag p t v stands) c held = held
+change_keeps (DropTag p t) c held = held
+
+pub changes_make : (changes : List Change) (c : Contents) → HeldAreStored c → registry_of (all_stored changes c) ≡ all_made (registry_of c) changes
+changes_make [] c held = refl
+changes_make (change ∷ changes) c held = changes_make changes (stored_by change c) (change_keeps change c held) ∙ ap (λ S. all_made S changes) (change_makes change c held)

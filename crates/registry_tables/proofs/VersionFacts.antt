@@ -1,5 +1,5 @@
 -- What the statements on versions make and show.
-use Rattle.std.proofs.Common.{◌≡◌, ◌==◌, ℕ, List, [], ◌∷◌, pos, map, not, is_some, length, option_map, slice_get, None, Ok, refl, ◌∙◌, codes}
+use Rattle.std.proofs.Common.{◌≡◌, ◌==◌, ℕ, List, [], ◌∷◌, pos, map, not, is_some, length, option_map, slice_get, None, Ok, refl, sym, ap, ◌∙◌, codes}
 use Rattle.sqlite.specs.declared.types.Value.TheVariants.{Null, Int, Text as Stored, Blob}
 use Rattle.sqlite.specs.Command.TheVariants.{Insert, Select}
 use Rattle.sqlite.specs.Source.TheVariants.{Values}
@@ -12,38 +12,39 @@ use Rattle.registry_names.specs.Texts.{Text}
 use Rattle.registry_rows.specs.Frames.{Wrote}
 use Rattle.registry_rows.specs.Ready.{Ready, Leaves, Reads, Queried}
 use Rattle.registry_tables.specs.Schema.{schema}
-use Rattle.registry_tables.specs.Contents.{contents}
+use Rattle.registry_tables.specs.Contents.{contents, live_of, registry_of}
 use Rattle.registry_tables.specs.Effects.{stored}
 use Rattle.registry_names.specs.Maps.{at, of, put, seen}
-use Rattle.registry_rules.specs.State.{Release}
+use Rattle.registry_rules.specs.State.{Release, has_live}
 use Rattle.registry_rows.specs.Statements.{Means, MeansQuery, scan, by_texts, in_order}
 use Rattle.registry_rows.proofs.StatementFacts.{insert_puts, insert_meets_none}
 use Rattle.registry_rows.proofs.LookUpFacts.{select_finds, select_lists, first_listed}
-use Rattle.registry_tables.specs.Spelled.{bytes_spelled, number_spelled, document, document_spelled, row_spelled}
+use Rattle.registry_tables.specs.Spelled.{number_spelled, document, document_spelled, row_spelled, version_spelled}
 use Rattle.registry_tables.proofs.FoundFacts.{some_found, some_seen}
+use Rattle.registry_tables.proofs.LiveFacts.{document_as_row, documents_as_rows, lives_as_row, lives_as_rows, some_listed}
 use Rattle.registry_tables.proofs.MappedFacts.{versions_mapped}
 
 -- ---- INSERT
 
 abbrev put_text : List ℕ
-put_text = codes "INSERT INTO versions VALUES (?1, ?2, ?3, ?4, '', ?5)"
+put_text = codes "INSERT INTO versions VALUES (?1, ?2, ?3, ?4, '', x'')"
 
 abbrev put_cells : List Term
-put_cells = col 0 0 ∷ col 0 1 ∷ col 0 2 ∷ col 0 3 ∷ lit (Stored []) ∷ col 0 4 ∷ []
+put_cells = col 0 0 ∷ col 0 1 ∷ col 0 2 ∷ col 0 3 ∷ lit (Stored []) ∷ lit (Blob []) ∷ []
 
 put_means : Means schema put_text (Insert 9 (Values (lit Null ∷ put_cells) 7))
 unfolding understood everything
 put_means = (refl, (refl, refl))
 
-pub version_inserted : (p v : Text) (published : ℕ) (manifest : Text) (archive : List ℕ) (old new : Shown) → Ready schema old
-    → Wrote put_text (Stored p ∷ Stored v ∷ Int (pos published) ∷ Stored manifest ∷ Blob archive ∷ []) old new → HasCleanDisk new
-    → Leaves schema contents (record (stored old) { versions = put (stored old).versions (p, v) (record { at = published; manifest = manifest; archive = archive; message = [] }) }) new
-version_inserted p v published manifest archive old new form call = insert_puts versions_mapped put_text put_cells put_means (Stored p ∷ Stored v ∷ Int (pos published) ∷ Stored manifest ∷ Blob archive ∷ []) refl old new (Ok call.0) form call.1
+pub version_inserted : (p v : Text) (published : ℕ) (manifest : Text) (old new : Shown) → Ready schema old
+    → Wrote put_text (Stored p ∷ Stored v ∷ Int (pos published) ∷ Stored manifest ∷ []) old new → HasCleanDisk new
+    → Leaves schema contents (record (stored old) { versions = put (stored old).versions (p, v) (record { at = published; manifest = manifest; archive = []; message = [] }) }) new
+version_inserted p v published manifest old new form call = insert_puts versions_mapped put_text put_cells put_means (Stored p ∷ Stored v ∷ Int (pos published) ∷ Stored manifest ∷ []) refl old new (Ok call.0) form call.1
 
 -- an answered INSERT had a new key
-pub version_is_new : (p v : Text) (published : ℕ) (manifest : Text) (archive : List ℕ) (old new : Shown) → Ready schema old
-    → Wrote put_text (Stored p ∷ Stored v ∷ Int (pos published) ∷ Stored manifest ∷ Blob archive ∷ []) old new → HasCleanDisk new → at (stored old).versions (p, v) ≡ None
-version_is_new p v published manifest archive old new form call = insert_meets_none versions_mapped put_text put_cells put_means (Stored p ∷ Stored v ∷ Int (pos published) ∷ Stored manifest ∷ Blob archive ∷ []) refl old new (Ok call.0) form call.1
+pub version_is_new : (p v : Text) (published : ℕ) (manifest : Text) (old new : Shown) → Ready schema old
+    → Wrote put_text (Stored p ∷ Stored v ∷ Int (pos published) ∷ Stored manifest ∷ []) old new → HasCleanDisk new → at (stored old).versions (p, v) ≡ None
+version_is_new p v published manifest old new form call = insert_meets_none versions_mapped put_text put_cells put_means (Stored p ∷ Stored v ∷ Int (pos published) ∷ Stored manifest ∷ []) refl old new (Ok call.0) form call.1
 
 -- ---- SELECT by package and version
 
@@ -55,23 +56,10 @@ unfolding understood everything
 find_means = ((refl, (refl, refl)), refl)
 
 pub version_found : (p v : Text) (old new : Shown) (rows : List Row) → Ready schema old → Queried find_text (Stored p ∷ Stored v ∷ []) old new rows → HasCleanDisk new
-    → Reads schema old new × (not (length rows == 0) ≡ is_some (at (stored old).versions (p, v)))
+    → Reads schema old new × (not (length rows == 0) ≡ is_some (at (live_of (stored old)) (p, v)))
 version_found p v old new rows form call clean =
     let it = select_finds versions_mapped find_text (col 1 3 ∷ []) _ find_means (p, v) number_spelled (λ (r : Release). r.at) (λ id vs. refl) old new rows form call clean in
-    (it.0, some_found number_spelled rows _ it.1 ∙ some_seen (λ (r : Release). r.at) (at (stored old).versions (p, v)))
-
-abbrev archive_text : List ℕ
-archive_text = codes "SELECT archive FROM versions WHERE package = ?1 AND version = ?2"
-
-archive_means : MeansQuery schema archive_text (Select (record { lets = []; body = scan 18 (by_texts 1 1 0) (col 1 6 ∷ []) [] }) (codes "archive" ∷ []))
-unfolding understood everything
-archive_means = ((refl, (refl, refl)), refl)
-
-pub archive_found : (p v : Text) (old new : Shown) (rows : List Row) → Ready schema old → Queried archive_text (Stored p ∷ Stored v ∷ []) old new rows → HasCleanDisk new
-    → Reads schema old new × (option_map bytes_spelled (slice_get rows 0) ≡ option_map (λ (r : Release). r.archive) (at (stored old).versions (p, v)))
-archive_found p v old new rows form call clean =
-    let it = select_finds versions_mapped archive_text (col 1 6 ∷ []) _ archive_means (p, v) bytes_spelled (λ (r : Release). r.archive) (λ id vs. refl) old new rows form call clean in
-    (it.0, first_listed bytes_spelled rows _ it.1)
+    (it.0, some_found number_spelled rows _ it.1 ∙ some_seen (λ (r : Release). r.at) (at (stored old).versions (p, v)) ∙ sym (lives_as_row (stored old) (p, v)))
 
 abbrev document_text : List ℕ
 document_text = codes "SELECT manifest, deprecated FROM versions WHERE package = ?1 AND version = ?2"
@@ -81,10 +69,10 @@ unfolding understood everything
 document_means = ((refl, (refl, refl)), refl)
 
 pub document_found : (p v : Text) (old new : Shown) (rows : List Row) → Ready schema old → Queried document_text (Stored p ∷ Stored v ∷ []) old new rows → HasCleanDisk new
-    → Reads schema old new × (option_map document_spelled (slice_get rows 0) ≡ option_map document (at (stored old).versions (p, v)))
+    → Reads schema old new × (option_map document_spelled (slice_get rows 0) ≡ option_map document (at (live_of (stored old)) (p, v)))
 document_found p v old new rows form call clean =
     let it = select_finds versions_mapped document_text (col 1 4 ∷ col 1 5 ∷ []) _ document_means (p, v) document_spelled document (λ id vs. refl) old new rows form call clean in
-    (it.0, first_listed document_spelled rows _ it.1)
+    (it.0, first_listed document_spelled rows _ it.1 ∙ sym (document_as_row (stored old) (p, v)))
 
 -- ---- SELECT by package
 
@@ -99,5 +87,21 @@ unfolding understood everything
 list_means = ((refl, (refl, refl)), refl)
 
 pub versions_listed : (p : Text) (old new : Shown) (rows : List Row) → Ready schema old → Queried list_text (Stored p ∷ []) old new rows → HasCleanDisk new
-    → Reads schema old new × (map row_spelled rows ≡ map (seen document) (of (stored old).versions p))
-versions_listed p = select_lists versions_mapped list_text list_columns _ list_means p row_spelled document (λ id vs. refl)
+    → Reads schema old new × (map row_spelled rows ≡ map (seen document) (of (live_of (stored old)) p))
+versions_listed p old new rows form call clean =
+    let it = select_lists versions_mapped list_text list_columns _ list_means p row_spelled document (λ id vs. refl) old new rows form call clean in
+    (it.0, it.1 ∙ sym (documents_as_rows (stored old) p))
+
+abbrev live_text : List ℕ
+live_text = codes "SELECT version FROM versions WHERE package = ?1 ORDER BY version"
+
+live_means : MeansQuery schema live_text (Select (record { lets = []; body = scan 18 (by_texts 0 1 0) (col 1 2 ∷ []) (in_order 0 2) }) (codes "version" ∷ []))
+unfolding understood everything
+live_means = ((refl, (refl, refl)), refl)
+
+-- a version of the package lives where there are rows
+pub live_found : (p : Text) (old new : Shown) (rows : List Row) → Ready schema old → Queried live_text (Stored p ∷ []) old new rows → HasCleanDisk new
+    → Reads schema old new × (not (length rows == 0) ≡ has_live (registry_of (stored old)) p)
+live_found p old new rows form call clean =
+    let it = select_lists versions_mapped live_text (col 1 2 ∷ []) _ live_means p version_spelled (λ (r : Release). tt) (λ id vs. refl) old new rows form call clean in
+    (it.0, some_listed version_spelled rows (λ (r : Release). tt) (of (stored old).versions p) it.1 ∙ sym (lives_as_rows (stored old) p))

@@ -5,6 +5,8 @@ use Rattle.registry_names.specs.Maps.{MapBy, at, put, erase}
 use Rattle.registry_publish.specs.Form.{FormParts}
 use Rattle.registry_rules.specs.Actions.{version_of}
 use Rattle.registry_rules.specs.Changes.{Change, AddUser, AddToken, AddOrg, PutMember, DropMember, AddTeam, PutTeamMember, DropTeamMember, DropTeam, PutStatus, AddVersion, PutTag, DropTag, release_of}
+use Rattle.registry_rules.specs.State.{Release}
+use Rattle.registry_tables.specs.Archives.{archive_number, with_archive}
 use Rattle.registry_tables.specs.Contents.{Contents}
 use Rattle.registry_tables.specs.Needs.{with_needs}
 use Rattle.registry_tables.specs.Teams.{without_member, without_team}
@@ -17,10 +19,15 @@ amended m k x = if is_some (at m k) then put m k x else m
 abbrev pub with_row : {K X : Type 0} {cmp : K → K → Ordering} → MapBy cmp X → K → X → Bool → MapBy cmp X
 with_row m k x stands = if stands then amended m k x else put m k x
 
--- the version of a form, published at this moment, and its needs
+-- the row of a version that is published at this moment: its archive stands elsewhere
+abbrev pub row_of : FormParts → ℕ → Release
+row_of f now = record (release_of f now) { archive = [] }
+
+-- the version of a form, published at this moment, with its archive and its needs
 abbrev pub version_put : FormParts → ℕ → Contents → Contents
-version_put f now c = record c {
-  versions = put c.versions (f.name, version_of f) (release_of f now);
+version_put f now c = record (with_archive f.integrity f.archive c) {
+  versions = put c.versions (f.name, version_of f) (row_of f now);
+  held = put c.held (f.name, version_of f) (archive_number f.integrity f.archive c);
   need_ranges = with_needs c.need_ranges f.name (version_of f) f.needs;
 }
 

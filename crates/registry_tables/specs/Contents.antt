@@ -1,9 +1,10 @@
 -- What the rows of the tables say, and the registry's state that follows from it. Where a row had a value of another type, it would say nothing there, 0 or the empty text.
-use Rattle.std.specs.Prelude.{◌==◌, ℕ, if◌then◌else◌}
+use Rattle.std.specs.Prelude.{◌==◌, ℕ, ℤ, List, [], option_map, option_and_then, unwrap_or, if◌then◌else◌}
 use Rattle.sqlite_value.specs.Order.{Row, column}
 use Rattle.sqlite_trees.specs.Tree.{Trees}
 use Rattle.registry_names.specs.Texts.{Text}
-use Rattle.registry_names.specs.Maps.{TextMap, PairMap, TripleMap}
+use Rattle.registry_names.specs.Keys.{Pair}
+use Rattle.registry_names.specs.Maps.{TextMap, PairMap, TripleMap, at, revise}
 use Rattle.registry_names.specs.declared.status.Status.{Status}
 use Rattle.registry_names.specs.declared.status.Status.TheVariants.{Public, Restricted}
 use Rattle.registry_access.specs.Access.{Access}
@@ -12,8 +13,9 @@ use Rattle.registry_access.specs.declared.role.Role.TheVariants.{Developer, Admi
 use Rattle.registry_access.specs.declared.grant.Grant.{Grant}
 use Rattle.registry_access.specs.declared.grant.Grant.TheVariants.{ReadOnly, ReadWrite}
 use Rattle.registry_rules.specs.State.{State, Release, Withdrawal}
-use Rattle.registry_rows.specs.Columns.{text_in, blob_in, number_in}
-use Rattle.registry_rows.specs.KeyKinds.{BytesMap, bytes, map_by}
+use Rattle.registry_rows.specs.Columns.{text_in, blob_in, number_in, int_in}
+use Rattle.registry_rows.specs.Counting.{count_in}
+use Rattle.registry_rows.specs.KeyKinds.{BytesMap, NumberMap, bytes, numbers, map_by}
 use Rattle.registry_rows.specs.Rows.{map_of}
 use Rattle.registry_rows.specs.TextKeys.{TextsMap}
 use Rattle.registry_tables.specs.Schema as table
@@ -58,13 +60,25 @@ named_in vs = text_in (column vs 2)
 abbrev pub number_named_in : Row → ℕ
 number_named_in vs = number_in (column vs 1)
 
+-- an archive that is stored: its integrity and its bytes
+pub record Archive : Type 0 where
+  pub integrity : Text
+  pub bytes : List ℕ
+
+abbrev pub archive_in : Row → Archive
+archive_in vs = record { integrity = text_in (column vs 1); bytes = blob_in (column vs 2) }
+
+-- the number of an archive
+abbrev pub held_in : Row → ℤ
+held_in vs = int_in (column vs 2)
+
 -- ---- the tables
 
 -- all that is stored: one map a table
 pub record Contents : Type 0 where
   pub users : TextMap (Unit {0})
   -- the user of a token, under the bytes of its digest
-  pub tokens : TextMap Text
+  pub tokens : BytesMap Text
   pub orgs : TextMap (Unit {0})
   -- organisation and user
   pub members : PairMap Role
@@ -77,7 +91,7 @@ pub record Contents : Type 0 where
   pub grants : TripleMap Grant
   -- package and user
   pub owners : PairMap (Unit {0})
-  -- package and version
+  -- package and version; an archive here is what the row has, and no row has bytes
   pub versions : PairMap Release
   -- package and version
   pub spent : PairMap Withdrawal
@@ -89,6 +103,12 @@ pub record Contents : Type 0 where
   pub meta : TextMap ℕ
   -- what live versions depend on: package, version, target and range
   pub need_ranges : TextsMap 3 (Unit {0})
+  -- the number of the archive that a live version has, under package and version
+  pub held : PairMap ℤ
+  -- the archives under their numbers
+  pub archives : NumberMap Archive
+  -- the highest number that an archive has had
+  pub last_archive : ℤ
 
 abbrev pub contents : Trees → Contents
 contents db = record {
@@ -107,6 +127,9 @@ contents db = record {
   needs = map_of 2 nothing_in (db table.needs.tree);
   meta = map_of 0 number_named_in (db table.meta.tree);
   need_ranges = map_of 3 nothing_in (db table.need_ranges.tree);
+  held = map_of 1 held_in (db table.held.tree);
+  archives = map_by numbers archive_in (db table.archives.tree);
+  last_archive = count_in table.archives.name (db table.counters.tree);
 }
 
 -- ---- the registry's state, of what is stored
@@ -124,5 +147,17 @@ access_of c = record {
   maintainers = c.owners;
 }
 
+-- the bytes of the archive that a version has. Where it had none that is stored, they would be none
+abbrev pub bytes_held : Contents → Pair → List ℕ
+bytes_held c k = unwrap_or (option_map (λ (a : Archive). a.bytes) (option_and_then (at c.archives) (at c.held k))) []
+
+-- what its row says of a version, with the bytes of its archive
+abbrev pub with_bytes : Contents → Pair → Release → Release
+with_bytes c k release = record release { archive = bytes_held c k }
+
+-- the live versions, each read from three tables
+abbrev pub live_of : Contents → PairMap Release
+live_of c = revise c.versions (with_bytes c)
+
 abbrev pub registry_of : Contents → State
-registry_of c = record { access = access_of c; live = c.versions; spent = c.spent; tags = c.tags }
+registry_of c = record { access = access_of c; live = live_of c; spent = c.spent; tags = c.tags }

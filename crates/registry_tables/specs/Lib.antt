@@ -1,3 +1,4 @@
+pub mod Archives
 pub mod Changes
 pub mod Contents
 pub mod Creation

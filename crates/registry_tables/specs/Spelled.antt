@@ -1,7 +1,8 @@
 -- What values are kept as, and what the rows of answers spell, column by column.
-use Rattle.std.specs.Prelude.{ℕ, List}
+use Rattle.std.specs.Prelude.{ℕ, ℤ, List, Option, option_map}
+use Rattle.std.specs.List.{find}
 use Rattle.sqlite_value.specs.Order.{Row, column}
-use Rattle.registry_names.specs.Texts.{Text}
+use Rattle.registry_names.specs.Texts.{Text, is}
 use Rattle.registry_names.specs.declared.dist_tag.DistTag.{DistTag}
 use Rattle.registry_names.specs.declared.status.Status.{Status}
 use Rattle.registry_names.specs.declared.status.Status.TheVariants.{Public, Restricted}
@@ -12,7 +13,7 @@ use Rattle.registry_access.specs.declared.grant.Grant.TheVariants.{ReadOnly, Rea
 use Rattle.registry_packument.specs.declared.list.Member.{Member}
 use Rattle.registry_packument.specs.declared.packument.VersionRow.{VersionRow}
 use Rattle.registry_rules.specs.State.{Release}
-use Rattle.registry_rows.specs.Columns.{text_in, number_in, blob_in}
+use Rattle.registry_rows.specs.Columns.{text_in, number_in, int_in, blob_in}
 use Rattle.registry_tables.specs.Contents.{role_of, status_of}
 use Rattle.registry_tables.specs.declared.versions.DocumentRow.{DocumentRow}
 
@@ -65,6 +66,10 @@ row_spelled r = (text_in (column r 0), (text_in (column r 1), text_in (column r 
 abbrev pub row_entry : VersionRow → Text × (Text × Text)
 row_entry v = (v.version, (v.manifest, v.message))
 
+-- a version, and nothing of it
+abbrev pub version_spelled : Row → Text × Unit {0}
+version_spelled r = (text_in (column r 0), tt)
+
 -- of a live version, its manifest and its message
 abbrev pub document : Release → Text × Text
 document r = (r.manifest, r.message)
@@ -83,3 +88,15 @@ named_spelled r = text_in (column r 0)
 -- a number alone
 abbrev pub number_spelled : Row → ℕ
 number_spelled r = number_in (column r 0)
+
+-- the number of an archive, alone
+abbrev pub held_spelled : Row → ℤ
+held_spelled r = int_in (column r 0)
+
+-- the number of an archive and its bytes
+abbrev pub archive_spelled : Row → ℤ × List ℕ
+archive_spelled r = (int_in (column r 0), blob_in (column r 1))
+
+-- the number of the first of some archives with these bytes
+abbrev pub number_among : List ℕ → List (ℤ × List ℕ) → Option ℤ
+number_among bytes es = option_map (λ (e : ℤ × List ℕ). e.0) (find (λ (e : ℤ × List ℕ). is bytes e.1) es)

@@ -1,7 +1,8 @@
 //! Laws of what is stored. Each function does nothing: what it ensures holds of the definitions
 //! themselves.
 
-ghost use Rattle.std.specs.Prelude.{◌≡◌, ℕ, List, None, Some, false, is_some};
+ghost use Rattle.std.specs.Prelude.{◌≡◌, ℕ, List, None, Some, IsTrue, false, is_some};
+ghost use Rattle.sqlite.specs.State.{HasCleanDisk};
 ghost use Rattle.sqlite.specs.declared.transaction.Transaction.{Transaction};
 ghost use Rattle.registry_access.specs.Callers.{team_granted};
 ghost use Rattle.registry_access.specs.declared.grant.Grant.{Grant};
@@ -9,12 +10,14 @@ ghost use Rattle.registry_names.specs.Maps.{at};
 ghost use Rattle.registry_names.specs.Names.{scope_of};
 ghost use Rattle.registry_names.specs.Texts.{Text};
 ghost use Rattle.registry_publish.specs.Form.{FormParts};
+ghost use Rattle.registry_publish.specs.Integrity.{integrity_text};
 ghost use Rattle.registry_publish.specs.Needs.{needs_of};
 ghost use Rattle.registry_rules.specs.Actions.{version_of};
 ghost use Rattle.registry_rules.specs.Changes.{Change, all_made, made};
+ghost use Rattle.registry_tables.specs.Archives.{HeldAreStored, HoldsArchives};
 ghost use Rattle.registry_tables.specs.Changes.{all_stored, stored_by, version_put};
 ghost use Rattle.registry_tables.specs.Contents.{Contents, access_of, registry_of};
-ghost use Rattle.registry_tables.specs.Effects.{shown};
+ghost use Rattle.registry_tables.specs.Effects.{InForm, shown, stored_in};
 ghost use Rattle.registry_tables.specs.Fresh.{fresh};
 ghost use Rattle.registry_tables.specs.Needs.{HoldsNeeds};
 ghost use Rattle.registry_tables.specs.Opening.{Finds, HasNothing, HasNumber, HasUsersAlone, IsMade, Understands, first_creation};
@@ -22,10 +25,23 @@ ghost use Rattle.registry_tables.specs.Teams.{GrantsInScope, granted_in};
 
 use sqlite::Alter;
 
-/// A change of what is stored makes one operation of the registry's state.
-pub fn changes_make_operations()
-    ensures one { (change : Change) (c : Contents) → registry_of (stored_by change c) ≡ made (registry_of c) change }
-    ensures all { (changes : List Change) (c : Contents) → registry_of (all_stored changes c) ≡ all_made (registry_of c) changes }
+/// A change of what is stored makes one operation of the registry's state, where each version that
+/// has an archive has one that is stored. Tables in form have that, and each change keeps it.
+pub fn changes_make_operations<S: Alter>()
+    ensures one { (change : Change) (c : Contents) → HeldAreStored c → registry_of (stored_by change c) ≡ made (registry_of c) change }
+    ensures all { (changes : List Change) (c : Contents) → HeldAreStored c → registry_of (all_stored changes c) ≡ all_made (registry_of c) changes }
+    ensures kept { (change : Change) (c : Contents) → HeldAreStored c → HeldAreStored (stored_by change c) }
+    ensures in_form { (tx : Transaction S) → InForm S.Store tx → HasCleanDisk (shown S.Store tx) → IsTrue (shown S.Store tx).is_open → HeldAreStored (stored_in S.Store tx) }
+{}
+
+/// The archives that are stored are those of live versions, each once, with the integrity of their
+/// bytes, and no row of a version has bytes: there are none at first, what leaves the three tables
+/// keeps it so, and so does a form's version, where it didn't live and the form has its archive's
+/// integrity, as each form has.
+pub fn archives_are_kept()
+    ensures fresh { HoldsArchives fresh }
+    ensures others { (c d : Contents) → d.versions ≡ c.versions → d.held ≡ c.held → d.archives ≡ c.archives → HoldsArchives c → HoldsArchives d }
+    ensures versions { (f : FormParts) (now : ℕ) (c : Contents) → f.integrity ≡ integrity_text f.archive → is_some (at c.versions (f.name, version_of f)) ≡ false → HoldsArchives c → HoldsArchives (version_put f now c) }
 {}
 
 /// The needs that are stored are exactly those that live manifests name: there are none at first,

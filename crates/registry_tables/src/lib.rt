@@ -7,6 +7,7 @@
 #![tactic(auto)]
 
 mod access;
+mod archives;
 mod callers;
 mod change;
 mod grants;
@@ -28,6 +29,7 @@ mod users;
 mod versions;
 
 pub use crate::access::load_access;
+pub use crate::archives::load_archive;
 pub use crate::callers::load_caller;
 pub use crate::change::make;
 pub use crate::grants::{has_grant, load_grants};
@@ -44,5 +46,5 @@ pub use crate::teams::{has_team, load_teams};
 pub use crate::tokens::load_token_user;
 pub use crate::users::has_user;
 pub use crate::versions::{
-    DocumentRow, has_version, load_archive, load_document, load_versions, put_version,
+    DocumentRow, has_live, has_version, load_document, load_versions, put_version,
 };

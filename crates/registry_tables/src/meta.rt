@@ -15,7 +15,7 @@ use registry_rows::{fault_of, read, write};
 use sqlite::{Alter, Row, Transaction, params};
 
 /// The number of the schema, which a change of the tables raises.
-const SCHEMA: i64 = 1;
+const SCHEMA: i64 = 3;
 
 /// The number of the schema of the tables that are there, or none where the database has no
 /// table.

@@ -1,9 +1,9 @@
-//! The tables of schema 1.
+//! The tables of schema 3.
 //!
-//! Each has one primary key of its first columns, no column may be null, and every value has its
-//! column's type (`STRICT`). A foreign key names rows that must be there; where it cascades, a
-//! row goes with the one that it names. Tables are made in this order, and later ones are added
-//! behind them.
+//! Each has one primary key of its first columns, but for `archives`, whose key is a number that
+//! SQLite counts. No column may be null, and every value has its column's type (`STRICT`). A
+//! foreign key names rows that must be there; where it cascades, a row goes with the one that it
+//! names. Tables are made in this order, and the one index behind them.
 
 ghost use Rattle.std.specs.Prelude.{◌≡◌, IsErr, OnOk, length, map};
 ghost use Rattle.sqlite.specs.State.{HasCleanDisk};
@@ -21,8 +21,8 @@ use registry_names::Fault;
 use registry_rows::write;
 use sqlite::{Alter, Transaction};
 
-// The texts that make the tables, in their order.
-const TABLES: [&str; 15] = [
+// The texts that make the tables and the index, in their order.
+const TABLES: [&str; 18] = [
     "CREATE TABLE users (name TEXT NOT NULL, PRIMARY KEY (name)) STRICT",
     "CREATE TABLE tokens (digest BLOB NOT NULL, user TEXT NOT NULL, PRIMARY KEY (digest), FOREIGN KEY (user) REFERENCES users) STRICT",
     "CREATE TABLE orgs (name TEXT NOT NULL, PRIMARY KEY (name)) STRICT",
@@ -38,6 +38,9 @@ const TABLES: [&str; 15] = [
     "CREATE TABLE needs (package TEXT NOT NULL, version TEXT NOT NULL, target TEXT NOT NULL, PRIMARY KEY (package, version, target), FOREIGN KEY (package, version) REFERENCES versions ON DELETE CASCADE) STRICT",
     "CREATE TABLE meta (name TEXT NOT NULL, value INTEGER NOT NULL, PRIMARY KEY (name)) STRICT",
     "CREATE TABLE need_ranges (package TEXT NOT NULL, version TEXT NOT NULL, target TEXT NOT NULL, range TEXT NOT NULL, PRIMARY KEY (package, version, target, range), FOREIGN KEY (package, version) REFERENCES versions ON DELETE CASCADE) STRICT",
+    "CREATE TABLE held (package TEXT NOT NULL, version TEXT NOT NULL, archive INTEGER NOT NULL, PRIMARY KEY (package, version), FOREIGN KEY (package, version) REFERENCES versions ON DELETE CASCADE, FOREIGN KEY (archive) REFERENCES archives) STRICT",
+    "CREATE TABLE archives (id INTEGER PRIMARY KEY AUTOINCREMENT, integrity TEXT NOT NULL, bytes BLOB NOT NULL) STRICT",
+    "CREATE INDEX archives_by_integrity ON archives (integrity)",
 ];
 
 /// Makes the tables in a database that has none: all of them empty, but for the number of the
@@ -56,7 +59,7 @@ pub fn create<S: Alter>(tx: &mut Transaction<'_, S>) -> Result<(), Fault>
 fn create_tables<S: Alter>(tx: &mut Transaction<'_, S>, texts: &[&str]) -> Result<(), Fault>
     requires texts { map (λ text. text.now) texts.now ≡ creation }
     ensures stays { Stays S.Store tx.old tx.new }
-    ensures made { HasNoTables S.Store tx.old → OnOk result (HasMade S.Store 15 tx.new) }
+    ensures made { HasNoTables S.Store tx.old → OnOk result (HasMade S.Store 18 tx.new) }
     ensures ran { OnOk result (HasRun S.Store (length creation) tx.old tx.new) }
     ensures refused { InForm S.Store tx.old → HasCleanDisk (shown S.Store tx.new) → IsErr result }
 {

@@ -1,20 +1,22 @@
 //! The table `versions`: the live versions of every package.
 
-ghost use Rattle.std.specs.Prelude.{◌≡◌, ℕ, List, IfOk, None, OnOk, is_some, map, option_map, slice_get};
+ghost use Rattle.std.specs.Prelude.{◌≡◌, IfOk, None, OnOk, is_some, map, option_map};
 ghost use Rattle.sqlite.specs.State.{HasCleanDisk};
 ghost use Rattle.registry_names.specs.Maps.{at, of, put, seen};
 ghost use Rattle.registry_names.specs.Texts.{Text as Bytes};
 ghost use Rattle.registry_rows.specs.Frames.{Stays};
 ghost use Rattle.registry_rules.specs.Actions.{version_of};
-ghost use Rattle.registry_rules.specs.Changes.{release_of};
-ghost use Rattle.registry_tables.specs.Changes.{IsNew, is_unspent, version_put};
+ghost use Rattle.registry_rules.specs.State as state;
+ghost use Rattle.registry_tables.specs.Changes.{IsNew, is_unspent, row_of, version_put};
+ghost use Rattle.registry_tables.specs.Contents.{live_of, registry_of};
 ghost use Rattle.registry_tables.specs.Effects.{InForm, Makes, Tells, shown, stored_in};
-ghost use Rattle.registry_tables.specs.Spelled.{bytes_spelled, document, document_entry, document_spelled, row_entry, row_spelled};
+ghost use Rattle.registry_tables.specs.Spelled.{document, document_entry, document_spelled, row_entry, row_spelled};
 
+use crate::archives::put_archive;
 use crate::needs::put_needs;
 use crate::spent::is_spent;
 use crate::statuses::load_status;
-use registry_names::{Blob, Fault, Moment, Name, Text};
+use registry_names::{Fault, Moment, Name, Text};
 use registry_packument::VersionRow;
 use registry_publish::PublishForm;
 use registry_rows::{FromRow, first_in, read, values_in, write};
@@ -29,12 +31,26 @@ pub fn has_version<S: Alter>(
 ) -> Result<bool, Fault>
     requires in_form { InForm S.Store tx.old }
     ensures stays { Stays S.Store tx.old tx.new }
-    ensures tells { Tells S.Store tx.old tx.new result (λ lives c. lives ≡ is_some (at c.versions (name.now, version.now))) }
+    ensures tells { Tells S.Store tx.old tx.new result (λ lives c. lives ≡ is_some (at (live_of c) (name.now, version.now))) }
 {
     let rows = read(
         tx,
         "SELECT published FROM versions WHERE package = ?1 AND version = ?2",
         params![name.text(), version],
+    )?;
+    Ok(!rows.is_empty())
+}
+
+/// Whether a version of the package lives.
+pub fn has_live<S: Alter>(tx: &mut Transaction<'_, S>, name: &Name) -> Result<bool, Fault>
+    requires in_form { InForm S.Store tx.old }
+    ensures stays { Stays S.Store tx.old tx.new }
+    ensures tells { Tells S.Store tx.old tx.new result (λ lives c. lives ≡ state.has_live (registry_of c) name.now) }
+{
+    let rows = read(
+        tx,
+        "SELECT version FROM versions WHERE package = ?1 ORDER BY version",
+        params![name.text()],
     )?;
     Ok(!rows.is_empty())
 }
@@ -48,7 +64,7 @@ pub fn load_versions<S: Alter>(
 ) -> Result<Vec<VersionRow>, Fault>
     requires in_form { InForm S.Store tx.old }
     ensures stays { Stays S.Store tx.old tx.new }
-    ensures tells { Tells S.Store tx.old tx.new result (λ versions c. map row_entry versions.items ≡ map (seen document) (of c.versions name.now)) }
+    ensures tells { Tells S.Store tx.old tx.new result (λ versions c. map row_entry versions.items ≡ map (seen document) (of (live_of c) name.now)) }
 {
     let rows = read(
         tx,
@@ -83,7 +99,7 @@ pub fn load_document<S: Alter>(
 ) -> Result<Option<DocumentRow>, Fault>
     requires in_form { InForm S.Store tx.old }
     ensures stays { Stays S.Store tx.old tx.new }
-    ensures tells { Tells S.Store tx.old tx.new result (λ found c. option_map document_entry found ≡ option_map document (at c.versions (name.now, version.now))) }
+    ensures tells { Tells S.Store tx.old tx.new result (λ found c. option_map document_entry found ≡ option_map document (at (live_of c) (name.now, version.now))) }
 {
     let rows = read(
         tx,
@@ -93,33 +109,8 @@ pub fn load_document<S: Alter>(
     first_in(&rows)
 }
 
-/// The archive of a version. None where it doesn't live.
-pub fn load_archive<S: Alter>(
-    tx: &mut Transaction<'_, S>,
-    name: &Name,
-    version: &str,
-) -> Result<Option<Blob>, Fault>
-    requires in_form { InForm S.Store tx.old }
-    ensures stays { Stays S.Store tx.old tx.new }
-    ensures tells { Tells S.Store tx.old tx.new result (λ archive c. archive ≡ option_map (λ r. r.archive) (at c.versions (name.now, version.now))) }
-{
-    let rows = read(
-        tx,
-        "SELECT archive FROM versions WHERE package = ?1 AND version = ?2",
-        params![name.text(), version],
-    )?;
-    archive_in(&rows)
-}
-
-fn archive_in(rows: &[Row]) -> Result<Option<Blob>, Fault>
-    ensures { IfOk result (λ archive. archive ≡ option_map bytes_spelled (slice_get rows.now 0)) }
-{
-    let found: Option<ArchiveRow> = first_in(rows)?;
-    Ok(found.map(|row| row.archive))
-}
-
-/// Puts the version of a form, published at this moment and not deprecated, and what it depends
-/// on.
+/// Puts the version of a form, published at this moment and not deprecated, with its archive and
+/// what it depends on.
 ///
 /// A package without a status is a fault, and so is a version that lives already or was withdrawn.
 pub fn put_version<S: Alter>(
@@ -136,6 +127,7 @@ pub fn put_version<S: Alter>(
         return Err(Fault::Database);
     }
     insert_version(tx, form, published)?;
+    put_archive(tx, form)?;
     put_needs(tx, form.name().text(), form.version().text(), form.needs())
 }
 
@@ -157,18 +149,17 @@ fn insert_version<S: Alter>(
 ) -> Result<(), Fault>
     requires in_form { InForm S.Store tx.old }
     ensures stays { Stays S.Store tx.old tx.new }
-    ensures makes { Makes S.Store tx.old tx.new result (λ c. record c { versions = put c.versions (form.now.name, version_of form.now) (release_of form.now published) }) }
+    ensures makes { Makes S.Store tx.old tx.new result (λ c. record c { versions = put c.versions (form.now.name, version_of form.now) (row_of form.now published) }) }
     ensures was_new { HasCleanDisk (shown S.Store tx.new) → OnOk result (at (stored_in S.Store tx.old).versions (form.now.name, version_of form.now) ≡ None) }
 {
     write(
         tx,
-        "INSERT INTO versions VALUES (?1, ?2, ?3, ?4, '', ?5)",
+        "INSERT INTO versions VALUES (?1, ?2, ?3, ?4, '', x'')",
         params![
             form.name().text(),
             form.version().text(),
             published.seconds(),
-            form.manifest_text(),
-            form.archive()
+            form.manifest_text()
         ],
     )
 }
@@ -212,26 +203,6 @@ impl FromRow for DocumentRow {
         Ok(DocumentRow {
             manifest: Text::from(manifest),
             message: Text::from(message),
-        })
-    }
-}
-
-#[derive(Drop)]
-struct ArchiveRow {
-    archive: Blob,
-}
-
-impl FromRow for ArchiveRow {
-    ghost Seen = { List ℕ };
-
-    ghost seen = { λ row. row.archive };
-
-    ghost spelled = { bytes_spelled };
-
-    fn from_row(row: &Row) -> Result<ArchiveRow, Error> {
-        let archive: Vec<u8> = row.get(0)?;
-        Ok(ArchiveRow {
-            archive: Blob::from(archive),
         })
     }
 }

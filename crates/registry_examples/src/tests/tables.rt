@@ -51,6 +51,8 @@ static VERSIONS: [Case; 6] = [
                 r#" 1.10.0 {"name":"kit","version":"1.10.0"} [] 1.9.0 {"name":"kit","version":"1.9.0"} [] 2.0.0-beta {"name":"kit","version":"2.0.0-beta"} []"#,
             ),
             ("kid", Call::Versions, ""),
+            ("kit", Call::HasLive, "true"),
+            ("kid", Call::HasLive, "false"),
             ("kit", Call::Lives("1.9.0"), "true"),
             ("kit", Call::Lives("1.9.1"), "false"),
             ("kid", Call::Lives("1.9.0"), "false"),
@@ -219,7 +221,7 @@ static TAGS: [Case; 4] = [
 ];
 
 // The rows that calls put.
-static ROWS: [Case; 2] = [
+static ROWS: [Case; 3] = [
     Case {
         shows: "each call puts its rows",
         calls: &[
@@ -231,7 +233,29 @@ static ROWS: [Case; 2] = [
             ("kit", Call::NewTag("latest", "1.1.0"), "done"),
             ("@lab/pad", Call::NewTag("latest", "1.0.0"), "done"),
         ],
-        end: End::Rows(" meta packages packages tags tags versions versions versions"),
+        end: End::Rows(
+            " archives held held held meta packages packages tags tags versions versions versions",
+        ),
+    },
+    Case {
+        shows: "an archive is stored once, and others beside it",
+        calls: &[
+            ("kit", Call::NewStatus(Status::Public), "done"),
+            ("kid", Call::NewStatus(Status::Public), "done"),
+            ("kit", Call::Publish(Body::Archive("1.0.0", 1), 1), "done"),
+            ("kit", Call::Publish(Body::Archive("1.1.0", 1), 2), "done"),
+            ("kid", Call::Add(Body::Archive("1.0.0", 1), 3), "done"),
+            ("kit", Call::Publish(Body::Archive("1.2.0", 2), 4), "done"),
+            ("kid", Call::Add(Body::Archive("1.1.0", 2), 5), "done"),
+            ("kit", Call::Archive("1.0.0"), "3 abc"),
+            ("kit", Call::Archive("1.1.0"), "3 abc"),
+            ("kid", Call::Archive("1.0.0"), "3 abc"),
+            ("kit", Call::Archive("1.2.0"), "6 abc"),
+            ("kid", Call::Archive("1.1.0"), "6 abc"),
+        ],
+        end: End::Rows(
+            " archives archives held held held held held meta packages packages versions versions versions versions versions",
+        ),
     },
     Case {
         shows: "a need that two members name is put once",
@@ -239,6 +263,6 @@ static ROWS: [Case; 2] = [
             ("kit", Call::NewStatus(Status::Public), "done"),
             ("kit", Call::Publish(Body::Text(NEEDS_BODY), 0), "done"),
         ],
-        end: End::Rows(" kid 2.1 kid ~2 meta packages pad ^1 versions"),
+        end: End::Rows(" archives held kid 2.1 kid ~2 meta packages pad ^1 versions"),
     },
 ];

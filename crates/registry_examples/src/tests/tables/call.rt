@@ -13,8 +13,8 @@ use registry_names::{Fault, Moment, Name, Status, Stop, Ver};
 use registry_rows::write;
 use registry_rules::Change;
 use registry_tables::{
-    create, has_tag, has_version, is_spent, load_archive, load_status, load_tags, load_versions,
-    make, put_version,
+    create, has_live, has_tag, has_version, is_spent, load_archive, load_status, load_tags,
+    load_versions, make, put_version,
 };
 use sqlite::{Alter, Connection, Row, Transaction, params};
 use sqlite_value::value::ValueRef;
@@ -24,7 +24,7 @@ use std::test::Fail;
 /// Gives the name of its table for each row, and for what versions depend on the target and the
 /// range, in byte order.
 const TABLE_OF_EACH_ROW: &str =
-    "SELECT 'users' FROM users UNION ALL SELECT 'tokens' FROM tokens UNION ALL SELECT 'orgs' FROM orgs UNION ALL SELECT 'members' FROM members UNION ALL SELECT 'teams' FROM teams UNION ALL SELECT 'team_members' FROM team_members UNION ALL SELECT 'packages' FROM packages UNION ALL SELECT 'grants' FROM grants UNION ALL SELECT 'owners' FROM owners UNION ALL SELECT 'versions' FROM versions UNION ALL SELECT 'spent' FROM spent UNION ALL SELECT 'tags' FROM tags UNION ALL SELECT 'needs' FROM needs UNION ALL SELECT 'meta' FROM meta UNION ALL SELECT target || ' ' || range FROM need_ranges ORDER BY 1";
+    "SELECT 'users' FROM users UNION ALL SELECT 'tokens' FROM tokens UNION ALL SELECT 'orgs' FROM orgs UNION ALL SELECT 'members' FROM members UNION ALL SELECT 'teams' FROM teams UNION ALL SELECT 'team_members' FROM team_members UNION ALL SELECT 'packages' FROM packages UNION ALL SELECT 'grants' FROM grants UNION ALL SELECT 'owners' FROM owners UNION ALL SELECT 'versions' FROM versions UNION ALL SELECT 'spent' FROM spent UNION ALL SELECT 'tags' FROM tags UNION ALL SELECT 'needs' FROM needs UNION ALL SELECT 'meta' FROM meta UNION ALL SELECT target || ' ' || range FROM need_ranges UNION ALL SELECT 'held' FROM held UNION ALL SELECT 'archives' FROM archives ORDER BY 1";
 
 /// Calls on an empty database, one after another.
 pub struct Case {
@@ -59,6 +59,8 @@ pub enum Call {
     DropTag(&'static str),
     /// Its status.
     Status,
+    /// Whether a version of it lives.
+    HasLive,
     /// Whether the version lives.
     Lives(&'static str),
     /// Whether the version was withdrawn.
@@ -212,6 +214,7 @@ fn told_of<S: Alter>(
         Call::MovedTag(tag, version) => put_tag(alloc, tx, name, (tag, version), true),
         Call::DropTag(tag) => drop_tag(alloc, tx, name, tag),
         Call::Status => Ok(status_text(alloc, load_status(tx, name)?)?),
+        Call::HasLive => Ok(word_text(alloc, has_live(tx, name)?)?),
         Call::Lives(version) => Ok(word_text(alloc, has_version(tx, name, version)?)?),
         Call::IsSpent(version) => Ok(word_text(alloc, is_spent(tx, name, version)?)?),
         Call::HasTag(tag) => Ok(word_text(alloc, has_tag(tx, name, tag)?)?),

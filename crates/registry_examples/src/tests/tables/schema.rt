@@ -39,13 +39,13 @@ const BROKEN_KEY: Error = Error::SqliteFailure(ErrorCode::ConstraintViolation(
 ));
 
 /// What steps on an empty database show, and the steps, one after another.
-static CASES: [(&str, &[Step]); 14] = [
+static CASES: [(&str, &[Step]); 17] = [
     (
         "a made database tells the schema",
         &[
             Step::Schema(Ok(None)),
             Step::Create(Ok(())),
-            Step::Schema(Ok(Some(1))),
+            Step::Schema(Ok(Some(3))),
         ],
     ),
     (
@@ -115,7 +115,7 @@ static CASES: [(&str, &[Step]); 14] = [
     (
         "tables aren't made where the last is there",
         &[
-            Step::Run("CREATE TABLE need_ranges (name TEXT)"),
+            Step::Run("CREATE TABLE archives (name TEXT)"),
             Step::Create(Err(Fault::Database)),
         ],
     ),
@@ -123,9 +123,13 @@ static CASES: [(&str, &[Step]); 14] = [
         "the tables are empty, and only meta has a row",
         &[
             Step::Create(Ok(())),
-            Step::Rows("SELECT name FROM sqlite_schema WHERE type = 'table'", 15),
+            Step::Rows("SELECT name FROM sqlite_schema WHERE type = 'table'", 18),
             Step::Rows(
-                "SELECT name FROM users UNION ALL SELECT user FROM tokens UNION ALL SELECT name FROM orgs UNION ALL SELECT org FROM members UNION ALL SELECT org FROM teams UNION ALL SELECT org FROM team_members UNION ALL SELECT name FROM packages UNION ALL SELECT org FROM grants UNION ALL SELECT package FROM owners UNION ALL SELECT package FROM versions UNION ALL SELECT package FROM spent UNION ALL SELECT package FROM tags UNION ALL SELECT package FROM needs UNION ALL SELECT name FROM meta UNION ALL SELECT package FROM need_ranges",
+                "SELECT name FROM sqlite_schema WHERE type = 'index' AND tbl_name = 'archives'",
+                1,
+            ),
+            Step::Rows(
+                "SELECT name FROM users UNION ALL SELECT user FROM tokens UNION ALL SELECT name FROM orgs UNION ALL SELECT org FROM members UNION ALL SELECT org FROM teams UNION ALL SELECT org FROM team_members UNION ALL SELECT name FROM packages UNION ALL SELECT org FROM grants UNION ALL SELECT package FROM owners UNION ALL SELECT package FROM versions UNION ALL SELECT package FROM spent UNION ALL SELECT package FROM tags UNION ALL SELECT package FROM needs UNION ALL SELECT name FROM meta UNION ALL SELECT package FROM need_ranges UNION ALL SELECT package FROM held UNION ALL SELECT integrity FROM archives",
                 1,
             ),
         ],
@@ -147,6 +151,38 @@ static CASES: [(&str, &[Step]); 14] = [
             Step::Rows("SELECT range FROM need_ranges WHERE target = 'left'", 1),
             Step::Run("DELETE FROM versions"),
             Step::Rows("SELECT range FROM need_ranges WHERE target = 'left'", 0),
+        ],
+    ),
+    (
+        "what a version has goes with it, and the archive stays",
+        &[
+            Step::Create(Ok(())),
+            Step::Run("INSERT INTO packages VALUES ('kit', 1)"),
+            Step::Run("INSERT INTO versions VALUES ('kit', '1.0.0', 0, '{}', '', x'')"),
+            Step::Run("INSERT INTO archives (integrity, bytes) VALUES ('sha512-x', x'00')"),
+            Step::Run("INSERT INTO held VALUES ('kit', '1.0.0', 1)"),
+            Step::Run("DELETE FROM versions"),
+            Step::Rows("SELECT archive FROM held", 0),
+            Step::Rows("SELECT id FROM archives", 1),
+        ],
+    ),
+    (
+        "an archive that a version has is there",
+        &[
+            Step::Create(Ok(())),
+            Step::Run("INSERT INTO packages VALUES ('kit', 1)"),
+            Step::Run("INSERT INTO versions VALUES ('kit', '1.0.0', 0, '{}', '', x'')"),
+            Step::BreakKey("INSERT INTO held VALUES ('kit', '1.0.0', 1)"),
+        ],
+    ),
+    (
+        "a number of an archive is never given again",
+        &[
+            Step::Create(Ok(())),
+            Step::Run("INSERT INTO archives (integrity, bytes) VALUES ('sha512-x', x'00')"),
+            Step::Run("DELETE FROM archives"),
+            Step::Run("INSERT INTO archives (integrity, bytes) VALUES ('sha512-x', x'00')"),
+            Step::Rows("SELECT id FROM archives WHERE id = 2", 1),
         ],
     ),
 ];

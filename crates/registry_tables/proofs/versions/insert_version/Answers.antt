@@ -10,12 +10,12 @@ pub returns-clause-makes : goal.returns-clause-makes
 returns-clause-makes g c clean =
     let fits : SFits w64 c.seconds.result = search rules in
     on_answer c.write.result
-    (λ wrote. version_inserted c.args.form.now.name (version_of c.args.form.now) c.args.published c.args.form.now.manifest c.args.form.now.archive (shown g.S.Store c.args.tx.now) (shown g.S.Store c.write.new.tx) c.requires.in_form wrote clean)
-    (rw (c.params-to_sql.ensures, c.params-to_sql-2.ensures, c.params-to_sql-3.ensures, c.params-to_sql-4.ensures, c.params-to_sql-5.ensures, c.text.ensures.text, c.name.ensures.value, c.text-2.ensures.text, c.version.ensures.value, to_z-of_z w64 c.seconds.result fits, c.seconds.ensures.seconds, c.manifest_text.ensures.value, c.archive.ensures) at c.write.ensures.wrote)
+    (λ wrote. version_inserted c.args.form.now.name (version_of c.args.form.now) c.args.published c.args.form.now.manifest (shown g.S.Store c.args.tx.now) (shown g.S.Store c.write.new.tx) c.requires.in_form wrote clean)
+    (rw (c.params-to_sql.ensures, c.params-to_sql-2.ensures, c.params-to_sql-3.ensures, c.params-to_sql-4.ensures, c.text.ensures.text, c.name.ensures.value, c.text-2.ensures.text, c.version.ensures.value, to_z-of_z w64 c.seconds.result fits, c.seconds.ensures.seconds, c.manifest_text.ensures.value) at c.write.ensures.wrote)
 
 pub returns-clause-was_new : goal.returns-clause-was_new
 returns-clause-was_new g c clean =
     let fits : SFits w64 c.seconds.result = search rules in
     on_answer c.write.result
-    (λ wrote. version_is_new c.args.form.now.name (version_of c.args.form.now) c.args.published c.args.form.now.manifest c.args.form.now.archive (shown g.S.Store c.args.tx.now) (shown g.S.Store c.write.new.tx) c.requires.in_form wrote clean)
-    (rw (c.params-to_sql.ensures, c.params-to_sql-2.ensures, c.params-to_sql-3.ensures, c.params-to_sql-4.ensures, c.params-to_sql-5.ensures, c.text.ensures.text, c.name.ensures.value, c.text-2.ensures.text, c.version.ensures.value, to_z-of_z w64 c.seconds.result fits, c.seconds.ensures.seconds, c.manifest_text.ensures.value, c.archive.ensures) at c.write.ensures.wrote)
+    (λ wrote. version_is_new c.args.form.now.name (version_of c.args.form.now) c.args.published c.args.form.now.manifest (shown g.S.Store c.args.tx.now) (shown g.S.Store c.write.new.tx) c.requires.in_form wrote clean)
+    (rw (c.params-to_sql.ensures, c.params-to_sql-2.ensures, c.params-to_sql-3.ensures, c.params-to_sql-4.ensures, c.text.ensures.text, c.name.ensures.value, c.text-2.ensures.text, c.version.ensures.value, to_z-of_z w64 c.seconds.result fits, c.seconds.ensures.seconds, c.manifest_text.ensures.value) at c.write.ensures.wrote)

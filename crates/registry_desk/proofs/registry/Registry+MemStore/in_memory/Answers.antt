@@ -1,7 +1,9 @@
 use Rattle.std.proofs.Common.{subst, sym}
 use Rattle.sqlite.proofs.Callers.{memory_is_clean}
+use Rattle.registry_tables.specs.Archives.{HoldsArchives}
 use Rattle.registry_tables.specs.Needs.{HoldsNeeds}
 use Rattle.registry_tables.proofs.HeldNeedFacts.{fresh_holds}
+use Rattle.registry_tables.proofs.KeptArchiveFacts.{fresh_archives}
 use Rattle.registry_desk.proofs.registry.Registry+MemStore.in_memory.Goals as goal
 
 pub invariant_of-result : goal.invariant_of-result
@@ -12,3 +14,6 @@ returns-clause-fresh c = c.in_ok-create_tables.ensures.made (memory_is_clean c.c
 
 pub returns-clause-needs : goal.returns-clause-needs
 returns-clause-needs c = subst HoldsNeeds (sym (c.in_ok-create_tables.ensures.made (memory_is_clean c.create_tables.new.conn))) fresh_holds
+
+pub returns-clause-archives : goal.returns-clause-archives
+returns-clause-archives c = subst HoldsArchives (sym (c.in_ok-create_tables.ensures.made (memory_is_clean c.create_tables.new.conn))) fresh_archives

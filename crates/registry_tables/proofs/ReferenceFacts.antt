@@ -1,0 +1,120 @@
+-- Which rows the rows of `held` refer to.
+use Rattle.std.proofs.Common.{◌≡◌, ℕ, ℤ, List, [], ◌∷◌, drop, inl, inr, true, false, ◌&&◌, Option, Some, None, is_some, refl, sym, ap, ap₂, subst, ◌∙◌, codes}
+use Rattle.std.proofs.lemmas.Bool.{and_parts}
+use Rattle.sqlite.specs.declared.types.Value.{Value}
+use Rattle.sqlite.specs.declared.types.Value.TheVariants.{Int, Text as Stored}
+use Rattle.sqlite.specs.State.{State}
+use Rattle.sqlite_value.specs.Order.{Row, column}
+use Rattle.sqlite_value.specs.declared.keys.Collation.TheVariants.{Binary}
+use Rattle.sqlite_value.specs.Keys.{plain, first_key}
+use Rattle.sqlite_trees.specs.Tree.{rowid}
+use Rattle.sqlite_sql.specs.declared.ops.BinaryOp.TheVariants.{Compare}
+use Rattle.sqlite_sql.specs.declared.ops.CompareOp.TheVariants.{Eq}
+use Rattle.sqlite_sql.specs.Ops.{binary, is_true}
+use Rattle.sqlite_schema.specs.declared.schema.Action.TheVariants.{NoAction, Cascade}
+use Rattle.sqlite_schema.specs.Rules.{agree, has_null, parent_key}
+use Rattle.sqlite_tied.specs.Compute.{everything}
+use Rattle.sqlite_rules.specs.Lists.{Has}
+use Rattle.sqlite_rules.proofs.ListLemmas.{all_has, has_got}
+use Rattle.registry_names.specs.Keys.{Pair}
+use Rattle.registry_names.specs.Texts.{Text}
+use Rattle.registry_names.specs.Maps.{at}
+use Rattle.registry_names.proofs.KeyFacts.{text_key, same_true}
+use Rattle.registry_rules.specs.State.{Release}
+use Rattle.registry_rows.specs.Columns.{text_in, int_in, AreOf}
+use Rattle.registry_rows.specs.KeyKinds.{numbers}
+use Rattle.registry_rows.specs.Rows.{key_of}
+use Rattle.registry_rows.specs.Ready.{IsReady}
+use Rattle.registry_rows.specs.Tables.{reference}
+use Rattle.registry_rows.proofs.KeyedFacts.{by_number_given, by_texts_given, number_is, number_key, texts_of, types_of}
+use Rattle.registry_rows.proofs.OneRowFacts.{table_rowids}
+use Rattle.registry_rows.proofs.ReferenceFacts.{parent_of}
+use Rattle.registry_rows.proofs.StatementFacts.{rows_tell_by}
+use Rattle.registry_rows.proofs.TextKeyFacts.{row_parts}
+use Rattle.registry_rows.proofs.TypeFacts.{number_test, text_test}
+use Rattle.registry_tables.specs.Archives.{HeldAreStored}
+use Rattle.registry_tables.specs.Contents.{Archive, archive_in, release_in}
+use Rattle.registry_tables.specs.Effects.{stored}
+use Rattle.registry_tables.specs.Schema as table
+use Rattle.registry_tables.specs.Schema.{schema}
+use Rattle.registry_tables.proofs.MappedFacts.{archives_numbered, held_mapped, versions_mapped}
+
+-- the values of a row of `held`
+abbrev HeldRow : Row → Type 0
+HeldRow r = (id : Value) × (p : Text) × (v : Text) × (n : ℤ) × (r ≡ id ∷ Stored p ∷ Stored v ∷ Int n ∷ [])
+
+held_values : (id : Value) (vs r : Row) → r ≡ id ∷ vs → AreOf table.held.columns vs → HeldRow r
+held_values id [] r e h = absurd h
+held_values id (a ∷ []) r e h = absurd h.1
+held_values id (a ∷ b ∷ []) r e h = absurd h.1.1
+held_values id (a ∷ b ∷ c ∷ []) r e h =
+    (id, h.0.0, h.1.0.0, h.1.1.0.0, e ∙ ap (λ v. id ∷ v ∷ b ∷ c ∷ []) h.0.1 ∙ ap (λ v. id ∷ Stored h.0.0 ∷ v ∷ c ∷ []) h.1.0.1 ∙ ap (λ v. id ∷ Stored h.0.0 ∷ Stored h.1.0.0 ∷ v ∷ []) h.1.1.0.1)
+held_values id (a ∷ b ∷ c ∷ d ∷ vs) r e h = absurd h.1.1.1
+
+to_archives : parent_key schema.tables (reference (3 ∷ []) (codes "archives") NoAction) ≡ Some (table.archives.tree, 0 ∷ [], plain)
+unfolding everything
+to_archives = refl
+
+to_versions : parent_key schema.tables (reference (1 ∷ 2 ∷ []) (codes "versions") Cascade) ≡ Some (table.versions.tree, 1 ∷ 2 ∷ [], plain)
+unfolding everything
+to_versions = refl
+
+module _ (s : State) (ready : IsReady schema s) where
+  held_row : (r : Row) → Has (s.now.trees table.held.tree) r → HeldRow r
+  held_row r h =
+      let parts = row_parts r (all_has _ (s.now.trees table.held.tree) r (table_rowids schema s 15 table.held ready refl).1 h) in
+      held_values parts.0 (drop 1 r) r parts.1 (types_of held_mapped s ready r h)
+
+  -- what the map has was read off a row
+  row_for : (k : Pair) (n : ℤ) → at (stored s).held k ≡ Some n → (r : Row) × Has (s.now.trees table.held.tree) r × HeldRow r × (key_of 1 r ≡ k) × (int_in (column (drop 1 r) 2) ≡ n)
+  row_for k n e =
+      let it = (rows_tell_by (by_texts_given held_mapped) s ready k n).0 e in
+      (it.0, it.1, held_row it.0 it.1, it.2, it.3)
+
+  -- the row of its archive
+  pub archive_there : (k : Pair) (n : ℤ) → at (stored s).held k ≡ Some n → is_some (at (stored s).archives n) ≡ true
+  unfolding first_key
+  archive_there k n e =
+      let row = row_for k n e in
+      let r = row.0 in
+      let values = row.2 in
+      let whole = values.4 in
+      let m = values.3 in
+      let parent = parent_of schema s ready table.held (has_got schema.tables 15 table.held refl) (reference (3 ∷ []) (codes "archives") NoAction) (inr (inl refl)) table.archives.tree (0 ∷ []) to_archives r row.1 (subst (λ x. has_null (3 ∷ []) x ≡ false) (sym whole) refl) in
+      let p = parent.0 in
+      let rowid_is : rowid p ≡ Int (numbers.of_row p) = number_is (rowid p) (all_has _ (s.now.trees table.archives.tree) p (table_rowids schema s 16 table.archives ready refl).1 parent.1) in
+      let agrees : is_true (binary (Compare Eq Binary) (rowid p) (Int m)) ≡ true = (and_parts _ _ (subst (λ x. agree plain (0 ∷ []) p (3 ∷ []) x ≡ true) whole parent.2)).0 in
+      let same : m ≡ numbers.of_row p = same_true number_key m (numbers.of_row p) (sym (number_test (numbers.of_row p) m) ∙ subst (λ v. is_true (binary (Compare Eq Binary) v (Int m)) ≡ true) rowid_is agrees) in
+      let is : m ≡ n = sym (ap (λ (x : Row). int_in (column (drop 1 x) 2)) whole) ∙ row.4 in
+      let there = (rows_tell_by (by_number_given archives_numbered) s ready (numbers.of_row p) (archive_in (drop 1 p))).1 (p, parent.1, refl, refl) in
+      ap (λ (i : ℤ). is_some (at (stored s).archives i)) (sym is ∙ same) ∙ ap is_some there
+
+  -- the row of its version
+  pub version_there : (k : Pair) (n : ℤ) → at (stored s).held k ≡ Some n → is_some (at (stored s).versions k) ≡ true
+  unfolding first_key
+  version_there k n e =
+      let row = row_for k n e in
+      let r = row.0 in
+      let values = row.2 in
+      let whole = values.4 in
+      let v = values.1 in
+      let w = values.2 in
+      let parent = parent_of schema s ready table.held (has_got schema.tables 15 table.held refl) (reference (1 ∷ 2 ∷ []) (codes "versions") Cascade) (inl refl) table.versions.tree (1 ∷ 2 ∷ []) to_versions r row.1 (subst (λ x. has_null (1 ∷ 2 ∷ []) x ≡ false) (sym whole) refl) in
+      let p = parent.0 in
+      let parts = row_parts p (all_has _ (s.now.trees table.versions.tree) p (table_rowids schema s 9 table.versions ready refl).1 parent.1) in
+      let texts = texts_of versions_mapped s ready p parent.1 in
+      let agrees : agree plain (1 ∷ 2 ∷ []) (parts.0 ∷ drop 1 p) (1 ∷ 2 ∷ []) (values.0 ∷ Stored v ∷ Stored w ∷ Int values.3 ∷ []) ≡ true =
+      subst (λ (x : Row). agree plain (1 ∷ 2 ∷ []) x (1 ∷ 2 ∷ []) (values.0 ∷ Stored v ∷ Stored w ∷ Int values.3 ∷ []) ≡ true) parts.1 (subst (λ (x : Row). agree plain (1 ∷ 2 ∷ []) p (1 ∷ 2 ∷ []) x ≡ true) whole parent.2) in
+      let both = and_parts _ _ agrees in
+      let first : v ≡ text_in (column (drop 1 p) 0) = told v (column (drop 1 p) 0) texts.0 both.0 in
+      let second : w ≡ text_in (column (drop 1 p) 1) = told w (column (drop 1 p) 1) texts.1 (and_parts _ _ both.1).0 in
+      let is : (v, w) ≡ k = sym (ap (key_of 1) whole) ∙ row.3 in
+      let key : k ≡ key_of 1 p = sym is ∙ ap₂ (λ (a b : Text). (a, b)) first second in
+      let there = (rows_tell_by (by_texts_given versions_mapped) s ready (key_of 1 p) (release_in (drop 1 p))).1 (p, parent.1, refl, refl) in
+      ap (λ (q : Pair). is_some (at (stored s).versions q)) key ∙ ap is_some there
+    where
+      told : (t : Text) (x : Value) → x ≡ Stored (text_in x) → is_true (binary (Compare Eq Binary) x (Stored t)) ≡ true → t ≡ text_in x
+      told t x is h = same_true text_key t (text_in x) (sym (text_test (text_in x) t) ∙ subst (λ y. is_true (binary (Compare Eq Binary) y (Stored t)) ≡ true) is h)
+
+  pub held_stored : HeldAreStored (stored s)
+  held_stored = archive_there

@@ -1,0 +1,221 @@
+//! The tables `archives` and `held`: each archive that is stored, once, and which of them each live
+//! version has.
+
+ghost use Rattle.std.specs.Prelude.{◌≡◌, ℕ, List, IfOk, Some, map, option_map, slice_get};
+ghost use Rattle.sqlite.specs.State.{HasCleanDisk};
+ghost use Rattle.sqlite_value.specs.Order.{column};
+ghost use Rattle.registry_names.specs.Maps.{at, put};
+ghost use Rattle.registry_names.specs.Texts.{is};
+ghost use Rattle.registry_rows.specs.Columns.{blob_in, int_in};
+ghost use Rattle.registry_rows.specs.Frames.{Stays};
+ghost use Rattle.registry_rules.specs.Actions.{version_of};
+ghost use Rattle.registry_tables.specs.Archives.{archive_number, next_archive, number_of, with_archive};
+ghost use Rattle.registry_tables.specs.Contents.{live_of};
+ghost use Rattle.registry_tables.specs.Effects.{InForm, IsUnderWay, Makes, Tells, shown, stored_in};
+ghost use Rattle.registry_tables.specs.Spelled.{archive_spelled, bytes_spelled, held_spelled, number_among};
+
+use crate::versions::has_version;
+use registry_names::{Blob, Fault, Name};
+use registry_publish::PublishForm;
+use registry_rows::{FromRow, fault_of, first_in, read, write};
+use sqlite::types::ValueRef;
+use sqlite::{Alter, Error, Row, Transaction, params};
+
+/// The archive of a version. None where it doesn't live.
+///
+/// A version that lives and has no archive is a fault.
+pub fn load_archive<S: Alter>(
+    tx: &mut Transaction<'_, S>,
+    name: &Name,
+    version: &str,
+) -> Result<Option<Blob>, Fault>
+    requires in_form { InForm S.Store tx.old }
+    ensures stays { Stays S.Store tx.old tx.new }
+    ensures tells { Tells S.Store tx.old tx.new result (λ archive c. archive ≡ option_map (λ r. r.archive) (at (live_of c) (name.now, version.now))) }
+{
+    if let Some(number) = held_archive(tx, name, version)? {
+        return Ok(Some(load_bytes(tx, number)?));
+    }
+    if has_version(tx, name, version)? {
+        return Err(Fault::Database);
+    }
+    Ok(None)
+}
+
+// The number of the archive that a version has.
+fn held_archive<S: Alter>(
+    tx: &mut Transaction<'_, S>,
+    name: &Name,
+    version: &str,
+) -> Result<Option<i64>, Fault>
+    requires in_form { InForm S.Store tx.old }
+    ensures stays { Stays S.Store tx.old tx.new }
+    ensures tells { Tells S.Store tx.old tx.new result (λ number c. number ≡ at c.held (name.now, version.now)) }
+{
+    let rows = read(
+        tx,
+        "SELECT archive FROM held WHERE package = ?1 AND version = ?2",
+        params![name.text(), version],
+    )?;
+    first_number(&rows)
+}
+
+fn first_number(rows: &[Row]) -> Result<Option<i64>, Fault>
+    ensures { IfOk result (λ number. number ≡ option_map held_spelled (slice_get rows.now 0)) }
+{
+    match rows.first() {
+        Some(row) => Ok(Some(number_in(row)?)),
+        None => Ok(None),
+    }
+}
+
+fn number_in(row: &Row) -> Result<i64, Fault>
+    ensures { IfOk result (λ number. number ≡ int_in (column row.now 0)) }
+{
+    match row.get(0) {
+        Ok(number) => Ok(number),
+        Err(error) => Err(fault_of(error)),
+    }
+}
+
+// The bytes of the archive with this number. Where none has it that is a fault.
+fn load_bytes<S: Alter>(tx: &mut Transaction<'_, S>, number: i64) -> Result<Blob, Fault>
+    requires in_form { InForm S.Store tx.old }
+    ensures stays { Stays S.Store tx.old tx.new }
+    ensures tells { Tells S.Store tx.old tx.new result (λ bytes c. option_map (λ a. a.bytes) (at c.archives number) ≡ Some bytes) }
+{
+    let rows = read(
+        tx,
+        "SELECT bytes FROM archives WHERE id = ?1",
+        params![number],
+    )?;
+    bytes_in(&rows)
+}
+
+fn bytes_in(rows: &[Row]) -> Result<Blob, Fault>
+    ensures { IfOk result (λ bytes. option_map bytes_spelled (slice_get rows.now 0) ≡ Some bytes) }
+{
+    let found: Option<BytesRow> = first_in(rows)?;
+    match found {
+        Some(row) => Ok(row.bytes),
+        None => Err(Fault::Database),
+    }
+}
+
+/// Lets the version of a form have its archive, which is stored where it isn't yet.
+pub(crate) fn put_archive<S: Alter>(
+    tx: &mut Transaction<'_, S>,
+    form: &PublishForm,
+) -> Result<(), Fault>
+    requires under_way { IsUnderWay S.Store tx.old }
+    ensures stays { Stays S.Store tx.old tx.new }
+    ensures makes { Makes S.Store tx.old tx.new result (λ c. record (with_archive form.now.integrity form.now.archive c) { held = put c.held (form.now.name, version_of form.now) (archive_number form.now.integrity form.now.archive c) }) }
+{
+    let number = store(tx, form.integrity(), form.archive())?;
+    hold(tx, form.name().text(), form.version().text(), number)
+}
+
+// The number of the archive with these bytes, which is added where none is stored.
+fn store<S: Alter>(tx: &mut Transaction<'_, S>, integrity: &str, bytes: &[u8]) -> Result<i64, Fault>
+    requires under_way { IsUnderWay S.Store tx.old }
+    ensures stays { Stays S.Store tx.old tx.new }
+    ensures makes { Makes S.Store tx.old tx.new result (with_archive integrity.now bytes.now) }
+    ensures number { HasCleanDisk (shown S.Store tx.new) → IfOk result (λ number. number ≡ archive_number integrity.now bytes.now (stored_in S.Store tx.old)) }
+{
+    match find(tx, integrity, bytes)? {
+        Some(number) => Ok(number),
+        None => add(tx, integrity, bytes),
+    }
+}
+
+// The number of the archive with this integrity and these bytes, as a whole.
+fn find<S: Alter>(
+    tx: &mut Transaction<'_, S>,
+    integrity: &str,
+    bytes: &[u8],
+) -> Result<Option<i64>, Fault>
+    requires in_form { InForm S.Store tx.old }
+    ensures stays { Stays S.Store tx.old tx.new }
+    ensures tells { Tells S.Store tx.old tx.new result (λ number c. number ≡ number_of integrity.now bytes.now c.archives) }
+{
+    let rows = read(
+        tx,
+        "SELECT id, bytes FROM archives WHERE integrity = ?1 ORDER BY id",
+        params![integrity],
+    )?;
+    first_with(&rows, bytes)
+}
+
+// The number of the first of these archives that has these bytes.
+fn first_with(rows: &[Row], bytes: &[u8]) -> Result<Option<i64>, Fault>
+    ensures { IfOk result (λ number. number ≡ number_among bytes.now (map archive_spelled rows.now)) }
+{
+    for row in rows {
+        if has_bytes(row, bytes)? {
+            return Ok(Some(number_in(row)?));
+        }
+    }
+    Ok(None)
+}
+
+fn has_bytes(row: &Row, bytes: &[u8]) -> Result<bool, Fault>
+    ensures { IfOk result (λ has. has ≡ is bytes.now (blob_in (column row.now 1))) }
+{
+    match row.get_ref(1) {
+        Ok(ValueRef::Blob(stored)) => Ok(bytes == stored),
+        _ => Err(Fault::Database),
+    }
+}
+
+// Adds an archive, and answers its number.
+fn add<S: Alter>(tx: &mut Transaction<'_, S>, integrity: &str, bytes: &[u8]) -> Result<i64, Fault>
+    requires in_form { InForm S.Store tx.old }
+    ensures stays { Stays S.Store tx.old tx.new }
+    ensures makes { Makes S.Store tx.old tx.new result (λ c. record c { archives = put c.archives (next_archive c) (record { integrity = integrity.now; bytes = bytes.now }); last_archive = next_archive c }) }
+    ensures number { HasCleanDisk (shown S.Store tx.new) → IfOk result (λ number. number ≡ next_archive (stored_in S.Store tx.old)) }
+{
+    write(
+        tx,
+        "INSERT INTO archives (integrity, bytes) VALUES (?1, ?2)",
+        params![integrity, bytes],
+    )?;
+    Ok(tx.last_insert_rowid())
+}
+
+// Lets a version have the archive with this number.
+fn hold<S: Alter>(
+    tx: &mut Transaction<'_, S>,
+    name: &str,
+    version: &str,
+    number: i64,
+) -> Result<(), Fault>
+    requires in_form { InForm S.Store tx.old }
+    ensures stays { Stays S.Store tx.old tx.new }
+    ensures makes { Makes S.Store tx.old tx.new result (λ c. record c { held = put c.held (name.now, version.now) number }) }
+{
+    write(
+        tx,
+        "INSERT INTO held VALUES (?1, ?2, ?3)",
+        params![name, version, number],
+    )
+}
+
+#[derive(Drop)]
+struct BytesRow {
+    bytes: Blob,
+}
+
+impl FromRow for BytesRow {
+    ghost Seen = { List ℕ };
+
+    ghost seen = { λ row. row.bytes };
+
+    ghost spelled = { bytes_spelled };
+
+    fn from_row(row: &Row) -> Result<BytesRow, Error> {
+        let bytes: Vec<u8> = row.get(0)?;
+        Ok(BytesRow {
+            bytes: Blob::from(bytes),
+        })
+    }
+}
