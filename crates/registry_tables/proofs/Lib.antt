@@ -4,6 +4,8 @@ pub mod CreationFacts
 pub mod FoundFacts
 pub mod GrantFacts
 pub mod HeldNeedFacts
+pub mod JoinedFacts
+pub mod LinkedFacts
 pub mod MaintainerFacts
 pub mod MappedFacts
 pub mod MemberFacts
@@ -18,6 +20,7 @@ pub mod StatusFacts
 pub mod StepFacts
 pub mod TagFacts
 pub mod TeamFacts
+pub mod TeamListFacts
 pub mod TeamMemberFacts
 pub mod TokenFacts
 pub mod UserFacts

@@ -1,7 +1,7 @@
 //! What the registry holds, kept in the tables of an SQL database.
 //!
-//! Each call runs fixed texts with parameters, each over one table, inside the caller's
-//! transaction: it changes what the transaction sees, and nothing is kept until that is
+//! Each call runs fixed texts with parameters, each over one table or a join of two, inside the
+//! caller's transaction: it changes what the transaction sees, and nothing is kept until that is
 //! committed. A statement that runs out of memory is answered by the fault `Memory`, and every
 //! other error by `Database`.
 #![tactic(auto)]
@@ -25,7 +25,7 @@ mod users;
 mod versions;
 
 pub use crate::change::make;
-pub use crate::grants::has_grant;
+pub use crate::grants::{has_grant, load_grants};
 pub use crate::maintainers::is_maintainer;
 pub use crate::members::load_role;
 pub use crate::meta::opened;
@@ -34,7 +34,7 @@ pub use crate::schema::create;
 pub use crate::spent::is_spent;
 pub use crate::statuses::load_status;
 pub use crate::tags::{has_tag, load_tags};
-pub use crate::team_members::is_in_team;
+pub use crate::team_members::{is_in_team, load_team_users, load_user_teams};
 pub use crate::teams::has_team;
 pub use crate::tokens::load_token_user;
 pub use crate::users::has_user;

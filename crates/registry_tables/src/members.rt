@@ -7,6 +7,7 @@ ghost use Rattle.registry_rows.specs.Frames.{Stays};
 ghost use Rattle.registry_tables.specs.Changes.{amended, with_row};
 ghost use Rattle.registry_tables.specs.Effects.{InForm, Makes, Tells};
 ghost use Rattle.registry_tables.specs.Spelled.{role_number, role_spelled};
+ghost use Rattle.registry_tables.specs.Teams.{without_member};
 
 use registry_access::Role;
 use registry_names::{Fault, Ident};
@@ -88,6 +89,23 @@ fn update_member<S: Alter>(
         tx,
         "UPDATE members SET role = ?3 WHERE org = ?1 AND user = ?2",
         params![organisation, user, number_of(role)],
+    )
+}
+
+/// Drops a member of an organisation, if he is one, and with that from each of its teams.
+pub(crate) fn drop_member<S: Alter>(
+    tx: &mut Transaction<'_, S>,
+    organisation: &str,
+    user: &str,
+) -> Result<(), Fault>
+    requires in_form { InForm S.Store tx.old }
+    ensures stays { Stays S.Store tx.old tx.new }
+    ensures makes { Makes S.Store tx.old tx.new result (without_member organisation.now user.now) }
+{
+    write(
+        tx,
+        "DELETE FROM members WHERE org = ?1 AND user = ?2",
+        params![organisation, user],
     )
 }
 

@@ -4,6 +4,7 @@ ghost use Rattle.std.specs.Prelude.{◌≡◌, is_some};
 ghost use Rattle.registry_names.specs.Maps.{at, put};
 ghost use Rattle.registry_rows.specs.Frames.{Stays};
 ghost use Rattle.registry_tables.specs.Effects.{InForm, Makes, Tells};
+ghost use Rattle.registry_tables.specs.Teams.{without_team};
 
 use registry_names::{Fault, Ident};
 use registry_rows::{read, write};
@@ -41,6 +42,23 @@ pub(crate) fn add_team<S: Alter>(
     write(
         tx,
         "INSERT INTO teams VALUES (?1, ?2)",
+        params![organisation, team],
+    )
+}
+
+/// Drops a team of an organisation, if it is there, with who is in it and what it is granted.
+pub(crate) fn drop_team<S: Alter>(
+    tx: &mut Transaction<'_, S>,
+    organisation: &str,
+    team: &str,
+) -> Result<(), Fault>
+    requires in_form { InForm S.Store tx.old }
+    ensures stays { Stays S.Store tx.old tx.new }
+    ensures makes { Makes S.Store tx.old tx.new result (without_team organisation.now team.now) }
+{
+    write(
+        tx,
+        "DELETE FROM teams WHERE org = ?1 AND team = ?2",
         params![organisation, team],
     )
 }
