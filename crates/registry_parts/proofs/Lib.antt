@@ -5,3 +5,4 @@ pub mod LinkFacts
 pub mod PartFacts
 pub mod PlaceFacts
 pub mod SettleFacts
+mod Examples

@@ -3,11 +3,13 @@
 
 mod call;
 mod schema;
+mod teams;
 mod text;
 
 use call::{Call, Case, End, all_come_out};
 use registry_names::Status;
 use std::test::Fail;
+use teams::TeamCall::{Grant, Grants, Member, Organisation, Team, TeamMember, Teams, User, Users};
 use text::Body;
 
 #[test]
@@ -23,6 +25,11 @@ fn statuses_stand_as_they_were_put(rt: HostRuntime) -> Result<(), Fail> {
 #[test]
 fn tags_stand_as_they_were_put(rt: HostRuntime) -> Result<(), Fail> {
     all_come_out(rt.alloc(), &TAGS)
+}
+
+#[test]
+fn teams_tell_their_users_and_grants(rt: HostRuntime) -> Result<(), Fail> {
+    all_come_out(rt.alloc(), &TEAMS)
 }
 
 #[test]
@@ -217,6 +224,135 @@ static TAGS: [Case; 4] = [
             ("kit", Call::NewTag("latest", "1.0.0"), "done"),
         ],
         end: End::Fault("kit", Call::MovedTag("latest", "1.0.1")),
+    },
+];
+
+// Who is in the teams of organisations, and what that grants.
+static TEAMS: [Case; 3] = [
+    Case {
+        shows: "lists of users and of teams stand in byte order",
+        calls: &[
+            ("@lab/kit", Call::Teams(User("ann")), "done"),
+            ("@lab/kit", Call::Teams(User("bob")), "done"),
+            ("@lab/kit", Call::Teams(Organisation("lab")), "done"),
+            ("@lab/kit", Call::Teams(Organisation("labs")), "done"),
+            ("@lab/kit", Call::Teams(Member("lab", "ann")), "done"),
+            ("@lab/kit", Call::Teams(Member("lab", "bob")), "done"),
+            ("@lab/kit", Call::Teams(Member("labs", "ann")), "done"),
+            ("@lab/kit", Call::Teams(Team("lab", "devs")), "done"),
+            ("@lab/kit", Call::Teams(Team("lab", "docs")), "done"),
+            ("@lab/kit", Call::Teams(Team("lab", "all")), "done"),
+            ("@lab/kit", Call::Teams(Team("labs", "devs")), "done"),
+            ("@lab/kit", Call::Teams(Users("lab", "devs")), ""),
+            ("@lab/kit", Call::Teams(Teams("lab", "ann")), ""),
+            (
+                "@lab/kit",
+                Call::Teams(TeamMember("lab", "devs", "bob")),
+                "done",
+            ),
+            (
+                "@lab/kit",
+                Call::Teams(TeamMember("lab", "devs", "ann")),
+                "done",
+            ),
+            (
+                "@lab/kit",
+                Call::Teams(TeamMember("lab", "docs", "ann")),
+                "done",
+            ),
+            (
+                "@lab/kit",
+                Call::Teams(TeamMember("lab", "all", "ann")),
+                "done",
+            ),
+            (
+                "@lab/kit",
+                Call::Teams(TeamMember("labs", "devs", "ann")),
+                "done",
+            ),
+            ("@lab/kit", Call::Teams(Users("lab", "devs")), " ann bob"),
+            ("@lab/kit", Call::Teams(Users("lab", "docs")), " ann"),
+            ("@lab/kit", Call::Teams(Users("labs", "docs")), ""),
+            ("@lab/kit", Call::Teams(Users("labs", "devs")), " ann"),
+            (
+                "@lab/kit",
+                Call::Teams(Teams("lab", "ann")),
+                " all devs docs",
+            ),
+            ("@lab/kit", Call::Teams(Teams("lab", "bob")), " devs"),
+            ("@lab/kit", Call::Teams(Teams("labs", "ann")), " devs"),
+            ("@lab/kit", Call::Teams(Teams("labs", "bob")), ""),
+        ],
+        end: End::Nothing,
+    },
+    Case {
+        shows: "what a user's teams are granted is his",
+        calls: &[
+            ("@lab/kit", Call::Teams(User("ann")), "done"),
+            ("@lab/kit", Call::Teams(User("bob")), "done"),
+            ("@lab/kit", Call::Teams(Organisation("lab")), "done"),
+            ("@lab/kit", Call::Teams(Organisation("labs")), "done"),
+            ("@lab/kit", Call::Teams(Member("lab", "ann")), "done"),
+            ("@lab/kit", Call::Teams(Member("lab", "bob")), "done"),
+            ("@lab/kit", Call::Teams(Member("labs", "ann")), "done"),
+            ("@lab/kit", Call::Teams(Team("lab", "devs")), "done"),
+            ("@lab/kit", Call::Teams(Team("lab", "docs")), "done"),
+            ("@lab/kit", Call::Teams(Team("lab", "all")), "done"),
+            ("@lab/kit", Call::Teams(Team("labs", "devs")), "done"),
+            ("@lab/kit", Call::NewStatus(Status::Restricted), "done"),
+            ("@lab/pad", Call::NewStatus(Status::Restricted), "done"),
+            (
+                "@lab/kit",
+                Call::Teams(TeamMember("lab", "devs", "ann")),
+                "done",
+            ),
+            (
+                "@lab/kit",
+                Call::Teams(TeamMember("lab", "docs", "ann")),
+                "done",
+            ),
+            (
+                "@lab/kit",
+                Call::Teams(TeamMember("lab", "docs", "bob")),
+                "done",
+            ),
+            ("@lab/kit", Call::Teams(Grants("lab", "ann")), ""),
+            ("@lab/kit", Call::Teams(Grant("lab", "devs", 2)), "done"),
+            ("@lab/kit", Call::Teams(Grants("lab", "ann")), " write"),
+            ("@lab/kit", Call::Teams(Grants("lab", "bob")), ""),
+            ("@lab/kit", Call::Teams(Grants("labs", "ann")), ""),
+            ("@lab/pad", Call::Teams(Grants("lab", "ann")), ""),
+            ("@lab/kit", Call::Teams(Grant("lab", "docs", 1)), "done"),
+            ("@lab/kit", Call::Teams(Grants("lab", "ann")), " write read"),
+            ("@lab/kit", Call::Teams(Grants("lab", "bob")), " read"),
+            ("@lab/kit", Call::Teams(Grant("lab", "all", 2)), "done"),
+            ("@lab/kit", Call::Teams(Grants("lab", "bob")), " read"),
+        ],
+        end: End::Nothing,
+    },
+    Case {
+        shows: "a grant of a number that is none is a fault",
+        calls: &[
+            ("@lab/kit", Call::Teams(User("ann")), "done"),
+            ("@lab/kit", Call::Teams(User("bob")), "done"),
+            ("@lab/kit", Call::Teams(Organisation("lab")), "done"),
+            ("@lab/kit", Call::Teams(Organisation("labs")), "done"),
+            ("@lab/kit", Call::Teams(Member("lab", "ann")), "done"),
+            ("@lab/kit", Call::Teams(Member("lab", "bob")), "done"),
+            ("@lab/kit", Call::Teams(Member("labs", "ann")), "done"),
+            ("@lab/kit", Call::Teams(Team("lab", "devs")), "done"),
+            ("@lab/kit", Call::Teams(Team("lab", "docs")), "done"),
+            ("@lab/kit", Call::Teams(Team("lab", "all")), "done"),
+            ("@lab/kit", Call::Teams(Team("labs", "devs")), "done"),
+            ("@lab/kit", Call::NewStatus(Status::Public), "done"),
+            (
+                "@lab/kit",
+                Call::Teams(TeamMember("lab", "devs", "ann")),
+                "done",
+            ),
+            ("@lab/kit", Call::Teams(Grant("lab", "devs", 0)), "done"),
+        ],
+        end: End::Fault("@lab/kit", Call::Teams(Grants("lab", "ann"))),
     },
 ];
 

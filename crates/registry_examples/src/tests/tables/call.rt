@@ -5,6 +5,7 @@ ghost use Rattle.sqlite.specs.Held.{state};
 ghost use Rattle.sqlite.specs.Steps.{IsEmpty};
 ghost use Rattle.registry_tables.specs.Effects.{InForm};
 
+use super::teams::{self, TeamCall};
 use super::text::{
     Body, archive_text, done, form_of, status_text, tags_text, versions_text, word_text,
 };
@@ -73,6 +74,8 @@ pub enum Call {
     Versions,
     /// The length of the version's archive, and its last bytes.
     Archive(&'static str),
+    /// A call over the teams that may be granted something on it.
+    Teams(TeamCall),
 }
 
 /// What comes after the calls of a case.
@@ -221,6 +224,7 @@ fn told_of<S: Alter>(
         Call::Tags => Ok(tags_text(alloc, &load_tags(alloc, tx, name)?)?),
         Call::Versions => Ok(versions_text(alloc, &load_versions(alloc, tx, name)?)?),
         Call::Archive(version) => archive_text(alloc, &load_archive(tx, name, version)?),
+        Call::Teams(call) => teams::told(alloc, tx, name, call),
     }
 }
 

@@ -142,6 +142,43 @@ static CASES: [(&str, &[Step]); 17] = [
         ],
     ),
     (
+        "a member goes from his teams",
+        &[
+            Step::Create(Ok(())),
+            Step::Run("INSERT INTO users VALUES ('ann'), ('bob')"),
+            Step::Run("INSERT INTO orgs VALUES ('lab')"),
+            Step::Run("INSERT INTO members VALUES ('lab', 'ann', 2), ('lab', 'bob', 0)"),
+            Step::Run("INSERT INTO teams VALUES ('lab', 'devs'), ('lab', 'docs')"),
+            Step::Run(
+                "INSERT INTO team_members VALUES ('lab', 'devs', 'ann'), ('lab', 'devs', 'bob'), ('lab', 'docs', 'ann')",
+            ),
+            Step::Run("DELETE FROM members WHERE org = 'lab' AND user = 'ann'"),
+            Step::Rows("SELECT user FROM team_members", 1),
+            Step::Rows("SELECT team FROM teams", 2),
+        ],
+    ),
+    (
+        "a team goes with its members and grants",
+        &[
+            Step::Create(Ok(())),
+            Step::Run("INSERT INTO users VALUES ('ann'), ('bob')"),
+            Step::Run("INSERT INTO orgs VALUES ('lab')"),
+            Step::Run("INSERT INTO members VALUES ('lab', 'ann', 2), ('lab', 'bob', 0)"),
+            Step::Run("INSERT INTO teams VALUES ('lab', 'devs'), ('lab', 'docs')"),
+            Step::Run(
+                "INSERT INTO team_members VALUES ('lab', 'devs', 'ann'), ('lab', 'devs', 'bob'), ('lab', 'docs', 'ann')",
+            ),
+            Step::Run("INSERT INTO packages VALUES ('@lab/kit', 0)"),
+            Step::Run(
+                "INSERT INTO grants VALUES ('lab', 'devs', '@lab/kit', 2), ('lab', 'docs', '@lab/kit', 1)",
+            ),
+            Step::Run("DELETE FROM teams WHERE org = 'lab' AND team = 'devs'"),
+            Step::Rows("SELECT user FROM team_members", 1),
+            Step::Rows("SELECT team FROM grants", 1),
+            Step::Rows("SELECT user FROM members", 2),
+        ],
+    ),
+    (
         "a need goes with its version",
         &[
             Step::Create(Ok(())),

@@ -1,7 +1,8 @@
 //! Bodies of publications, and texts that tell what was loaded.
 
 use crate::tests::body::{ABC, body_of};
-use registry_names::{Blob, DistTag, Status, Stop};
+use registry_access::Grant;
+use registry_names::{Blob, DistTag, Status, Stop, Text};
 use registry_packument::VersionRow;
 use registry_publish::PublishForm;
 use std::alloc::{AllocError, Global};
@@ -94,4 +95,26 @@ pub fn archive_text(alloc: Global, archive: &Option<Blob>) -> Result<String, Sto
     let length = bytes.len();
     let end = str::from_utf8(&bytes[length.saturating_sub(3)..]).unwrap_or("no text");
     Ok(format!(in alloc; "{length} {end}")?)
+}
+
+/// Each name, after a space.
+pub fn names_text(alloc: Global, names: &[Text]) -> Result<String, AllocError> {
+    let mut text = String::new(alloc);
+    for name in names {
+        text.push_str(" ")?;
+        text.push_str(name.as_str())?;
+    }
+    Ok(text)
+}
+
+/// The word of each grant, after a space.
+pub fn grants_text(alloc: Global, grants: &[Grant]) -> Result<String, AllocError> {
+    let mut text = String::new(alloc);
+    for grant in grants {
+        text.push_str(match grant {
+            Grant::ReadOnly => " read",
+            Grant::ReadWrite => " write",
+        })?;
+    }
+    Ok(text)
 }

@@ -1,0 +1,188 @@
+//! Calls over organisations and teams, whose rows statements put.
+
+ghost use Rattle.std.specs.Prelude.{◌≡◌, OnOk};
+ghost use Rattle.registry_tables.specs.Effects.{InForm};
+
+use super::text::{done, grants_text, names_text};
+use registry_names::{Fault, Name, Stop};
+use registry_rows::write;
+use registry_tables::{load_grants, load_team_users, load_user_teams};
+use sqlite::{Alter, Transaction, params};
+use std::alloc::Global;
+
+/// A call over an organisation, which stands first, on its teams and users.
+#[derive(Clone, Copy, Debug)]
+pub enum TeamCall {
+    /// A statement puts a user.
+    User(&'static str),
+    /// A statement puts an organisation.
+    Organisation(&'static str),
+    /// A statement puts a user among its members.
+    Member(&'static str, &'static str),
+    /// A statement puts a team.
+    Team(&'static str, &'static str),
+    /// A statement puts a user in a team.
+    TeamMember(&'static str, &'static str, &'static str),
+    /// A statement keeps this number for what a team is granted on the package.
+    Grant(&'static str, &'static str, i64),
+    /// The users in a team.
+    Users(&'static str, &'static str),
+    /// The teams that a user is in.
+    Teams(&'static str, &'static str),
+    /// What his teams are granted on the package.
+    Grants(&'static str, &'static str),
+}
+
+/// What a call tells.
+pub fn told<S: Alter>(
+    alloc: Global,
+    tx: &mut Transaction<'_, S>,
+    name: &Name,
+    call: TeamCall,
+) -> Result<String, Stop>
+    requires in_form { InForm S.Store tx.old }
+    ensures same_reference { tx.new.conn.ghost_name ≡ tx.old.conn.ghost_name }
+    ensures in_form { OnOk result (InForm S.Store tx.new) }
+{
+    match call {
+        TeamCall::Users(org, team) => users(alloc, tx, org, team),
+        TeamCall::Teams(org, user) => teams(alloc, tx, org, user),
+        TeamCall::Grants(org, user) => grants(alloc, tx, org, user, name),
+        _ => put(alloc, tx, name, call),
+    }
+}
+
+fn put<S: Alter>(
+    alloc: Global,
+    tx: &mut Transaction<'_, S>,
+    name: &Name,
+    call: TeamCall,
+) -> Result<String, Stop>
+    requires in_form { InForm S.Store tx.old }
+    ensures same_reference { tx.new.conn.ghost_name ≡ tx.old.conn.ghost_name }
+    ensures in_form { OnOk result (InForm S.Store tx.new) }
+{
+    match call {
+        TeamCall::User(user) => put_user(tx, user)?,
+        TeamCall::Organisation(org) => put_organisation(tx, org)?,
+        TeamCall::Member(org, user) => put_member(tx, org, user)?,
+        TeamCall::Team(org, team) => put_team(tx, org, team)?,
+        TeamCall::TeamMember(org, team, user) => put_team_member(tx, org, team, user)?,
+        TeamCall::Grant(org, team, number) => put_grant(tx, (org, team), name, number)?,
+        _ => {}
+    }
+    done(alloc)
+}
+
+fn users<S: Alter>(
+    alloc: Global,
+    tx: &mut Transaction<'_, S>,
+    org: &str,
+    team: &str,
+) -> Result<String, Stop>
+    requires in_form { InForm S.Store tx.old }
+    ensures same_reference { tx.new.conn.ghost_name ≡ tx.old.conn.ghost_name }
+    ensures in_form { OnOk result (InForm S.Store tx.new) }
+{
+    let users = load_team_users(alloc, tx, org, team)?;
+    Ok(names_text(alloc, &users)?)
+}
+
+fn teams<S: Alter>(
+    alloc: Global,
+    tx: &mut Transaction<'_, S>,
+    org: &str,
+    user: &str,
+) -> Result<String, Stop>
+    requires in_form { InForm S.Store tx.old }
+    ensures same_reference { tx.new.conn.ghost_name ≡ tx.old.conn.ghost_name }
+    ensures in_form { OnOk result (InForm S.Store tx.new) }
+{
+    let teams = load_user_teams(alloc, tx, org, user)?;
+    Ok(names_text(alloc, &teams)?)
+}
+
+fn grants<S: Alter>(
+    alloc: Global,
+    tx: &mut Transaction<'_, S>,
+    org: &str,
+    user: &str,
+    name: &Name,
+) -> Result<String, Stop>
+    requires in_form { InForm S.Store tx.old }
+    ensures same_reference { tx.new.conn.ghost_name ≡ tx.old.conn.ghost_name }
+    ensures in_form { OnOk result (InForm S.Store tx.new) }
+{
+    let grants = load_grants(alloc, tx, org, user, name)?;
+    Ok(grants_text(alloc, &grants)?)
+}
+
+fn put_user<S: Alter>(tx: &mut Transaction<'_, S>, user: &str) -> Result<(), Fault>
+    requires in_form { InForm S.Store tx.old }
+    ensures same_reference { tx.new.conn.ghost_name ≡ tx.old.conn.ghost_name }
+    ensures in_form { OnOk result (InForm S.Store tx.new) }
+{
+    write(tx, "INSERT INTO users VALUES (?1)", params![user])
+}
+
+fn put_organisation<S: Alter>(tx: &mut Transaction<'_, S>, org: &str) -> Result<(), Fault>
+    requires in_form { InForm S.Store tx.old }
+    ensures same_reference { tx.new.conn.ghost_name ≡ tx.old.conn.ghost_name }
+    ensures in_form { OnOk result (InForm S.Store tx.new) }
+{
+    write(tx, "INSERT INTO orgs VALUES (?1)", params![org])
+}
+
+fn put_member<S: Alter>(tx: &mut Transaction<'_, S>, org: &str, user: &str) -> Result<(), Fault>
+    requires in_form { InForm S.Store tx.old }
+    ensures same_reference { tx.new.conn.ghost_name ≡ tx.old.conn.ghost_name }
+    ensures in_form { OnOk result (InForm S.Store tx.new) }
+{
+    write(
+        tx,
+        "INSERT INTO members VALUES (?1, ?2, 0)",
+        params![org, user],
+    )
+}
+
+fn put_team<S: Alter>(tx: &mut Transaction<'_, S>, org: &str, team: &str) -> Result<(), Fault>
+    requires in_form { InForm S.Store tx.old }
+    ensures same_reference { tx.new.conn.ghost_name ≡ tx.old.conn.ghost_name }
+    ensures in_form { OnOk result (InForm S.Store tx.new) }
+{
+    write(tx, "INSERT INTO teams VALUES (?1, ?2)", params![org, team])
+}
+
+fn put_team_member<S: Alter>(
+    tx: &mut Transaction<'_, S>,
+    org: &str,
+    team: &str,
+    user: &str,
+) -> Result<(), Fault>
+    requires in_form { InForm S.Store tx.old }
+    ensures same_reference { tx.new.conn.ghost_name ≡ tx.old.conn.ghost_name }
+    ensures in_form { OnOk result (InForm S.Store tx.new) }
+{
+    write(
+        tx,
+        "INSERT INTO team_members VALUES (?1, ?2, ?3)",
+        params![org, team, user],
+    )
+}
+
+fn put_grant<S: Alter>(
+    tx: &mut Transaction<'_, S>,
+    team: (&str, &str),
+    name: &Name,
+    number: i64,
+) -> Result<(), Fault>
+    requires in_form { InForm S.Store tx.old }
+    ensures same_reference { tx.new.conn.ghost_name ≡ tx.old.conn.ghost_name }
+    ensures in_form { OnOk result (InForm S.Store tx.new) }
+{
+    write(
+        tx,
+        "INSERT INTO grants VALUES (?1, ?2, ?3, ?4)",
+        params![team.0, team.1, name.text(), number],
+    )
+}
