@@ -2,7 +2,7 @@
 
 use crate::outcome::same;
 use crate::publish::case::NeedCase;
-use registry_names::{Refusal, Stop};
+use registry_names::{Refusal, Stop, Text};
 use registry_publish::{Need, needs_of};
 use std::alloc::{AllocError, Global};
 use std::test::Fail;
@@ -43,18 +43,27 @@ static MANIFESTS: [(&str, Option<&[NeedCase]>); 14] = [
     (r#"{"peerDependencies":{"a":1}}"#, None),
 ];
 
-fn has_needs(alloc: Global, manifest: &str, cases: Option<&[NeedCase]>) -> Result<(), Fail> {
-    let wanted = cases.ok_or(Stop::Refused(Refusal::BadBody));
-    match needs_of(alloc, manifest) {
-        Ok(needs) => same(manifest, Ok(pairs(alloc, &needs)?.as_slice()), wanted),
-        Err(stop) => same(manifest, Err(stop), wanted),
+fn wanted(alloc: Global, cases: Option<&[NeedCase]>) -> Result<Vec<Need>, Stop> {
+    let cases = cases.ok_or(Stop::Refused(Refusal::BadBody))?;
+    let mut needs = Vec::new(alloc);
+    for (target, range) in cases {
+        needs.push(need(alloc, target, range)?)?;
     }
+    Ok(needs)
+}
+
+fn need(alloc: Global, target: &str, range: &str) -> Result<Need, AllocError> {
+    Ok(Need {
+        target: Text::from_str(alloc, target)?,
+        range: Text::from_str(alloc, range)?,
+    })
 }
 
 #[test]
 fn needs_of_manifests(rt: HostRuntime) -> Result<(), Fail> {
+    let alloc = rt.alloc();
     for (manifest, cases) in &MANIFESTS {
-        has_needs(rt.alloc(), manifest, *cases)?;
+        same(*manifest, needs_of(alloc, manifest), wanted(alloc, *cases))?;
     }
     Ok(())
 }

@@ -6,9 +6,9 @@ use registry_access::Caller;
 use registry_names::{Moment, Name, Refusal, Status, Stop, TagText, Ver};
 use registry_publish::PublishForm;
 use registry_rules::{
-    About, Action, Change, Credential, Facts, PublishFacts, Request, decide, may_ask,
+    About, Action, Change, Changes, Credential, Facts, PublishFacts, Request, decide, may_ask,
 };
-use std::alloc::{AllocError, Global};
+use std::alloc::Global;
 use std::test::Fail;
 
 const BODY: &str =
@@ -86,17 +86,23 @@ pub fn all_told(alloc: Global, cases: &'static [Case]) -> Result<(), Fail> {
 fn both_tell(alloc: Global, shows: &str, facts: &Facts, ask: &Ask, told: Told) -> Result<(), Fail> {
     let request = request(alloc, ask)?;
     same(shows, may_ask(facts, &request), told.map(|_| ()))?;
-    let wanted = told.map_err(Stop::Refused);
-    match decide(alloc, facts, &request) {
-        Ok(changes) => same(shows, Ok(seen(alloc, &changes, ask)?.as_slice()), wanted),
-        Err(stop) => same(shows, Err(stop), wanted),
-    }
+    let changes = decide(alloc, facts, &request);
+    same(shows, seen(alloc, changes, ask), wanted(alloc, told))
 }
 
-fn seen<'a>(alloc: Global, changes: &[Change<'a>], ask: &Ask) -> Result<Vec<Want<'a>>, AllocError> {
+fn wanted(alloc: Global, told: Told) -> Result<Vec<Want<'static>>, Stop> {
+    Ok(Vec::from_slice(alloc, told.map_err(Stop::Refused)?)?)
+}
+
+// The changes that are decided, as those of the package that is asked about.
+fn seen<'a>(
+    alloc: Global,
+    decided: Result<Changes<'a>, Stop>,
+    ask: &Ask,
+) -> Result<Vec<Want<'a>>, Stop> {
     let mut wants = Vec::new(alloc);
-    for change in changes {
-        wants.push(seen_of(*change, package(ask)))?;
+    for change in decided? {
+        wants.push(seen_of(change, package(ask)))?;
     }
     Ok(wants)
 }
