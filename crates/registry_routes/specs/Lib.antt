@@ -1,0 +1,5 @@
+pub mod Paths
+pub mod Pieces
+pub mod Readings
+pub mod Routes
+pub mod Table
