@@ -1,0 +1,4 @@
+pub mod LawFacts
+pub mod PairFacts
+pub mod ReadingFacts
+pub mod SegmentFacts

@@ -7,6 +7,7 @@
 #![tactic(auto)]
 
 mod endpoint;
+pub mod laws;
 mod method;
 mod path;
 mod route;

@@ -26,42 +26,150 @@ pub(crate) struct Row {
 }
 
 const DASH: Piece = Piece::Literal(b"-");
+
 const PACKAGE: Piece = Piece::Literal(b"package");
+
 const ORG: Piece = Piece::Literal(b"org");
+
 const TEAM: Piece = Piece::Literal(b"team");
+
 const GRANT: Piece = Piece::Literal(b"grant");
+
 const TAGS: Piece = Piece::Literal(b"dist-tags");
+
 const ACCESS: Piece = Piece::Literal(b"access");
+
 const OWNERS: Piece = Piece::Literal(b"owners");
+
 const DEPRECATE: Piece = Piece::Literal(b"deprecate");
+
 const VERSIONS: Piece = Piece::Literal(b"versions");
+
 const NAME: Piece = Piece::Name;
+
 const VALUE: Piece = Piece::Value;
+
 const FILE: Piece = Piece::File;
 
 pub(crate) static ROWS: [Row; 24] = [
-    Row { method: Method::Get, pieces: &[NAME], endpoint: Endpoint::Packument },
-    Row { method: Method::Put, pieces: &[NAME], endpoint: Endpoint::Publish },
-    Row { method: Method::Get, pieces: &[NAME, VALUE], endpoint: Endpoint::VersionDoc },
-    Row { method: Method::Get, pieces: &[NAME, DASH, FILE], endpoint: Endpoint::Archive },
-    Row { method: Method::Get, pieces: &[DASH, PACKAGE, VALUE, TAGS], endpoint: Endpoint::Tags },
-    Row { method: Method::Put, pieces: &[DASH, PACKAGE, VALUE, TAGS, VALUE], endpoint: Endpoint::TagSet },
-    Row { method: Method::Delete, pieces: &[DASH, PACKAGE, VALUE, TAGS, VALUE], endpoint: Endpoint::TagRemove },
-    Row { method: Method::Put, pieces: &[DASH, PACKAGE, VALUE, ACCESS], endpoint: Endpoint::SetAccess },
-    Row { method: Method::Put, pieces: &[DASH, PACKAGE, VALUE, OWNERS, VALUE], endpoint: Endpoint::OwnerAdd },
-    Row { method: Method::Delete, pieces: &[DASH, PACKAGE, VALUE, OWNERS, VALUE], endpoint: Endpoint::OwnerRemove },
-    Row { method: Method::Post, pieces: &[DASH, PACKAGE, VALUE, DEPRECATE], endpoint: Endpoint::Deprecate },
-    Row { method: Method::Delete, pieces: &[DASH, PACKAGE, VALUE, VERSIONS, VALUE], endpoint: Endpoint::Withdraw },
-    Row { method: Method::Get, pieces: &[DASH, ORG, VALUE], endpoint: Endpoint::Members },
-    Row { method: Method::Put, pieces: &[DASH, ORG, VALUE, VALUE], endpoint: Endpoint::OrgSet },
-    Row { method: Method::Delete, pieces: &[DASH, ORG, VALUE, VALUE], endpoint: Endpoint::OrgRemove },
-    Row { method: Method::Get, pieces: &[DASH, TEAM, VALUE], endpoint: Endpoint::Teams },
-    Row { method: Method::Get, pieces: &[DASH, TEAM, VALUE, VALUE], endpoint: Endpoint::TeamMembers },
-    Row { method: Method::Put, pieces: &[DASH, TEAM, VALUE, VALUE], endpoint: Endpoint::TeamCreate },
-    Row { method: Method::Delete, pieces: &[DASH, TEAM, VALUE, VALUE], endpoint: Endpoint::TeamDestroy },
-    Row { method: Method::Put, pieces: &[DASH, TEAM, VALUE, VALUE, VALUE], endpoint: Endpoint::TeamAdd },
-    Row { method: Method::Delete, pieces: &[DASH, TEAM, VALUE, VALUE, VALUE], endpoint: Endpoint::TeamRemove },
-    Row { method: Method::Get, pieces: &[DASH, GRANT, VALUE, VALUE], endpoint: Endpoint::TeamPackages },
-    Row { method: Method::Put, pieces: &[DASH, GRANT, VALUE, VALUE, VALUE], endpoint: Endpoint::Grant },
-    Row { method: Method::Delete, pieces: &[DASH, GRANT, VALUE, VALUE, VALUE], endpoint: Endpoint::Revoke },
+    Row {
+        method: Method::Get,
+        pieces: &[NAME],
+        endpoint: Endpoint::Packument,
+    },
+    Row {
+        method: Method::Put,
+        pieces: &[NAME],
+        endpoint: Endpoint::Publish,
+    },
+    Row {
+        method: Method::Get,
+        pieces: &[NAME, VALUE],
+        endpoint: Endpoint::VersionDoc,
+    },
+    Row {
+        method: Method::Get,
+        pieces: &[NAME, DASH, FILE],
+        endpoint: Endpoint::Archive,
+    },
+    Row {
+        method: Method::Get,
+        pieces: &[DASH, PACKAGE, VALUE, TAGS],
+        endpoint: Endpoint::Tags,
+    },
+    Row {
+        method: Method::Put,
+        pieces: &[DASH, PACKAGE, VALUE, TAGS, VALUE],
+        endpoint: Endpoint::TagSet,
+    },
+    Row {
+        method: Method::Delete,
+        pieces: &[DASH, PACKAGE, VALUE, TAGS, VALUE],
+        endpoint: Endpoint::TagRemove,
+    },
+    Row {
+        method: Method::Put,
+        pieces: &[DASH, PACKAGE, VALUE, ACCESS],
+        endpoint: Endpoint::SetAccess,
+    },
+    Row {
+        method: Method::Put,
+        pieces: &[DASH, PACKAGE, VALUE, OWNERS, VALUE],
+        endpoint: Endpoint::OwnerAdd,
+    },
+    Row {
+        method: Method::Delete,
+        pieces: &[DASH, PACKAGE, VALUE, OWNERS, VALUE],
+        endpoint: Endpoint::OwnerRemove,
+    },
+    Row {
+        method: Method::Post,
+        pieces: &[DASH, PACKAGE, VALUE, DEPRECATE],
+        endpoint: Endpoint::Deprecate,
+    },
+    Row {
+        method: Method::Delete,
+        pieces: &[DASH, PACKAGE, VALUE, VERSIONS, VALUE],
+        endpoint: Endpoint::Withdraw,
+    },
+    Row {
+        method: Method::Get,
+        pieces: &[DASH, ORG, VALUE],
+        endpoint: Endpoint::Members,
+    },
+    Row {
+        method: Method::Put,
+        pieces: &[DASH, ORG, VALUE, VALUE],
+        endpoint: Endpoint::OrgSet,
+    },
+    Row {
+        method: Method::Delete,
+        pieces: &[DASH, ORG, VALUE, VALUE],
+        endpoint: Endpoint::OrgRemove,
+    },
+    Row {
+        method: Method::Get,
+        pieces: &[DASH, TEAM, VALUE],
+        endpoint: Endpoint::Teams,
+    },
+    Row {
+        method: Method::Get,
+        pieces: &[DASH, TEAM, VALUE, VALUE],
+        endpoint: Endpoint::TeamMembers,
+    },
+    Row {
+        method: Method::Put,
+        pieces: &[DASH, TEAM, VALUE, VALUE],
+        endpoint: Endpoint::TeamCreate,
+    },
+    Row {
+        method: Method::Delete,
+        pieces: &[DASH, TEAM, VALUE, VALUE],
+        endpoint: Endpoint::TeamDestroy,
+    },
+    Row {
+        method: Method::Put,
+        pieces: &[DASH, TEAM, VALUE, VALUE, VALUE],
+        endpoint: Endpoint::TeamAdd,
+    },
+    Row {
+        method: Method::Delete,
+        pieces: &[DASH, TEAM, VALUE, VALUE, VALUE],
+        endpoint: Endpoint::TeamRemove,
+    },
+    Row {
+        method: Method::Get,
+        pieces: &[DASH, GRANT, VALUE, VALUE],
+        endpoint: Endpoint::TeamPackages,
+    },
+    Row {
+        method: Method::Put,
+        pieces: &[DASH, GRANT, VALUE, VALUE, VALUE],
+        endpoint: Endpoint::Grant,
+    },
+    Row {
+        method: Method::Delete,
+        pieces: &[DASH, GRANT, VALUE, VALUE, VALUE],
+        endpoint: Endpoint::Revoke,
+    },
 ];

@@ -1,0 +1,20 @@
+//! Laws of the routes, in the words of who reads an API page. Each stands as the contract of a
+//! function that does nothing.
+
+ghost use Rattle.registry_routes.specs.Laws.{DashIsNoName, OneRowTakes, QueriesChangeNothing};
+
+/// What follows the first `?` of a target changes nothing.
+pub fn queries_change_nothing()
+    ensures { QueriesChangeNothing }
+{}
+
+/// At most one row of the table has a method and a path, so the order of its rows is no matter.
+pub fn one_row_takes()
+    ensures { OneRowTakes }
+{}
+
+/// A path whose first segment is `-` has none of the routes that begin with the name of a package,
+/// and any other path has none but these.
+pub fn dash_is_no_name()
+    ensures { DashIsNoName }
+{}
