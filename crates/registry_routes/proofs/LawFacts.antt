@@ -16,11 +16,11 @@ use Rattle.registry_routes.specs.declared.method.Method.TheVariants.{Get, Put, P
 abbrev Text : Type 0
 Text = List ℕ
 
-and-left : (a b : Bool) → (a && b) ≡ true → a ≡ true
+pub and-left : (a b : Bool) → (a && b) ≡ true → a ≡ true
 and-left true b e = refl
 and-left false b e = e
 
-and-right : (a b : Bool) → (a && b) ≡ true → b ≡ true
+pub and-right : (a b : Bool) → (a && b) ≡ true → b ≡ true
 and-right true b e = e
 and-right false b e = cc e
 
@@ -269,15 +269,15 @@ one-row = pairs table table-apart
 -- ---- the segment `-`
 
 -- the pieces begin with the name of a package, or with the segment `-`
-abbrev begins : List Piece → Bool → Bool
+abbrev pub begins : List Piece → Bool → Bool
 begins (name ∷ ps) b = b
 begins (literal t ∷ ps) b = is_dash t && not b
 begins _ b = false
 
-abbrev row_begins : Row → Bool
+abbrev pub row_begins : Row → Bool
 row_begins r = begins r.pieces (begins_with_name r.endpoint)
 
-table-begins : list_all row_begins table ≡ true
+pub table-begins : list_all row_begins table ≡ true
 table-begins = refl
 
 not-left : (a b : Bool) → (a && not b) ≡ true → b ≡ false

@@ -1,3 +1,6 @@
+pub mod AuthorizationFacts
+pub mod EscapeFacts
+pub mod FileFacts
 pub mod LawFacts
 pub mod PairFacts
 pub mod ReadingFacts

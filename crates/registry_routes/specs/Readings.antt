@@ -9,12 +9,12 @@ use Rattle.registry_routes.specs.Pieces.{is_dash}
 use Rattle.registry_routes.specs.Routes as route
 use Rattle.registry_routes.specs.Routes.{joined, no_values, with_piece, is_same, or_later}
 use Rattle.registry_routes.specs.Table as rows
+use Rattle.registry_routes.specs.declared.endpoint.Endpoint.{Endpoint}
 use Rattle.registry_routes.specs.declared.method.Method.{Method}
 use Rattle.registry_routes.specs.declared.route.Route.{Route}
 use Rattle.registry_routes.specs.declared.route.Values.{Values}
 use Rattle.registry_routes.specs.declared.table.Piece.{Piece}
 use Rattle.registry_routes.specs.declared.table.Piece.TheVariants.{Literal, Name, Value, File}
-use Rattle.registry_routes.specs.declared.table.Row.{Row}
 
 -- ---- the code's values
 
@@ -28,8 +28,8 @@ piece_view Name = piece.name
 piece_view Value = piece.value
 piece_view File = piece.file
 
-abbrev pub row_view : Row → rows.Row
-row_view r = rows.row r.method (map piece_view r.pieces.now) r.endpoint
+abbrev pub row_view : Method × Bor (List Piece) × Endpoint → rows.Row
+row_view r = rows.row r.0 (map piece_view r.1.now) r.2
 
 abbrev pub values_view : Values → route.Values
 values_view v = record { first = v.first.now; second = v.second.now; third = v.third.now }

@@ -122,10 +122,10 @@ fn values_at<'a>(pieces: &[Piece], path: &'a [u8]) -> Option<Values<'a>>
     Some(before(*piece, value, later))
 }
 
-fn has_method(row: &Row, method: Method) -> bool
-    ensures { result ≡ is_same row.now.method method }
+fn is_method(method: Method, other: Method) -> bool
+    ensures { result ≡ is_same method other }
 {
-    row.method == method
+    method == other
 }
 
 // The first row that has the method and the path.
@@ -135,12 +135,10 @@ fn route_at<'a>(rows: &[Row], method: Method, path: &'a [u8]) -> Option<Route<'a
     let [row, rows @ ..] = rows else {
         return None;
     };
-    if has_method(row, method) {
-        if let Some(values) = values_at(row.pieces, path) {
-            return Some(Route {
-                endpoint: row.endpoint,
-                values,
-            });
+    let (row_method, pieces, endpoint) = *row;
+    if is_method(row_method, method) {
+        if let Some(values) = values_at(pieces, path) {
+            return Some(Route { endpoint, values });
         }
     }
     route_at(rows, method, path)

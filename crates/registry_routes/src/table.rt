@@ -1,9 +1,13 @@
 //! The table of routes.
 
-ghost use Rattle.std.specs.Prelude.{◌≡◌};
-
 use crate::endpoint::Endpoint;
+use crate::endpoint::Endpoint::{
+    Archive, Deprecate, Grant, Members, OrgRemove, OrgSet, OwnerAdd, OwnerRemove, Packument,
+    Publish, Revoke, SetAccess, TagRemove, TagSet, Tags, TeamAdd, TeamCreate, TeamDestroy,
+    TeamMembers, TeamPackages, TeamRemove, Teams, VersionDoc, Withdraw,
+};
 use crate::method::Method;
+use crate::method::Method::{Delete, Get, Post, Put};
 
 /// A piece of a route's path.
 #[derive(Clone, Copy)]
@@ -18,12 +22,8 @@ pub(crate) enum Piece {
     File,
 }
 
-/// A row of the table.
-pub(crate) struct Row {
-    pub(crate) method: Method,
-    pub(crate) pieces: &'static [Piece],
-    pub(crate) endpoint: Endpoint,
-}
+/// A row of the table: a method, the pieces of a path, and what is asked for.
+pub(crate) type Row = (Method, &'static [Piece], Endpoint);
 
 const DASH: Piece = Piece::Literal(b"-");
 
@@ -52,124 +52,28 @@ const VALUE: Piece = Piece::Value;
 const FILE: Piece = Piece::File;
 
 pub(crate) static ROWS: [Row; 24] = [
-    Row {
-        method: Method::Get,
-        pieces: &[NAME],
-        endpoint: Endpoint::Packument,
-    },
-    Row {
-        method: Method::Put,
-        pieces: &[NAME],
-        endpoint: Endpoint::Publish,
-    },
-    Row {
-        method: Method::Get,
-        pieces: &[NAME, VALUE],
-        endpoint: Endpoint::VersionDoc,
-    },
-    Row {
-        method: Method::Get,
-        pieces: &[NAME, DASH, FILE],
-        endpoint: Endpoint::Archive,
-    },
-    Row {
-        method: Method::Get,
-        pieces: &[DASH, PACKAGE, VALUE, TAGS],
-        endpoint: Endpoint::Tags,
-    },
-    Row {
-        method: Method::Put,
-        pieces: &[DASH, PACKAGE, VALUE, TAGS, VALUE],
-        endpoint: Endpoint::TagSet,
-    },
-    Row {
-        method: Method::Delete,
-        pieces: &[DASH, PACKAGE, VALUE, TAGS, VALUE],
-        endpoint: Endpoint::TagRemove,
-    },
-    Row {
-        method: Method::Put,
-        pieces: &[DASH, PACKAGE, VALUE, ACCESS],
-        endpoint: Endpoint::SetAccess,
-    },
-    Row {
-        method: Method::Put,
-        pieces: &[DASH, PACKAGE, VALUE, OWNERS, VALUE],
-        endpoint: Endpoint::OwnerAdd,
-    },
-    Row {
-        method: Method::Delete,
-        pieces: &[DASH, PACKAGE, VALUE, OWNERS, VALUE],
-        endpoint: Endpoint::OwnerRemove,
-    },
-    Row {
-        method: Method::Post,
-        pieces: &[DASH, PACKAGE, VALUE, DEPRECATE],
-        endpoint: Endpoint::Deprecate,
-    },
-    Row {
-        method: Method::Delete,
-        pieces: &[DASH, PACKAGE, VALUE, VERSIONS, VALUE],
-        endpoint: Endpoint::Withdraw,
-    },
-    Row {
-        method: Method::Get,
-        pieces: &[DASH, ORG, VALUE],
-        endpoint: Endpoint::Members,
-    },
-    Row {
-        method: Method::Put,
-        pieces: &[DASH, ORG, VALUE, VALUE],
-        endpoint: Endpoint::OrgSet,
-    },
-    Row {
-        method: Method::Delete,
-        pieces: &[DASH, ORG, VALUE, VALUE],
-        endpoint: Endpoint::OrgRemove,
-    },
-    Row {
-        method: Method::Get,
-        pieces: &[DASH, TEAM, VALUE],
-        endpoint: Endpoint::Teams,
-    },
-    Row {
-        method: Method::Get,
-        pieces: &[DASH, TEAM, VALUE, VALUE],
-        endpoint: Endpoint::TeamMembers,
-    },
-    Row {
-        method: Method::Put,
-        pieces: &[DASH, TEAM, VALUE, VALUE],
-        endpoint: Endpoint::TeamCreate,
-    },
-    Row {
-        method: Method::Delete,
-        pieces: &[DASH, TEAM, VALUE, VALUE],
-        endpoint: Endpoint::TeamDestroy,
-    },
-    Row {
-        method: Method::Put,
-        pieces: &[DASH, TEAM, VALUE, VALUE, VALUE],
-        endpoint: Endpoint::TeamAdd,
-    },
-    Row {
-        method: Method::Delete,
-        pieces: &[DASH, TEAM, VALUE, VALUE, VALUE],
-        endpoint: Endpoint::TeamRemove,
-    },
-    Row {
-        method: Method::Get,
-        pieces: &[DASH, GRANT, VALUE, VALUE],
-        endpoint: Endpoint::TeamPackages,
-    },
-    Row {
-        method: Method::Put,
-        pieces: &[DASH, GRANT, VALUE, VALUE, VALUE],
-        endpoint: Endpoint::Grant,
-    },
-    Row {
-        method: Method::Delete,
-        pieces: &[DASH, GRANT, VALUE, VALUE, VALUE],
-        endpoint: Endpoint::Revoke,
-    },
+    (Get, &[NAME], Packument),
+    (Put, &[NAME], Publish),
+    (Get, &[NAME, VALUE], VersionDoc),
+    (Get, &[NAME, DASH, FILE], Archive),
+    (Get, &[DASH, PACKAGE, VALUE, TAGS], Tags),
+    (Put, &[DASH, PACKAGE, VALUE, TAGS, VALUE], TagSet),
+    (Delete, &[DASH, PACKAGE, VALUE, TAGS, VALUE], TagRemove),
+    (Put, &[DASH, PACKAGE, VALUE, ACCESS], SetAccess),
+    (Put, &[DASH, PACKAGE, VALUE, OWNERS, VALUE], OwnerAdd),
+    (Delete, &[DASH, PACKAGE, VALUE, OWNERS, VALUE], OwnerRemove),
+    (Post, &[DASH, PACKAGE, VALUE, DEPRECATE], Deprecate),
+    (Delete, &[DASH, PACKAGE, VALUE, VERSIONS, VALUE], Withdraw),
+    (Get, &[DASH, ORG, VALUE], Members),
+    (Put, &[DASH, ORG, VALUE, VALUE], OrgSet),
+    (Delete, &[DASH, ORG, VALUE, VALUE], OrgRemove),
+    (Get, &[DASH, TEAM, VALUE], Teams),
+    (Get, &[DASH, TEAM, VALUE, VALUE], TeamMembers),
+    (Put, &[DASH, TEAM, VALUE, VALUE], TeamCreate),
+    (Delete, &[DASH, TEAM, VALUE, VALUE], TeamDestroy),
+    (Put, &[DASH, TEAM, VALUE, VALUE, VALUE], TeamAdd),
+    (Delete, &[DASH, TEAM, VALUE, VALUE, VALUE], TeamRemove),
+    (Get, &[DASH, GRANT, VALUE, VALUE], TeamPackages),
+    (Put, &[DASH, GRANT, VALUE, VALUE, VALUE], Grant),
+    (Delete, &[DASH, GRANT, VALUE, VALUE, VALUE], Revoke),
 ];
