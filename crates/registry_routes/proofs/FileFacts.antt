@@ -1,16 +1,16 @@
 -- The name of a file shows one version.
-use Rattle.std.proofs.Common.{◌≡◌, ◌≢◌, ◌⊎◌, ℕ, ◌++◌, List, [], ◌∷◌, length, Some, None, Option, Bool, true, false, refl, sym, ap, ◌∙◌, inl, inr, subst, arith, append_assoc, length-append}
+use Rattle.std.proofs.Common.{◌≡◌, ◌≢◌, ℕ, ◌++◌, [], ◌∷◌, length, Some, None, Option, Bool, true, false, refl, sym, ap, ◌∙◌, inl, inr, subst, arith, append_assoc, length-append}
 use Rattle.std.specs.Prelude.{◌&&◌, codes, MatchOption}
 use Rattle.std.specs.Borrow.{Bor}
 use Rattle.registry_names.proofs.NameFacts.{scope_of-name}
 use Rattle.registry_names.specs.Names.{IsNameOf, is_scoped_part, is_scoped_start}
 use Rattle.registry_names.specs.Texts.{Text}
-use Rattle.registry_names.specs.Versions.{VersionParts, IsVersion, IsVersionOf}
+use Rattle.registry_names.specs.Versions.{IsVersion}
 use Rattle.registry_names.specs.Faults.{IsMemoryOr}
 use Rattle.registry_names.specs.declared.refusal.Refusal.{Refusal}
 use Rattle.registry_names.specs.declared.refusal.Refusal.TheVariants.{BadVersion, NotFound}
 use Rattle.registry_names.specs.declared.stop.Stop.TheVariants.{Refused}
-use Rattle.registry_routes.specs.Files.{file_text, IsNameOrPart, IsVersionText, IsFileOf, IsNoFileOf}
+use Rattle.registry_routes.specs.Files.{file_text, IsNameOrPart, IsVersionText, IsNoFileOf}
 use Rattle.registry_routes.specs.Written.{StopsValue, text_of}
 
 -- ---- parts of texts

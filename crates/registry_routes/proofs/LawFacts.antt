@@ -1,6 +1,6 @@
 -- Why the laws of routes hold.
 use Rattle.std.proofs.Common.{◌≡◌, ◌<◌, ℕ, zero, suc, ◌==◌, ◌++◌, List, [], ◌∷◌, length, Some, None, Option, Bool, true, false, refl, sym, ap, ◌∙◌, inl, inr, arith}
-use Rattle.std.specs.Prelude.{◌&&◌, ◌||◌, not, take_while, bytes_eq, codes, option_map, option_and_then, slice_index_or, is_some, IsSome, IsNone, AllPairs}
+use Rattle.std.specs.Prelude.{◌&&◌, ◌||◌, not, bytes_eq, option_map, option_and_then, slice_index_or, IsSome, AllPairs}
 use Rattle.std.specs.List.{list_all}
 use Rattle.std.proofs.lemmas.Bool.{cases_Bool}
 use Rattle.std.proofs.lemmas.List.Sums.{take_while-cons}

@@ -1,13 +1,13 @@
 -- A path that is read from its front on has the values of its segments.
-use Rattle.std.proofs.Common.{◌≡◌, ℕ, List, [], ◌∷◌, Some, None, Option, Bool, true, false, refl, sym, ap, ◌∙◌, inl, inr}
+use Rattle.std.proofs.Common.{◌≡◌, ℕ, List, [], ◌∷◌, Some, None, Option, true, false, refl, sym, ap, ◌∙◌, inl, inr}
 use Rattle.std.specs.Prelude.{bytes_eq, option_map, option_and_then}
 use Rattle.std.proofs.lemmas.Bool.{cases_Bool}
-use Rattle.registry_routes.specs.Paths.{segments_of, is_scope}
+use Rattle.registry_routes.specs.Paths.{path_of, segments_of, is_scope}
 use Rattle.registry_routes.specs.Pieces.{Piece, literal, name, value, file, is_dash}
-use Rattle.registry_routes.specs.Routes.{Values, Route, joined, piece_of, with_piece, values_in, values_of_row, or_later, route_in, is_same}
+use Rattle.registry_routes.specs.Routes.{Values, Route, joined, piece_of, with_piece, values_in, values_of_row, or_later, route_in, route_of, is_same}
 use Rattle.registry_routes.specs.Routes as routes
-use Rattle.registry_routes.specs.Table.{Row}
-use Rattle.registry_routes.specs.Readings.{segment_at, pair_at, piece_at, literal_from, name_from, file_from, with_next, with_later, values_at, values_at_row, route_at}
+use Rattle.registry_routes.specs.Table.{Row, table}
+use Rattle.registry_routes.specs.Readings.{segment_at, piece_at, literal_from, name_from, file_from, with_later, values_at, values_at_row, route_at}
 use Rattle.registry_routes.specs.declared.method.Method.{Method}
 use Rattle.registry_routes.proofs.SegmentFacts.{with_segments, no-segments, more-segments}
 
@@ -135,7 +135,7 @@ pieces-read : (p : Piece) (ps : List Piece) → ((path : Text) → values_at ps 
 pieces-read p ps ih None = refl
 pieces-read p ps ih (Some v) = ap (option_map (with_piece p v.0)) (ih v.1) ∙ later-read p ps v.0 v.1 (segments_of v.1)
 
-pub values-read : (ps : List Piece) (path : Text) → values_at ps path ≡ option_and_then (values_in ps) (segments_of path)
+values-read : (ps : List Piece) (path : Text) → values_at ps path ≡ option_and_then (values_in ps) (segments_of path)
 values-read [] [] = rw no-segments refl
 values-read [] (b ∷ path) = rw (more-segments b path) (ends-read_next (segment_at (b ∷ path)))
 values-read (p ∷ ps) path =
@@ -169,9 +169,14 @@ no-rows m None = refl
 no-rows m (Some ss) = refl
 
 -- the first row that takes a path takes its segments
-pub rows-read : (rows : List Row) (m : Method) (path : Text) → route_at rows m path ≡ option_and_then (route_in rows m) (segments_of path)
+rows-read : (rows : List Row) (m : Method) (path : Text) → route_at rows m path ≡ option_and_then (route_in rows m) (segments_of path)
 rows-read [] m path = no-rows m (segments_of path)
 rows-read (r ∷ rows) m path =
     ap (λ (o : Option Values). or_later r.endpoint o (route_at rows m path)) (row-read r m path)
     ∙ ap (or_later r.endpoint (option_and_then (values_of_row r m) (segments_of path))) (rows-read rows m path)
     ∙ first-row r rows m (segments_of path)
+
+-- the first row of the table that takes the path of a target is its route
+pub table-read : (o : Option Route) (m : Method) (target : Text) → o ≡ route_at table m (path_of target) → o ≡ route_of m target
+unfolding route_of
+table-read o m target e = e ∙ rows-read table m (path_of target)

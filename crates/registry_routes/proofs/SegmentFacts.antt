@@ -1,10 +1,10 @@
 -- The segments of a path, one after the other.
-use Rattle.std.proofs.Common.{◌≡◌, ℕ, ◌==◌, ◌++◌, List, [], ◌∷◌, length, Some, None, Option, Bool, true, false, refl, ap, ◌∙◌, inl, inr}
-use Rattle.std.specs.Prelude.{◌&&◌, not, drop, take_while, option_map, option_and_then, if◌then◌else◌}
+use Rattle.std.proofs.Common.{◌≡◌, ℕ, ◌==◌, List, [], ◌∷◌, Some, None, Option, Bool, true, false, refl, inl, inr}
+use Rattle.std.specs.Prelude.{◌&&◌, drop, take_while, option_map, option_and_then, if◌then◌else◌}
 use Rattle.std.specs.List.{list_all, slice_split}
 use Rattle.std.proofs.lemmas.Bool.{cases_Bool}
 use Rattle.std.proofs.lemmas.List.Sums.{take_while-cons}
-use Rattle.registry_routes.specs.Paths.{is_slash, has_bytes, behind_slash, segments_of}
+use Rattle.registry_routes.specs.Paths.{is_slash, has_bytes, segments_of}
 use Rattle.registry_routes.specs.Readings.{is_within, segment_len, some_segment, segment_at}
 
 -- the parts behind a first one, of which this follows

@@ -1,5 +1,5 @@
 -- What the value of an `authorization` field says (RFC 6750, section 2.1).
-use Rattle.std.specs.Prelude.{◌≡◌, ◌==◌, List, [], ◌∷◌, ◌++◌, codes, map, Option, Some, None, if◌then◌else◌, IsUtf8}
+use Rattle.std.specs.Prelude.{◌≡◌, ◌==◌, [], ◌∷◌, ◌++◌, codes, map, Option, Some, None, if◌then◌else◌, IsUtf8}
 use Rattle.std.specs.Char.{to_ascii_lowercase}
 use Rattle.registry_names.specs.Texts.{Text}
 

@@ -1,5 +1,5 @@
 -- The pieces that the path of a route is made of.
-use Rattle.std.specs.Prelude.{Bool, List, codes, bytes_eq}
+use Rattle.std.specs.Prelude.{Bool, codes, bytes_eq}
 use Rattle.registry_names.specs.Texts.{Text}
 
 pub data Piece : Type 0 where

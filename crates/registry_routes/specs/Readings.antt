@@ -1,6 +1,6 @@
 -- How a path is read from its front on, as the code does it, for private clauses. That it comes to
 -- the same as the segments do is proved.
-use Rattle.std.specs.Prelude.{ℕ, ◌==◌, ◌&&◌, not, Bool, List, [], ◌∷◌, length, drop, take_while, bytes_eq, map, Option, Some, None, option_map, option_and_then, if◌then◌else◌}
+use Rattle.std.specs.Prelude.{ℕ, ◌&&◌, not, Bool, List, [], ◌∷◌, length, drop, take_while, bytes_eq, map, Option, Some, None, option_map, option_and_then, if◌then◌else◌}
 use Rattle.std.specs.Borrow.{Bor}
 use Rattle.registry_names.specs.Texts.{Text}
 use Rattle.registry_routes.specs.Paths.{is_slash, has_bytes, is_scope}

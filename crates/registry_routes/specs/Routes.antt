@@ -1,5 +1,5 @@
 -- The route that a method and a target take, and the values in the target's path.
-use Rattle.std.specs.Prelude.{ℕ, Bool, true, false, List, [], ◌∷◌, ◌++◌, bytes_eq, Option, Some, None, option_map, option_and_then, if◌then◌else◌}
+use Rattle.std.specs.Prelude.{Bool, true, false, List, [], ◌∷◌, ◌++◌, bytes_eq, Option, Some, None, option_map, option_and_then, if◌then◌else◌}
 use Rattle.registry_names.specs.Texts.{Text}
 use Rattle.registry_routes.specs.Paths.{path_of, segments_of, is_scope}
 use Rattle.registry_routes.specs.Pieces.{Piece, literal, name, value, file, is_dash}
