@@ -1,0 +1,7 @@
+pub mod AuthorizationFacts
+pub mod EscapeFacts
+pub mod FileFacts
+pub mod LawFacts
+pub mod PairFacts
+pub mod ReadingFacts
+pub mod SegmentFacts

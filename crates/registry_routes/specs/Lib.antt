@@ -1,0 +1,10 @@
+pub mod Authorization
+pub mod Bodies
+pub mod Files
+pub mod Laws
+pub mod Paths
+pub mod Pieces
+pub mod Readings
+pub mod Routes
+pub mod Table
+pub mod Written

@@ -1,0 +1,29 @@
+//! What a request's method, target, body and authorization mean: which route they take, and the
+//! values in them.
+//!
+//! The routes are one table, which stands in `specs/Table` as an API page has it. A route is found
+//! exactly where the table has one, and takes no memory. The values of a path are decoded after
+//! routing. What builds a request of these is above: it reads the values of the path from left to
+//! right, then the body, and then the authorization.
+#![tactic(auto)]
+
+mod authorization;
+mod body;
+mod endpoint;
+mod file;
+pub mod laws;
+mod method;
+mod path;
+mod route;
+mod table;
+mod value;
+
+pub use crate::authorization::bearer_token;
+pub use crate::body::{
+    Deprecation, deprecation_of_body, grant_of_body, role_of_body, status_of_body, version_of_body,
+};
+pub use crate::endpoint::Endpoint;
+pub use crate::file::version_of_file;
+pub use crate::method::Method;
+pub use crate::route::{Route, Values, route_of};
+pub use crate::value::{decoded, ident_in, name_in, tag_in, version_in};
