@@ -1,0 +1,3 @@
+pub mod MomentFacts
+pub mod RowFacts
+pub mod WholeFacts

@@ -1,0 +1,6 @@
+pub mod Lines
+pub mod Prints
+pub mod Spellings
+pub mod Subcommands
+pub mod Tables
+pub mod Usages

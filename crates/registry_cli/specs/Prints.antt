@@ -1,0 +1,27 @@
+-- What the program prints of an answer, and the status with which it ends.
+use Rattle.std.specs.Prelude.{ℕ, List, [], ◌++◌, codes}
+use Rattle.registry_names.specs.Refusals.{refusal_text}
+use Rattle.registry_rules.specs.declared.reply.Reply.{Reply}
+use Rattle.registry_rules.specs.declared.reply.Reply.TheVariants.{Created, Done, Doc, Bytes, Refused}
+use Rattle.registry_cli.specs.declared.printed.Printed.{Printed}
+
+abbrev pub newline : List ℕ
+newline = codes "\n"
+
+-- on standard output, status 0
+abbrev pub on_output : List ℕ → Printed
+on_output bytes = record { out = bytes; err = []; status = 0 }
+
+-- on standard error, status 1
+abbrev pub on_errors : List ℕ → Printed
+on_errors text = record { out = []; err = text; status = 1 }
+
+abbrev pub done : List ℕ
+done = codes "{\"ok\":true}"
+
+abbrev pub printed : Reply → Printed
+printed Created = on_output (done ++ newline)
+printed Done = on_output (done ++ newline)
+printed (Doc text) = on_output (text ++ newline)
+printed (Bytes archive) = on_output archive
+printed (Refused refusal) = on_errors (codes "refused: " ++ refusal_text refusal ++ newline)

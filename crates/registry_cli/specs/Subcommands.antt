@@ -1,0 +1,153 @@
+-- The words that the program takes: its options, and its subcommands with their words, a line for each.
+use Rattle.std.specs.Prelude.{ℕ, pos, true, List, [], ◌∷◌, fold, Some, codes}
+use Rattle.clap.specs.Walk.{Rule, Text}
+use Rattle.clap.specs.Simple.{App, Shape, new_app, new_rule, on_top, with_rule, with_subcommand}
+use Rattle.clap.specs.declared.builder.action.ArgAction.TheVariants.{SetTrue}
+use Rattle.clap.specs.declared.builder.value_parser.ValueParser.{ValueParser}
+use Rattle.clap.specs.declared.builder.value_parser.ValueParser.TheVariants.{Signed}
+
+-- ---- what a word can be
+
+-- a word that has to be there
+abbrev pub required : Text → Rule
+required id = record (new_rule id) { required = true }
+
+-- a word that may be left out, and is this text then
+abbrev pub optional : Text → Text → Rule
+optional id text = record (new_rule id) { defaults = text ∷ [] }
+
+-- an option, `--name VALUE`
+abbrev pub option : Text → Text → Rule
+option id name = record (new_rule id) { long = Some name }
+
+-- whole numbers, at least and at most so much
+abbrev pub numbers : ℕ → ℕ → ValueParser
+numbers least most = Signed (pos least) (pos most)
+
+-- an option whose value these are
+abbrev pub number : Text → Text → ValueParser → Rule
+number id name values = record (option id name) { parser = Some values }
+
+abbrev pub with_default : Text → Rule → Rule
+with_default text word = record word { defaults = text ∷ [] }
+
+-- ---- the options before the subcommand
+
+-- the seconds of the years 1970 to 9999
+abbrev pub moments : ValueParser
+moments = numbers 0 253402300799
+
+abbrev pub db : Rule
+db = with_default (codes "registry.db") (option (codes "PATH") (codes "db"))
+
+abbrev pub as_user : Rule
+as_user = option (codes "USER") (codes "as")
+
+-- a flag
+abbrev pub as_operator : Rule
+as_operator = record (option (codes "operator") (codes "operator")) { action = Some SetTrue }
+
+abbrev pub at_moment : Rule
+at_moment = number (codes "SECONDS") (codes "at") moments
+
+abbrev pub options : List Rule
+options = db ∷ as_user ∷ as_operator ∷ at_moment ∷ []
+
+-- ---- the words of subcommands
+
+abbrev pub user : Rule
+user = required (codes "USER")
+
+abbrev pub token : Rule
+token = required (codes "TOKEN")
+
+abbrev pub org : Rule
+org = required (codes "ORG")
+
+abbrev pub role : Rule
+role = optional (codes "ROLE") (codes "developer")
+
+abbrev pub team : Rule
+team = required (codes "TEAM")
+
+abbrev pub name : Rule
+name = required (codes "PACKAGE")
+
+abbrev pub level : Rule
+level = required (codes "LEVEL")
+
+abbrev pub status : Rule
+status = required (codes "STATUS")
+
+abbrev pub file : Rule
+file = required (codes "FILE")
+
+abbrev pub tag : Rule
+tag = required (codes "TAG")
+
+abbrev pub version : Rule
+version = required (codes "VERSION")
+
+abbrev pub selector : Rule
+selector = required (codes "SELECTOR")
+
+abbrev pub message : Rule
+message = required (codes "MESSAGE")
+
+abbrev pub port : Rule
+port = with_default (codes "8080") (number (codes "PORT") (codes "port") (numbers 1 65535))
+
+abbrev pub connections : Rule
+connections = with_default (codes "1000000") (number (codes "CONNECTIONS") (codes "connections") (numbers 1 1000000))
+
+-- ---- the subcommands
+
+abbrev pub subcommands : List (Text × List Rule)
+subcommands =
+    (codes "user-add", user ∷ [])
+    ∷ (codes "token-add", user ∷ token ∷ [])
+    ∷ (codes "org-create", org ∷ user ∷ [])
+    ∷ (codes "org-set", org ∷ user ∷ role ∷ [])
+    ∷ (codes "org-rm", org ∷ user ∷ [])
+    ∷ (codes "team-create", org ∷ team ∷ [])
+    ∷ (codes "team-destroy", org ∷ team ∷ [])
+    ∷ (codes "team-add", org ∷ team ∷ user ∷ [])
+    ∷ (codes "team-rm", org ∷ team ∷ user ∷ [])
+    ∷ (codes "grant", org ∷ team ∷ name ∷ level ∷ [])
+    ∷ (codes "revoke", org ∷ team ∷ name ∷ [])
+    ∷ (codes "access", name ∷ status ∷ [])
+    ∷ (codes "owner-add", name ∷ user ∷ [])
+    ∷ (codes "owner-rm", name ∷ user ∷ [])
+    ∷ (codes "publish", file ∷ [])
+    ∷ (codes "tag-set", name ∷ tag ∷ version ∷ [])
+    ∷ (codes "tag-rm", name ∷ tag ∷ [])
+    ∷ (codes "deprecate", name ∷ selector ∷ message ∷ [])
+    ∷ (codes "withdraw", name ∷ version ∷ [])
+    ∷ (codes "packument", name ∷ [])
+    ∷ (codes "version-doc", name ∷ version ∷ [])
+    ∷ (codes "archive", name ∷ version ∷ [])
+    ∷ (codes "tags", name ∷ [])
+    ∷ (codes "members", org ∷ [])
+    ∷ (codes "teams", org ∷ [])
+    ∷ (codes "team-members", org ∷ team ∷ [])
+    ∷ (codes "team-packages", org ∷ team ∷ [])
+    ∷ (codes "serve", port ∷ connections ∷ [])
+    ∷ []
+
+-- ---- the command
+
+abbrev pub with_rules : App → List Rule → App
+with_rules a words = fold with_rule a words
+
+abbrev pub subcommand : Text × List Rule → Shape
+subcommand s = (with_rules (new_app s.0) s.1).top
+
+abbrev pub with_subcommands : App → List (Text × List Rule) → App
+with_subcommands a rows = fold (λ b s. with_subcommand b (subcommand s)) a rows
+
+-- the program's name isn't among the words, and a subcommand has to be there
+abbrev pub bare : App
+bare = on_top (λ s. record s { no_binary_name = true; subcommand_required = true; disable_help_subcommand = true }) (new_app (codes "registry"))
+
+abbrev pub registry : App
+registry = with_subcommands (with_rules bare options) subcommands

@@ -1,0 +1,19 @@
+-- The program's own table of subcommands, as the definition's.
+use Rattle.std.specs.Prelude.{List, map}
+use Rattle.clap.specs.Walk.{Rule, Text}
+use Rattle.registry_cli.specs.Subcommands.{number, numbers, optional, required, with_default}
+use Rattle.registry_cli.specs.declared.subcommand.Need.{Need}
+use Rattle.registry_cli.specs.declared.subcommand.Need.TheVariants.{Required, Default, Number}
+use Rattle.registry_cli.specs.declared.subcommand.Word.{Word}
+use Rattle.registry_cli.specs.declared.subcommand.Subcommand.{Subcommand}
+
+abbrev pub rule : Text → Need → Rule
+rule id Required = required id
+rule id (Default text) = optional id text.now
+rule id (Number name most text) = with_default text.now (number id name.now (numbers 1 most))
+
+abbrev pub rule_of_word : Word → Rule
+rule_of_word w = rule w.id.now w.need
+
+abbrev pub row_of : Subcommand → Text × List Rule
+row_of s = (s.name.now, map rule_of_word s.words.now)

@@ -1,0 +1,164 @@
+//! The command as `clap` reads it.
+
+ghost use Rattle.std.specs.Prelude.{◌≡◌, false, map, codes, IfOk};
+ghost use Rattle.clap.specs.Simple.{app_of, new_app, with_rule, with_subcommand};
+ghost use Rattle.clap.specs.Walk.{rule_of};
+ghost use Rattle.clap.specs.declared.builder.command.Command.TheViews.{out-Command};
+ghost use Rattle.registry_cli.specs.Subcommands as spec;
+ghost use Rattle.registry_cli.specs.Subcommands.{bare, options, with_rules, with_subcommands};
+ghost use Rattle.registry_cli.specs.Tables.{row_of, rule_of_word};
+
+use crate::subcommand::{Need, Subcommand, Word, all};
+use clap::builder::ValueParser;
+use clap::{Arg, ArgAction, Command};
+use std::alloc::{AllocError, Global};
+
+/// The last second of the year 9999.
+const LAST_SECOND: i64 = 253_402_300_799;
+
+const ABOUT: &str = "A package registry for one house, in npm's manner";
+
+const EXAMPLE: &str = "Example: registry --db registry.db --operator user-add ann";
+
+// The argument that a word is.
+fn argument<'a>(alloc: Global, word: &Word) -> Arg<'a>
+    ensures rule { rule_of result ≡ rule_of_word word.now }
+    ensures local { result.global ≡ false }
+{
+    let argument = Arg::new(alloc, word.id).help(word.help);
+    match word.need {
+        Need::Required => argument.required(true),
+        Need::Default(text) => argument.default_value(text),
+        Need::Number {
+            option,
+            greatest,
+            default,
+        } => argument
+            .long(option)
+            .value_parser(ValueParser::Signed(1, i64::from(greatest)))
+            .default_value(default),
+    }
+}
+
+fn with_argument<'a>(command: Command<'a>, argument: Arg<'a>) -> Result<Command<'a>, AllocError>
+    requires command { (out-Command command).has_globals ≡ false }
+    requires argument { argument.global ≡ false }
+    ensures app { IfOk result (λ c. app_of c ≡ with_rule (app_of command.entry) (rule_of argument.entry)) }
+    ensures local { IfOk result (λ c. (out-Command c).has_globals ≡ false) }
+{
+    command.arg(argument)
+}
+
+fn with_words<'a>(
+    alloc: Global,
+    command: Command<'a>,
+    words: &[Word],
+) -> Result<Command<'a>, AllocError>
+    requires local { (out-Command command).has_globals ≡ false }
+    ensures app { IfOk result (λ c. app_of c ≡ with_rules (app_of command.entry) (map rule_of_word words.now)) }
+    ensures local { IfOk result (λ c. (out-Command c).has_globals ≡ false) }
+{
+    let mut command = command;
+    for word in words {
+        command = with_argument(command, argument(alloc, word))?;
+    }
+    Ok(command)
+}
+
+fn subcommand<'a>(alloc: Global, row: &Subcommand) -> Result<Command<'a>, AllocError>
+    ensures app { IfOk result (λ c. app_of c ≡ with_rules (new_app (row_of row.now).0) (row_of row.now).1) }
+    ensures local { IfOk result (λ c. (out-Command c).has_globals ≡ false) }
+{
+    let command = Command::new(alloc, row.name)
+        .about(row.about)
+        .after_help(row.example);
+    with_words(alloc, command, row.words)
+}
+
+fn with_subcommand<'a>(
+    alloc: Global,
+    command: Command<'a>,
+    row: &Subcommand,
+) -> Result<Command<'a>, AllocError>
+    requires local { (out-Command command).has_globals ≡ false }
+    ensures app { IfOk result (λ c. app_of c ≡ with_subcommand (app_of command.entry) (spec.subcommand (row_of row.now))) }
+    ensures local { IfOk result (λ c. (out-Command c).has_globals ≡ false) }
+{
+    command.subcommand(subcommand(alloc, row)?)
+}
+
+fn with_rows<'a>(
+    alloc: Global,
+    command: Command<'a>,
+    rows: &[Subcommand],
+) -> Result<Command<'a>, AllocError>
+    requires local { (out-Command command).has_globals ≡ false }
+    ensures app { IfOk result (λ c. app_of c ≡ with_subcommands (app_of command.entry) (map row_of rows.now)) }
+    ensures local { IfOk result (λ c. (out-Command c).has_globals ≡ false) }
+{
+    let mut command = command;
+    for row in rows {
+        command = with_subcommand(alloc, command, row)?;
+    }
+    Ok(command)
+}
+
+// The options that name the file and the user.
+fn with_names<'a>(alloc: Global, command: Command<'a>) -> Result<Command<'a>, AllocError>
+    requires local { (out-Command command).has_globals ≡ false }
+    ensures app { IfOk result (λ c. app_of c ≡ with_rule (with_rule (app_of command.entry) spec.db) spec.as_user) }
+    ensures local { IfOk result (λ c. (out-Command c).has_globals ≡ false) }
+{
+    let db = Arg::new(alloc, "PATH")
+        .long("db")
+        .help("The file that keeps the registry")
+        .default_value("registry.db");
+    let user = Arg::new(alloc, "USER").long("as").help("Ask as this user");
+    with_argument(with_argument(command, db)?, user)
+}
+
+// The flag of the operator, and the moment.
+fn with_moment<'a>(alloc: Global, command: Command<'a>) -> Result<Command<'a>, AllocError>
+    requires local { (out-Command command).has_globals ≡ false }
+    ensures app { IfOk result (λ c. app_of c ≡ with_rule (with_rule (app_of command.entry) spec.as_operator) spec.at_moment) }
+    ensures local { IfOk result (λ c. (out-Command c).has_globals ≡ false) }
+{
+    let operator = Arg::new(alloc, "operator")
+        .long("operator")
+        .help("Ask as the operator, who adds users, tokens and organisations")
+        .action(ArgAction::SetTrue);
+    let at = Arg::new(alloc, "SECONDS")
+        .long("at")
+        .help("Ask at this second since 1970, and not now")
+        .value_parser(ValueParser::Signed(0, LAST_SECOND));
+    with_argument(with_argument(command, operator)?, at)
+}
+
+// The command before its options.
+fn bare<'a>(alloc: Global) -> Result<Command<'a>, AllocError>
+    ensures app { IfOk result (λ c. app_of c ≡ bare) }
+    ensures local { IfOk result (λ c. (out-Command c).has_globals ≡ false) }
+{
+    Command::new(alloc, "registry")
+        .no_binary_name(true)
+        .subcommand_required(true)
+        .disable_help_subcommand(true)
+        .about(ABOUT)
+        .after_help(EXAMPLE)
+        .bin_name("registry")
+}
+
+fn with_options<'a>(alloc: Global) -> Result<Command<'a>, AllocError>
+    ensures app { IfOk result (λ c. app_of c ≡ with_rules bare options) }
+    ensures local { IfOk result (λ c. (out-Command c).has_globals ≡ false) }
+{
+    with_moment(alloc, with_names(alloc, bare(alloc)?)?)
+}
+
+/// The whole command.
+pub(crate) fn registry<'a>(alloc: Global) -> Result<Command<'a>, AllocError>
+    ensures app { IfOk result (λ c. app_of c ≡ spec.registry) }
+    ensures local { IfOk result (λ c. (out-Command c).has_globals ≡ false) }
+{
+    with_rows(alloc, with_options(alloc)?, all())
+}

@@ -1,0 +1,188 @@
+//! Reading words.
+
+ghost use Rattle.std.specs.Prelude.{◌≡◌, [], ◌∷◌, true, false, map, option_and_then, option_map, IfErr, IfOk};
+ghost use Rattle.std.specs.Str.{bytes_eq};
+ghost use Rattle.clap.specs.Faults.{fault_of};
+ghost use Rattle.clap.specs.Matches.{found_of};
+ghost use Rattle.clap.specs.Simple.{subcommand_rows_of};
+ghost use Rattle.clap.specs.Takes.{takes};
+ghost use Rattle.clap.specs.Walk.{first_of, rows_of};
+ghost use Rattle.registry_cli.specs.Lines as spec;
+ghost use Rattle.registry_cli.specs.Lines.{IsWhole, are_both, are_both_in, at_in, has_both, is_operator_in, line_of, told, value_in, who_in};
+ghost use Rattle.registry_cli.specs.Subcommands.{registry};
+ghost use Rattle.registry_cli.specs.Usages.{IsMemoryOrBoth, said_of_both};
+
+use crate::command::registry;
+use crate::meaning::{Line, Who};
+use crate::subcommand::{Word, called};
+use crate::usage::Usage;
+use crate::words::Words;
+use clap::ArgMatches;
+use registry_names::{Moment, Text};
+use std::alloc::{AllocError, Global};
+
+/// What the words after the program's name mean.
+///
+/// `Memory` comes where no memory is left. Words that the program doesn't take, or that ask for
+/// help, are `Usage::Words` with what is to be said of them: the text of `clap`, which ends in a
+/// newline, or `--as excludes --operator` where they have both.
+pub fn line(alloc: Global, words: &[Text]) -> Result<Line, Usage>
+    ensures ok { IfOk result (λ l. (l ≡ line_of words.now) × (has_both words.now ≡ false)) }
+    ensures whole { IfOk result (λ l. IsWhole l.what) }
+    ensures faultless { IfOk result (λ _. fault_of registry words.now ≡ []) }
+    ensures err { IfErr result (λ u. takes registry words.now ≡ true
+        → IsMemoryOrBoth u (has_both words.now)) }
+{
+    let texts = texts(alloc, words)?;
+    match registry(alloc)?.try_get_matches_from(texts.as_slice()) {
+        Ok(matches) => line_in(alloc, &matches),
+        Err(error) => Err(Usage::said(alloc, &error)),
+    }
+}
+
+// The texts as `clap` takes them.
+fn texts<'a>(alloc: Global, words: &'a [Text]) -> Result<Vec<&'a str>, AllocError>
+    ensures { IfOk result (λ t. map (λ s. s.now) t.items ≡ words.now) }
+{
+    let mut texts = Vec::new(alloc);
+    for word in words {
+        texts.push(word.as_str())?;
+    }
+    Ok(texts)
+}
+
+fn line_in(alloc: Global, matches: &ArgMatches<'_>) -> Result<Line, Usage>
+    ensures ok { IfOk result (λ l.
+        (l ≡ spec.line_in (rows_of (found_of matches.now)) (subcommand_rows_of matches.now))
+        × (are_both_in (rows_of (found_of matches.now)) ≡ false)) }
+    ensures err { IfErr result (λ u. IsMemoryOrBoth u (are_both_in (rows_of (found_of matches.now)))) }
+{
+    Ok(Line {
+        db: Text::from_str(alloc, value(matches, "PATH"))?,
+        who: caller(alloc, matches)?,
+        at: at(matches),
+        what: Words::from(what(alloc, matches)?),
+    })
+}
+
+// The value of the word that is called so, if it is there.
+#[tactic(auto, using(crate::proofs::RowFacts::given_is))]
+fn given<'a>(matches: &ArgMatches<'a>, id: &str) -> Option<&'a str>
+    ensures { option_map (λ s. s.now) result ≡ first_of id.now (rows_of (found_of matches.now)) }
+{
+    matches.get_str(id)
+}
+
+// The value of the word that is called so, and the empty text where it was left out.
+#[tactic(auto, using(crate::proofs::RowFacts::value_is))]
+fn value<'a>(matches: &ArgMatches<'a>, id: &str) -> &'a str
+    ensures { result.now ≡ value_in (rows_of (found_of matches.now)) id.now }
+{
+    match matches.get_str(id) {
+        Some(text) => text,
+        None => "",
+    }
+}
+
+fn is_same(text: &str, other: &str) -> bool
+    ensures { result ≡ bytes_eq text.now other.now }
+{
+    text == other
+}
+
+fn is_operator(matches: &ArgMatches<'_>) -> bool
+    ensures { result ≡ is_operator_in (rows_of (found_of matches.now)) }
+{
+    is_same(value(matches, "operator"), "true")
+}
+
+// What is said where both are asked for.
+fn both(alloc: Global) -> Result<Text, AllocError>
+    ensures { IfOk result (λ t. t ≡ said_of_both) }
+{
+    Text::from_str(alloc, "--as excludes --operator")
+}
+
+fn who_asks(alloc: Global, user: Option<&str>, is_operator: bool) -> Result<Who, Usage>
+    ensures ok { IfOk result (λ w. (w ≡ spec.who_asks (option_map (λ s. s.now) user.entry) is_operator)
+        × (are_both (option_map (λ s. s.now) user.entry) is_operator ≡ false)) }
+    ensures err { IfErr result (λ u. IsMemoryOrBoth u (are_both (option_map (λ s. s.now) user.entry) is_operator)) }
+{
+    match (user, is_operator) {
+        (Some(_), true) => Err(Usage::Words(both(alloc)?)),
+        (Some(name), false) => Ok(Who::User(Text::from_str(alloc, name)?)),
+        (None, true) => Ok(Who::Operator),
+        (None, false) => Ok(Who::Anonymous),
+    }
+}
+
+fn caller(alloc: Global, matches: &ArgMatches<'_>) -> Result<Who, Usage>
+    ensures ok { IfOk result (λ w. (w ≡ who_in (rows_of (found_of matches.now)))
+        × (are_both_in (rows_of (found_of matches.now)) ≡ false)) }
+    ensures err { IfErr result (λ u. IsMemoryOrBoth u (are_both_in (rows_of (found_of matches.now)))) }
+{
+    who_asks(alloc, given(matches, "USER"), is_operator(matches))
+}
+
+// The moment that the text spells.
+fn moment_in(text: &str) -> Option<Moment>
+    ensures { result ≡ spec.moment_in text.now }
+{
+    match text.parse::<i64>() {
+        Ok(seconds) => Moment::new(seconds),
+        Err(_) => None,
+    }
+}
+
+fn moment_of(text: Option<&str>) -> Option<Moment>
+    ensures { result ≡ option_and_then spec.moment_in (option_map (λ s. s.now) text.entry) }
+{
+    match text {
+        Some(text) => moment_in(text),
+        None => None,
+    }
+}
+
+fn at(matches: &ArgMatches<'_>) -> Option<Moment>
+    ensures { result ≡ at_in (rows_of (found_of matches.now)) }
+{
+    moment_of(given(matches, "SECONDS"))
+}
+
+// The words of the subcommand that is called so.
+fn words_of(name: &str) -> &'static [Word]
+    ensures { map (λ w. w.id.now) result.now ≡ spec.words_of name.now }
+{
+    match called(name) {
+        Some(row) => row.words,
+        None => &[],
+    }
+}
+
+// A subcommand's name, and the values of its words.
+fn named(
+    alloc: Global,
+    name: &str,
+    matches: &ArgMatches<'_>,
+    words: &[Word],
+) -> Result<Vec<Text>, AllocError>
+    ensures { IfOk result (λ v. v.items
+        ≡ name.now ∷ map (value_in (rows_of (found_of matches.now))) (map (λ w. w.id.now) words.now)) }
+{
+    let mut values = Vec::new(alloc);
+    values.push(Text::from_str(alloc, name)?)?;
+    for word in words {
+        values.push(Text::from_str(alloc, value(matches, word.id))?)?;
+    }
+    Ok(values)
+}
+
+// The subcommand's name and its words.
+fn what(alloc: Global, matches: &ArgMatches<'_>) -> Result<Vec<Text>, AllocError>
+    ensures { IfOk result (λ v. v.items ≡ told (subcommand_rows_of matches.now)) }
+{
+    match matches.subcommand() {
+        Some((name, found)) => named(alloc, name, found, words_of(name)),
+        None => Ok(Vec::new(alloc)),
+    }
+}
