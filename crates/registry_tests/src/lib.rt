@@ -21,3 +21,5 @@ mod publish;
 mod ranges;
 #[cfg(test)]
 mod rules;
+#[cfg(test)]
+mod wire;
