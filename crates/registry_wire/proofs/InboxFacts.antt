@@ -4,10 +4,10 @@ use Rattle.std.specs.Io.KnownBytes.{Consumes, Keeps, IsAtEnd}
 use Rattle.registry_names.specs.Ends.{RisesBetween, raised, raised_by}
 use Rattle.registry_names.proofs.EndFacts.{Reads-nothing, Reads-one, Reads-append, Consumes-kept}
 use Rattle.registry_wire.specs.Inboxes.{Unread}
-use Rattle.registry_wire.specs.Pieces.{Moves, Grows, WasInterrupted, Gives}
-use Rattle.registry_wire.specs.Reading.{TakenOf, Takes, CountsInterrupted}
-use Rattle.registry_wire.specs.declared.inbox.Piece.TheVariants.{More}
+use Rattle.registry_wire.specs.Pieces.{Moves, GoesOn}
+use Rattle.registry_wire.specs.Reading.{TakenOf, Takes, CountsInterrupted, IsEndOf}
 use Rattle.registry_wire.specs.declared.inbox.Taken.{Taken}
+use Rattle.registry_wire.specs.declared.inbox.Taken.TheVariants as taken
 
 -- ---- one read
 
@@ -47,7 +47,7 @@ takes h0 h1 h2 a b s r m took = record {
 pub counts-none : (count failures : ℕ) → CountsInterrupted count count failures failures
 counts-none count failures = record { failed = 0; counted = omega arith; rose = refl; few = omega arith }
 
-pub counts-one : (n0 n1 n2 f0 f1 f2 : ℕ) → CountsInterrupted n0 n1 f0 f1 → n2 ≡ n1 + 1 → n2 < 1000 → f2 ≡ raised f1 → CountsInterrupted n0 n2 f0 f2
+counts-one : (n0 n1 n2 f0 f1 f2 : ℕ) → CountsInterrupted n0 n1 f0 f1 → n2 ≡ n1 + 1 → n2 < 1000 → f2 ≡ raised f1 → CountsInterrupted n0 n2 f0 f2
 counts-one n0 n1 n2 f0 f1 f2 c n few f = record {
   failed = c.failed + 1;
   counted = omega (arith, c.counted, n);
@@ -55,14 +55,17 @@ counts-one n0 n1 n2 f0 f1 f2 c n few f = record {
   few = omega (arith, c.counted, n, few);
 }
 
-pub counts-on : {R : Type 0} (old new : Unread R) (n0 f0 f1 f2 : ℕ) (AtEnd : Type 0) → CountsInterrupted n0 old.interruptions f0 f1 → Gives More old new f1 f2 AtEnd → CountsInterrupted n0 new.interruptions f0 f2
-counts-on old new n0 f0 f1 f2 AtEnd c (inl grew) = rw (grew.interruptions, grew.failures) c
-counts-on old new n0 f0 f1 f2 AtEnd c (inr was) = counts-one n0 old.interruptions new.interruptions f0 f1 f2 c was.interruptions was.few was.failures
+pub counts-on : {R : Type 0} (old new : Unread R) (n0 f0 f1 f2 : ℕ) → CountsInterrupted n0 old.interruptions f0 f1 → GoesOn old new f1 f2 → CountsInterrupted n0 new.interruptions f0 f2
+counts-on old new n0 f0 f1 f2 c (inl grew) = rw (grew.interruptions, grew.counted) c
+counts-on old new n0 f0 f1 f2 c (inr was) = counts-one n0 old.interruptions new.interruptions f0 f1 f2 c was.interruptions was.few was.counted
 
 pub rises : (n0 n1 f0 f1 f2 : ℕ) → CountsInterrupted n0 n1 f0 f1 → f2 ≡ raised f1 → RisesBetween 1 1000 f0 f2
 rises n0 n1 f0 f1 f2 c f = (c.failed + 1, omega arith, omega (arith, c.few), rw add-one (f ∙ ap raised c.rose))
 
-pub falls-on : {R : Type 0} (old new : Unread R) (f1 f2 : ℕ) (AtEnd : Type 0) → length old.held < 4210688 → Gives More old new f1 f2 AtEnd
-    → (4210688 - length new.held) + (1000 - new.interruptions) < (4210688 - length old.held) + (1000 - old.interruptions)
-falls-on old new f1 f2 AtEnd low (inl grew) = omega (arith, grew.held, grew.interruptions, low)
-falls-on old new f1 f2 AtEnd low (inr was) = let e = ap length was.held in omega (arith, e, was.interruptions, was.few, low)
+-- the end of what an inbox holds is taken, where no more is left
+pub taken-end : (all : List ℕ) (AtEnd : Type 0) (r : Taken) → IsEndOf all r → AtEnd → TakenOf all all AtEnd r
+taken-end all AtEnd (taken.Whole w) ends last = absurd ends
+taken-end all AtEnd taken.Closed ends last = (refl, ends, last)
+taken-end all AtEnd (taken.Bad r) ends last = (refl, inr (ends, last))
+taken-end all AtEnd taken.ReadFault ends last = absurd ends
+taken-end all AtEnd (taken.Faulted fault) ends last = absurd ends

@@ -82,5 +82,3 @@ phrases n =
 
 pub short-phrase : (n : ℕ) → length (unwrap_or (reason_phrase n) []) ≤ 40
 short-phrase n = (phrases n).len
-
-pub ruleset short_phrases = (short-phrase)

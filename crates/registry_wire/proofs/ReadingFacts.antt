@@ -1,9 +1,13 @@
 -- That bytes have one reading, whoever reads them.
-use Rattle.std.proofs.Common.{rules, add-one, ◌≡◌, ◌<◌, ◌≤◌, ◌+◌, ℕ, List, [], ◌∷◌, ◌++◌, length, take, drop, refl, sym, ap, subst, ◌∙◌, arith, inl, inr, append_assoc, append-nil, length-append, Result, Ok, Err, Some, false, codes}
+use Rattle.std.proofs.Common.{rules, add-one, ◌≡◌, ◌<◌, ◌≤◌, ◌+◌, ℕ, List, [], ◌∷◌, ◌++◌, length, take, drop, refl, sym, ap, subst, ◌∙◌, arith, lit<, lit≤, inl, inr, append_assoc, append-nil, length-append, Result, Ok, Err, Some, false, codes}
+use Rattle.std.proofs.lemmas.Str.{IsUtf8-from_ascii}
+use Rattle.std.proofs.lemmas.Str.Ascii.{IsAscii-from_all}
+use Rattle.std.proofs.lemmas.List.Sums.{AllPass-from_list_all}
+use Rattle.std.proofs.lemmas.List.Elements.{All-nil, All-push}
 use Rattle.std.proofs.Math.Seq.{take-append_seam, drop-append_seam}
 use Rattle.httparse.proofs.GrammarLemmas.{request_unique}
 use Rattle.httparse.proofs.OnLiterals.{httparse_on_literals}
-use Rattle.httparse.specs.Grammar.{RequestHead, LineEnd, crlf, IsRequestHead, print_request}
+use Rattle.httparse.specs.Grammar.{RequestHead, LineEnd, crlf, IsField, IsRequestHead, is_token_byte, is_uri_byte, print_request}
 use Rattle.registry_names.specs.declared.refusal.Refusal.{Refusal}
 use Rattle.registry_names.specs.declared.refusal.Refusal.TheVariants.{BadBody}
 use Rattle.registry_wire.specs.Fields.{body_len, fields_of}
@@ -37,19 +41,24 @@ not-empty bytes h rest none x =
     let size = ap length (sym none ∙ x.reads.1) in
     omega (arith, size, length-append (print_request h) rest, some-head h)
 
-plain : RequestHead
-plain = record { blank = []; method = codes "GET"; target = codes "/"; minor = 1; line_end = crlf; fields = []; last = crlf }
+abbrev plain : RequestHead
+plain = record { blank = []; method = codes "A"; target = codes "/"; minor = 1; line_end = crlf; fields = []; last = crlf }
 
 plain-valid : IsRequestHead plain
-unfolding plain httparse_on_literals
-plain-valid = search rules
+unfolding httparse_on_literals
+plain-valid = record {
+  method = (lit< tt, AllPass-from_list_all is_token_byte (codes "A") refl);
+  target = (lit< tt, AllPass-from_list_all is_uri_byte (codes "/") refl);
+  target_text = IsUtf8-from_ascii (codes "/") (IsAscii-from_all (codes "/") (All-push (λ b. b < 128) [] 47 (All-nil (λ b. b < 128)) (lit< tt)));
+  minor = lit≤ tt;
+  fields = All-nil IsField;
+}
 
 plain-short : length (print_request plain) ≤ 16384
-unfolding plain httparse_on_literals
+unfolding httparse_on_literals
 plain-short = lit≤ tt
 
 plain-fields : length plain.fields ≤ 64
-unfolding plain
 plain-fields = lit≤ tt
 
 may-begin : (bytes : List ℕ) → bytes ≡ [] → ¬ (NeverHasHead bytes)

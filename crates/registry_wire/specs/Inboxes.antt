@@ -2,6 +2,10 @@
 use Rattle.std.specs.Prelude.{ℕ, List, refl}
 use Rattle.std.specs.Coded.{Coded, code_by, coded×, coded_list, coded_ℕ}
 
+-- the number of interrupted reads at which an inbox gives up
+abbrev pub interruption_limit : ℕ
+interruption_limit = 1000
+
 -- a reader, the bytes that it gave and that are not used yet, and how many of its reads were interrupted
 pub record Unread (R : Type 0) : Type 0 where
   pub reader : R

@@ -3,6 +3,7 @@ use Rattle.std.specs.Prelude.{◌≡◌, ◌<◌, ◌⊎◌, ◌+◌, ℕ, Bool,
 use Rattle.std.specs.Io.KnownBytes.{IsAtEnd}
 use Rattle.registry_names.specs.Ends.{Reads, raised_by}
 use Rattle.registry_names.specs.declared.stop.Fault.TheVariants.{Memory}
+use Rattle.registry_wire.specs.Inboxes.{interruption_limit}
 use Rattle.registry_wire.specs.Spelling.{EndsWith, HasRequest, IsBad, IsUnfinished}
 use Rattle.registry_wire.specs.declared.first.Ending.TheVariants.{Closed, BadInput}
 use Rattle.registry_wire.specs.declared.inbox.Taken.{Taken}
@@ -16,6 +17,14 @@ TakenOf all held AtEnd (taken.Bad r) = (held ≡ all) × (IsBad all r ⊎ (EndsW
 TakenOf all held AtEnd taken.ReadFault = (held ≡ all) × IsUnfinished all
 TakenOf all held AtEnd (taken.Faulted fault) = (held ≡ all) × (fault ≡ Memory)
 
+-- The connection ended with these bytes, as none is left and they hold no whole request.
+abbrev pub IsEndOf : List ℕ → Taken → Type 0
+IsEndOf all (taken.Whole w) = ⊥
+IsEndOf all taken.Closed = EndsWith all Closed
+IsEndOf all (taken.Bad r) = EndsWith all (BadInput r)
+IsEndOf all taken.ReadFault = ⊥
+IsEndOf all (taken.Faulted fault) = ⊥
+
 -- The reader gave some bytes, which are held behind those that were held before.
 pub record Takes (held : List ℕ) (left : Option (List ℕ)) (held2 : List ℕ) (left2 : Option (List ℕ)) (silent : Bool) (r : Taken) : Type 0 where
   pub got : List ℕ
@@ -27,7 +36,7 @@ pub record CountsInterrupted (count count2 failures failures2 : ℕ) : Type 0 wh
   pub failed : ℕ
   pub counted : count2 ≡ count + failed
   pub rose : failures2 ≡ raised_by failed failures
-  pub few : failed < 1000
+  pub few : failed < interruption_limit
 
 -- ---- of a reader that tells its bytes
 

@@ -13,7 +13,7 @@ abbrev pub only_if : Bool → List ℕ → List ℕ
 only_if applies text = if applies then text else []
 
 -- the phrase of a status, where it has one
-abbrev pub phrase : ℕ → List ℕ
+unfoldable pub phrase : ℕ → List ℕ
 phrase status = unwrap_or (reason_phrase status) []
 
 abbrev pub status_line : ℕ → List ℕ

@@ -54,7 +54,7 @@ fn with_earlier<'a>(value: &'a [u8], later: Values<'a>) -> Values<'a>
 pub fn body_len(bytes: &[u8], headers: &[HeaderSpan]) -> Result<usize, Refusal>
     requires { All (IsHeaderWithin (length bytes.now)) headers.now }
     ensures value { result ≡ spec.body_len (map (header_bytes bytes.now) headers.now) }
-    ensures bound { IfOk result (λ n. n ≤ 4194304) }
+    ensures bound { IfOk result (λ n. n ≤ spec.body_limit) }
 {
     if is_coded(bytes, headers) {
         return Err(Refusal::BadBody);
@@ -90,7 +90,7 @@ fn is_identity(value: &[u8]) -> bool
 
 fn said_len(values: Values<'_>) -> Result<usize, Refusal>
     ensures value { result ≡ spec.said_len (said_of values.entry) }
-    ensures bound { IfOk result (λ n. n ≤ 4194304) }
+    ensures bound { IfOk result (λ n. n ≤ spec.body_limit) }
 {
     match values {
         Values::Absent => Ok(0),
@@ -101,7 +101,7 @@ fn said_len(values: Values<'_>) -> Result<usize, Refusal>
 
 fn written_len(text: &[u8]) -> Result<usize, Refusal>
     ensures value { result ≡ spec.written_len text.now }
-    ensures bound { IfOk result (λ n. n ≤ 4194304) }
+    ensures bound { IfOk result (λ n. n ≤ spec.body_limit) }
 {
     if !is_number(text) {
         return Err(Refusal::BadBody);

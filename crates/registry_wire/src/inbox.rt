@@ -4,9 +4,9 @@ ghost use Rattle.std.specs.Prelude.{◌≡◌, ◌≢◌, ◌≤◌, ◌<◌, []
 ghost use Rattle.std.specs.Io.KnownBytes.{IsAtEnd};
 ghost use Rattle.registry_names.specs.Ends.{RisesBetween};
 ghost use Rattle.registry_names.specs.declared.stop.Fault.TheVariants.{Memory};
-ghost use Rattle.registry_wire.specs.Inboxes.{unread};
+ghost use Rattle.registry_wire.specs.Inboxes.{interruption_limit, unread};
 ghost use Rattle.registry_wire.specs.Pieces.{Gives, Moves};
-ghost use Rattle.registry_wire.specs.Reading.{CountsInterrupted, TakenOf, Takes};
+ghost use Rattle.registry_wire.specs.Reading.{CountsInterrupted, IsEndOf, Takes};
 ghost use Rattle.registry_wire.specs.Spelling.{IsUnfinished, Says, request_limit};
 ghost use Rattle.registry_wire.specs.declared.first.First.TheVariants.{Unfinished};
 ghost use Rattle.registry_wire.specs.declared.inbox.Taken.TheVariants.{ReadFault};
@@ -34,7 +34,7 @@ pub struct Inbox<R: ByteIn> {
 
 impl<R: ByteIn> Model for Inbox<R> {
     ghost use Rattle.std.specs.Prelude.{◌≤◌};
-    ghost use Rattle.registry_wire.specs.Inboxes.{Unread, unread, unread_code};
+    ghost use Rattle.registry_wire.specs.Inboxes.{Unread, interruption_limit, unread, unread_code};
 
     ghost Value = { Unread R };
 
@@ -42,7 +42,7 @@ impl<R: ByteIn> Model for Inbox<R> {
 
     ghost view = { λ inbox. unread inbox.reader inbox.held.items inbox.interruptions };
 
-    ghost invariant = { λ inbox. inbox.interruptions ≤ 1000 };
+    ghost invariant = { λ inbox. inbox.interruptions ≤ interruption_limit };
 }
 
 /// How a read of a request ended.
@@ -100,7 +100,8 @@ impl<R: ByteIn> Inbox<R> {
             → CountsInterrupted self.old.interruptions self.new.interruptions
             (R.failures self.old.reader) (R.failures self.new.reader) }
         ensures stopped { result ≡ ReadFault
-            → RisesBetween 1 1000 (R.failures self.old.reader) (R.failures self.new.reader) }
+            → RisesBetween 1 interruption_limit
+            (R.failures self.old.reader) (R.failures self.new.reader) }
 
         ensures silent { R.is_silent self.old.reader ≡ true → R.is_silent self.new.reader ≡ true }
     {
@@ -169,9 +170,7 @@ impl<R: ByteIn> Inbox<R> {
 
     // How the connection ends where nothing is left and no whole request is held.
     fn ended(&self) -> Taken
-        ensures taken { IsUnfinished self.now.held
-            → (AtEnd : Type 0) → AtEnd → TakenOf self.now.held self.now.held AtEnd result }
-        ensures failed { result ≢ ReadFault }
+        ensures { IsUnfinished self.now.held → IsEndOf self.now.held result }
     {
         match ending_of(&self.held) {
             Ending::Closed => Taken::Closed,
@@ -181,7 +180,8 @@ impl<R: ByteIn> Inbox<R> {
 
     fn drop_first(&mut self, used: usize)
         requires { used ≤ length self.old.held }
-        ensures { self.new ≡ unread self.old.reader (drop used self.old.held) self.old.interruptions }
+        ensures { self.new
+            ≡ unread self.old.reader (drop used self.old.held) self.old.interruptions }
     {
         self.held.drain(..used);
     }

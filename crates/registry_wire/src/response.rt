@@ -64,7 +64,7 @@ fn digits(status: StatusCode) -> &'static str
     status.as_str()
 }
 
-#[tactic(auto, using(crate::proofs::PhraseFacts::short_phrases))]
+#[tactic(auto, unfolding(crate::specs::Responses::phrase))]
 fn phrase(status: StatusCode) -> &'static str
     ensures text { result.now ≡ spec.phrase status }
     ensures len { length result.now ≤ 40 }
@@ -108,7 +108,7 @@ fn put_length_line(head: &mut ShortText, len: usize)
 fn put_last_lines(head: &mut ShortText, status: StatusCode, closes: bool)
     requires { length head.old ≤ 200 }
     ensures bytes { head.new
-        ≡ head.old ++ (spec.challenge status ++ spec.close_line closes ++ spec.line_end) }
+        ≡ head.old ++ spec.challenge status ++ spec.close_line closes ++ spec.line_end }
     ensures len { length head.new ≤ length head.old + 47 }
 {
     put_if(

@@ -11,7 +11,10 @@ pub struct Drip<'a> {
 
 impl Read for Drip<'_> {
     fn read(&mut self, buf: &mut [u8]) -> io::Result<usize> {
-        let ([place, ..], [byte, rest @ ..]) = (buf, self.text) else {
+        let [byte, rest @ ..] = self.text else {
+            return Ok(0);
+        };
+        let [place, ..] = buf else {
             return Ok(0);
         };
         *place = *byte;

@@ -56,4 +56,15 @@ returns-then-after-len-clause-short c = λ _.
     omega (arith, few, bound, c.split_at.ensures.back_len)
 
 pub returns-clause-says : goal.returns-clause-says
-returns-clause-says c = ?
+returns-clause-says c =
+    let bytes = c.args.bytes.now in
+    let found = rw c.front_of.ensures.value at c.in-Whole.ensures in
+    let k = c.in-Whole.parts.len in
+    let n = c.in-Ok.len in
+    let begins = head-of_front bytes head_limit k found.head found.len found.begins in
+    let low0 : n ≤ length c.split_at.result.1.now = omega arith in
+    let low : n ≤ length (drop k bytes) = omega (arith, low0, c.split_at.ensures.back_len, length-drop k bytes) in
+    let body = c.split_at-2.ensures.front ∙ ap (take n) c.split_at.ensures.back in (
+      has-request bytes found.head k n c.in_ok-wanted.field-0 _ begins (sym found.parts.body ∙ c.in-Ok.is) low body (c.in_ok-wanted.ensures found.head found.parts),
+      omega (arith, low, found.len, length-drop k bytes, length-take head_limit bytes),
+    )
