@@ -14,56 +14,56 @@ fn as_text(bytes: &[u8]) -> &str {
 }
 
 // A status, a body, whether the connection ends, and the bytes of the response.
-type Case = (StatusCode, &'static str, bool, &'static str);
+type Case = (u16, &'static str, bool, &'static str);
 
-fn json(case: &Case) -> Response<'static> {
-    Response {
-        status: case.0,
+fn json(case: &Case) -> Result<Response<'static>, Fail> {
+    Ok(Response {
+        status: StatusCode::from_u16(case.0)?,
         kind: ContentKind::Json,
         body: case.1.as_bytes(),
         closes: case.2,
-    }
+    })
 }
 
 static CASES: [Case; 7] = [
     (
-        StatusCode::BAD_REQUEST,
+        400,
         "{\"error\":\"BadBody\"}",
         true,
         "HTTP/1.1 400 Bad Request\r\ncontent-type: application/json\r\ncontent-length: 19\r\nconnection: close\r\n\r\n{\"error\":\"BadBody\"}",
     ),
     (
-        StatusCode::OK,
+        200,
         "{\"latest\":\"1.0.0\"}",
         false,
         "HTTP/1.1 200 OK\r\ncontent-type: application/json\r\ncontent-length: 18\r\n\r\n{\"latest\":\"1.0.0\"}",
     ),
     (
-        StatusCode::NOT_FOUND,
+        404,
         "{\"error\":\"NotFound\"}",
         false,
         "HTTP/1.1 404 Not Found\r\ncontent-type: application/json\r\ncontent-length: 20\r\n\r\n{\"error\":\"NotFound\"}",
     ),
     (
-        StatusCode::UNAUTHORIZED,
+        401,
         "{\"error\":\"NoCaller\"}",
         true,
         "HTTP/1.1 401 Unauthorized\r\ncontent-type: application/json\r\ncontent-length: 20\r\nwww-authenticate: Bearer\r\nconnection: close\r\n\r\n{\"error\":\"NoCaller\"}",
     ),
     (
-        StatusCode::PAYLOAD_TOO_LARGE,
+        413,
         "",
         false,
         "HTTP/1.1 413 Payload Too Large\r\ncontent-type: application/json\r\ncontent-length: 0\r\n\r\n",
     ),
     (
-        StatusCode::REQUEST_HEADER_FIELDS_TOO_LARGE,
+        431,
         "0",
         false,
         "HTTP/1.1 431 Request Header Fields Too Large\r\ncontent-type: application/json\r\ncontent-length: 1\r\n\r\n0",
     ),
     (
-        StatusCode::SERVICE_UNAVAILABLE,
+        503,
         "{\"error\":\"Memory\"}",
         true,
         "HTTP/1.1 503 Service Unavailable\r\ncontent-type: application/json\r\ncontent-length: 18\r\nconnection: close\r\n\r\n{\"error\":\"Memory\"}",
@@ -94,26 +94,23 @@ fn is_written(
 fn responses_are_written(rt: HostRuntime) -> Result<(), Fail> {
     let alloc = rt.alloc();
     for case in &CASES {
+        let response = json(case)?;
         let mut out = Vec::new(alloc);
-        same(
-            case.1,
-            write_response(&json(case), &mut ToWrite::new(&mut out)),
-            Ok(()),
-        )?;
-        same(case.1, as_text(&out), case.3)?;
-        is_written(alloc, &json(case), usize::MAX, (Ok(()), case.3.as_bytes()))?;
+        let outcome = write_response(&response, &mut ToWrite::new(&mut out));
+        same(case.1, (outcome, as_text(&out)), (Ok(()), case.3))?;
+        is_written(alloc, &response, usize::MAX, (Ok(()), case.3.as_bytes()))?;
     }
     Ok(())
 }
 
 #[test]
 fn a_failed_write_leaves_a_front_of_a_response(rt: HostRuntime) -> Result<(), Fail> {
-    let alloc = rt.alloc();
     let [case, ..] = &CASES;
+    let response = json(case)?;
     let bytes = case.3.as_bytes();
     for limit in 0..bytes.len() {
         let (front, _) = bytes.split_at(limit);
-        is_written(alloc, &json(case), limit, (Err(WriteFailed), front))?;
+        is_written(rt.alloc(), &response, limit, (Err(WriteFailed), front))?;
     }
     Ok(())
 }
