@@ -25,3 +25,4 @@ mod ranges;
 mod rules;
 #[cfg(test)]
 mod words;
+mod wire;

@@ -1,0 +1,5 @@
+//! Requests and responses as bytes.
+
+mod reader;
+mod requests;
+mod responses;

@@ -1,0 +1,71 @@
+-- Bytes that an inbox holds, one read after another.
+use Rattle.std.proofs.Common.{◌≡◌, ℕ, ◌+◌, ◌-◌, ◌<◌, ◌≤◌, List, [], ◌++◌, Option, Bool, true, false, refl, sym, ap, subst, ◌∙◌, append_assoc, append-nil, arith, inl, inr, length, add-one}
+use Rattle.std.specs.Io.KnownBytes.{Consumes, Keeps, IsAtEnd}
+use Rattle.registry_names.specs.Ends.{RisesBetween, raised, raised_by}
+use Rattle.registry_names.proofs.EndFacts.{Reads-nothing, Reads-one, Reads-append, Consumes-kept}
+use Rattle.registry_wire.specs.Inboxes.{Unread}
+use Rattle.registry_wire.specs.Pieces.{Moves, GoesOn}
+use Rattle.registry_wire.specs.Reading.{TakenOf, Takes, CountsInterrupted, IsEndOf}
+use Rattle.registry_wire.specs.declared.inbox.Taken.{Taken}
+use Rattle.registry_wire.specs.declared.inbox.Taken.TheVariants as taken
+
+-- ---- one read
+
+pub moves-some : (held got : List ℕ) (a b : Option (List ℕ)) (s : Bool) → (s ≡ false → Consumes a b got) → Moves held a (held ++ got) b s
+moves-some held got a b s took = record { got = got; gave = Reads-one took; holds = refl }
+
+pub moves-none : (held : List ℕ) (a b : Option (List ℕ)) (s : Bool) → (s ≡ false → Keeps a b) → Moves held a held b s
+moves-none held a b s kept = record { got = []; gave = Reads-one (λ told. Consumes-kept a b (kept told)); holds = sym (append-nil held) }
+
+pub moves-empty : (held : List ℕ) (a b : Option (List ℕ)) (s : Bool) → (s ≡ false → Consumes a b []) → Moves held a held b s
+moves-empty held a b s took = record { got = []; gave = Reads-one took; holds = sym (append-nil held) }
+
+pub moves-same : (held : List ℕ) (a : Option (List ℕ)) (s : Bool) → Moves held a held a s
+moves-same held a s = record { got = []; gave = Reads-nothing a s; holds = sym (append-nil held) }
+
+pub ruleset moving = (moves-none, moves-some, moves-empty, moves-same)
+
+-- ---- reads in a row
+
+pub moves-on : (h0 h1 h2 : List ℕ) (a b c : Option (List ℕ)) (s t : Bool) → Moves h0 a h1 b s → Moves h1 b h2 c t → (s ≡ true → t ≡ true) → Moves h0 a h2 c t
+moves-on h0 h1 h2 a b c s t m n stays = record {
+  got = m.got ++ n.got;
+  gave = Reads-append m.gave n.gave stays;
+  holds = n.holds ∙ ap (λ (l : List ℕ). l ++ n.got) m.holds ∙ append_assoc h0 m.got n.got;
+}
+
+-- what was taken of the bytes that are held was taken of what was held and then came
+pub takes : (h0 h1 h2 : List ℕ) (a b : Option (List ℕ)) (s : Bool) (r : Taken) → Moves h0 a h1 b s → TakenOf h1 h2 (s ≡ false → IsAtEnd b) r → Takes h0 a h2 b s r
+takes h0 h1 h2 a b s r m took = record {
+  got = m.got;
+  gave = m.gave;
+  took = subst (λ (all : List ℕ). TakenOf all h2 (s ≡ false → IsAtEnd b) r) m.holds took;
+}
+
+-- ---- failed reads
+
+pub counts-none : (count failures : ℕ) → CountsInterrupted count count failures failures
+counts-none count failures = record { failed = 0; counted = omega arith; rose = refl; few = omega arith }
+
+counts-one : (n0 n1 n2 f0 f1 f2 : ℕ) → CountsInterrupted n0 n1 f0 f1 → n2 ≡ n1 + 1 → n2 < 1000 → f2 ≡ raised f1 → CountsInterrupted n0 n2 f0 f2
+counts-one n0 n1 n2 f0 f1 f2 c n few f = record {
+  failed = c.failed + 1;
+  counted = omega (arith, c.counted, n);
+  rose = rw add-one (f ∙ ap raised c.rose);
+  few = omega (arith, c.counted, n, few);
+}
+
+pub counts-on : {R : Type 0} (old new : Unread R) (n0 f0 f1 f2 : ℕ) → CountsInterrupted n0 old.interruptions f0 f1 → GoesOn old new f1 f2 → CountsInterrupted n0 new.interruptions f0 f2
+counts-on old new n0 f0 f1 f2 c (inl grew) = rw (grew.interruptions, grew.counted) c
+counts-on old new n0 f0 f1 f2 c (inr was) = counts-one n0 old.interruptions new.interruptions f0 f1 f2 c was.interruptions was.few was.counted
+
+pub rises : (n0 n1 f0 f1 f2 : ℕ) → CountsInterrupted n0 n1 f0 f1 → f2 ≡ raised f1 → RisesBetween 1 1000 f0 f2
+rises n0 n1 f0 f1 f2 c f = (c.failed + 1, omega arith, omega (arith, c.few), rw add-one (f ∙ ap raised c.rose))
+
+-- the end of what an inbox holds is taken, where no more is left
+pub taken-end : (all : List ℕ) (AtEnd : Type 0) (r : Taken) → IsEndOf all r → AtEnd → TakenOf all all AtEnd r
+taken-end all AtEnd (taken.Whole w) ends last = absurd ends
+taken-end all AtEnd taken.Closed ends last = (refl, ends, last)
+taken-end all AtEnd (taken.Bad r) ends last = (refl, inr (ends, last))
+taken-end all AtEnd taken.ReadFault ends last = absurd ends
+taken-end all AtEnd (taken.Faulted fault) ends last = absurd ends

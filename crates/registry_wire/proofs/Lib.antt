@@ -1,0 +1,7 @@
+pub mod FieldFacts
+pub mod HeadFacts
+pub mod RequestFacts
+pub mod InboxFacts
+pub mod ReadingFacts
+pub mod PhraseFacts
+pub mod ResponseFacts

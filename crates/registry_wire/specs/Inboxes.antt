@@ -1,0 +1,20 @@
+-- What a contract sees of an inbox.
+use Rattle.std.specs.Prelude.{ℕ, List, refl}
+use Rattle.std.specs.Coded.{Coded, code_by, coded×, coded_list, coded_ℕ}
+
+-- the number of interrupted reads at which an inbox gives up
+abbrev pub interruption_limit : ℕ
+interruption_limit = 1000
+
+-- a reader, the bytes that it gave and that are not used yet, and how many of its reads were interrupted
+pub record Unread (R : Type 0) : Type 0 where
+  pub reader : R
+  pub held : List ℕ
+  pub interruptions : ℕ
+
+module _ {R : Type 0} where
+  abbrev pub unread : R → List ℕ → ℕ → Unread R
+  unread reader held count = record { reader = reader; held = held; interruptions = count }
+
+  abbrev pub unread_code : Coded R → Coded (Unread R)
+  unread_code c = code_by (R × (List ℕ × ℕ)) (coded× c (coded× (coded_list coded_ℕ) coded_ℕ)) (λ u. (u.reader, (u.held, u.interruptions))) (λ p. unread p.0 p.1.0 p.1.1) (λ _. refl)

@@ -1,0 +1,9 @@
+pub mod Fields
+pub mod Asked
+pub mod Spelling
+pub mod Parts
+pub mod Inboxes
+pub mod Pieces
+pub mod Reading
+pub mod Responses
+pub mod Laws

@@ -1,0 +1,109 @@
+//! The first request of the bytes that have come.
+
+ghost use Rattle.std.specs.Prelude.{◌≡◌, ◌<◌, length, Ok, IfOk, IfErr};
+ghost use Rattle.httparse.specs.Grammar.{RequestHead};
+ghost use Rattle.registry_names.specs.declared.stop.Fault.TheVariants.{Memory};
+ghost use Rattle.registry_wire.specs.Asked.{authorization_of, wanted_of};
+ghost use Rattle.registry_wire.specs.Parts.{ArePartsOf, said_of};
+ghost use Rattle.registry_wire.specs.Spelling.{EndsWith, IsUnfinished, Says, request_limit};
+ghost use Rattle.registry_wire.specs.declared.first.First.TheVariants.{Unfinished};
+
+use crate::field::Values;
+use crate::head::{HeadFound, HeadParts, front_of, head_in};
+use crate::wanted::{Authorization, Wanted};
+use registry_names::{Blob, Fault, Refusal};
+use std::alloc::{AllocError, Global};
+
+/// The most bytes of a head, its blank line included.
+pub const HEAD_LIMIT: usize = 16_384;
+
+/// The most fields of a head.
+pub const FIELD_LIMIT: usize = 64;
+
+/// The most bytes of a body.
+pub const BODY_LIMIT: usize = 4_194_304;
+
+/// What the bytes that have come say of the first request.
+#[derive(Debug, Drop)]
+pub enum First {
+    /// It has come whole, and has so many bytes.
+    Whole(Wanted, usize),
+    /// It hasn't come whole, and may.
+    Unfinished,
+    /// Whatever follows, the connection ends with this refusal.
+    Bad(Refusal),
+}
+
+/// How the bytes of a connection end.
+#[derive(Clone, Copy, Debug, PartialEq, Eq)]
+pub enum Ending {
+    /// Behind a whole request, or before the first.
+    Closed,
+    /// With what is no request that is served.
+    BadInput(Refusal),
+}
+
+/// What the bytes that have come say of the first request. A fault comes where no memory is left
+/// for its texts and its body.
+///
+/// `BadBody` is a head that `httparse` refuses, one with more than `FIELD_LIMIT` fields or that
+/// doesn't end within `HEAD_LIMIT` bytes, one with a `transfer-encoding` or with a
+/// `content-encoding` other than `identity`, and one with two `content-length` or with one that
+/// isn't digits; `TooLarge` is a length above `BODY_LIMIT` in any other. The length is 0 where the
+/// head says none.
+pub fn first_in(alloc: Global, bytes: &[u8]) -> Result<First, Fault>
+    ensures says { IfOk result (Says bytes.now) }
+    ensures fault { IfErr result (λ fault. fault ≡ Memory) }
+    ensures short { result ≡ Ok Unfinished → length bytes.now < request_limit }
+{
+    let parts = match head_in(front_of(bytes)) {
+        HeadFound::Whole(parts) => parts,
+        HeadFound::Unfinished => return Ok(First::Unfinished),
+        HeadFound::Never => return Ok(First::Bad(Refusal::BadBody)),
+    };
+    let len = match parts.body {
+        Ok(len) => len,
+        Err(refusal) => return Ok(First::Bad(refusal)),
+    };
+    let (_, after) = bytes.split_at(parts.len);
+    if after.len() < len {
+        return Ok(First::Unfinished);
+    }
+    let (body, _) = after.split_at(len);
+    Ok(First::Whole(wanted(alloc, &parts, body)?, parts.len + len))
+}
+
+fn wanted(alloc: Global, parts: &HeadParts<'_>, body: &[u8]) -> Result<Wanted, AllocError>
+    ensures { (h : RequestHead) → ArePartsOf h parts.now
+        → IfOk result (λ w. w ≡ wanted_of h body.now) }
+{
+    Ok(Wanted {
+        method: parts.method,
+        target: Blob::from_slice(alloc, parts.target)?,
+        authorization: authorization(alloc, parts.authorization)?,
+        body: Blob::from_slice(alloc, body)?,
+        closes: parts.closes,
+    })
+}
+
+fn authorization(alloc: Global, values: Values<'_>) -> Result<Authorization, AllocError>
+    ensures { IfOk result (λ a. a ≡ authorization_of (said_of values.entry)) }
+{
+    match values {
+        Values::Absent => Ok(Authorization::Absent),
+        Values::Once(value) => Ok(Authorization::Once(Blob::from_slice(alloc, value)?)),
+        Values::Repeated => Ok(Authorization::Repeated),
+    }
+}
+
+/// How a connection ends that gives no more bytes, where these are the last and hold no whole
+/// request: closed where there are none, else with `BadBody`.
+pub fn ending_of(bytes: &[u8]) -> Ending
+    ensures { IsUnfinished bytes.now → EndsWith bytes.now result }
+{
+    if bytes.is_empty() {
+        Ending::Closed
+    } else {
+        Ending::BadInput(Refusal::BadBody)
+    }
+}

@@ -1,0 +1,176 @@
+//! The bytes of a response.
+
+ghost use Rattle.std.specs.Prelude.{◌≡◌, ◌+◌, ◌≤◌, ◌++◌, length, true, OnOk, OnErr, IsErr};
+ghost use Rattle.registry_names.specs.Ends.{Writes, WritesFront, failures_after, full_count};
+ghost use Rattle.http.specs.StatusCode.{code_digits};
+ghost use Rattle.registry_wire.specs.Responses as spec;
+ghost use Rattle.registry_wire.specs.Responses.{head_of, response_bytes};
+
+use crate::short_text::{SHORT_LIMIT, ShortText};
+use arrayvec::ArrayVec;
+use http::StatusCode;
+use registry_names::{ByteOut, WriteFailed, write_whole};
+
+/// What a body is.
+#[derive(Clone, Copy, Debug, PartialEq, Eq)]
+pub enum ContentKind {
+    /// `application/json`.
+    Json,
+    /// `application/octet-stream`.
+    Bytes,
+}
+
+/// A response, of a body that stands elsewhere.
+#[derive(Clone, Copy)]
+pub struct Response<'a> {
+    pub status: StatusCode,
+    pub kind: ContentKind,
+    pub body: &'a [u8],
+    /// Whether the connection ends after it, which it says then.
+    pub closes: bool,
+}
+
+impl Response<'_> {
+    /// Its status line and its fields, with the blank line that ends them.
+    pub fn head(&self) -> ShortText
+        ensures bytes { result ≡ head_of self.now }
+        ensures short { length result ≤ 256 }
+    {
+        let mut head = ShortText::new();
+        put_status_line(&mut head, self.status);
+        put_type_line(&mut head, self.kind);
+        put_length_line(&mut head, self.body.len());
+        put_last_lines(&mut head, self.status, self.closes);
+        head
+    }
+}
+
+fn put_status_line(head: &mut ShortText, status: StatusCode)
+    requires { length head.old ≤ 0 }
+    ensures bytes { head.new ≡ head.old ++ spec.status_line status }
+    ensures len { length head.new ≤ 56 }
+{
+    head.push(b"HTTP/1.1 ");
+    head.push(digits(status).as_bytes());
+    head.push(b" ");
+    head.push(phrase(status).as_bytes());
+    head.push(b"\r\n");
+}
+
+fn digits(status: StatusCode) -> &'static str
+    ensures text { result.now ≡ code_digits status }
+    ensures len { length result.now ≤ 3 }
+{
+    status.as_str()
+}
+
+#[tactic(auto, unfolding(crate::specs::Responses::phrase))]
+fn phrase(status: StatusCode) -> &'static str
+    ensures text { result.now ≡ spec.phrase status }
+    ensures len { length result.now ≤ 40 }
+{
+    match status.canonical_reason() {
+        Some(phrase) => phrase,
+        None => "",
+    }
+}
+
+fn put_type_line(head: &mut ShortText, kind: ContentKind)
+    requires { length head.old ≤ 100 }
+    ensures bytes { head.new ≡ head.old ++ spec.type_line kind }
+    ensures len { length head.new ≤ length head.old + 40 }
+{
+    head.push(b"content-type: ");
+    head.push(media_type(kind));
+    head.push(b"\r\n");
+}
+
+fn media_type(kind: ContentKind) -> &'static [u8]
+    ensures text { result.now ≡ spec.media_type kind }
+    ensures len { length result.now ≤ 24 }
+{
+    match kind {
+        ContentKind::Json => b"application/json",
+        ContentKind::Bytes => b"application/octet-stream",
+    }
+}
+
+fn put_length_line(head: &mut ShortText, len: usize)
+    requires { length head.old ≤ 100 }
+    ensures bytes { head.new ≡ head.old ++ spec.length_line len }
+    ensures len { length head.new ≤ length head.old + 58 }
+{
+    head.push(b"content-length: ");
+    head.push_number(len as u64);
+    head.push(b"\r\n");
+}
+
+fn put_last_lines(head: &mut ShortText, status: StatusCode, closes: bool)
+    requires { length head.old ≤ 200 }
+    ensures bytes { head.new
+        ≡ head.old ++ spec.challenge status ++ spec.close_line closes ++ spec.line_end }
+    ensures len { length head.new ≤ length head.old + 47 }
+{
+    put_if(
+        head,
+        status.as_u16() == 401,
+        b"www-authenticate: Bearer\r\n",
+    );
+    put_if(head, closes, b"connection: close\r\n");
+    head.push(b"\r\n");
+}
+
+fn put_if(head: &mut ShortText, applies: bool, text: &[u8])
+    requires { length head.old + length text.now ≤ 256 }
+    ensures bytes { head.new ≡ head.old ++ spec.only_if applies text.now }
+    ensures len { length head.new ≤ length head.old + length text.now }
+{
+    if applies {
+        head.push(text);
+    }
+}
+
+/// The most bytes that are gathered for one write.
+const GATHER_LIMIT: usize = 4096;
+
+/// Writes a response, or a front of it up to the first failed write. It takes no memory: the head
+/// and the front of the body go out in one write, and the rest of the body as it stands.
+pub fn write_response<W: ByteOut>(
+    response: &Response<'_>,
+    writer: &mut W,
+) -> Result<(), WriteFailed>
+    ensures ok { OnOk result (Writes (W.bytes writer.old) (W.bytes writer.new)
+        (W.is_silent writer.new) (response_bytes response.now)) }
+    ensures err { OnErr result (WritesFront (W.bytes writer.old) (W.bytes writer.new)
+        (W.is_silent writer.new) (response_bytes response.now)) }
+
+    ensures counted { W.failures writer.new ≡ failures_after result (W.failures writer.old) }
+    ensures full { W.failures writer.old ≡ full_count → IsErr result }
+
+    ensures told { OnOk result (W.is_silent writer.new ≡ W.is_silent writer.old) }
+    ensures silent { W.is_silent writer.old ≡ true → W.is_silent writer.new ≡ true }
+{
+    let head = response.head();
+    let (front, rest) = response.body.split_at(front_len(response.body));
+    let first = gathered(head.as_slice(), front);
+    write_whole(writer, first.as_slice())?;
+    write_whole(writer, rest)
+}
+
+// How much of a body goes out with the head.
+fn front_len(body: &[u8]) -> usize
+    ensures within { result ≤ length body.now }
+    ensures few { result ≤ 3840 }
+{
+    body.len().min(GATHER_LIMIT - SHORT_LIMIT)
+}
+
+fn gathered(head: &[u8], front: &[u8]) -> ArrayVec<u8, GATHER_LIMIT>
+    requires { length head.now + length front.now ≤ 4096 }
+    ensures { result.items ≡ head.now ++ front.now }
+{
+    let mut bytes = ArrayVec::new();
+    let _head_fits = bytes.try_extend_from_slice(head);
+    let _front_fits = bytes.try_extend_from_slice(front);
+    bytes
+}

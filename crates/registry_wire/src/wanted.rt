@@ -1,0 +1,40 @@
+//! What a request asks for, before it is looked at closer.
+
+use crate::method::Method;
+use registry_names::Blob;
+
+/// A whole request.
+#[derive(Debug)]
+pub struct Wanted {
+    pub method: Method,
+    /// The target as it stands in the head, escapes and query included.
+    pub target: Blob,
+    pub authorization: Authorization,
+    pub body: Blob,
+    /// Whether the connection ends after the response.
+    pub closes: bool,
+}
+
+// Written out, so that to drop a request is one call and not one for each part.
+impl Drop for Wanted {
+    fn drop(self) {
+        let Wanted {
+            method: _,
+            target: _,
+            authorization: _,
+            body: _,
+            closes: _,
+        } = self;
+    }
+}
+
+/// The values of a request's `authorization` fields.
+#[derive(Debug, Drop, PartialEq, Eq)]
+pub enum Authorization {
+    /// There is no such field.
+    Absent,
+    /// The value of the only one, without the white space around it.
+    Once(Blob),
+    /// There are more.
+    Repeated,
+}
