@@ -24,5 +24,6 @@ mod ranges;
 #[cfg(test)]
 mod rules;
 #[cfg(test)]
-mod words;
 mod wire;
+#[cfg(test)]
+mod words;
