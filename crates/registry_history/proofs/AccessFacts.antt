@@ -42,7 +42,7 @@ joined_after false false old said stood same = same
 
 -- `here`, `first` and `he` say that it is of this organisation, of its first team, and of this user; `member` that he had a role before
 member_after : (here first he member : Bool) (before : Option Role) (old : Option (Unit {0})) (said : Bool) → (here ≡ true → he ≡ true → is_some before ≡ member) → is_some old ≡ said
-    → is_some (cond member old (cond (here && first && he) (Some tt) old)) ≡ ((here && first && he && is_none before) || said)
+    → is_some (cond member old (cond (here && (first && he)) (Some tt) old)) ≡ ((here && (first && he) && is_none before) || said)
 member_after true true true true None old said was same = absurd (true≢false (sym (was refl refl)))
 member_after true true true false None old said was same = refl
 member_after true true true true (Some r) old said was same = same
@@ -88,7 +88,7 @@ module _ (S : State) (now : ℕ) (who : Caller) (h : List Entry) (has : HasAcces
   members_step : (what : Action) (o t u : Text)
       → is_some (at (left_by S now who what).access.team_members (o, (t, u))) ≡ (joins what (role h o u) o t u || (not (leaves what o t u) && in_team h o t u))
   members_step (OrgCreate q v) o t u =
-      ap is_some (at-put triple_key S.access.team_members (q, (developers, v)) tt (o, (t, u))) ∙ put_there (is q o && is developers t && is v u) tt _ _ (has.team_members o t u)
+      ap is_some (at-put triple_key S.access.team_members (q, (developers, v)) tt (o, (t, u))) ∙ put_there (is q o && (is developers t && is v u)) tt _ _ (has.team_members o t u)
   members_step (OrgSet q v r) o t u =
       ap is_some (at-joined triple_key S.access.team_members (is_some (at S.access.roles (q, v))) (q, (developers, v)) (o, (t, u)))
       ∙ member_after (is q o) (is developers t) (is v u) _ (role h o u) _ _ (had_role q v o u) (has.team_members o t u)
@@ -98,9 +98,9 @@ module _ (S : State) (now : ℕ) (who : Caller) (h : List Entry) (has : HasAcces
       ap is_some (at-keep triple_key S.access.team_members (λ k. not (is q k.0 && is s k.1.0)) (o, (t, u))) ∙ kept_after (not (is q o && is s t)) _ _ (has.team_members o t u)
   members_step (TeamAdd q s v) o t u =
       ap is_some (at-joined triple_key S.access.team_members _ (q, (s, v)) (o, (t, u)))
-      ∙ joined_after (is q o && is s t && is v u) _ _ _ (λ e. ap (λ k. is_some (at S.access.team_members k)) (same_true triple_key (q, (s, v)) (o, (t, u)) e)) (has.team_members o t u)
+      ∙ joined_after (is q o && (is s t && is v u)) _ _ _ (λ e. ap (λ k. is_some (at S.access.team_members k)) (same_true triple_key (q, (s, v)) (o, (t, u)) e)) (has.team_members o t u)
   members_step (TeamRemove q s v) o t u =
-      ap is_some (at-erase triple_key S.access.team_members (q, (s, v)) (o, (t, u))) ∙ erased_after (is q o && is s t && is v u) _ _ (has.team_members o t u)
+      ap is_some (at-erase triple_key S.access.team_members (q, (s, v)) (o, (t, u))) ∙ erased_after (is q o && (is s t && is v u)) _ _ (has.team_members o t u)
   members_step what o t u = has.team_members o t u
 
 pub has_access : (h : List Entry) → Legal h → HasAccess h (after h).access
