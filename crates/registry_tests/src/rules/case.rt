@@ -38,7 +38,7 @@ pub enum Want<'a> {
     MovedTag(&'a str),
     /// The tag is gone.
     NoTag(&'a str),
-    /// A change of this other package, or of this other version, which no case wants.
+    /// A change of this other package, version, user or organisation, which no case wants.
     Other(&'a str),
 }
 
@@ -128,6 +128,14 @@ fn seen_of<'a>(change: Change<'a>, package: &str) -> Want<'a> {
             where_meant(of.text(), package, meant)
         }
         Change::DropTag { package: of, tag } => where_meant(of.text(), package, Want::NoTag(tag)),
+        Change::AddUser { user } | Change::AddToken { user, .. } => Want::Other(user.text()),
+        Change::AddOrg { organisation }
+        | Change::PutMember { organisation, .. }
+        | Change::DropMember { organisation, .. }
+        | Change::AddTeam { organisation, .. }
+        | Change::PutTeamMember { organisation, .. }
+        | Change::DropTeamMember { organisation, .. }
+        | Change::DropTeam { organisation, .. } => Want::Other(organisation),
     }
 }
 
