@@ -2,7 +2,7 @@
 
 ghost use Rattle.std.specs.Prelude.{◌<◌};
 
-use crate::example::{Ask, Expected, Step};
+use crate::example::{Ask, Expected, Step, Who};
 use crate::tests::have_their_replies;
 use registry_names::Refusal;
 use std::alloc::{AllocError, Global};
@@ -59,6 +59,7 @@ fn steps_in(round: u8) -> [Step; 4]
 fn step(round: u8, ask: Ask, expected: Expected) -> Step {
     Step {
         at: i64::from(round),
+        who: Who::Anonymous,
         ask,
         expected,
     }
