@@ -283,31 +283,37 @@ pub static QUERIES: [Example; 4] = [
         steps: &[
             Step {
                 at: 100,
+                who: Who::Anonymous,
                 ask: Ask::Body(KIT_BODY),
                 expected: Expected::Created,
             },
             Step {
                 at: 101,
+                who: Who::Anonymous,
                 ask: Ask::Publish("@lab/kit", "1.1.0"),
                 expected: Expected::Created,
             },
             Step {
                 at: 102,
+                who: Who::Anonymous,
                 ask: Ask::Publish("kid", "1.0.0"),
                 expected: Expected::Created,
             },
             Step {
                 at: 103,
+                who: Who::Anonymous,
                 ask: Ask::Archive("@lab/kit", "1.0.0"),
                 expected: Expected::Bytes("abc"),
             },
             Step {
                 at: 103,
+                who: Who::Anonymous,
                 ask: Ask::Archive("@lab/kit", "1.1.0"),
                 expected: Expected::Bytes("abc"),
             },
             Step {
                 at: 103,
+                who: Who::Anonymous,
                 ask: Ask::Archive("kid", "1.0.0"),
                 expected: Expected::Bytes("abc"),
             },
