@@ -4,12 +4,13 @@ use Rattle.std.specs.Prelude.{option_and_then, unwrap_or}
 use Rattle.sqlite_value.specs.Order.{Row}
 use Rattle.registry_names.specs.Keys.{Pair}
 use Rattle.registry_names.specs.Texts.{Text, is}
-use Rattle.registry_names.specs.Maps.{at, of, entries, part, parts, seen}
+use Rattle.registry_names.specs.Maps.{PairMap, at, empty, of, entries, part, parts, seen}
 use Rattle.registry_names.proofs.KeyFacts.{pair_key}
-use Rattle.registry_names.proofs.MapFacts.{at-revise}
+use Rattle.registry_names.proofs.MapFacts.{at-empty, at-revise, same_map}
 use Rattle.registry_names.proofs.EntryFacts.{entries-revise}
-use Rattle.registry_rules.specs.State.{Release, has_live, is_empty}
+use Rattle.registry_rules.specs.State.{Release, has_live, is_empty, nothing}
 use Rattle.registry_tables.specs.Contents.{Archive, Contents, bytes_held, live_of, registry_of, with_bytes}
+use Rattle.registry_tables.specs.Fresh.{fresh}
 use Rattle.registry_tables.specs.Spelled.{document}
 use Rattle.registry_tables.proofs.FoundFacts.{some_seen}
 
@@ -71,3 +72,8 @@ archive_of_held c k n bytes held lives stored =
     each : (o : Option Release) → is_some o ≡ true → Some bytes ≡ option_map (λ (r : Release). r.archive) (option_map (with_bytes c k) o)
     each None h = absurd (true≢false (sym h))
     each (Some release) h = ap (λ (b : List ℕ). Some b) bytes_is
+
+-- a fresh registry holds nothing
+pub fresh_is_nothing : registry_of fresh ≡ nothing
+fresh_is_nothing = ap (λ (live : PairMap Release). record nothing { live = live }) (same_map pair_key (live_of fresh) empty (λ k.
+    at-revise pair_key fresh.versions (with_bytes fresh) k ∙ ap (option_map (with_bytes fresh k)) (at-empty pair_key k) ∙ sym (at-empty pair_key k)))

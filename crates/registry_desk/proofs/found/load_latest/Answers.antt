@@ -6,7 +6,7 @@ use Rattle.registry_names.specs.Maps.{at}
 use Rattle.registry_names.specs.Tags.{latest}
 use Rattle.registry_names.specs.Texts.{Text}
 use Rattle.registry_rows.proofs.QuietFacts.{reads_then}
-use Rattle.registry_tables.specs.Contents.{contents}
+use Rattle.registry_tables.specs.Contents.{contents, live_of}
 use Rattle.registry_tables.specs.Effects.{shown, stored_in}
 use Rattle.registry_tables.specs.Schema.{schema}
 use Rattle.registry_tables.specs.Spelled.{document}
@@ -22,7 +22,7 @@ returns-in_ok-document-in-Some-clause-tells g c clean =
     let found = c.in_ok-document-in-Some.ensures.tells clean in
     let tag : Some c.in-Some.version ≡ at was.tags (p, latest) = sym c.in-Some.is ∙ named.1 in (
       reads_then schema (shown g.S.Store c.args.tx.now) mid (shown g.S.Store c.load_document.new.tx) named.0 found.0,
-      found.1 ∙ ap (λ (d : Database). option_map document (at (contents d.trees).versions (p, c.as_str.result.now))) named.0.same
-          ∙ ap (λ (v : Text). option_map document (at was.versions (p, v))) c.as_str.ensures.text
-          ∙ ap (λ (o : Option Text). option_map document (option_and_then (λ v. at was.versions (p, v)) o)) tag,
+      found.1 ∙ ap (λ (d : Database). option_map document (at (live_of (contents d.trees)) (p, c.as_str.result.now))) named.0.same
+          ∙ ap (λ (v : Text). option_map document (at (live_of was) (p, v))) c.as_str.ensures.text
+          ∙ ap (λ (o : Option Text). option_map document (option_and_then (λ v. at (live_of was) (p, v)) o)) tag,
     )
