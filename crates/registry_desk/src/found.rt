@@ -2,17 +2,18 @@
 
 ghost use Rattle.std.specs.Prelude.{◌≡◌, option_map};
 ghost use Rattle.registry_access.specs.declared.caller.Caller.{Caller};
-ghost use Rattle.registry_access.specs.declared.role.Role.{Role};
+ghost use Rattle.registry_access.specs.declared.role.Role.{Role as Rank};
 ghost use Rattle.registry_history.specs.Answers.{asked_release};
 ghost use Rattle.registry_rows.specs.Frames.{Stays};
 ghost use Rattle.registry_tables.specs.Contents.{registry_of};
 ghost use Rattle.registry_tables.specs.Effects.{InForm, Tells};
 ghost use Rattle.registry_tables.specs.Spelled.{document, document_entry};
-ghost use Rattle.registry_desk.specs.Found.{IsFoundFor};
+ghost use Rattle.registry_desk.specs.Found.{IsCandidate, IsFoundFor, IsPlace};
+ghost use Rattle.registry_rules.specs.Facts.{StandsAbout};
 ghost use Rattle.registry_rules.specs.declared.request.Action.TheVariants as asked;
 ghost use Rattle.registry_rules.specs.declared.request.Asked.TheVariants as which;
 
-use registry_access::Caller;
+use registry_access::{Caller, Role};
 use registry_names::{Blob, DistTag, Fault, Ident, LATEST, Name, TagText, Text, Ver};
 use registry_packument::{Member, VersionRow};
 use registry_publish::{PublishForm, TokenDigest};
@@ -182,18 +183,45 @@ fn find_role<S: Alter>(
 ) -> Result<Found, Fault>
     requires in_form { InForm S.Store tx.old }
     ensures stays { Stays S.Store tx.old tx.new }
-    ensures tells { Tells S.Store tx.old tx.new result (λ found c. (role : Role)
+    ensures tells { Tells S.Store tx.old tx.new result (λ found c. (role : Rank)
         → IsFoundFor found (registry_of c) caller.now (asked.OrgSet organisation.now user.now role)) }
 {
-    let about = About::OrgSet {
-        rows: load_access(alloc, tx, caller, organisation.text())?,
-        user_exists: has_user(tx, user.text())?,
-        role: load_role(tx, organisation.text(), user.text())?,
-        other_owner: has_other_owner(alloc, tx, organisation.text(), user.text())?,
-    };
+    let rows = load_access(alloc, tx, caller, organisation.text())?;
+    let candidate = find_candidate(alloc, tx, organisation.text(), user.text())?;
     Ok(Found {
-        about,
+        about: About::OrgSet {
+            rows,
+            user_exists: candidate.user_exists,
+            role: candidate.role,
+            other_owner: candidate.other_owner,
+        },
         rows: Rows::Nothing,
+    })
+}
+
+// What is asked of a user who is to have a role in an organisation.
+#[derive(Drop)]
+struct Candidate {
+    user_exists: bool,
+    role: Option<Role>,
+    other_owner: bool,
+}
+
+fn find_candidate<S: Alter>(
+    alloc: Global,
+    tx: &mut Transaction<'_, S>,
+    organisation: &str,
+    user: &str,
+) -> Result<Candidate, Fault>
+    requires in_form { InForm S.Store tx.old }
+    ensures stays { Stays S.Store tx.old tx.new }
+    ensures tells { Tells S.Store tx.old tx.new result
+        (λ candidate c. IsCandidate candidate (registry_of c) organisation.now user.now) }
+{
+    Ok(Candidate {
+        user_exists: has_user(tx, user)?,
+        role: load_role(tx, organisation, user)?,
+        other_owner: has_other_owner(alloc, tx, organisation, user)?,
     })
 }
 
@@ -296,14 +324,15 @@ fn find_new_team_member<S: Alter>(
     ensures tells { Tells S.Store tx.old tx.new result (λ found c.
         IsFoundFor found (registry_of c) caller.now (asked.TeamAdd organisation.now team.now user.now)) }
 {
-    let about = About::TeamAdd {
-        rows: load_access(alloc, tx, caller, organisation.text())?,
-        team_exists: has_team(tx, organisation.text(), team.text())?,
-        is_member: load_role(tx, organisation.text(), user.text())?.is_some(),
-        is_in_team: is_in_team(tx, organisation.text(), team.text(), user.text())?,
-    };
+    let rows = load_access(alloc, tx, caller, organisation.text())?;
+    let place = find_place(tx, organisation.text(), team.text(), user.text())?;
     Ok(Found {
-        about,
+        about: About::TeamAdd {
+            rows,
+            team_exists: place.team_exists,
+            is_member: place.is_member,
+            is_in_team: place.is_in_team,
+        },
         rows: Rows::Nothing,
     })
 }
@@ -321,14 +350,41 @@ fn find_old_team_member<S: Alter>(
     ensures tells { Tells S.Store tx.old tx.new result (λ found c.
         IsFoundFor found (registry_of c) caller.now (asked.TeamRemove organisation.now team.now user.now)) }
 {
-    let about = About::TeamRemove {
-        rows: load_access(alloc, tx, caller, organisation.text())?,
-        team_exists: has_team(tx, organisation.text(), team.text())?,
-        is_in_team: is_in_team(tx, organisation.text(), team.text(), user.text())?,
-    };
+    let rows = load_access(alloc, tx, caller, organisation.text())?;
+    let place = find_place(tx, organisation.text(), team.text(), user.text())?;
     Ok(Found {
-        about,
+        about: About::TeamRemove {
+            rows,
+            team_exists: place.team_exists,
+            is_in_team: place.is_in_team,
+        },
         rows: Rows::Nothing,
+    })
+}
+
+// How a user stands to a team of an organisation.
+#[derive(Drop)]
+struct Place {
+    team_exists: bool,
+    is_member: bool,
+    is_in_team: bool,
+}
+
+fn find_place<S: Alter>(
+    tx: &mut Transaction<'_, S>,
+    organisation: &str,
+    team: &str,
+    user: &str,
+) -> Result<Place, Fault>
+    requires in_form { InForm S.Store tx.old }
+    ensures stays { Stays S.Store tx.old tx.new }
+    ensures tells { Tells S.Store tx.old tx.new result
+        (λ place c. IsPlace place (registry_of c) organisation.now team.now user.now) }
+{
+    Ok(Place {
+        team_exists: has_team(tx, organisation, team)?,
+        is_member: load_role(tx, organisation, user)?.is_some(),
+        is_in_team: is_in_team(tx, organisation, team, user)?,
     })
 }
 
@@ -363,14 +419,30 @@ fn find_team_members<S: Alter>(
     ensures tells { Tells S.Store tx.old tx.new result (λ found c.
         IsFoundFor found (registry_of c) caller.now (asked.TeamMembers organisation.now team.now)) }
 {
-    let about = About::Team {
-        rows: load_access(alloc, tx, caller, organisation.text())?,
-        exists: has_team(tx, organisation.text(), team.text())?,
-    };
+    let about = find_team(alloc, tx, caller, organisation.text(), team.text())?;
     let users = load_team_users(alloc, tx, organisation.text(), team.text())?;
     Ok(Found {
         about,
         rows: Rows::Names(users),
+    })
+}
+
+// What decides a query about a team.
+fn find_team<S: Alter>(
+    alloc: Global,
+    tx: &mut Transaction<'_, S>,
+    caller: &Caller,
+    organisation: &str,
+    team: &str,
+) -> Result<About, Fault>
+    requires in_form { InForm S.Store tx.old }
+    ensures stays { Stays S.Store tx.old tx.new }
+    ensures tells { Tells S.Store tx.old tx.new result (λ found c. StandsAbout found
+        (registry_of c) caller.now (asked.TeamMembers organisation.now team.now)) }
+{
+    Ok(About::Team {
+        rows: load_access(alloc, tx, caller, organisation)?,
+        exists: has_team(tx, organisation, team)?,
     })
 }
 

@@ -1,10 +1,11 @@
-use Rattle.std.proofs.Common.{◌∙◌, arith, ap, ap₂, sym, Some, Err, map}
+use Rattle.std.proofs.Common.{◌≡◌, ◌∙◌, arith, ap, ap₂, sym, subst, Some, Err, map}
 use Rattle.sqlite.specs.Effect.{Database}
 use Rattle.sqlite.specs.State.{HasCleanDisk}
 use Rattle.registry_names.specs.declared.refusal.Refusal.{Refusal}
 use Rattle.registry_names.specs.declared.stop.Stop.{Stop}
+use Rattle.registry_access.specs.declared.caller.Caller.{Caller}
 use Rattle.registry_rules.specs.Changes.{change_of}
-use Rattle.registry_rules.specs.Facts.{StandsFor}
+use Rattle.registry_rules.specs.Facts.{StandsAbout, StandsFor}
 use Rattle.registry_rules.specs.declared.reply.Reply.TheVariants.{Refused}
 use Rattle.registry_tables.specs.Changes.{all_stored}
 use Rattle.registry_tables.specs.Contents.{contents, registry_of}
@@ -18,7 +19,7 @@ returns-in-Ok-clause-answers g c known clean =
     let S = registry_of (stored_in g.S.Store c.args.tx.now) in
     let were : HasCleanDisk (shown g.S.Store c.find.new.tx) = omega (arith, c.make_all.ensures.stays.survives.clean, clean) in
     let found = (c.in_ok-about.ensures.tells were).1 in
-    let stands : StandsFor (record { caller = Some c.args.caller; about = c.in_ok-about.field-0.about }) S c.args.request.now = record { caller = known; about = found.about } in
+    let stands : StandsFor (record { caller = Some c.args.caller; about = c.in_ok-about.field-0.about }) S c.args.request.now = record { caller = known; about = λ who e. let same : c.args.caller ≡ who = cc in subst (λ (w : Caller). StandsAbout c.in_ok-about.field-0.about S w c.args.request.now.what) same found.about } in
     c.in_ok-reply-in-Ok.ensures S found.rows ∙ sym (unrefused S c.args.request.now (c.in-Ok.ensures.makes S stands).0)
 
 pub returns-in-Ok-clause-settles : goal.returns-in-Ok-clause-settles
@@ -28,7 +29,7 @@ returns-in-Ok-clause-settles g c known clean =
     let were : HasCleanDisk (shown g.S.Store c.find.new.tx) = omega (arith, c.make_all.ensures.stays.survives.clean, clean) in
     let reads = (c.in_ok-about.ensures.tells were).0 in
     let found = (c.in_ok-about.ensures.tells were).1 in
-    let stands : StandsFor (record { caller = Some c.args.caller; about = c.in_ok-about.field-0.about }) S c.args.request.now = record { caller = known; about = found.about } in
+    let stands : StandsFor (record { caller = Some c.args.caller; about = c.in_ok-about.field-0.about }) S c.args.request.now = record { caller = known; about = λ who e. let same : c.args.caller ≡ who = cc in subst (λ (w : Caller). StandsAbout c.in_ok-about.field-0.about S w c.args.request.now.what) same found.about } in
     let decided = c.in-Ok.ensures.makes S stands in
     let it = c.in_ok-make_all-in-Ok.ensures.makes clean in
     record {
@@ -41,7 +42,7 @@ pub returns-in-Err-Refused-clause-answers : goal.returns-in-Err-Refused-clause-a
 returns-in-Err-Refused-clause-answers g c known clean =
     let S = registry_of (stored_in g.S.Store c.args.tx.now) in
     let found = (c.in_ok-about.ensures.tells clean).1 in
-    let stands : StandsFor (record { caller = Some c.args.caller; about = c.in_ok-about.field-0.about }) S c.args.request.now = record { caller = known; about = found.about } in
+    let stands : StandsFor (record { caller = Some c.args.caller; about = c.in_ok-about.field-0.about }) S c.args.request.now = record { caller = known; about = λ who e. let same : c.args.caller ≡ who = cc in subst (λ (w : Caller). StandsAbout c.in_ok-about.field-0.about S w c.args.request.now.what) same found.about } in
     ap (λ (why : Refusal). Refused why) c.in-Err-Refused.refusal-is
     ∙ sym (refused S c.args.request.now c.in-Err-Refused.refusal
     ((c.decide.ensures.refused S stands c.in-Err-Refused.refusal).1 (c.in-Err-Refused.is ∙ ap (λ (stop : Stop). Err stop) c.in-Err-Refused.field-0-is)))
@@ -52,10 +53,10 @@ returns-in-Err-Refused-clause-settles g c known clean =
     let S = registry_of was in
     let reads = (c.in_ok-about.ensures.tells clean).0 in
     let found = (c.in_ok-about.ensures.tells clean).1 in
-    let stands : StandsFor (record { caller = Some c.args.caller; about = c.in_ok-about.field-0.about }) S c.args.request.now = record { caller = known; about = found.about } in
+    let stands : StandsFor (record { caller = Some c.args.caller; about = c.in_ok-about.field-0.about }) S c.args.request.now = record { caller = known; about = λ who e. let same : c.args.caller ≡ who = cc in subst (λ (w : Caller). StandsAbout c.in_ok-about.field-0.about S w c.args.request.now.what) same found.about } in
     let refused_so = (c.decide.ensures.refused S stands c.in-Err-Refused.refusal).1 (c.in-Err-Refused.is ∙ ap (λ (stop : Stop). Err stop) c.in-Err-Refused.field-0-is) in
     record {
       holds = ap (λ (d : Database). contents d.trees) reads.same ∙ sym (refused_settles was c.args.request.now c.in-Err-Refused.refusal refused_so);
       ready = reads.ready;
-      mode = reads.mode ∙ c.requires.begun;
+      mode = reads.mode ∙ c.requires.begun (omega (arith, c.find.ensures.stays.survives.clean, clean));
     }

@@ -16,3 +16,8 @@ pub returns-in_ok-tags_of-in-Tags-Tags : goal.returns-in_ok-tags_of-in-Tags-Tags
 returns-in_ok-tags_of-in-Tags-Tags c S found =
     let shown = subst₂ (λ (rows : Rows) (what : Action). AreRowsOf rows S what) c.in-Tags-Tags.is-1 c.in-Tags-Tags.is-0 found in
     ap (λ (text : Text). Doc text) (c.in_ok-tags_of-in-Tags-Tags.ensures S _ shown) ∙ ap (reply S) (sym c.in-Tags-Tags.is-0)
+
+pub returns-in_ok-members_of-in-Members-Members : goal.returns-in_ok-members_of-in-Members-Members
+returns-in_ok-members_of-in-Members-Members c S found =
+    let shown = subst₂ (λ (rows : Rows) (what : Action). AreRowsOf rows S what) c.in-Members-Members.is-1 c.in-Members-Members.is-0 found in
+    ap (λ (text : Text). Doc text) (c.in_ok-members_of-in-Members-Members.ensures S _ shown) ∙ ap (reply S) (sym c.in-Members-Members.is-0)
