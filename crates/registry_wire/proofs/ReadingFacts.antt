@@ -23,9 +23,6 @@ use Rattle.registry_wire.proofs.RequestFacts.{request-more, bad-more}
 
 -- ---- no bytes are no request, and may become one
 
-some-cons : (x : ℕ) (c : List ℕ) → 0 < length (x ∷ c)
-some-cons x c = let e = add-one (length c) in omega (arith, e)
-
 some-behind : (a b : List ℕ) → 0 < length b → 0 < length (a ++ b)
 some-behind a b some = omega (arith, length-append a b, some)
 
@@ -34,7 +31,7 @@ some-before a b some = omega (arith, length-append a b, some)
 
 some-head : (h : RequestHead) → 0 < length (print_request h)
 unfolding print_request
-some-head h = search (rules, some-cons, some-behind, some-before)
+some-head h = search (rules, some-behind, some-before)
 
 not-empty : (bytes : List ℕ) (h : RequestHead) (rest : List ℕ) → bytes ≡ [] → ¬ (HasHead bytes h rest)
 not-empty bytes h rest none x =
