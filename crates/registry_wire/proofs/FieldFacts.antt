@@ -1,5 +1,5 @@
 -- What one field more says.
-use Rattle.std.proofs.Common.{◌≡◌, ℕ, List, [], ◌∷◌, Bool, true, false, refl, ap, ◌∙◌}
+use Rattle.std.proofs.Common.{◌≡◌, ℕ, List, [], ◌∷◌, true, false, refl}
 use Rattle.registry_wire.specs.Fields.{Fields, is_same, said, said_by, values}
 use Rattle.registry_wire.specs.Parts.{said_before}
 

@@ -1,9 +1,9 @@
 -- From what httparse answers to heads within their limits.
-use Rattle.std.proofs.Common.{◌≡◌, ◌<◌, ◌≤◌, ℕ, List, ◌++◌, length, take, drop, map, refl, sym, ap, subst, ◌∙◌, arith, inl, inr, append_assoc}
+use Rattle.std.proofs.Common.{◌≡◌, ◌≤◌, ℕ, List, ◌++◌, length, take, drop, refl, sym, ap, subst, ◌∙◌, arith, inl, inr, append_assoc}
 use Rattle.std.proofs.lemmas.List.{length-map, length-take-le, take-append-le, take_at, take_all, take-append-drop, drop-append-le}
 use Rattle.std.proofs.lemmas.Bool.{cases_lt}
 use Rattle.httparse.proofs.GrammarLemmas.{ReadsRequest-append}
-use Rattle.httparse.specs.Grammar.{RequestHead, HasNoRequest, MayBecomeRequest, print_request}
+use Rattle.httparse.specs.Grammar.{RequestHead, HasNoRequest, print_request}
 use Rattle.httparse.specs.Spans.{IsRequestAt, RequestOverflows, IsRequestWithin, header_bytes, name_and_value}
 use Rattle.httparse.specs.declared.spans.RequestSpans.{RequestSpans}
 use Rattle.httparse.specs.declared.spans.HeaderSpan.{HeaderSpan}

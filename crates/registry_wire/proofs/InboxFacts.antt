@@ -1,7 +1,7 @@
 -- Bytes that an inbox holds, one read after another.
-use Rattle.std.proofs.Common.{◌≡◌, ℕ, ◌+◌, ◌-◌, ◌<◌, ◌≤◌, List, [], ◌++◌, Option, Bool, true, false, refl, sym, ap, subst, ◌∙◌, append_assoc, append-nil, arith, inl, inr, length, add-one}
+use Rattle.std.proofs.Common.{◌≡◌, ℕ, ◌+◌, ◌<◌, List, [], ◌++◌, Option, Bool, true, false, refl, sym, ap, subst, ◌∙◌, append_assoc, append-nil, arith, inl, inr, add-one}
 use Rattle.std.specs.Io.KnownBytes.{Consumes, Keeps, IsAtEnd}
-use Rattle.registry_names.specs.Ends.{RisesBetween, raised, raised_by}
+use Rattle.registry_names.specs.Ends.{RisesBetween, raised}
 use Rattle.registry_names.proofs.EndFacts.{Reads-nothing, Reads-one, Reads-append, Consumes-kept}
 use Rattle.registry_wire.specs.Inboxes.{Unread}
 use Rattle.registry_wire.specs.Pieces.{Moves, GoesOn}

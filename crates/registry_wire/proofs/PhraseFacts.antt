@@ -1,5 +1,5 @@
 -- No phrase of a status is long.
-use Rattle.std.proofs.Common.{◌≤◌, ◌==◌, ◌≡◌, ℕ, List, [], length, Bool, true, false, cond, Option, Some, None, lit≤}
+use Rattle.std.proofs.Common.{◌≤◌, ◌==◌, ℕ, List, [], length, Bool, true, false, cond, Option, lit≤}
 use Rattle.std.specs.Prelude.{unwrap_or}
 use Rattle.http.specs.StatusCode.{reason_phrase}
 

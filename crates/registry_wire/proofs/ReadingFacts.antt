@@ -1,5 +1,5 @@
 -- That bytes have one reading, whoever reads them.
-use Rattle.std.proofs.Common.{rules, add-one, ◌≡◌, ◌<◌, ◌≤◌, ◌+◌, ℕ, List, [], ◌∷◌, ◌++◌, length, take, drop, refl, sym, ap, subst, ◌∙◌, arith, lit<, lit≤, inl, inr, append_assoc, append-nil, length-append, Result, Ok, Err, Some, false, codes}
+use Rattle.std.proofs.Common.{rules, ◌≡◌, ◌<◌, ◌≤◌, ℕ, List, [], ◌∷◌, ◌++◌, length, take, drop, refl, sym, ap, subst, ◌∙◌, arith, lit<, lit≤, inl, inr, append_assoc, append-nil, length-append, Result, Ok, Err, Some, false, codes}
 use Rattle.std.proofs.lemmas.Str.{IsUtf8-from_ascii}
 use Rattle.std.proofs.lemmas.Str.Ascii.{IsAscii-from_all}
 use Rattle.std.proofs.lemmas.List.Sums.{AllPass-from_list_all}
@@ -7,12 +7,12 @@ use Rattle.std.proofs.lemmas.List.Elements.{All-nil, All-push}
 use Rattle.std.proofs.Math.Seq.{take-append_seam, drop-append_seam}
 use Rattle.httparse.proofs.GrammarLemmas.{request_unique}
 use Rattle.httparse.proofs.OnLiterals.{httparse_on_literals}
-use Rattle.httparse.specs.Grammar.{RequestHead, LineEnd, crlf, IsField, IsRequestHead, is_token_byte, is_uri_byte, print_request}
+use Rattle.httparse.specs.Grammar.{RequestHead, crlf, IsField, IsRequestHead, is_token_byte, is_uri_byte, print_request}
 use Rattle.registry_names.specs.declared.refusal.Refusal.{Refusal}
 use Rattle.registry_names.specs.declared.refusal.Refusal.TheVariants.{BadBody}
 use Rattle.registry_wire.specs.Fields.{body_len, fields_of}
 use Rattle.registry_wire.specs.Asked.{wanted_of}
-use Rattle.registry_wire.specs.Spelling.{HasHead, HasRequest, IsRefused, IsBad, IsUnfinished, LacksHead, LacksBody, NeverHasHead, EndsWith, Spells}
+use Rattle.registry_wire.specs.Spelling.{HasHead, HasRequest, IsBad, IsUnfinished, NeverHasHead, EndsWith, Spells}
 use Rattle.registry_wire.specs.Reading.{Takes, TakenOfAll}
 use Rattle.registry_wire.specs.declared.first.Ending.{Ending}
 use Rattle.registry_wire.specs.declared.first.Ending.TheVariants.{Closed, BadInput}
@@ -23,9 +23,6 @@ use Rattle.registry_wire.proofs.RequestFacts.{request-more, bad-more}
 
 -- ---- no bytes are no request, and may become one
 
-some-cons : (x : ℕ) (c : List ℕ) → 0 < length (x ∷ c)
-some-cons x c = let e = add-one (length c) in omega (arith, e)
-
 some-behind : (a b : List ℕ) → 0 < length b → 0 < length (a ++ b)
 some-behind a b some = omega (arith, length-append a b, some)
 
@@ -34,7 +31,7 @@ some-before a b some = omega (arith, length-append a b, some)
 
 some-head : (h : RequestHead) → 0 < length (print_request h)
 unfolding print_request
-some-head h = search (rules, some-cons, some-behind, some-before)
+some-head h = search (rules, some-behind, some-before)
 
 not-empty : (bytes : List ℕ) (h : RequestHead) (rest : List ℕ) → bytes ≡ [] → ¬ (HasHead bytes h rest)
 not-empty bytes h rest none x =

@@ -1,11 +1,11 @@
 -- From heads to requests.
-use Rattle.std.proofs.Common.{◌≡◌, ◌<◌, ◌≤◌, ◌+◌, ℕ, List, [], ◌++◌, length, take, drop, refl, sym, ap, subst, ◌∙◌, arith, append_assoc, append-nil, length-append, Ok, Err, inl, inr, Result}
+use Rattle.std.proofs.Common.{◌≡◌, ◌≤◌, ◌+◌, ℕ, List, ◌++◌, length, take, drop, sym, ap, subst, ◌∙◌, append_assoc, Ok, inl, inr}
 use Rattle.std.proofs.lemmas.List.{length-take-le, take-append-drop, drop-drop}
 use Rattle.httparse.specs.Grammar.{RequestHead}
 use Rattle.registry_names.specs.declared.refusal.Refusal.{Refusal}
 use Rattle.registry_wire.specs.Fields.{body_len, fields_of}
 use Rattle.registry_wire.specs.Asked.{wanted_of}
-use Rattle.registry_wire.specs.Spelling.{HasHead, HasRequest, IsRefused, IsBad, NeverHasHead}
+use Rattle.registry_wire.specs.Spelling.{HasHead, HasRequest, IsBad}
 use Rattle.registry_wire.specs.declared.wanted.Wanted.{Wanted}
 use Rattle.registry_wire.proofs.HeadFacts.{head-more}
 

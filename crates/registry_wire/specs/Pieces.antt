@@ -1,6 +1,5 @@
 -- What one more read gives an inbox.
-use Rattle.std.specs.Prelude.{◌≡◌, ◌<◌, ◌+◌, ◌⊎◌, ℕ, Bool, false, List, ◌++◌, Option, length}
-use Rattle.std.specs.Io.KnownBytes.{IsAtEnd}
+use Rattle.std.specs.Prelude.{◌≡◌, ◌<◌, ◌+◌, ◌⊎◌, ℕ, Bool, List, ◌++◌, Option, length}
 use Rattle.registry_names.specs.Ends.{Reads, raised}
 use Rattle.registry_wire.specs.Inboxes.{Unread, interruption_limit}
 use Rattle.registry_wire.specs.declared.inbox.Piece.{Piece}

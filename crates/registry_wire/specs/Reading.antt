@@ -1,5 +1,5 @@
 -- What a read of a request takes from an inbox.
-use Rattle.std.specs.Prelude.{◌≡◌, ◌<◌, ◌⊎◌, ◌+◌, ℕ, Bool, false, List, [], ◌++◌, Option, Some}
+use Rattle.std.specs.Prelude.{◌≡◌, ◌<◌, ◌⊎◌, ◌+◌, ℕ, Bool, false, List, ◌++◌, Option}
 use Rattle.std.specs.Io.KnownBytes.{IsAtEnd}
 use Rattle.registry_names.specs.Ends.{Reads, raised_by}
 use Rattle.registry_names.specs.declared.stop.Fault.TheVariants.{Memory}

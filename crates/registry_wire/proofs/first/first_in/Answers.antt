@@ -1,6 +1,6 @@
-use Rattle.std.proofs.Common.{arith, ap, ◌≡◌, ◌<◌, ◌≤◌, length, take, drop, ◌∙◌, sym, refl, inl, inr}
+use Rattle.std.proofs.Common.{arith, ap, ◌<◌, ◌≤◌, length, take, drop, ◌∙◌, sym, refl, inl, inr}
 use Rattle.std.proofs.lemmas.List.{length-drop, length-take}
-use Rattle.registry_wire.specs.Spelling.{head_limit, HasHead}
+use Rattle.registry_wire.specs.Spelling.{head_limit}
 use Rattle.registry_wire.proofs.HeadFacts.{head-of_front, never-of_front, lacks-of_front}
 use Rattle.registry_wire.proofs.RequestFacts.{has-request}
 use Rattle.registry_wire.proofs.first.first_in.Goals as goal

@@ -1,5 +1,5 @@
 use Rattle.std.proofs.Common.{arith, ◌≡◌, length}
-use Rattle.registry_wire.proofs.HeadFacts.{found-head, never-at_limit, never-at_error}
+use Rattle.registry_wire.proofs.HeadFacts.{found-head, never-at_limit}
 use Rattle.registry_wire.proofs.head.head_in.Goals as goal
 
 pub returns-in-Ok-Complete : goal.returns-in-Ok-Complete

@@ -1,4 +1,4 @@
-use Rattle.std.proofs.Common.{◌≡◌, ◌≤◌, ℕ, List, [], length, sym, subst, Option}
+use Rattle.std.proofs.Common.{◌≤◌, ℕ, List, [], length, sym, subst, Option}
 use Rattle.std.specs.Prelude.{unwrap_or}
 use Rattle.registry_wire.proofs.PhraseFacts.{short-phrase}
 use Rattle.registry_wire.proofs.response.phrase.Goals as goal

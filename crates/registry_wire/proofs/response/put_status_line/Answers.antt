@@ -1,4 +1,4 @@
-use Rattle.std.proofs.Common.{◌≡◌, ◌∙◌, ◌++◌, ap, codes, List, ℕ}
+use Rattle.std.proofs.Common.{◌∙◌, ◌++◌, ap, codes, List, ℕ}
 use Rattle.http.specs.StatusCode.{code_digits}
 use Rattle.registry_wire.specs.Responses.{phrase, line_end}
 use Rattle.registry_wire.proofs.ResponseFacts.{pushed-five}

@@ -1,4 +1,4 @@
-use Rattle.std.proofs.Common.{◌≡◌, ◌∙◌, ◌++◌, ap, codes, List, ℕ}
+use Rattle.std.proofs.Common.{◌∙◌, ◌++◌, ap, codes, List, ℕ}
 use Rattle.registry_wire.specs.Responses.{media_type, line_end}
 use Rattle.registry_wire.proofs.ResponseFacts.{pushed-three}
 use Rattle.registry_wire.proofs.response.put_type_line.Goals as goal

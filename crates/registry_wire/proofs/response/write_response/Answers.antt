@@ -1,4 +1,4 @@
-use Rattle.std.proofs.Common.{◌≡◌, ◌∙◌, ◌++◌, ap, subst, List, ℕ}
+use Rattle.std.proofs.Common.{◌∙◌, ◌++◌, ap, subst, List, ℕ}
 use Rattle.registry_names.specs.Ends.{Writes, WritesFront}
 use Rattle.registry_names.proofs.EndFacts.{on_err}
 use Rattle.registry_wire.specs.Responses.{head_of}

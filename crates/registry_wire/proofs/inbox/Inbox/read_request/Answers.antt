@@ -1,4 +1,4 @@
-use Rattle.std.proofs.Common.{◌≡◌, refl, sym, subst}
+use Rattle.std.proofs.Common.{refl, sym, subst}
 use Rattle.registry_wire.specs.Spelling.{IsUnfinished}
 use Rattle.registry_wire.proofs.InboxFacts.{moves-on, takes, counts-on, rises, taken-end}
 use Rattle.registry_wire.proofs.inbox.Inbox.read_request.Goals as goal
