@@ -16,8 +16,12 @@ mod outcome;
 #[cfg(test)]
 mod packument;
 #[cfg(test)]
+mod printed;
+#[cfg(test)]
 mod publish;
 #[cfg(test)]
 mod ranges;
 #[cfg(test)]
 mod rules;
+#[cfg(test)]
+mod words;

@@ -1,0 +1,281 @@
+//! Lines of words, what they mean, and what is said of wrong ones. The words are those of
+//! `docs/WORDS.md`.
+
+mod help;
+mod wrong;
+
+use crate::outcome::same;
+use registry_cli::{Line, Usage, Who, line};
+use registry_names::{Moment, Text};
+use std::alloc::{AllocError, Global};
+use std::test::Fail;
+
+/// What a line comes to.
+#[derive(Debug, PartialEq, Eq, Drop)]
+enum Meant {
+    /// The file, who asks, the second of the moment, and the subcommand with its words.
+    Line(String, String, Option<i64>, Vec<String>),
+    /// What is said of wrong words.
+    Wrong(String),
+    NoMemory,
+}
+
+fn texts(alloc: Global, words: &[&str]) -> Result<Vec<Text>, AllocError> {
+    let mut texts = Vec::new(alloc);
+    for word in words {
+        texts.push(Text::from_str(alloc, word)?)?;
+    }
+    Ok(texts)
+}
+
+fn strings(alloc: Global, words: &[&str]) -> Result<Vec<String>, AllocError> {
+    let mut strings = Vec::new(alloc);
+    for word in words {
+        strings.push(String::from_str(alloc, word)?)?;
+    }
+    Ok(strings)
+}
+
+fn caller(alloc: Global, who: Who) -> Result<String, AllocError> {
+    match who {
+        Who::Operator => String::from_str(alloc, "the operator"),
+        Who::User(name) => Ok(name.into_string()),
+        Who::Anonymous => String::from_str(alloc, "nobody"),
+    }
+}
+
+fn what(alloc: Global, line: &Line) -> Result<Vec<String>, AllocError> {
+    let mut what = Vec::new(alloc);
+    for word in line.what.as_slice() {
+        what.push(String::from_str(alloc, word.as_str())?)?;
+    }
+    Ok(what)
+}
+
+fn meaning_of(alloc: Global, words: &[&str]) -> Result<Meant, AllocError> {
+    let texts = texts(alloc, words)?;
+    Ok(match line(alloc, &texts) {
+        Ok(line) => {
+            let what = what(alloc, &line)?;
+            let Line {
+                db,
+                who,
+                at,
+                what: _,
+            } = line;
+            Meant::Line(
+                db.into_string(),
+                caller(alloc, who)?,
+                at.map(Moment::seconds),
+                what,
+            )
+        }
+        Err(Usage::Words(said)) => Meant::Wrong(said.into_string()),
+        Err(Usage::Memory) => Meant::NoMemory,
+    })
+}
+
+/// A line of words, and what it means.
+#[derive(Clone, Copy)]
+struct Case {
+    words: &'static [&'static str],
+    db: &'static str,
+    who: &'static str,
+    at: Option<i64>,
+    what: &'static [&'static str],
+}
+
+fn is_meant(alloc: Global, case: &Case) -> Result<(), Fail> {
+    let wanted = Meant::Line(
+        String::from_str(alloc, case.db)?,
+        String::from_str(alloc, case.who)?,
+        case.at,
+        strings(alloc, case.what)?,
+    );
+    same(case.words, meaning_of(alloc, case.words)?, wanted)
+}
+
+/// Lines that have no options and leave no word out, one of each subcommand: they mean themselves.
+static WHOLE: [&'static [&'static str]; 27] = [
+    &["user-add", "ann"],
+    &["token-add", "ann", "npm_ann_000000001"],
+    &["org-create", "lab", "ann"],
+    &["org-set", "lab", "bob", "admin"],
+    &["org-rm", "lab", "bob"],
+    &["team-create", "lab", "ops"],
+    &["team-destroy", "lab", "ops"],
+    &["team-add", "lab", "ops", "bob"],
+    &["team-rm", "lab", "ops", "bob"],
+    &["grant", "lab", "ops", "@lab/kit", "read-only"],
+    &["revoke", "lab", "ops", "@lab/kit"],
+    &["access", "@lab/kit", "public"],
+    &["owner-add", "tool", "eve"],
+    &["owner-rm", "tool", "eve"],
+    &["publish", "body.json"],
+    &["tag-set", "@lab/kit", "next", "1.1.0"],
+    &["tag-rm", "@lab/kit", "next"],
+    &["deprecate", "@lab/kit", "1.x", "use 2.x"],
+    &["withdraw", "@lab/kit", "1.0.0"],
+    &["packument", "@lab/kit"],
+    &["version-doc", "@lab/kit", "latest"],
+    &["archive", "@lab/kit", "1.0.0"],
+    &["tags", "@lab/kit"],
+    &["members", "lab"],
+    &["teams", "lab"],
+    &["team-members", "lab", "ops"],
+    &["team-packages", "lab", "ops"],
+];
+
+#[test]
+fn each_subcommand_means_its_words(rt: HostRuntime) -> Result<(), Fail> {
+    for words in &WHOLE {
+        is_meant(
+            rt.alloc(),
+            &Case {
+                words,
+                db: "registry.db",
+                who: "nobody",
+                at: None,
+                what: words,
+            },
+        )?;
+    }
+    Ok(())
+}
+
+static LINES: [Case; 18] = [
+    Case {
+        words: &["--db", "r.db", "--operator", "user-add", "ann"],
+        db: "r.db",
+        who: "the operator",
+        at: None,
+        what: &["user-add", "ann"],
+    },
+    Case {
+        words: &["--as", "bob", "--at", "100", "tags", "@lab/kit"],
+        db: "registry.db",
+        who: "bob",
+        at: Some(100),
+        what: &["tags", "@lab/kit"],
+    },
+    Case {
+        words: &["--at=0", "--db=", "tags", "kit"],
+        db: "",
+        who: "nobody",
+        at: Some(0),
+        what: &["tags", "kit"],
+    },
+    Case {
+        words: &["--at", "253402300799", "tags", "kit"],
+        db: "registry.db",
+        who: "nobody",
+        at: Some(253_402_300_799),
+        what: &["tags", "kit"],
+    },
+    Case {
+        words: &["--at=+05", "tags", "kit"],
+        db: "registry.db",
+        who: "nobody",
+        at: Some(5),
+        what: &["tags", "kit"],
+    },
+    Case {
+        words: &["--at=-0", "tags", "kit"],
+        db: "registry.db",
+        who: "nobody",
+        at: Some(0),
+        what: &["tags", "kit"],
+    },
+    Case {
+        words: &["--as", "", "tags", ""],
+        db: "registry.db",
+        who: "",
+        at: None,
+        what: &["tags", ""],
+    },
+    Case {
+        words: &["org-set", "lab", "bob"],
+        db: "registry.db",
+        who: "nobody",
+        at: None,
+        what: &["org-set", "lab", "bob", "developer"],
+    },
+    Case {
+        words: &["org-set", "lab", "bob", "king"],
+        db: "registry.db",
+        who: "nobody",
+        at: None,
+        what: &["org-set", "lab", "bob", "king"],
+    },
+    Case {
+        words: &["serve"],
+        db: "registry.db",
+        who: "nobody",
+        at: None,
+        what: &["serve", "8080", "1000000"],
+    },
+    Case {
+        words: &["serve", "--port", "1"],
+        db: "registry.db",
+        who: "nobody",
+        at: None,
+        what: &["serve", "1", "1000000"],
+    },
+    Case {
+        words: &["serve", "--connections", "1000000", "--port", "65535"],
+        db: "registry.db",
+        who: "nobody",
+        at: None,
+        what: &["serve", "65535", "1000000"],
+    },
+    Case {
+        words: &["serve", "--connections=1"],
+        db: "registry.db",
+        who: "nobody",
+        at: None,
+        what: &["serve", "8080", "1"],
+    },
+    Case {
+        words: &["--operator", "--at", "5", "serve"],
+        db: "registry.db",
+        who: "the operator",
+        at: Some(5),
+        what: &["serve", "8080", "1000000"],
+    },
+    Case {
+        words: &["deprecate", "kit", "<2.0.0", ""],
+        db: "registry.db",
+        who: "nobody",
+        at: None,
+        what: &["deprecate", "kit", "<2.0.0", ""],
+    },
+    Case {
+        words: &["deprecate", "kit", "1.x", "--", "-- old --"],
+        db: "registry.db",
+        who: "nobody",
+        at: None,
+        what: &["deprecate", "kit", "1.x", "-- old --"],
+    },
+    Case {
+        words: &["token-add", "--", "ann", "-npm_ann_000000001"],
+        db: "registry.db",
+        who: "nobody",
+        at: None,
+        what: &["token-add", "ann", "-npm_ann_000000001"],
+    },
+    Case {
+        words: &["--as", "serve", "tags", "tags"],
+        db: "registry.db",
+        who: "serve",
+        at: None,
+        what: &["tags", "tags"],
+    },
+];
+
+#[test]
+fn options_and_words_that_are_left_out(rt: HostRuntime) -> Result<(), Fail> {
+    for case in &LINES {
+        is_meant(rt.alloc(), case)?;
+    }
+    Ok(())
+}
