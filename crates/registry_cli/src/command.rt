@@ -43,7 +43,8 @@ fn argument<'a>(alloc: Global, word: &Word) -> Arg<'a>
 fn with_argument<'a>(command: Command<'a>, argument: Arg<'a>) -> Result<Command<'a>, AllocError>
     requires command { (out-Command command).has_globals ≡ false }
     requires argument { argument.global ≡ false }
-    ensures app { IfOk result (λ c. app_of c ≡ with_rule (app_of command.entry) (rule_of argument.entry)) }
+    ensures app { IfOk result (λ c. app_of c
+        ≡ with_rule (app_of command.entry) (rule_of argument.entry)) }
     ensures local { IfOk result (λ c. (out-Command c).has_globals ≡ false) }
 {
     command.arg(argument)
@@ -55,7 +56,8 @@ fn with_words<'a>(
     words: &[Word],
 ) -> Result<Command<'a>, AllocError>
     requires local { (out-Command command).has_globals ≡ false }
-    ensures app { IfOk result (λ c. app_of c ≡ with_rules (app_of command.entry) (map rule_of_word words.now)) }
+    ensures app { IfOk result (λ c. app_of c
+        ≡ with_rules (app_of command.entry) (map rule_of_word words.now)) }
     ensures local { IfOk result (λ c. (out-Command c).has_globals ≡ false) }
 {
     let mut command = command;
@@ -66,7 +68,8 @@ fn with_words<'a>(
 }
 
 fn subcommand<'a>(alloc: Global, row: &Subcommand) -> Result<Command<'a>, AllocError>
-    ensures app { IfOk result (λ c. app_of c ≡ with_rules (new_app (row_of row.now).0) (row_of row.now).1) }
+    ensures app { IfOk result (λ c. app_of c
+        ≡ with_rules (new_app (row_of row.now).0) (row_of row.now).1) }
     ensures local { IfOk result (λ c. (out-Command c).has_globals ≡ false) }
 {
     let command = Command::new(alloc, row.name)
@@ -81,7 +84,8 @@ fn with_subcommand<'a>(
     row: &Subcommand,
 ) -> Result<Command<'a>, AllocError>
     requires local { (out-Command command).has_globals ≡ false }
-    ensures app { IfOk result (λ c. app_of c ≡ with_subcommand (app_of command.entry) (spec.subcommand (row_of row.now))) }
+    ensures app { IfOk result (λ c. app_of c
+        ≡ with_subcommand (app_of command.entry) (spec.subcommand (row_of row.now))) }
     ensures local { IfOk result (λ c. (out-Command c).has_globals ≡ false) }
 {
     command.subcommand(subcommand(alloc, row)?)
@@ -93,7 +97,8 @@ fn with_rows<'a>(
     rows: &[Subcommand],
 ) -> Result<Command<'a>, AllocError>
     requires local { (out-Command command).has_globals ≡ false }
-    ensures app { IfOk result (λ c. app_of c ≡ with_subcommands (app_of command.entry) (map row_of rows.now)) }
+    ensures app { IfOk result (λ c. app_of c
+        ≡ with_subcommands (app_of command.entry) (map row_of rows.now)) }
     ensures local { IfOk result (λ c. (out-Command c).has_globals ≡ false) }
 {
     let mut command = command;
@@ -106,7 +111,8 @@ fn with_rows<'a>(
 // The options that name the file and the user.
 fn with_names<'a>(alloc: Global, command: Command<'a>) -> Result<Command<'a>, AllocError>
     requires local { (out-Command command).has_globals ≡ false }
-    ensures app { IfOk result (λ c. app_of c ≡ with_rule (with_rule (app_of command.entry) spec.db) spec.as_user) }
+    ensures app { IfOk result (λ c. app_of c
+        ≡ with_rule (with_rule (app_of command.entry) spec.db) spec.as_user) }
     ensures local { IfOk result (λ c. (out-Command c).has_globals ≡ false) }
 {
     let db = Arg::new(alloc, "PATH")
@@ -120,7 +126,8 @@ fn with_names<'a>(alloc: Global, command: Command<'a>) -> Result<Command<'a>, Al
 // The flag of the operator, and the moment.
 fn with_moment<'a>(alloc: Global, command: Command<'a>) -> Result<Command<'a>, AllocError>
     requires local { (out-Command command).has_globals ≡ false }
-    ensures app { IfOk result (λ c. app_of c ≡ with_rule (with_rule (app_of command.entry) spec.as_operator) spec.at_moment) }
+    ensures app { IfOk result (λ c. app_of c
+        ≡ with_rule (with_rule (app_of command.entry) spec.as_operator) spec.at_moment) }
     ensures local { IfOk result (λ c. (out-Command c).has_globals ≡ false) }
 {
     let operator = Arg::new(alloc, "operator")

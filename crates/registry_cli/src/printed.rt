@@ -52,7 +52,8 @@ fn answer(alloc: Global, bytes: &[u8], end: &str) -> Result<Printed, AllocError>
 }
 
 fn refused(alloc: Global, refusal: Refusal) -> Result<Printed, AllocError>
-    ensures { IfOk result (λ p. p ≡ on_errors (codes "refused: " ++ refusal_text refusal ++ newline)) }
+    ensures { IfOk result (λ p.
+        p ≡ on_errors (codes "refused: " ++ refusal_text refusal ++ newline)) }
 {
     let mut line = String::from_str(alloc, "refused: ")?;
     line.push_str(refusal.text())?;

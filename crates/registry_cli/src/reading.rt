@@ -55,7 +55,8 @@ fn line_in(alloc: Global, matches: &ArgMatches<'_>) -> Result<Line, Usage>
     ensures ok { IfOk result (λ l.
         (l ≡ spec.line_in (rows_of (found_of matches.now)) (subcommand_rows_of matches.now))
         × (are_both_in (rows_of (found_of matches.now)) ≡ false)) }
-    ensures err { IfErr result (λ u. IsMemoryOrBoth u (are_both_in (rows_of (found_of matches.now)))) }
+    ensures err { IfErr result (λ u.
+        IsMemoryOrBoth u (are_both_in (rows_of (found_of matches.now)))) }
 {
     Ok(Line {
         db: Text::from_str(alloc, value(matches, "PATH"))?,
@@ -104,9 +105,11 @@ fn both(alloc: Global) -> Result<Text, AllocError>
 }
 
 fn who_asks(alloc: Global, user: Option<&str>, is_operator: bool) -> Result<Who, Usage>
-    ensures ok { IfOk result (λ w. (w ≡ spec.who_asks (option_map (λ s. s.now) user.entry) is_operator)
+    ensures ok { IfOk result (λ w.
+        (w ≡ spec.who_asks (option_map (λ s. s.now) user.entry) is_operator)
         × (are_both (option_map (λ s. s.now) user.entry) is_operator ≡ false)) }
-    ensures err { IfErr result (λ u. IsMemoryOrBoth u (are_both (option_map (λ s. s.now) user.entry) is_operator)) }
+    ensures err { IfErr result (λ u.
+        IsMemoryOrBoth u (are_both (option_map (λ s. s.now) user.entry) is_operator)) }
 {
     match (user, is_operator) {
         (Some(_), true) => Err(Usage::Words(both(alloc)?)),
@@ -119,7 +122,8 @@ fn who_asks(alloc: Global, user: Option<&str>, is_operator: bool) -> Result<Who,
 fn caller(alloc: Global, matches: &ArgMatches<'_>) -> Result<Who, Usage>
     ensures ok { IfOk result (λ w. (w ≡ who_in (rows_of (found_of matches.now)))
         × (are_both_in (rows_of (found_of matches.now)) ≡ false)) }
-    ensures err { IfErr result (λ u. IsMemoryOrBoth u (are_both_in (rows_of (found_of matches.now)))) }
+    ensures err { IfErr result (λ u.
+        IsMemoryOrBoth u (are_both_in (rows_of (found_of matches.now)))) }
 {
     who_asks(alloc, given(matches, "USER"), is_operator(matches))
 }
@@ -167,7 +171,8 @@ fn named(
     words: &[Word],
 ) -> Result<Vec<Text>, AllocError>
     ensures { IfOk result (λ v. v.items
-        ≡ name.now ∷ map (value_in (rows_of (found_of matches.now))) (map (λ w. w.id.now) words.now)) }
+        ≡ name.now ∷ map (value_in (rows_of (found_of matches.now)))
+        (map (λ w. w.id.now) words.now)) }
 {
     let mut values = Vec::new(alloc);
     values.push(Text::from_str(alloc, name)?)?;

@@ -331,7 +331,8 @@ pub(crate) fn all() -> &'static [Subcommand]
 
 /// The subcommand of this name, if there is one.
 pub(crate) fn called(name: &str) -> Option<&'static Subcommand>
-    ensures { option_map (λ row. row_of row.now) result ≡ find (λ row. bytes_eq row.0 name.now) subcommands }
+    ensures { option_map (λ row. row_of row.now) result
+        ≡ find (λ row. bytes_eq row.0 name.now) subcommands }
 {
     all().iter().find(|row| row.name == name)
 }

@@ -11,6 +11,14 @@ fn said(alloc: Global, words: &[&str]) -> Result<String, AllocError> {
     }
 }
 
+// The subcommand's name.
+fn name(words: &'static [&'static str]) -> &'static str {
+    match words.first() {
+        Some(name) => *name,
+        None => "",
+    }
+}
+
 // Whether the help of the words has each of the parts.
 fn has_all(alloc: Global, words: &[&str], parts: &[&str]) -> Result<(), Fail> {
     let said = said(alloc, words)?;
@@ -41,8 +49,9 @@ fn help_of_the_program(rt: HostRuntime) -> Result<(), Fail> {
             ],
         )?;
         for words in &WHOLE {
-            let name = format!(in alloc; "\n  {} ", words[0])?;
-            has_all(alloc, &[asked], &[name.as_str()])?;
+            let name = name(words);
+            let listed = format!(in alloc; "\n  {name} ")?;
+            has_all(alloc, &[asked], &[listed.as_str()])?;
         }
     }
     Ok(())
@@ -63,7 +72,7 @@ fn is_helpful(alloc: Global, name: &str) -> Result<(), Fail> {
 fn help_of_each_subcommand(rt: HostRuntime) -> Result<(), Fail> {
     let alloc = rt.alloc();
     for words in &WHOLE {
-        is_helpful(alloc, words[0])?;
+        is_helpful(alloc, name(words))?;
     }
     is_helpful(alloc, "serve")
 }
