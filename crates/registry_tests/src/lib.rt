@@ -20,4 +20,6 @@ mod publish;
 #[cfg(test)]
 mod ranges;
 #[cfg(test)]
+mod routes;
+#[cfg(test)]
 mod rules;
