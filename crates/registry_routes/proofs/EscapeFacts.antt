@@ -3,10 +3,9 @@ use Rattle.std.proofs.Common.{◌≡◌, ℕ, ◌==◌, ◌++◌, List, [], ◌�
 use Rattle.std.specs.Prelude.{◌&&◌, ◌||◌, not, bytes_eq, codes, option_map}
 use Rattle.std.specs.List.{list_all}
 use Rattle.std.proofs.lemmas.Bool.{cases_Bool}
-use Rattle.std.proofs.lemmas.Slice.Eq.{bytes_eq-Decides}
 use Rattle.std.specs.Char.{is_digit}
 use Rattle.percent_encoding.specs.Percent.{is_escape, percent_decode}
-use Rattle.registry_routes.proofs.LawFacts.{and-left, and-right, begins, row_begins, table-begins}
+use Rattle.registry_routes.proofs.LawFacts.{and-left, and-right, same-text, begins, row_begins, table-begins}
 use Rattle.registry_routes.specs.Laws.{IsEscapedSlash, NamesAlike, RoutesAlike, EscapesAreSlashes, begins_with_name}
 use Rattle.registry_routes.specs.Paths.{begins_with_at, has_escaped_slash, is_escaped_slash, is_scope}
 use Rattle.registry_routes.specs.Pieces.{Piece, literal, name, value, file, is_dash}
@@ -100,9 +99,6 @@ has-escaped (b ∷ s) e t escaped = or-true (is_escaped_slash (b ∷ (s ++ (e ++
 
 escaped-no_scope : (s e t : Text) → IsEscapedSlash e → is_scope (s ++ (e ++ t)) ≡ false
 escaped-no_scope s e t escaped = rw (has-escaped s e t escaped) (and-false (begins_with_at (s ++ (e ++ t))))
-
-same-text : (a b : Text) → bytes_eq a b ≡ true → a ≡ b
-same-text a b e = (bytes_eq-Decides a b).0 e
 
 scope-no_dash : (s : Text) → is_scope s ≡ true → is_dash s ≡ false
 scope-no_dash s scope = elim (cases_Bool (is_dash s)) [

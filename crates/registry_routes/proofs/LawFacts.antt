@@ -64,7 +64,7 @@ is_apart (value ∷ ps) (value ∷ qs) = is_apart ps qs
 is_apart (value ∷ ps) (file ∷ qs) = false
 is_apart (file ∷ ps) (q ∷ qs) = false
 
-same-text : (a b : Text) → bytes_eq a b ≡ true → a ≡ b
+pub same-text : (a b : Text) → bytes_eq a b ≡ true → a ≡ b
 same-text a b e = (bytes_eq-Decides a b).0 e
 
 none-kept : (p : Piece) (v : Text) (o : Option Values) → o ≡ None → option_map (with_piece p v) o ≡ None
@@ -117,9 +117,6 @@ literal-front t (s ∷ ss) v rest e = elim (cases_Bool (bytes_eq s t)) [
 -- a name takes no `-`
 dash-none : (t : Text) (rest : List Text) → is_dash t ≡ true → piece_of name (t ∷ rest) ≡ None
 dash-none t rest d = rw d refl
-
-value-front : (t : Text) (rest : List Text) → piece_of value (t ∷ rest) ≡ Some (t, rest)
-value-front t rest = refl
 
 -- two literal segments: another text isn't there, and the same one leaves the same
 literals : (a b : Text) (ss : List Text) (qs : List Piece) (rest : List Text) → ss ≡ a ∷ rest → (bytes_eq a b ≡ true → values_in qs rest ≡ None)

@@ -22,6 +22,8 @@ mod publish;
 #[cfg(test)]
 mod ranges;
 #[cfg(test)]
+mod routes;
+#[cfg(test)]
 mod rules;
 #[cfg(test)]
 mod wire;
