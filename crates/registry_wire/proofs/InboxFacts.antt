@@ -1,5 +1,5 @@
 -- Bytes that an inbox holds, one read after another.
-use Rattle.std.proofs.Common.{◌≡◌, ℕ, ◌+◌, ◌<◌, List, [], ◌++◌, Option, Bool, true, false, refl, sym, ap, subst, ◌∙◌, append_assoc, append-nil, arith, inl, inr, add-one}
+use Rattle.std.proofs.Common.{◌≡◌, ℕ, zero, suc, ◌+◌, ◌-◌, ◌<◌, ◌≤◌, List, [], ◌++◌, Option, Bool, true, false, refl, sym, ap, subst, ◌∙◌, append_assoc, append-nil, arith, inl, inr, length, add-one}
 use Rattle.std.specs.Io.KnownBytes.{Consumes, Keeps, IsAtEnd}
 use Rattle.registry_names.specs.Ends.{RisesBetween, raised}
 use Rattle.registry_names.proofs.EndFacts.{Reads-nothing, Reads-one, Reads-append, Consumes-kept}
@@ -45,22 +45,28 @@ takes h0 h1 h2 a b s r m took = record {
 -- ---- failed reads
 
 pub counts-none : (count failures : ℕ) → CountsInterrupted count count failures failures
-counts-none count failures = record { failed = 0; counted = omega arith; rose = refl; few = omega arith }
+counts-none count failures = record { failed = 0; counted = omega arith; rose = refl; few = λ some. absurd (omega (arith, some)) }
 
 counts-one : (n0 n1 n2 f0 f1 f2 : ℕ) → CountsInterrupted n0 n1 f0 f1 → n2 ≡ n1 + 1 → n2 < 1000 → f2 ≡ raised f1 → CountsInterrupted n0 n2 f0 f2
 counts-one n0 n1 n2 f0 f1 f2 c n few f = record {
   failed = c.failed + 1;
   counted = omega (arith, c.counted, n);
   rose = rw add-one (f ∙ ap raised c.rose);
-  few = omega (arith, c.counted, n, few);
+  few = λ some. few;
 }
 
 pub counts-on : {R : Type 0} (old new : Unread R) (n0 f0 f1 f2 : ℕ) → CountsInterrupted n0 old.interruptions f0 f1 → GoesOn old new f1 f2 → CountsInterrupted n0 new.interruptions f0 f2
 counts-on old new n0 f0 f1 f2 c (inl grew) = rw (grew.interruptions, grew.counted) c
 counts-on old new n0 f0 f1 f2 c (inr was) = counts-one n0 old.interruptions new.interruptions f0 f1 f2 c was.interruptions was.few was.counted
 
+below : (failed n0 n1 : ℕ) → n1 ≡ n0 + failed → (0 < failed → n1 < 1000) → failed < 1000
+below zero n0 n1 counted few = omega arith
+below (suc failed) n0 n1 counted few = let limit = few (omega arith) in omega (arith, counted, limit)
+
 pub rises : (n0 n1 f0 f1 f2 : ℕ) → CountsInterrupted n0 n1 f0 f1 → f2 ≡ raised f1 → RisesBetween 1 1000 f0 f2
-rises n0 n1 f0 f1 f2 c f = (c.failed + 1, omega arith, omega (arith, c.few), rw add-one (f ∙ ap raised c.rose))
+rises n0 n1 f0 f1 f2 c f =
+    let few = below c.failed n0 n1 c.counted c.few in
+    (c.failed + 1, omega arith, omega (arith, few), rw add-one (f ∙ ap raised c.rose))
 
 -- the end of what an inbox holds is taken, where no more is left
 pub taken-end : (all : List ℕ) (AtEnd : Type 0) (r : Taken) → IsEndOf all r → AtEnd → TakenOf all all AtEnd r

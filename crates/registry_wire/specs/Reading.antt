@@ -31,12 +31,12 @@ pub record Takes (held : List ℕ) (left : Option (List ℕ)) (held2 : List ℕ)
   pub gave : Reads left left2 silent got
   pub took : TakenOf (held ++ got) held2 (silent ≡ false → IsAtEnd left2) r
 
--- Some reads failed: all of them were interrupted, and are counted.
+-- Some reads failed: all of them were interrupted, and are counted. None of them brought the count to the limit.
 pub record CountsInterrupted (count count2 failures failures2 : ℕ) : Type 0 where
   pub failed : ℕ
   pub counted : count2 ≡ count + failed
   pub rose : failures2 ≡ raised_by failed failures
-  pub few : failed < interruption_limit
+  pub few : 0 < failed → count2 < interruption_limit
 
 -- ---- of a reader that tells its bytes
 
