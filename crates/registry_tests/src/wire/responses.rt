@@ -16,15 +16,6 @@ fn as_text(bytes: &[u8]) -> &str {
 // A status, a body, whether the connection ends, and the bytes of the response.
 type Case = (u16, &'static str, bool, &'static str);
 
-fn json(case: &Case) -> Result<Response<'static>, Fail> {
-    Ok(Response {
-        status: StatusCode::from_u16(case.0)?,
-        kind: ContentKind::Json,
-        body: case.1.as_bytes(),
-        closes: case.2,
-    })
-}
-
 static CASES: [Case; 7] = [
     (
         400,
@@ -70,19 +61,25 @@ static CASES: [Case; 7] = [
     ),
 ];
 
-// Whether a writer holds this when so many bytes were taken, one a call.
+// Whether a writer holds this when so many bytes of the case's response were taken, one a call.
 fn is_written(
     alloc: Global,
-    response: &Response<'_>,
+    case: &Case,
     limit: usize,
     wanted: (Result<(), WriteFailed>, &[u8]),
 ) -> Result<(), Fail> {
+    let response = Response {
+        status: StatusCode::from_u16(case.0)?,
+        kind: ContentKind::Json,
+        body: case.1.as_bytes(),
+        closes: case.2,
+    };
     let mut narrow = Narrow {
         taken: Vec::new(alloc),
         limit,
     };
     let mut end = ToWrite::new(&mut narrow);
-    let outcome = write_response(response, &mut end);
+    let outcome = write_response(&response, &mut end);
     same(
         limit,
         (outcome, as_text(&narrow.taken)),
@@ -92,13 +89,8 @@ fn is_written(
 
 #[test]
 fn responses_are_written(rt: HostRuntime) -> Result<(), Fail> {
-    let alloc = rt.alloc();
     for case in &CASES {
-        let response = json(case)?;
-        let mut out = Vec::new(alloc);
-        let outcome = write_response(&response, &mut ToWrite::new(&mut out));
-        same(case.1, (outcome, as_text(&out)), (Ok(()), case.3))?;
-        is_written(alloc, &response, usize::MAX, (Ok(()), case.3.as_bytes()))?;
+        is_written(rt.alloc(), case, usize::MAX, (Ok(()), case.3.as_bytes()))?;
     }
     Ok(())
 }
@@ -106,11 +98,10 @@ fn responses_are_written(rt: HostRuntime) -> Result<(), Fail> {
 #[test]
 fn a_failed_write_leaves_a_front_of_a_response(rt: HostRuntime) -> Result<(), Fail> {
     let [case, ..] = &CASES;
-    let response = json(case)?;
     let bytes = case.3.as_bytes();
     for limit in 0..bytes.len() {
         let (front, _) = bytes.split_at(limit);
-        is_written(rt.alloc(), &response, limit, (Err(WriteFailed), front))?;
+        is_written(rt.alloc(), case, limit, (Err(WriteFailed), front))?;
     }
     Ok(())
 }
