@@ -1,6 +1,8 @@
 //! What the tables hold of an action. Nothing is changed.
 
 ghost use Rattle.std.specs.Prelude.{◌≡◌, option_map};
+ghost use Rattle.registry_access.specs.declared.caller.Caller.{Caller};
+ghost use Rattle.registry_access.specs.declared.role.Role.{Role};
 ghost use Rattle.registry_history.specs.Answers.{asked_release};
 ghost use Rattle.registry_rows.specs.Frames.{Stays};
 ghost use Rattle.registry_tables.specs.Contents.{registry_of};
@@ -10,13 +12,15 @@ ghost use Rattle.registry_desk.specs.Found.{IsFoundFor};
 ghost use Rattle.registry_rules.specs.declared.request.Action.TheVariants as asked;
 ghost use Rattle.registry_rules.specs.declared.request.Asked.TheVariants as version;
 
-use registry_names::{Blob, DistTag, Fault, LATEST, Name, TagText, Ver};
-use registry_packument::VersionRow;
-use registry_publish::PublishForm;
+use registry_access::Caller;
+use registry_names::{Blob, DistTag, Fault, Ident, LATEST, Name, TagText, Ver};
+use registry_packument::{Member, VersionRow};
+use registry_publish::{PublishForm, TokenDigest};
 use registry_rules::{About, Action, Asked, PublishFacts};
 use registry_tables::{
-    DocumentRow, has_tag, has_version, is_spent, load_archive, load_document, load_status,
-    load_tag, load_tags, load_versions,
+    DocumentRow, has_organisation, has_other_owner, has_tag, has_user, has_version, is_spent,
+    load_access, load_archive, load_document, load_members, load_role, load_status, load_tag,
+    load_tags, load_token_user, load_versions,
 };
 use sqlite::{Alter, Transaction};
 use std::alloc::Global;
@@ -48,20 +52,37 @@ pub(crate) enum Rows {
     Archive(Option<Blob>),
     /// The tags of a package, in byte order.
     Tags(Vec<DistTag>),
+    /// The members of an organisation, in byte order of their names.
+    Members(Vec<Member>),
 }
 
-/// Loads what decides and what answers an action.
+/// Loads what decides and what answers a caller's action.
 pub(crate) fn find<S: Alter>(
     alloc: Global,
     tx: &mut Transaction<'_, S>,
+    caller: &Caller,
     what: &Action,
 ) -> Result<Found, Fault>
     requires in_form { InForm S.Store tx.old }
     ensures stays { Stays S.Store tx.old tx.new }
     ensures tells { Tells S.Store tx.old tx.new result
-        (λ found c. IsFoundFor found (registry_of c) what.now) }
+        (λ found c. IsFoundFor found (registry_of c) caller.now what.now) }
 {
     match what {
+        Action::UserAdd { user } => find_user(tx, user),
+        Action::TokenAdd { user, digest } => find_token(alloc, tx, user, digest),
+        Action::OrgCreate {
+            organisation,
+            owner,
+        } => find_new_organisation(tx, organisation, owner),
+        Action::OrgSet {
+            organisation,
+            user,
+            ..
+        } => find_role(alloc, tx, caller, organisation, user),
+        Action::OrgRemove { organisation, user } => {
+            find_member(alloc, tx, caller, organisation, user)
+        }
         Action::Publish { form } => find_publish(tx, form),
         Action::TagSet { name, tag, version } => find_tag_set(tx, name, tag, version),
         Action::TagRemove { name, tag } => find_tag(tx, name, tag),
@@ -69,14 +90,137 @@ pub(crate) fn find<S: Alter>(
         Action::VersionDoc { name, version } => find_document(tx, name, version),
         Action::Archive { name, version } => find_archive(tx, name, version),
         Action::Tags { name } => find_tags(alloc, tx, name),
+        Action::Members { organisation } => find_members(alloc, tx, caller, organisation),
     }
+}
+
+fn find_user<S: Alter>(tx: &mut Transaction<'_, S>, user: &Ident) -> Result<Found, Fault>
+    requires in_form { InForm S.Store tx.old }
+    ensures stays { Stays S.Store tx.old tx.new }
+    ensures tells { Tells S.Store tx.old tx.new result
+        (λ found c. (who : Caller) → IsFoundFor found (registry_of c) who (asked.UserAdd user.now)) }
+{
+    let about = About::UserAdd {
+        exists: has_user(tx, user.text())?,
+    };
+    Ok(Found {
+        about,
+        rows: Rows::Nothing,
+    })
+}
+
+fn find_token<S: Alter>(
+    alloc: Global,
+    tx: &mut Transaction<'_, S>,
+    user: &Ident,
+    digest: &TokenDigest,
+) -> Result<Found, Fault>
+    requires in_form { InForm S.Store tx.old }
+    ensures stays { Stays S.Store tx.old tx.new }
+    ensures tells { Tells S.Store tx.old tx.new result
+        (λ found c. (who : Caller) → IsFoundFor found (registry_of c) who (asked.TokenAdd user.now digest.now)) }
+{
+    let about = About::TokenAdd {
+        user_exists: has_user(tx, user.text())?,
+        exists: load_token_user(alloc, tx, digest)?.is_some(),
+    };
+    Ok(Found {
+        about,
+        rows: Rows::Nothing,
+    })
+}
+
+fn find_new_organisation<S: Alter>(
+    tx: &mut Transaction<'_, S>,
+    organisation: &Ident,
+    owner: &Ident,
+) -> Result<Found, Fault>
+    requires in_form { InForm S.Store tx.old }
+    ensures stays { Stays S.Store tx.old tx.new }
+    ensures tells { Tells S.Store tx.old tx.new result (λ found c. (who : Caller)
+        → IsFoundFor found (registry_of c) who (asked.OrgCreate organisation.now owner.now)) }
+{
+    let about = About::OrgCreate {
+        owner_exists: has_user(tx, owner.text())?,
+        exists: has_organisation(tx, organisation.text())?,
+    };
+    Ok(Found {
+        about,
+        rows: Rows::Nothing,
+    })
+}
+
+fn find_role<S: Alter>(
+    alloc: Global,
+    tx: &mut Transaction<'_, S>,
+    caller: &Caller,
+    organisation: &Ident,
+    user: &Ident,
+) -> Result<Found, Fault>
+    requires in_form { InForm S.Store tx.old }
+    ensures stays { Stays S.Store tx.old tx.new }
+    ensures tells { Tells S.Store tx.old tx.new result (λ found c. (role : Role)
+        → IsFoundFor found (registry_of c) caller.now (asked.OrgSet organisation.now user.now role)) }
+{
+    let about = About::OrgSet {
+        rows: load_access(alloc, tx, caller, organisation.text())?,
+        user_exists: has_user(tx, user.text())?,
+        role: load_role(tx, organisation.text(), user.text())?,
+        other_owner: has_other_owner(alloc, tx, organisation.text(), user.text())?,
+    };
+    Ok(Found {
+        about,
+        rows: Rows::Nothing,
+    })
+}
+
+fn find_member<S: Alter>(
+    alloc: Global,
+    tx: &mut Transaction<'_, S>,
+    caller: &Caller,
+    organisation: &Ident,
+    user: &Ident,
+) -> Result<Found, Fault>
+    requires in_form { InForm S.Store tx.old }
+    ensures stays { Stays S.Store tx.old tx.new }
+    ensures tells { Tells S.Store tx.old tx.new result (λ found c.
+        IsFoundFor found (registry_of c) caller.now (asked.OrgRemove organisation.now user.now)) }
+{
+    let about = About::OrgRemove {
+        rows: load_access(alloc, tx, caller, organisation.text())?,
+        role: load_role(tx, organisation.text(), user.text())?,
+        other_owner: has_other_owner(alloc, tx, organisation.text(), user.text())?,
+    };
+    Ok(Found {
+        about,
+        rows: Rows::Nothing,
+    })
+}
+
+fn find_members<S: Alter>(
+    alloc: Global,
+    tx: &mut Transaction<'_, S>,
+    caller: &Caller,
+    organisation: &Ident,
+) -> Result<Found, Fault>
+    requires in_form { InForm S.Store tx.old }
+    ensures stays { Stays S.Store tx.old tx.new }
+    ensures tells { Tells S.Store tx.old tx.new result (λ found c.
+        IsFoundFor found (registry_of c) caller.now (asked.Members organisation.now)) }
+{
+    let rows = load_access(alloc, tx, caller, organisation.text())?;
+    let members = load_members(alloc, tx, organisation.text())?;
+    Ok(Found {
+        about: About::Organisation { rows },
+        rows: Rows::Members(members),
+    })
 }
 
 fn find_publish<S: Alter>(tx: &mut Transaction<'_, S>, form: &PublishForm) -> Result<Found, Fault>
     requires in_form { InForm S.Store tx.old }
     ensures stays { Stays S.Store tx.old tx.new }
     ensures tells { Tells S.Store tx.old tx.new result
-        (λ found c. IsFoundFor found (registry_of c) (asked.Publish form.now)) }
+        (λ found c. (who : Caller) → IsFoundFor found (registry_of c) who (asked.Publish form.now)) }
 {
     let (name, version) = (form.name(), form.version().text());
     let facts = PublishFacts {
@@ -101,7 +245,7 @@ fn find_tag_set<S: Alter>(
     requires in_form { InForm S.Store tx.old }
     ensures stays { Stays S.Store tx.old tx.new }
     ensures tells { Tells S.Store tx.old tx.new result
-        (λ found c. IsFoundFor found (registry_of c) (asked.TagSet name.now tag.now version.now)) }
+        (λ found c. (who : Caller) → IsFoundFor found (registry_of c) who (asked.TagSet name.now tag.now version.now)) }
 {
     let about = About::TagSet {
         version_lives: has_version(tx, name, version.text())?,
@@ -121,7 +265,7 @@ fn find_tag<S: Alter>(
     requires in_form { InForm S.Store tx.old }
     ensures stays { Stays S.Store tx.old tx.new }
     ensures tells { Tells S.Store tx.old tx.new result
-        (λ found c. IsFoundFor found (registry_of c) (asked.TagRemove name.now tag.now)) }
+        (λ found c. (who : Caller) → IsFoundFor found (registry_of c) who (asked.TagRemove name.now tag.now)) }
 {
     let about = About::TagRemove {
         tag_stands: has_tag(tx, name, tag.text())?,
@@ -140,7 +284,7 @@ fn find_packument<S: Alter>(
     requires in_form { InForm S.Store tx.old }
     ensures stays { Stays S.Store tx.old tx.new }
     ensures tells { Tells S.Store tx.old tx.new result
-        (λ found c. IsFoundFor found (registry_of c) (asked.Packument name.now)) }
+        (λ found c. (who : Caller) → IsFoundFor found (registry_of c) who (asked.Packument name.now)) }
 {
     let versions = load_versions(alloc, tx, name)?;
     let tags = load_tags(alloc, tx, name)?;
@@ -160,7 +304,7 @@ fn find_document<S: Alter>(
     requires in_form { InForm S.Store tx.old }
     ensures stays { Stays S.Store tx.old tx.new }
     ensures tells { Tells S.Store tx.old tx.new result
-        (λ found c. IsFoundFor found (registry_of c) (asked.VersionDoc name.now version.now)) }
+        (λ found c. (who : Caller) → IsFoundFor found (registry_of c) who (asked.VersionDoc name.now version.now)) }
 {
     let document = match version {
         Asked::Exact(version) => load_document(tx, name, version.text())?,
@@ -198,7 +342,7 @@ fn find_archive<S: Alter>(
     requires in_form { InForm S.Store tx.old }
     ensures stays { Stays S.Store tx.old tx.new }
     ensures tells { Tells S.Store tx.old tx.new result
-        (λ found c. IsFoundFor found (registry_of c) (asked.Archive name.now version.now)) }
+        (λ found c. (who : Caller) → IsFoundFor found (registry_of c) who (asked.Archive name.now version.now)) }
 {
     let archive = load_archive(tx, name, version.text())?;
     Ok(Found {
@@ -217,7 +361,7 @@ fn find_tags<S: Alter>(
     requires in_form { InForm S.Store tx.old }
     ensures stays { Stays S.Store tx.old tx.new }
     ensures tells { Tells S.Store tx.old tx.new result
-        (λ found c. IsFoundFor found (registry_of c) (asked.Tags name.now)) }
+        (λ found c. (who : Caller) → IsFoundFor found (registry_of c) who (asked.Tags name.now)) }
 {
     let versions = load_versions(alloc, tx, name)?;
     let tags = load_tags(alloc, tx, name)?;

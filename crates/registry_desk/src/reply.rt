@@ -4,15 +4,15 @@ ghost use Rattle.std.specs.Prelude.{◌≡◌, ℕ, List as Sequence, Some, IfOk
 ghost use Rattle.registry_names.specs.Maps.{of, seen};
 ghost use Rattle.registry_packument.specs.Documents.{document_text};
 ghost use Rattle.registry_rules.specs.State.{State};
-ghost use Rattle.registry_tables.specs.Spelled.{document, row_entry, tag_entry};
+ghost use Rattle.registry_tables.specs.Spelled.{document, member_entry, row_entry, tag_entry};
 ghost use Rattle.registry_history.specs.Answers as answers;
-ghost use Rattle.registry_history.specs.Answers.{packument_in, tags_in};
+ghost use Rattle.registry_history.specs.Answers.{members_in, packument_in, tags_in};
 ghost use Rattle.registry_desk.specs.Found.{AreRowsOf};
 
 use crate::found::Rows;
 use registry_names::{DistTag, Fault, Name, Text};
 use registry_packument::{
-    List, PackHead, VersionRow, VersionRows, list_text, packument_text, version_text,
+    List, Member, PackHead, VersionRow, VersionRows, list_text, packument_text, version_text,
 };
 use registry_rules::{Action, Reply};
 use registry_tables::DocumentRow;
@@ -25,7 +25,16 @@ pub(crate) fn reply(alloc: Global, what: &Action, rows: Rows) -> Result<Reply, F
 {
     match (what, rows) {
         (Action::Publish { .. }, _) => Ok(Reply::Created),
-        (Action::TagSet { .. } | Action::TagRemove { .. }, _) => Ok(Reply::Done),
+        (
+            Action::UserAdd { .. }
+            | Action::TokenAdd { .. }
+            | Action::OrgCreate { .. }
+            | Action::OrgSet { .. }
+            | Action::OrgRemove { .. }
+            | Action::TagSet { .. }
+            | Action::TagRemove { .. },
+            _,
+        ) => Ok(Reply::Done),
         (Action::Packument { name }, Rows::Packument { versions, tags }) => {
             Ok(Reply::Doc(packument(alloc, name, versions, tags)?))
         }
@@ -34,6 +43,9 @@ pub(crate) fn reply(alloc: Global, what: &Action, rows: Rows) -> Result<Reply, F
         }
         (Action::Archive { .. }, Rows::Archive(Some(archive))) => Ok(Reply::Bytes(archive)),
         (Action::Tags { .. }, Rows::Tags(tags)) => Ok(Reply::Doc(tags_of(alloc, tags)?)),
+        (Action::Members { .. }, Rows::Members(members)) => {
+            Ok(Reply::Doc(members_of(alloc, members)?))
+        }
         _ => Err(Fault::Database),
     }
 }
@@ -72,4 +84,13 @@ fn tags_of(alloc: Global, tags: Vec<DistTag>) -> Result<Text, Fault>
         → text ≡ tags_in S p) }
 {
     Ok(list_text(alloc, &List::Tags(tags))?)
+}
+
+// The text of an organisation's members.
+fn members_of(alloc: Global, members: Vec<Member>) -> Result<Text, Fault>
+    ensures { IfOk result (λ text. (S : State) (o : Sequence ℕ)
+        → map member_entry members.items ≡ of S.access.roles o
+        → text ≡ members_in S o) }
+{
+    Ok(list_text(alloc, &List::Members(members))?)
 }

@@ -16,15 +16,34 @@ pub struct Example {
 pub struct Step {
     /// When it is asked, in seconds.
     pub at: i64,
+    /// Who asks.
+    pub who: Who,
     /// What is asked.
     pub ask: Ask,
     /// What is answered.
     pub expected: Expected,
 }
 
+/// What a caller shows of himself.
+#[derive(Clone, Copy)]
+pub enum Who {
+    /// That he runs the registry.
+    Operator,
+    /// That he is this user.
+    User(&'static str),
+    /// This token.
+    Token(&'static str),
+    /// Nothing.
+    Anonymous,
+}
+
 /// What is asked.
 #[derive(Clone, Copy)]
 pub enum Ask {
+    /// To add a user.
+    UserAdd(&'static str),
+    /// To add a token: its user, and its text.
+    TokenAdd(&'static str, &'static str),
     /// The publication of a body as it stands.
     Body(&'static str),
     /// The publication of a version whose manifest has its name and its version alone, with the
@@ -47,7 +66,7 @@ pub enum Ask {
 }
 
 /// What is answered.
-#[derive(Clone, Copy)]
+#[derive(Clone, Copy, Debug)]
 pub enum Expected {
     /// The version was published.
     Created,

@@ -1,7 +1,7 @@
-//! The examples: of publishes, of queries and of tags.
+//! The examples: of users, of publishes, of queries and of tags.
 
-use crate::example::{Ask, Example, Expected, Step};
-use registry_names::Refusal;
+use crate::example::{Ask, Example, Expected, Step, Who};
+use registry_names::{Refusal, Rule};
 
 /// The body that the npm client sends for `@lab/kit` 1.0.0.
 const KIT_BODY: &str =
@@ -27,6 +27,178 @@ const NEXT_BODY: &str =
 const LATER_BODY: &str =
     r#"{"name":"kit","dist-tags":{"next":"1.1.0"},"versions":{"1.1.0":{"name":"kit","version":"1.1.0"}},"_attachments":{"a":{"data":"YWJj"}}}"#;
 
+/// A token of `bob`.
+const BOBS_TOKEN: &str = "npm_bob_000000001";
+
+/// Users and tokens are added, and say who asks.
+pub static USERS: [Example; 3] = [
+    Example {
+        shows: "a user and a token are added once, and a token is a user's",
+        steps: &[
+            Step {
+                at: 0,
+                who: Who::Operator,
+                ask: Ask::UserAdd("bob"),
+                expected: Expected::Done,
+            },
+            Step {
+                at: 0,
+                who: Who::Operator,
+                ask: Ask::UserAdd("bob"),
+                expected: Expected::Refused(Refusal::Exists),
+            },
+            Step {
+                at: 0,
+                who: Who::Operator,
+                ask: Ask::TokenAdd("zed", BOBS_TOKEN),
+                expected: Expected::Refused(Refusal::NotFound),
+            },
+            Step {
+                at: 0,
+                who: Who::Operator,
+                ask: Ask::TokenAdd("bob", BOBS_TOKEN),
+                expected: Expected::Done,
+            },
+            Step {
+                at: 0,
+                who: Who::Operator,
+                ask: Ask::TokenAdd("bob", BOBS_TOKEN),
+                expected: Expected::Refused(Refusal::Exists),
+            },
+            Step {
+                at: 0,
+                who: Who::Operator,
+                ask: Ask::UserAdd("ann"),
+                expected: Expected::Done,
+            },
+            Step {
+                at: 0,
+                who: Who::Operator,
+                ask: Ask::TokenAdd("ann", BOBS_TOKEN),
+                expected: Expected::Refused(Refusal::Exists),
+            },
+        ],
+    },
+    Example {
+        shows: "the operator alone adds users and tokens",
+        steps: &[
+            Step {
+                at: 0,
+                who: Who::Operator,
+                ask: Ask::UserAdd("bob"),
+                expected: Expected::Done,
+            },
+            Step {
+                at: 0,
+                who: Who::User("bob"),
+                ask: Ask::UserAdd("ann"),
+                expected: Expected::Refused(Refusal::Denied(Rule::A1)),
+            },
+            Step {
+                at: 0,
+                who: Who::User("bob"),
+                ask: Ask::UserAdd("bob"),
+                expected: Expected::Refused(Refusal::Denied(Rule::A1)),
+            },
+            Step {
+                at: 0,
+                who: Who::User("bob"),
+                ask: Ask::TokenAdd("bob", BOBS_TOKEN),
+                expected: Expected::Refused(Refusal::Denied(Rule::A1)),
+            },
+            Step {
+                at: 0,
+                who: Who::Anonymous,
+                ask: Ask::UserAdd("ann"),
+                expected: Expected::Refused(Refusal::NoCaller),
+            },
+            Step {
+                at: 0,
+                who: Who::Anonymous,
+                ask: Ask::TokenAdd("bob", BOBS_TOKEN),
+                expected: Expected::Refused(Refusal::NoCaller),
+            },
+            Step {
+                at: 0,
+                who: Who::Operator,
+                ask: Ask::TokenAdd("bob", BOBS_TOKEN),
+                expected: Expected::Done,
+            },
+            Step {
+                at: 0,
+                who: Who::Token(BOBS_TOKEN),
+                ask: Ask::UserAdd("ann"),
+                expected: Expected::Refused(Refusal::Denied(Rule::A1)),
+            },
+            Step {
+                at: 0,
+                who: Who::Operator,
+                ask: Ask::UserAdd("ann"),
+                expected: Expected::Done,
+            },
+        ],
+    },
+    Example {
+        shows: "an unknown user and an unknown token are nobody, and a known one asks as his user",
+        steps: &[
+            Step {
+                at: 0,
+                who: Who::User("bob"),
+                ask: Ask::Packument("kit"),
+                expected: Expected::Refused(Refusal::NoCaller),
+            },
+            Step {
+                at: 0,
+                who: Who::Token(BOBS_TOKEN),
+                ask: Ask::Packument("kit"),
+                expected: Expected::Refused(Refusal::NoCaller),
+            },
+            Step {
+                at: 0,
+                who: Who::User("bob"),
+                ask: Ask::Publish("kit", "1.0.0"),
+                expected: Expected::Refused(Refusal::NoCaller),
+            },
+            Step {
+                at: 0,
+                who: Who::Operator,
+                ask: Ask::UserAdd("bob"),
+                expected: Expected::Done,
+            },
+            Step {
+                at: 0,
+                who: Who::Operator,
+                ask: Ask::TokenAdd("bob", BOBS_TOKEN),
+                expected: Expected::Done,
+            },
+            Step {
+                at: 0,
+                who: Who::Token(BOBS_TOKEN),
+                ask: Ask::Packument("kit"),
+                expected: Expected::Refused(Refusal::NotFound),
+            },
+            Step {
+                at: 0,
+                who: Who::Token(BOBS_TOKEN),
+                ask: Ask::Publish("kit", "1.0.0"),
+                expected: Expected::Created,
+            },
+            Step {
+                at: 0,
+                who: Who::User("bob"),
+                ask: Ask::Tags("kit"),
+                expected: Expected::Doc(r#"{"latest":"1.0.0"}"#),
+            },
+            Step {
+                at: 0,
+                who: Who::Token("npm_zed_000000001"),
+                ask: Ask::Tags("kit"),
+                expected: Expected::Refused(Refusal::NoCaller),
+            },
+        ],
+    },
+];
+
 /// Versions are published, or refused.
 pub static PUBLISHES: [Example; 4] = [
     Example {
@@ -34,11 +206,13 @@ pub static PUBLISHES: [Example; 4] = [
         steps: &[
             Step {
                 at: 100,
+                who: Who::Anonymous,
                 ask: Ask::Body(KIT_BODY),
                 expected: Expected::Created,
             },
             Step {
                 at: 100,
+                who: Who::Anonymous,
                 ask: Ask::Packument("@lab/kit"),
                 expected: Expected::Doc(KIT_PACKUMENT),
             },
@@ -49,26 +223,31 @@ pub static PUBLISHES: [Example; 4] = [
         steps: &[
             Step {
                 at: 100,
+                who: Who::Anonymous,
                 ask: Ask::Body(KIT_BODY),
                 expected: Expected::Created,
             },
             Step {
                 at: 101,
+                who: Who::Anonymous,
                 ask: Ask::Body(KIT_BODY),
                 expected: Expected::Refused(Refusal::Published),
             },
             Step {
                 at: 102,
+                who: Who::Anonymous,
                 ask: Ask::Publish("@lab/kit", "1.0.0"),
                 expected: Expected::Refused(Refusal::Published),
             },
             Step {
                 at: 103,
+                who: Who::Anonymous,
                 ask: Ask::Packument("@lab/kit"),
                 expected: Expected::Doc(KIT_PACKUMENT),
             },
             Step {
                 at: 103,
+                who: Who::Anonymous,
                 ask: Ask::Packument("@lab/kid"),
                 expected: Expected::Refused(Refusal::NotFound),
             },
@@ -79,21 +258,25 @@ pub static PUBLISHES: [Example; 4] = [
         steps: &[
             Step {
                 at: 0,
+                who: Who::Anonymous,
                 ask: Ask::Packument("kit"),
                 expected: Expected::Refused(Refusal::NotFound),
             },
             Step {
                 at: 0,
+                who: Who::Anonymous,
                 ask: Ask::Publish("kit", "1.0.0"),
                 expected: Expected::Created,
             },
             Step {
                 at: 0,
+                who: Who::Anonymous,
                 ask: Ask::Packument("@lab/kit"),
                 expected: Expected::Refused(Refusal::NotFound),
             },
             Step {
                 at: 0,
+                who: Who::Anonymous,
                 ask: Ask::Packument("kit"),
                 expected: Expected::Doc(
                     r#"{"_id":"kit","dist-tags":{"latest":"1.0.0"},"name":"kit","versions":{"1.0.0":{"name":"kit","version":"1.0.0"}}}"#,
@@ -106,21 +289,25 @@ pub static PUBLISHES: [Example; 4] = [
         steps: &[
             Step {
                 at: 1,
+                who: Who::Anonymous,
                 ask: Ask::Body(RESTRICTED_BODY),
                 expected: Expected::Refused(Refusal::AlwaysPublic),
             },
             Step {
                 at: 2,
+                who: Who::Anonymous,
                 ask: Ask::Packument("tool"),
                 expected: Expected::Refused(Refusal::NotFound),
             },
             Step {
                 at: 2,
+                who: Who::Anonymous,
                 ask: Ask::Tags("tool"),
                 expected: Expected::Refused(Refusal::NotFound),
             },
             Step {
                 at: 2,
+                who: Who::Anonymous,
                 ask: Ask::Archive("tool", "1.0.0"),
                 expected: Expected::Refused(Refusal::NotFound),
             },
@@ -135,11 +322,13 @@ pub static QUERIES: [Example; 3] = [
         steps: &[
             Step {
                 at: 5,
+                who: Who::Anonymous,
                 ask: Ask::Publish("kit", "1.10.0"),
                 expected: Expected::Created,
             },
             Step {
                 at: 5,
+                who: Who::Anonymous,
                 ask: Ask::Packument("kit"),
                 expected: Expected::Doc(
                     r#"{"_id":"kit","dist-tags":{"latest":"1.10.0"},"name":"kit","versions":{"1.10.0":{"name":"kit","version":"1.10.0"}}}"#,
@@ -147,11 +336,13 @@ pub static QUERIES: [Example; 3] = [
             },
             Step {
                 at: 4,
+                who: Who::Anonymous,
                 ask: Ask::Publish("kit", "1.9.0"),
                 expected: Expected::Created,
             },
             Step {
                 at: 4,
+                who: Who::Anonymous,
                 ask: Ask::Packument("kit"),
                 expected: Expected::Doc(
                     r#"{"_id":"kit","dist-tags":{"latest":"1.9.0"},"name":"kit","versions":{"1.10.0":{"name":"kit","version":"1.10.0"},"1.9.0":{"name":"kit","version":"1.9.0"}}}"#,
@@ -159,11 +350,13 @@ pub static QUERIES: [Example; 3] = [
             },
             Step {
                 at: 3,
+                who: Who::Anonymous,
                 ask: Ask::Publish("kit", "2.0.0-beta"),
                 expected: Expected::Created,
             },
             Step {
                 at: 3,
+                who: Who::Anonymous,
                 ask: Ask::Packument("kit"),
                 expected: Expected::Doc(
                     r#"{"_id":"kit","dist-tags":{"latest":"2.0.0-beta"},"name":"kit","versions":{"1.10.0":{"name":"kit","version":"1.10.0"},"1.9.0":{"name":"kit","version":"1.9.0"},"2.0.0-beta":{"name":"kit","version":"2.0.0-beta"}}}"#,
@@ -176,26 +369,31 @@ pub static QUERIES: [Example; 3] = [
         steps: &[
             Step {
                 at: 1,
+                who: Who::Anonymous,
                 ask: Ask::Publish("kit", "1.0.0"),
                 expected: Expected::Created,
             },
             Step {
                 at: 2,
+                who: Who::Anonymous,
                 ask: Ask::Publish("kid", "2.0.0"),
                 expected: Expected::Created,
             },
             Step {
                 at: 3,
+                who: Who::Anonymous,
                 ask: Ask::Publish("kit", "1.0.1"),
                 expected: Expected::Created,
             },
             Step {
                 at: 4,
+                who: Who::Anonymous,
                 ask: Ask::Publish("kid", "1.0.0"),
                 expected: Expected::Created,
             },
             Step {
                 at: 5,
+                who: Who::Anonymous,
                 ask: Ask::Packument("kit"),
                 expected: Expected::Doc(
                     r#"{"_id":"kit","dist-tags":{"latest":"1.0.1"},"name":"kit","versions":{"1.0.0":{"name":"kit","version":"1.0.0"},"1.0.1":{"name":"kit","version":"1.0.1"}}}"#,
@@ -203,6 +401,7 @@ pub static QUERIES: [Example; 3] = [
             },
             Step {
                 at: 5,
+                who: Who::Anonymous,
                 ask: Ask::Packument("kid"),
                 expected: Expected::Doc(
                     r#"{"_id":"kid","dist-tags":{"latest":"1.0.0"},"name":"kid","versions":{"1.0.0":{"name":"kid","version":"1.0.0"},"2.0.0":{"name":"kid","version":"2.0.0"}}}"#,
@@ -215,31 +414,37 @@ pub static QUERIES: [Example; 3] = [
         steps: &[
             Step {
                 at: 100,
+                who: Who::Anonymous,
                 ask: Ask::Body(KIT_BODY),
                 expected: Expected::Created,
             },
             Step {
                 at: 100,
+                who: Who::Anonymous,
                 ask: Ask::Archive("@lab/kit", "1.0.0"),
                 expected: Expected::Bytes("abc"),
             },
             Step {
                 at: 100,
+                who: Who::Anonymous,
                 ask: Ask::Archive("@lab/kit", "1.0.1"),
                 expected: Expected::Refused(Refusal::NotFound),
             },
             Step {
                 at: 101,
+                who: Who::Anonymous,
                 ask: Ask::Body(EMPTY_BODY),
                 expected: Expected::Created,
             },
             Step {
                 at: 101,
+                who: Who::Anonymous,
                 ask: Ask::Archive("@lab/kit", "1.0.1"),
                 expected: Expected::Bytes(""),
             },
             Step {
                 at: 101,
+                who: Who::Anonymous,
                 ask: Ask::Archive("kit", "1.0.1"),
                 expected: Expected::Refused(Refusal::NotFound),
             },
@@ -254,36 +459,43 @@ pub static DOCUMENTS: [Example; 2] = [
         steps: &[
             Step {
                 at: 1,
+                who: Who::Anonymous,
                 ask: Ask::Body(NEXT_BODY),
                 expected: Expected::Created,
             },
             Step {
                 at: 2,
+                who: Who::Anonymous,
                 ask: Ask::Body(LATER_BODY),
                 expected: Expected::Created,
             },
             Step {
                 at: 3,
+                who: Who::Anonymous,
                 ask: Ask::VersionDoc("kit", "1.1.0"),
                 expected: Expected::Doc(r#"{"name":"kit","version":"1.1.0"}"#),
             },
             Step {
                 at: 3,
+                who: Who::Anonymous,
                 ask: Ask::LatestDoc("kit"),
                 expected: Expected::Doc(r#"{"name":"kit","version":"1.0.0"}"#),
             },
             Step {
                 at: 3,
+                who: Who::Anonymous,
                 ask: Ask::VersionDoc("kit", "1.2.0"),
                 expected: Expected::Refused(Refusal::NotFound),
             },
             Step {
                 at: 4,
+                who: Who::Anonymous,
                 ask: Ask::TagSet("kit", "latest", "1.1.0"),
                 expected: Expected::Done,
             },
             Step {
                 at: 4,
+                who: Who::Anonymous,
                 ask: Ask::LatestDoc("kit"),
                 expected: Expected::Doc(r#"{"name":"kit","version":"1.1.0"}"#),
             },
@@ -294,21 +506,25 @@ pub static DOCUMENTS: [Example; 2] = [
         steps: &[
             Step {
                 at: 1,
+                who: Who::Anonymous,
                 ask: Ask::LatestDoc("kit"),
                 expected: Expected::Refused(Refusal::NotFound),
             },
             Step {
                 at: 1,
+                who: Who::Anonymous,
                 ask: Ask::Body(KIT_BODY),
                 expected: Expected::Created,
             },
             Step {
                 at: 1,
+                who: Who::Anonymous,
                 ask: Ask::VersionDoc("kit", "1.0.0"),
                 expected: Expected::Refused(Refusal::NotFound),
             },
             Step {
                 at: 1,
+                who: Who::Anonymous,
                 ask: Ask::LatestDoc("kit"),
                 expected: Expected::Refused(Refusal::NotFound),
             },
@@ -323,21 +539,25 @@ pub static TAGS: [Example; 3] = [
         steps: &[
             Step {
                 at: 1,
+                who: Who::Anonymous,
                 ask: Ask::Body(NEXT_BODY),
                 expected: Expected::Created,
             },
             Step {
                 at: 1,
+                who: Who::Anonymous,
                 ask: Ask::Tags("kit"),
                 expected: Expected::Doc(r#"{"latest":"1.0.0","next":"1.0.0"}"#),
             },
             Step {
                 at: 2,
+                who: Who::Anonymous,
                 ask: Ask::Body(LATER_BODY),
                 expected: Expected::Created,
             },
             Step {
                 at: 2,
+                who: Who::Anonymous,
                 ask: Ask::Tags("kit"),
                 expected: Expected::Doc(r#"{"latest":"1.0.0","next":"1.1.0"}"#),
             },
@@ -348,31 +568,37 @@ pub static TAGS: [Example; 3] = [
         steps: &[
             Step {
                 at: 100,
+                who: Who::Anonymous,
                 ask: Ask::Body(KIT_BODY),
                 expected: Expected::Created,
             },
             Step {
                 at: 101,
+                who: Who::Anonymous,
                 ask: Ask::TagRemove("@lab/kit", "latest"),
                 expected: Expected::Refused(Refusal::KeepsLatest),
             },
             Step {
                 at: 102,
+                who: Who::Anonymous,
                 ask: Ask::TagSet("@lab/kit", "latest", "3.0.0"),
                 expected: Expected::Refused(Refusal::NotFound),
             },
             Step {
                 at: 103,
+                who: Who::Anonymous,
                 ask: Ask::TagRemove("@lab/kit", "next"),
                 expected: Expected::Refused(Refusal::NotFound),
             },
             Step {
                 at: 104,
+                who: Who::Anonymous,
                 ask: Ask::Tags("@lab/kit"),
                 expected: Expected::Doc(r#"{"latest":"1.0.0"}"#),
             },
             Step {
                 at: 105,
+                who: Who::Anonymous,
                 ask: Ask::Packument("@lab/kit"),
                 expected: Expected::Doc(KIT_PACKUMENT),
             },
@@ -383,51 +609,61 @@ pub static TAGS: [Example; 3] = [
         steps: &[
             Step {
                 at: 1,
+                who: Who::Anonymous,
                 ask: Ask::Publish("kit", "1.0.0"),
                 expected: Expected::Created,
             },
             Step {
                 at: 2,
+                who: Who::Anonymous,
                 ask: Ask::Publish("kit", "1.1.0"),
                 expected: Expected::Created,
             },
             Step {
                 at: 3,
+                who: Who::Anonymous,
                 ask: Ask::TagSet("kit", "beta", "1.0.0"),
                 expected: Expected::Done,
             },
             Step {
                 at: 4,
+                who: Who::Anonymous,
                 ask: Ask::TagSet("kit", "latest", "1.0.0"),
                 expected: Expected::Done,
             },
             Step {
                 at: 5,
+                who: Who::Anonymous,
                 ask: Ask::Tags("kit"),
                 expected: Expected::Doc(r#"{"beta":"1.0.0","latest":"1.0.0"}"#),
             },
             Step {
                 at: 6,
+                who: Who::Anonymous,
                 ask: Ask::TagSet("kit", "beta", "1.1.0"),
                 expected: Expected::Done,
             },
             Step {
                 at: 7,
+                who: Who::Anonymous,
                 ask: Ask::Tags("kit"),
                 expected: Expected::Doc(r#"{"beta":"1.1.0","latest":"1.0.0"}"#),
             },
             Step {
                 at: 8,
+                who: Who::Anonymous,
                 ask: Ask::TagRemove("kit", "beta"),
                 expected: Expected::Done,
             },
             Step {
                 at: 9,
+                who: Who::Anonymous,
                 ask: Ask::TagRemove("kit", "beta"),
                 expected: Expected::Refused(Refusal::NotFound),
             },
             Step {
                 at: 10,
+                who: Who::Anonymous,
                 ask: Ask::Tags("kit"),
                 expected: Expected::Doc(r#"{"latest":"1.0.0"}"#),
             },

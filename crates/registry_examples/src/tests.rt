@@ -7,65 +7,65 @@ mod rounds;
 mod rows;
 mod tables;
 
-use crate::example::{Ask, Example, Expected, Step};
-use crate::table::{DOCUMENTS, PUBLISHES, QUERIES, TAGS};
+use crate::example::{Ask, Example, Expected, Step, Who};
+use crate::table::{DOCUMENTS, PUBLISHES, QUERIES, TAGS, USERS};
 use body::{ABC, body_of};
+use outcome::{otherwise, same};
 use registry_desk::Registry;
-use registry_names::{Fault, Moment, Name, Stop, TagText, Ver};
-use registry_publish::PublishForm;
+use registry_names::{Fault, Ident, Moment, Name, Refusal, Stop, TagText, Ver};
+use registry_publish::{PublishForm, TokenDigest};
 use registry_rules::{Action, Asked, Credential, Reply, Request};
 use std::alloc::Global;
+use std::test::Fail;
 
-type Outcomes = Vec<Result<Reply, Fault>>;
+type Outcome = Result<Reply, Fault>;
 
 #[test]
-fn versions_are_published(rt: HostRuntime) -> Result<(), &'static str> {
+fn users_are_added(rt: HostRuntime) -> Result<(), Fail> {
+    all_have_their_replies(rt.alloc(), &USERS)
+}
+
+#[test]
+fn versions_are_published(rt: HostRuntime) -> Result<(), Fail> {
     all_have_their_replies(rt.alloc(), &PUBLISHES)
 }
 
 #[test]
-fn queries_are_answered(rt: HostRuntime) -> Result<(), &'static str> {
+fn queries_are_answered(rt: HostRuntime) -> Result<(), Fail> {
     all_have_their_replies(rt.alloc(), &QUERIES)
 }
 
 #[test]
-fn versions_have_documents(rt: HostRuntime) -> Result<(), &'static str> {
+fn versions_have_documents(rt: HostRuntime) -> Result<(), Fail> {
     all_have_their_replies(rt.alloc(), &DOCUMENTS)
 }
 
 #[test]
-fn tags_name_versions(rt: HostRuntime) -> Result<(), &'static str> {
+fn tags_name_versions(rt: HostRuntime) -> Result<(), Fail> {
     all_have_their_replies(rt.alloc(), &TAGS)
 }
 
-// The error tells what the first example shows that has other replies.
-fn all_have_their_replies(alloc: Global, examples: &[Example]) -> Result<(), &'static str> {
+fn all_have_their_replies(alloc: Global, examples: &[Example]) -> Result<(), Fail> {
     for example in examples {
-        if have_their_replies(alloc, example.steps) != Ok(true) {
-            return Err(example.shows);
-        }
+        have_their_replies(alloc, example.shows, example.steps)?;
     }
     Ok(())
 }
 
 // Whether the requests have the replies of these steps, all at once and one by one.
-fn have_their_replies(alloc: Global, steps: &[Step]) -> Result<bool, Stop> {
+fn have_their_replies(alloc: Global, shows: &str, steps: &[Step]) -> Result<(), Fail> {
     let requests = requests_of(alloc, steps)?;
-    have_replies(alloc, &requests, steps)
+    let outcomes = all_at_once(alloc, &requests)?;
+    are_expected(shows, &outcomes, steps)?;
+    are_the_same(shows, &one_by_one(alloc, &requests)?, &outcomes)
 }
 
-fn have_replies(alloc: Global, requests: &[Request], steps: &[Step]) -> Result<bool, Stop> {
-    let outcomes = all_at_once(alloc, requests)?;
-    let others = one_by_one(alloc, requests)?;
-    Ok(outcomes == others && are_expected(&outcomes, steps))
-}
-
-fn all_at_once(alloc: Global, requests: &[Request]) -> Result<Outcomes, Fault> {
+fn all_at_once(alloc: Global, requests: &[Request]) -> Result<Vec<Outcome>, Fault> {
     let (_registry, outcomes) = Registry::run_in_memory(alloc, requests)?;
     Ok(outcomes)
 }
 
-fn one_by_one(alloc: Global, requests: &[Request]) -> Result<Outcomes, Fault> {
+fn one_by_one(alloc: Global, requests: &[Request]) -> Result<Vec<Outcome>, Fault> {
     let mut registry = Registry::in_memory(alloc)?;
     let mut outcomes = Vec::new(alloc);
     for request in requests {
@@ -85,13 +85,28 @@ fn requests_of(alloc: Global, steps: &[Step]) -> Result<Vec<Request>, Stop> {
 fn request_of(alloc: Global, step: &Step) -> Result<Request, Stop> {
     Ok(Request {
         at: Moment::clamped(step.at),
-        who: Credential::Anonymous,
+        who: credential_of(alloc, step.who)?,
         what: action_of(alloc, step.ask)?,
     })
 }
 
+fn credential_of(alloc: Global, who: Who) -> Result<Credential, Stop> {
+    match who {
+        Who::Operator => Ok(Credential::Operator),
+        Who::User(user) => Ok(Credential::User(Ident::parse(alloc, user)?)),
+        Who::Token(token) => Ok(Credential::Token(digest_of(token)?)),
+        Who::Anonymous => Ok(Credential::Anonymous),
+    }
+}
+
+fn digest_of(token: &str) -> Result<TokenDigest, Stop> {
+    TokenDigest::of(token).ok_or(Stop::Refused(Refusal::BadBody))
+}
+
 fn action_of(alloc: Global, ask: Ask) -> Result<Action, Stop> {
     match ask {
+        Ask::UserAdd(user) => user_add(alloc, user),
+        Ask::TokenAdd(user, token) => token_add(alloc, user, token),
         Ask::Body(body) => publish(alloc, body),
         Ask::Publish(name, version) => publish_version(alloc, name, version),
         Ask::TagSet(name, tag, version) => tag_set(alloc, name, tag, version),
@@ -102,6 +117,19 @@ fn action_of(alloc: Global, ask: Ask) -> Result<Action, Stop> {
         Ask::Archive(name, version) => archive(alloc, name, version),
         Ask::Tags(name) => tags(alloc, name),
     }
+}
+
+fn user_add(alloc: Global, user: &str) -> Result<Action, Stop> {
+    Ok(Action::UserAdd {
+        user: Ident::parse(alloc, user)?,
+    })
+}
+
+fn token_add(alloc: Global, user: &str, token: &str) -> Result<Action, Stop> {
+    Ok(Action::TokenAdd {
+        user: Ident::parse(alloc, user)?,
+        digest: digest_of(token)?,
+    })
 }
 
 fn publish(alloc: Global, body: &str) -> Result<Action, Stop> {
@@ -163,15 +191,25 @@ fn tags(alloc: Global, name: &str) -> Result<Action, Stop> {
     })
 }
 
-fn are_expected(outcomes: &[Result<Reply, Fault>], steps: &[Step]) -> bool {
-    outcomes.len() == steps.len()
-        && outcomes
-            .iter()
-            .zip(steps)
-            .all(|(outcome, step)| is_expected(outcome, &step.expected))
+fn are_expected(shows: &str, outcomes: &[Outcome], steps: &[Step]) -> Result<(), Fail> {
+    same(shows, outcomes.len(), steps.len())?;
+    for (place, (outcome, step)) in outcomes.iter().zip(steps).enumerate() {
+        if !is_expected(outcome, &step.expected) {
+            return Err(otherwise((shows, place), outcome, step.expected));
+        }
+    }
+    Ok(())
 }
 
-fn is_expected(outcome: &Result<Reply, Fault>, expected: &Expected) -> bool {
+fn are_the_same(shows: &str, others: &[Outcome], outcomes: &[Outcome]) -> Result<(), Fail> {
+    same(shows, others.len(), outcomes.len())?;
+    for (place, (other, outcome)) in others.iter().zip(outcomes).enumerate() {
+        same((shows, place), other, outcome)?;
+    }
+    Ok(())
+}
+
+fn is_expected(outcome: &Outcome, expected: &Expected) -> bool {
     match (outcome, expected) {
         (Ok(Reply::Created), Expected::Created) => true,
         (Ok(Reply::Done), Expected::Done) => true,

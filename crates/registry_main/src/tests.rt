@@ -3,8 +3,9 @@
 use crate::program::program;
 use registry_names::{FromRead, Text, ToWrite};
 use std::alloc::{AllocError, Global};
-use std::io;
 use std::io::{ErrorKind, Read, Write};
+use std::test::Fail;
+use std::{io, str};
 
 const BODY: &str =
     r#"{"name":"kit","versions":{"1.0.0":{"name":"kit","version":"1.0.0"}},"_attachments":{"kit-1.0.0.tgz":{"data":"YWJj"}}}"#;
@@ -122,23 +123,12 @@ static CASES: [Case; 8] = [
 ];
 
 #[test]
-fn calls_leave_what_they_should(rt: HostRuntime) -> Result<(), &'static str> {
-    all_leave_it(&rt, rt.alloc())
-}
-
-// Whether each call leaves what its case says, and else what the first shows that doesn't.
-fn all_leave_it<R>(rt: &R, alloc: Global) -> Result<(), &'static str> {
+fn calls_leave_what_they_should(rt: HostRuntime) -> Result<(), Fail> {
     for case in &CASES {
-        if leaves_it(rt, alloc, case) != Ok(true) {
-            return Err(case.shows);
-        }
+        let words = words(rt.alloc(), case.words)?;
+        leaves_it(&rt, rt.alloc(), &words, case)?;
     }
     Ok(())
-}
-
-fn leaves_it<R>(rt: &R, alloc: Global, case: &Case) -> Result<bool, AllocError> {
-    let words = words(alloc, case.words)?;
-    leaves_it_with(rt, alloc, &words, case)
 }
 
 fn words(alloc: Global, texts: &[&str]) -> Result<Vec<Text>, AllocError> {
@@ -150,12 +140,7 @@ fn words(alloc: Global, texts: &[&str]) -> Result<Vec<Text>, AllocError> {
 }
 
 // Whether the program leaves what the case says, with these words.
-fn leaves_it_with<R>(
-    rt: &R,
-    alloc: Global,
-    words: &[Text],
-    case: &Case,
-) -> Result<bool, AllocError> {
+fn leaves_it<R>(rt: &R, alloc: Global, words: &[Text], case: &Case) -> Result<(), Fail> {
     let text = case.text.repeat(alloc, case.times)?;
     let input = Input::new(text.as_bytes(), case.failing);
     let mut output = Output::new(alloc, case.failing);
@@ -168,7 +153,23 @@ fn leaves_it_with<R>(
         &mut ToWrite::new(&mut output),
         &mut ToWrite::new(&mut errors),
     );
-    Ok(status == case.status && output.holds(case.output) && errors.holds(case.errors))
+    is_left(
+        case,
+        (status, output.text(), errors.text()),
+        (case.status, case.output, case.errors),
+    )
+}
+
+// What a call leaves: its status, what is printed, and the line on the errors.
+type Left<'a> = (u8, &'a str, &'a str);
+
+// Whether this is left. Else the test fails, and shows both.
+fn is_left(case: &Case, left: Left, wanted: Left) -> Result<(), Fail> {
+    if left == wanted {
+        return Ok(());
+    }
+    let shows = case.shows;
+    Err(Fail::new(format_args!("{shows:?} leaves {left:?}, and not {wanted:?}")))
 }
 
 /// A reader of a text. Its first read is interrupted, and it may break where the text ends.
@@ -217,8 +218,8 @@ impl Output {
         }
     }
 
-    fn holds(&self, text: &str) -> bool {
-        self.taken.as_slice() == text.as_bytes()
+    fn text(&self) -> &str {
+        str::from_utf8(&self.taken).unwrap_or("no UTF-8")
     }
 }
 

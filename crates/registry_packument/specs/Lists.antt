@@ -2,25 +2,25 @@
 use Rattle.std.specs.Prelude.{ℕ, List, codes}
 use Rattle.serde_json.specs.Data.{Data, array, object}
 use Rattle.serde_json.specs.Written.{compact_text}
+use Rattle.registry_access.specs.declared.role.Role.{Role}
+use Rattle.registry_access.specs.declared.role.Role.TheVariants.{Developer, Admin, Owner}
+use Rattle.registry_access.specs.declared.grant.Grant.{Grant}
+use Rattle.registry_access.specs.declared.grant.Grant.TheVariants.{ReadOnly, ReadWrite}
 use Rattle.registry_packument.specs.TextValues.{text_items, text_members}
-use Rattle.registry_packument.specs.declared.list.MemberRole.{MemberRole}
-use Rattle.registry_packument.specs.declared.list.MemberRole.TheVariants.{Developer, Admin, Owner}
 use Rattle.registry_packument.specs.declared.list.Member.{Member}
-use Rattle.registry_packument.specs.declared.list.GrantLevel.{GrantLevel}
-use Rattle.registry_packument.specs.declared.list.GrantLevel.TheVariants.{ReadOnly, ReadWrite}
-use Rattle.registry_packument.specs.declared.list.Grant.{Grant}
+use Rattle.registry_packument.specs.declared.list.Granted.{Granted}
 use Rattle.registry_packument.specs.declared.list.List.{List as Answered}
 use Rattle.registry_packument.specs.declared.list.List.TheVariants.{Tags, Members, Names, Grants}
 use Rattle.registry_names.specs.declared.dist_tag.DistTag.{DistTag}
 
-abbrev pub role_text : MemberRole → List ℕ
+abbrev pub role_text : Role → List ℕ
 role_text Developer = codes "developer"
 role_text Admin = codes "admin"
 role_text Owner = codes "owner"
 
-abbrev pub level_text : GrantLevel → List ℕ
-level_text ReadOnly = codes "read-only"
-level_text ReadWrite = codes "read-write"
+abbrev pub grant_text : Grant → List ℕ
+grant_text ReadOnly = codes "read-only"
+grant_text ReadWrite = codes "read-write"
 
 -- a tag, and the version that it names
 abbrev pub tag_texts : DistTag → List ℕ × List ℕ
@@ -31,8 +31,8 @@ abbrev pub member_texts : Member → List ℕ × List ℕ
 member_texts r = (r.user, role_text r.role)
 
 -- a package, and what is granted on it
-abbrev pub grant_texts : Grant → List ℕ × List ℕ
-grant_texts r = (r.name, level_text r.level)
+abbrev pub grant_texts : Granted → List ℕ × List ℕ
+grant_texts r = (r.name, grant_text r.grant)
 
 -- tags to versions, users to roles, packages to grants, or an array of names
 abbrev pub list_value : Answered → Data
@@ -44,3 +44,11 @@ list_value (Grants rows) = object (text_members grant_texts rows.items)
 -- the text of tags, each with its version
 abbrev pub tags_text : List DistTag → List ℕ
 tags_text rows = compact_text (object (text_members tag_texts rows))
+
+-- the text of members, each with his role
+abbrev pub members_text : List Member → List ℕ
+members_text rows = compact_text (object (text_members member_texts rows))
+
+-- the text of names
+abbrev pub names_text : List (List ℕ) → List ℕ
+names_text names = compact_text (array (text_items names))

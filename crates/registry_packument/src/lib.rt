@@ -24,7 +24,7 @@ mod stream;
 
 pub use crate::document::version_text;
 pub use crate::head::PackHead;
-pub use crate::list::{Grant, GrantLevel, List, Member, MemberRole, list_text};
+pub use crate::list::{Granted, List, Member, list_text};
 pub use crate::packument::{VersionRow, packument_text};
 pub use crate::source::{VersionRows, VersionSource};
 pub use crate::stream::{PackFault, packument_len, write_packument};

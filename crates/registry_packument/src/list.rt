@@ -2,34 +2,12 @@
 
 ghost use Rattle.std.specs.Prelude.{◌≡◌, IfOk, IfErr};
 ghost use Rattle.serde_json.specs.Written.{compact_text};
-ghost use Rattle.registry_packument.specs.Lists.{role_text, level_text, tag_texts, member_texts, grant_texts, list_value};
+ghost use Rattle.registry_packument.specs.Lists.{role_text, grant_text, tag_texts, member_texts, grant_texts, list_value};
 
 use crate::json_text::{TextMember, push_array, push_object};
+use registry_access::{Grant, Role};
 use registry_names::{DistTag, Fault, Text};
 use std::alloc::Global;
-
-/// What a member is in an organisation.
-#[derive(Clone, Copy, Debug, PartialEq, Eq)]
-pub enum MemberRole {
-    /// Printed as `developer`.
-    Developer,
-    /// Printed as `admin`.
-    Admin,
-    /// Printed as `owner`.
-    Owner,
-}
-
-impl MemberRole {
-    fn text(self) -> &'static str
-        ensures { result.now ≡ role_text self }
-    {
-        match self {
-            MemberRole::Developer => "developer",
-            MemberRole::Admin => "admin",
-            MemberRole::Owner => "owner",
-        }
-    }
-}
 
 /// A member of an organisation.
 #[derive(Drop)]
@@ -37,36 +15,16 @@ pub struct Member {
     /// The user's name.
     pub user: Text,
     /// What he is in it.
-    pub role: MemberRole,
+    pub role: Role,
 }
 
 /// What a team is granted on a package.
-#[derive(Clone, Copy, Debug, PartialEq, Eq)]
-pub enum GrantLevel {
-    /// Printed as `read-only`.
-    ReadOnly,
-    /// Printed as `read-write`.
-    ReadWrite,
-}
-
-impl GrantLevel {
-    fn text(self) -> &'static str
-        ensures { result.now ≡ level_text self }
-    {
-        match self {
-            GrantLevel::ReadOnly => "read-only",
-            GrantLevel::ReadWrite => "read-write",
-        }
-    }
-}
-
-/// A grant to a team.
 #[derive(Drop)]
-pub struct Grant {
+pub struct Granted {
     /// The package's name.
     pub name: Text,
     /// What is granted on it.
-    pub level: GrantLevel,
+    pub grant: Grant,
 }
 
 /// A list that the registry answers with. Its rows stand in byte order of their first text, each
@@ -80,7 +38,7 @@ pub enum List {
     /// The names of an organisation's teams, or of a team's members.
     Names(Vec<Text>),
     /// The grants to a team.
-    Grants(Vec<Grant>),
+    Grants(Vec<Granted>),
 }
 
 impl TextMember for DistTag {
@@ -103,11 +61,11 @@ impl TextMember for Member {
     }
 
     fn text(&self) -> &str {
-        self.role.text()
+        role_word(self.role)
     }
 }
 
-impl TextMember for Grant {
+impl TextMember for Granted {
     ghost pair = { grant_texts };
 
     fn key(&self) -> &str {
@@ -115,7 +73,28 @@ impl TextMember for Grant {
     }
 
     fn text(&self) -> &str {
-        self.level.text()
+        grant_word(self.grant)
+    }
+}
+
+// The word for a role.
+fn role_word(role: Role) -> &'static str
+    ensures { result.now ≡ role_text role }
+{
+    match role {
+        Role::Developer => "developer",
+        Role::Admin => "admin",
+        Role::Owner => "owner",
+    }
+}
+
+// The word for a grant.
+fn grant_word(grant: Grant) -> &'static str
+    ensures { result.now ≡ grant_text grant }
+{
+    match grant {
+        Grant::ReadOnly => "read-only",
+        Grant::ReadWrite => "read-write",
     }
 }
 

@@ -66,7 +66,7 @@ module _ {X : Type 0} (k : KeyKind) (key : IsKey k.cmp k.same) (value : Row → 
   pulled r true rest = refl
   pulled r false rest = refl
 
-  map_filter : (test : k.Key → Bool) (wanted : Row → Bool) (table : List Row) → ((r : Row) → Has table r → wanted r ≡ test (k.of_row r))
+  pub map_filter : (test : k.Key → Bool) (wanted : Row → Bool) (table : List Row) → ((r : Row) → Has table r → wanted r ≡ test (k.of_row r))
       → map (entry k key value) (filter (λ r. not (wanted r)) table) ≡ filter (λ (e : k.Key × X). not (test e.0)) (map (entry k key value) table)
   map_filter test wanted [] alike = refl
   map_filter test wanted (r ∷ table) alike =

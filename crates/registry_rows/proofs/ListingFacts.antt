@@ -138,7 +138,7 @@ module _ {k : KeyKind} {C X : Type 0} {schema : Schema} {contents : Trees → C}
   -- ---- WHERE a test of the key and the value, ORDER BY the key
 
   module _ {Y : Type 0} (wanted project : List Term) (params : Row) (test : k.Key × X → Bool) (passes : (r : Row) → Has rows_of r → is_wanted wanted params r ≡ test (k.of_row r, value (drop 1 r)))
-      (read : Row → k.Key × Y) (g : X → Y) (shows : (id : Value) (vs : Row) → read (shown_by project params (id ∷ vs)) ≡ (k.of_row (id ∷ vs), g (value vs))) where
+      (read : Row → k.Key × Y) (g : X → Y) (shows : (id : Value) (vs : Row) → test (k.of_row (id ∷ vs), value vs) ≡ true → read (shown_by project params (id ∷ vs)) ≡ (k.of_row (id ∷ vs), g (value vs))) where
     abbrev passed : List (k.Key × X)
     passed = filter test (entries m)
 
@@ -156,10 +156,16 @@ module _ {k : KeyKind} {C X : Type 0} {schema : Schema} {contents : Trees → C}
         let r = has_row j x (at-entries t.keyed.key m j ∙ first_risen t.keyed.key j x (entries m) (entries_rise m) there.0) in
         (r.0, r.1, passes r.0 r.1 ∙ ap test (ap₂ (λ (a : k.Key) (b : X). (a, b)) r.2 r.3) ∙ there.1, r.2, r.3)
 
+    shown_entry : (r : Row) → Has rows_of r → is_wanted wanted params r ≡ true → read (shown_by project params r) ≡ (k.of_row r, g (value (drop 1 r)))
+    shown_entry r h pass =
+        let parts = row_parts r (all_has _ rows_of r (t.keyed.rowids s ready).1 h) in
+        ap (λ (z : Row). read (shown_by project params z)) parts.1
+        ∙ shows parts.0 (drop 1 r) (ap (λ (z : Row). test (k.of_row z, value (drop 1 z))) (sym parts.1) ∙ sym (passes r h) ∙ pass)
+        ∙ ap (λ (z : Row). (k.of_row z, g (value (drop 1 z)))) (sym parts.1)
+
     pub listed_where : (rows : List Row) → Selects wanted project k.order params rows_of rows → map read rows ≡ map (seen g) passed
     listed_where rows it =
-        lists t.keyed.key rows_of wanted project k.order params k.of_row (λ r. value (drop 1 r)) g read (t.keyed.rowids s ready).0
-        (λ r h pass. shown_whole (λ z. read (shown_by project params z)) (λ z. (k.of_row z, g (value (drop 1 z)))) shows r h)
+        lists t.keyed.key rows_of wanted project k.order params k.of_row (λ r. value (drop 1 r)) g read (t.keyed.rowids s ready).0 shown_entry
         (λ a b ha hb wa wb e. t.keyed.once s ready a b ha hb e)
         (λ a b ha hb wa wb. t.keyed.sorted s ready params a b ha hb)
         (first_at k.same passed) hits stands rows it passed passed_rise (λ j. refl)

@@ -4,6 +4,8 @@ use Rattle.std.specs.List.{AllByRecursion}
 use Rattle.sqlite_value.specs.Order.{Row}
 use Rattle.sqlite_value.specs.declared.keys.Key.{Key}
 use Rattle.sqlite_sql.specs.Term.{Term}
+use Rattle.sqlite_sql.specs.Program.{IsProgramAnswer}
+use Rattle.sqlite_sql.specs.Query.{Query}
 use Rattle.sqlite_schema.specs.declared.schema.Schema.{Schema}
 use Rattle.sqlite_schema.specs.declared.schema.Table.{Table}
 use Rattle.sqlite_schema.specs.declared.command.Returning.{Returning}
@@ -47,19 +49,26 @@ unchanged_keeps old new h = record { was_open = λ _. h.0.was_open; committed = 
 rolled_keeps : (old new : State) → IsRolledBack old new → KeepsCommit old new
 rolled_keeps old new h = record { was_open = h.was_open; committed = λ on. (h.undone on).1 }
 
--- an answered query saw the rows of its table and changed nothing
-pub query_reads : (schema : Schema) (sql : List ℕ) (tree : ℕ) (wanted project : List Term) (order : List (Term × Key)) (names : List (List ℕ)) → MeansQuery schema sql (Select (record { lets = []; body = scan tree wanted project order }) names)
-    → (params : Row) (old new : State) (rows : List Row) → (IsTrue old.is_open → IsReady schema old) → Shown sql params old new rows
-    → Reads schema old new × IsReady schema old × Selects wanted project order params (old.now.trees tree) rows
-query_reads schema sql tree wanted project order names means params old new rows form h =
+-- an answered query, whatever it reads, changed nothing
+pub query_answers : (schema : Schema) (sql : List ℕ) (q : Query) (names : List (List ℕ)) → MeansQuery schema sql (Select (record { lets = []; body = q }) names)
+    → (params : Row) (old new : State) (rows : List Row) → (IsTrue old.is_open → IsReady schema old) → Shown sql params old new rows → Reads schema old new × IsReady schema old × IsProgramAnswer [] q old.now.trees params rows
+query_answers schema sql q names means params old new rows form h =
     let was_open = shown_open sql params old new rows h in
     let ready = form was_open in
     let same = shown_same sql params old new rows (subst (λ s. IsPlain (understood s sql)) (sym ready.schema_is) means.0.1) h in
     let read = reads_as sql params old new schema ready.schema_is _ means.0.0 means.0.1 means.1 rows h in (
       record { was_open = was_open; ready = ready_same schema old new same.0.now_is ready; same = same.0.now_is; mode = same.0.mode; committed = unchanged_keeps old new same },
       ready,
-      selects tree wanted project order params old.now.trees rows read.answer,
+      read.answer,
     )
+
+-- one that reads a table saw its rows
+pub query_reads : (schema : Schema) (sql : List ℕ) (tree : ℕ) (wanted project : List Term) (order : List (Term × Key)) (names : List (List ℕ)) → MeansQuery schema sql (Select (record { lets = []; body = scan tree wanted project order }) names)
+    → (params : Row) (old new : State) (rows : List Row) → (IsTrue old.is_open → IsReady schema old) → Shown sql params old new rows
+    → Reads schema old new × IsReady schema old × Selects wanted project order params (old.now.trees tree) rows
+query_reads schema sql tree wanted project order names means params old new rows form h =
+    let it = query_answers schema sql (scan tree wanted project order) names means params old new rows form h in
+    (it.0, it.1, selects tree wanted project order params old.now.trees rows it.2)
 
 not_run_keeps : (old new : State) (sql : List ℕ) (params : Row) (e : Error) → IsNotRun old new sql params e → KeepsCommit old new
 unfolding IsNotRun

@@ -62,35 +62,35 @@ has_texts (suc more) (c ∷ cs) (v ∷ vs) t h = let both = and_parts _ _ t in (
 -- ---- WHERE
 
 -- the parameters from this place on are the key
-abbrev Gives : (more given : ℕ) → Texts more → Row → Type 0
-Gives zero given q params = column params given ≡ Text q
-Gives (suc more) given q params = (column params given ≡ Text q.0) × Gives more (suc given) q.1 params
+abbrev pub AreGiven : (more from : ℕ) → Texts more → Row → Type 0
+AreGiven zero from q params = column params from ≡ Text q
+AreGiven (suc more) from q params = (column params from ≡ Text q.0) × AreGiven more (suc from) q.1 params
 
-given_later : (more given : ℕ) (q : Texts more) (v : Value) (params : Row) → Gives more given q params → Gives more (suc given) q (v ∷ params)
-given_later zero given q v params h = h
-given_later (suc more) given q v params h = (h.0, given_later more (suc given) q.1 v params h.1)
+given_later : (more from : ℕ) (q : Texts more) (v : Value) (params : Row) → AreGiven more from q params → AreGiven more (suc from) q (v ∷ params)
+given_later zero from q v params h = h
+given_later (suc more) from q v params h = (h.0, given_later more (suc from) q.1 v params h.1)
 
-gives : (more : ℕ) (q : Texts more) (rest : Row) → Gives more 0 q (texts_row more q ++ rest)
-gives zero q rest = refl
-gives (suc more) q rest = (refl, given_later more 0 q.1 (Text q.0) _ (gives more q.1 rest))
+pub given : (more : ℕ) (q : Texts more) (rest : Row) → AreGiven more 0 q (texts_row more q ++ rest)
+given zero q rest = refl
+given (suc more) q rest = (refl, given_later more 0 q.1 (Text q.0) _ (given more q.1 rest))
 
-one_test : (v w : Value) (a t : Name) → v ≡ Text a → w ≡ Text t → is_true (binary (Compare Eq Binary) v w) ≡ is t a
+pub one_test : (v w : Value) (a t : Name) → v ≡ Text a → w ≡ Text t → is_true (binary (Compare Eq Binary) v w) ≡ is t a
 one_test v w a t e f = subst₂ (λ x y. is_true (binary (Compare Eq Binary) x y) ≡ is t a) (sym e) (sym f) (text_test a t)
 
 pub and_true : (b : Bool) → (b && true) ≡ b
 and_true true = refl
 and_true false = refl
 
-tests : (more at given : ℕ) (q : Texts more) (params : Row) (id : Value) (vs : Row) → HasTexts more at vs → Gives more given q params
-    → is_wanted (by_texts more (suc at) given) params (id ∷ vs) ≡ texts_are more q (texts_from more at vs)
-tests zero at given q params id vs h g = and_true _ ∙ one_test (column vs at) (column params given) _ q h g
-tests (suc more) at given q params id vs h g =
-    ap₂ (λ a b. a && b) (one_test (column vs at) (column params given) _ q.0 h.0 g.0) (tests more (suc at) (suc given) q.1 params id vs h.1 g.1)
+tests : (more at from : ℕ) (q : Texts more) (params : Row) (id : Value) (vs : Row) → HasTexts more at vs → AreGiven more from q params
+    → is_wanted (by_texts more (suc at) from) params (id ∷ vs) ≡ texts_are more q (texts_from more at vs)
+tests zero at from q params id vs h g = and_true _ ∙ one_test (column vs at) (column params from) _ q h g
+tests (suc more) at from q params id vs h g =
+    ap₂ (λ a b. a && b) (one_test (column vs at) (column params from) _ q.0 h.0 g.0) (tests more (suc at) (suc from) q.1 params id vs h.1 g.1)
 
 -- WHERE on the first columns is the test of their key
 pub tests_key : (more : ℕ) (q : Texts more) (rest : Row) (id : Value) (vs : Row) → HasTexts more 0 vs
     → is_wanted (by_texts more 1 0) (texts_row more q ++ rest) (id ∷ vs) ≡ texts_are more q (texts_from more 0 vs)
-tests_key more q rest id vs h = tests more 0 0 q (texts_row more q ++ rest) id vs h (gives more q rest)
+tests_key more q rest id vs h = tests more 0 0 q (texts_row more q ++ rest) id vs h (given more q rest)
 
 -- ---- a unique index
 

@@ -1,16 +1,17 @@
 -- What the tables hold is told by their rows alone.
 use Rattle.std.proofs.Common.{◌≡◌, [], refl}
 use Rattle.registry_names.specs.Maps.{rows, empty}
+use Rattle.registry_rows.specs.KeyKinds.{bytes, map_by}
 use Rattle.registry_rows.specs.Rows.{map_of}
 use Rattle.registry_rows.specs.Ready.{DependsOn}
 use Rattle.registry_tables.specs.Schema.{schema}
-use Rattle.registry_tables.specs.Contents.{contents, nothing_in, tokens_in, role_in, grant_in, status_in, release_in, withdrawal_in, named_in, number_named_in}
+use Rattle.registry_tables.specs.Contents.{contents, nothing_in, user_in, role_in, grant_in, status_in, release_in, withdrawal_in, named_in, number_named_in}
 use Rattle.registry_tables.specs.Fresh.{no_contents}
 
 pub contents_depend : DependsOn schema contents
 contents_depend old new (users, (tokens, (orgs, (members, (teams, (team_members, (packages, (grants, (owners, (versions, (spent, (tags, (needs, (meta, (need_ranges, none))))))))))))))) = λ i. record {
   users = map_of 0 nothing_in (users i);
-  tokens = tokens_in (tokens i);
+  tokens = map_by bytes user_in (tokens i);
   orgs = map_of 0 nothing_in (orgs i);
   members = map_of 1 role_in (members i);
   teams = map_of 1 nothing_in (teams i);

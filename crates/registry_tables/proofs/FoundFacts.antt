@@ -1,7 +1,17 @@
 -- What a query by key tells of its map: whether something is there.
-use Rattle.std.proofs.Common.{◌≡◌, ◌==◌, List, [], ◌∷◌, map, length, not, Option, None, Some, is_some, option_map, arith, ne_eqb, refl, ap}
+use Rattle.std.proofs.Common.{◌≡◌, ◌==◌, ℕ, List, [], ◌∷◌, map, length, not, Option, None, Some, is_some, option_map, arith, ne_eqb, refl, ap, ◌∙◌}
 use Rattle.sqlite_value.specs.Order.{Row}
-use Rattle.registry_rows.specs.Rows.{listed}
+use Rattle.sqlite_trees.specs.Tree.{Trees}
+use Rattle.sqlite_sql.specs.Term.{Term}
+use Rattle.sqlite_schema.specs.declared.schema.Schema.{Schema}
+use Rattle.sqlite_schema.specs.declared.schema.Table.{Table}
+use Rattle.sqlite.specs.State.{State as Shown, HasCleanDisk}
+use Rattle.registry_names.specs.Maps.{at}
+use Rattle.registry_rows.specs.Ready.{Ready, Reads, Queried, IsMapped}
+use Rattle.registry_rows.specs.Rows.{listed, map_of}
+use Rattle.registry_rows.specs.Statements.{MeansQuery, select_where, by_texts}
+use Rattle.registry_rows.specs.TextKeys.{Texts, TextsMap, texts_row}
+use Rattle.registry_rows.proofs.LookUpFacts.{select_finds}
 
 -- rows that give a value that may be there are some where it is
 pub some_found : {Y : Type 0} (read : Row → Y) (rows : List Row) (o : Option Y) → map read rows ≡ listed o → not (length rows == 0) ≡ is_some o
@@ -14,3 +24,12 @@ some_found read (r ∷ rows) (Some y) h = ap not (ne_eqb _ 0 (omega arith))
 pub some_seen : {X Y : Type 0} (g : X → Y) (o : Option X) → is_some (option_map g o) ≡ is_some o
 some_seen g None = refl
 some_seen g (Some x) = refl
+
+-- a query by key shows a row exactly where its key is there
+pub there_found : {C X : Type 0} {schema : Schema} {contents : Trees → C} {place : ℕ} {table : Table} {more : ℕ} {value : Row → X} {change : C → TextsMap more X → C}
+    → IsMapped schema contents place table more value change → (sql : List ℕ) (project : List Term) (names : List (List ℕ)) → MeansQuery schema sql (select_where table project (by_texts more 1 0) [] names)
+    → (q : Texts more) (old new : Shown) (rows : List Row) → Ready schema old → Queried sql (texts_row more q) old new rows → HasCleanDisk new
+    → Reads schema old new × (not (length rows == 0) ≡ is_some (at (map_of more value (old.now.trees table.tree)) q))
+there_found {X = X} t sql project names means q old new rows form call clean =
+    let it = select_finds t sql project names means q (λ r. tt) (λ (x : X). tt) (λ id vs. refl) old new rows form call clean in
+    (it.0, some_found {Y = Unit {0}} (λ r. tt) rows _ it.1 ∙ some_seen {Y = Unit {0}} (λ (x : X). tt) _)

@@ -1,13 +1,37 @@
 -- Each table gives one map of what is stored.
 use Rattle.std.proofs.Common.{refl}
-use Rattle.registry_rows.specs.Ready.{IsMapped}
+use Rattle.registry_rows.specs.Ready.{IsMapped, IsMappedByBytes}
 use Rattle.registry_tables.specs.Schema.{schema}
 use Rattle.registry_tables.specs.Schema as table
-use Rattle.registry_tables.specs.Contents.{contents, nothing_in, status_in, release_in, withdrawal_in, named_in}
+use Rattle.registry_tables.specs.Contents.{contents, nothing_in, user_in, role_in, grant_in, status_in, release_in, withdrawal_in, named_in}
 use Rattle.registry_tables.proofs.ContentsFacts.{contents_depend}
+
+pub users_mapped : IsMapped schema contents 0 table.users 0 nothing_in (λ c m. record c { users = m })
+users_mapped = record { found = refl; shape = refl; indexed = refl; plain = refl; texts = refl; depends = contents_depend; alone = λ db rows. refl }
+
+pub tokens_mapped : IsMappedByBytes schema contents 1 table.tokens user_in (λ c m. record c { tokens = m })
+tokens_mapped = record { found = refl; shape = refl; indexed = refl; plain = refl; begins = refl; depends = contents_depend; alone = λ db rows. refl }
+
+pub orgs_mapped : IsMapped schema contents 2 table.orgs 0 nothing_in (λ c m. record c { orgs = m })
+orgs_mapped = record { found = refl; shape = refl; indexed = refl; plain = refl; texts = refl; depends = contents_depend; alone = λ db rows. refl }
+
+pub members_mapped : IsMapped schema contents 3 table.members 1 role_in (λ c m. record c { members = m })
+members_mapped = record { found = refl; shape = refl; indexed = refl; plain = refl; texts = refl; depends = contents_depend; alone = λ db rows. refl }
+
+pub teams_mapped : IsMapped schema contents 4 table.teams 1 nothing_in (λ c m. record c { teams = m })
+teams_mapped = record { found = refl; shape = refl; indexed = refl; plain = refl; texts = refl; depends = contents_depend; alone = λ db rows. refl }
+
+pub team_members_mapped : IsMapped schema contents 5 table.team_members 2 nothing_in (λ c m. record c { team_members = m })
+team_members_mapped = record { found = refl; shape = refl; indexed = refl; plain = refl; texts = refl; depends = contents_depend; alone = λ db rows. refl }
 
 pub packages_mapped : IsMapped schema contents 6 table.packages 0 status_in (λ c m. record c { packages = m })
 packages_mapped = record { found = refl; shape = refl; indexed = refl; plain = refl; texts = refl; depends = contents_depend; alone = λ db rows. refl }
+
+pub grants_mapped : IsMapped schema contents 7 table.grants 2 grant_in (λ c m. record c { grants = m })
+grants_mapped = record { found = refl; shape = refl; indexed = refl; plain = refl; texts = refl; depends = contents_depend; alone = λ db rows. refl }
+
+pub owners_mapped : IsMapped schema contents 8 table.owners 1 nothing_in (λ c m. record c { owners = m })
+owners_mapped = record { found = refl; shape = refl; indexed = refl; plain = refl; texts = refl; depends = contents_depend; alone = λ db rows. refl }
 
 pub versions_mapped : IsMapped schema contents 9 table.versions 1 release_in (λ c m. record c { versions = m })
 versions_mapped = record { found = refl; shape = refl; indexed = refl; plain = refl; texts = refl; depends = contents_depend; alone = λ db rows. refl }

@@ -4,9 +4,10 @@ use Rattle.std.specs.declared.cmp.Ordering.{Ordering}
 use Rattle.registry_names.specs.Maps.{MapBy, at, put, erase}
 use Rattle.registry_publish.specs.Form.{FormParts}
 use Rattle.registry_rules.specs.Actions.{version_of}
-use Rattle.registry_rules.specs.Changes.{Change, PutStatus, AddVersion, PutTag, DropTag, release_of}
+use Rattle.registry_rules.specs.Changes.{Change, AddUser, AddToken, AddOrg, PutMember, DropMember, AddTeam, PutTeamMember, PutStatus, AddVersion, PutTag, DropTag, release_of}
 use Rattle.registry_tables.specs.Contents.{Contents}
 use Rattle.registry_tables.specs.Needs.{with_needs}
+use Rattle.registry_tables.specs.Teams.{without_member}
 
 -- a key that is there has this value
 abbrev pub amended : {K X : Type 0} {cmp : K → K → Ordering} → MapBy cmp X → K → X → MapBy cmp X
@@ -24,6 +25,13 @@ version_put f now c = record c {
 }
 
 abbrev pub stored_by : Change → Contents → Contents
+stored_by (AddUser u) c = record c { users = put c.users u tt }
+stored_by (AddToken digest u) c = record c { tokens = put c.tokens digest u }
+stored_by (AddOrg o) c = record c { orgs = put c.orgs o tt }
+stored_by (PutMember o u role stands) c = record c { members = with_row c.members (o, u) role stands }
+stored_by (DropMember o u) c = without_member o u c
+stored_by (AddTeam o t) c = record c { teams = put c.teams (o, t) tt }
+stored_by (PutTeamMember o t u) c = record c { team_members = put c.team_members (o, (t, u)) tt }
 stored_by (PutStatus p status stands) c = record c { packages = with_row c.packages p status stands }
 stored_by (AddVersion f now) c = version_put f now c
 stored_by (PutTag p t v stands) c = record c { tags = with_row c.tags (p, t) v stands }

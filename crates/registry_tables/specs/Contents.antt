@@ -1,9 +1,9 @@
 -- What the rows of the tables say, and the registry's state that follows from it. Where a row had a value of another type, it would say nothing there, 0 or the empty text.
-use Rattle.std.specs.Prelude.{◌==◌, ℕ, List, map, drop, if◌then◌else◌}
+use Rattle.std.specs.Prelude.{◌==◌, ℕ, if◌then◌else◌}
 use Rattle.sqlite_value.specs.Order.{Row, column}
 use Rattle.sqlite_trees.specs.Tree.{Trees}
-use Rattle.registry_names.specs.Texts.{Text, text_cmp}
-use Rattle.registry_names.specs.Maps.{TextMap, PairMap, TripleMap, rows}
+use Rattle.registry_names.specs.Texts.{Text}
+use Rattle.registry_names.specs.Maps.{TextMap, PairMap, TripleMap}
 use Rattle.registry_names.specs.declared.status.Status.{Status}
 use Rattle.registry_names.specs.declared.status.Status.TheVariants.{Public, Restricted}
 use Rattle.registry_access.specs.Access.{Access}
@@ -13,6 +13,7 @@ use Rattle.registry_access.specs.declared.grant.Grant.{Grant}
 use Rattle.registry_access.specs.declared.grant.Grant.TheVariants.{ReadOnly, ReadWrite}
 use Rattle.registry_rules.specs.State.{State, Release, Withdrawal}
 use Rattle.registry_rows.specs.Columns.{text_in, blob_in, number_in}
+use Rattle.registry_rows.specs.KeyKinds.{BytesMap, bytes, map_by}
 use Rattle.registry_rows.specs.Rows.{map_of}
 use Rattle.registry_rows.specs.TextKeys.{TextsMap}
 use Rattle.registry_tables.specs.Schema as table
@@ -46,6 +47,10 @@ release_in vs = record { at = number_in (column vs 2); manifest = text_in (colum
 abbrev pub withdrawal_in : Row → Withdrawal
 withdrawal_in vs = record { published = number_in (column vs 2); withdrawn = number_in (column vs 3) }
 
+-- the user of a token
+abbrev pub user_in : Row → Text
+user_in vs = text_in (column vs 1)
+
 -- the version that a tag names
 abbrev pub named_in : Row → Text
 named_in vs = text_in (column vs 2)
@@ -54,10 +59,6 @@ abbrev pub number_named_in : Row → ℕ
 number_named_in vs = number_in (column vs 1)
 
 -- ---- the tables
-
--- the user of each token, under the bytes of its digest
-abbrev pub tokens_in : List Row → TextMap Text
-tokens_in rs = rows text_cmp (map (λ r. (blob_in (column (drop 1 r) 0), text_in (column (drop 1 r) 1))) rs)
 
 -- all that is stored: one map a table
 pub record Contents : Type 0 where
@@ -92,7 +93,7 @@ pub record Contents : Type 0 where
 abbrev pub contents : Trees → Contents
 contents db = record {
   users = map_of 0 nothing_in (db table.users.tree);
-  tokens = tokens_in (db table.tokens.tree);
+  tokens = map_by bytes user_in (db table.tokens.tree);
   orgs = map_of 0 nothing_in (db table.orgs.tree);
   members = map_of 1 role_in (db table.members.tree);
   teams = map_of 1 nothing_in (db table.teams.tree);

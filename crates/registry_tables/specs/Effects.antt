@@ -1,14 +1,21 @@
 -- What a call inside a transaction finds, makes and tells. `old` and `new` are the transaction at its entry and at its exit.
-use Rattle.std.specs.Prelude.{Result, IfOk, IsTrue, OnOk}
+use Rattle.std.specs.Prelude.{◌≡◌, Result, IfOk, IsTrue, OnOk}
 use Rattle.sqlite.specs.Held.{state}
-use Rattle.sqlite.specs.State.{State as Shown, HasCleanDisk}
+use Rattle.sqlite.specs.State.{State as Shown, HasCleanDisk, KeepsCommit}
 use Rattle.sqlite.specs.declared.transaction.Transaction.{Transaction}
 use Rattle.sqlite_trees.specs.declared.store.Store.{Ghosts}
 use Rattle.registry_rules.specs.State.{State}
-use Rattle.registry_rows.specs.Ready.{Ready, Leaves, Reads}
+use Rattle.registry_rows.specs.Ready.{IsReady, Ready, Leaves, Reads}
 use Rattle.registry_rows.specs.Tables.{no_tables}
 use Rattle.registry_tables.specs.Schema.{schema}
 use Rattle.registry_tables.specs.Contents.{Contents, contents, registry_of}
+
+-- nothing has changed, whether or not a statement has run
+pub record IsAsBefore (old new : Shown) : Type 0 where
+  pub same : new.now ≡ old.now
+  pub ready : IsReady schema old → IsReady schema new
+  pub mode : new.in_transaction ≡ old.in_transaction
+  pub committed : KeepsCommit old new
 
 -- all that a connection sees in the tables
 abbrev pub stored : Shown → Contents
@@ -47,6 +54,10 @@ module _ {S : Type 0} (store : Ghosts S) where
     -- an answer is told by what is stored, and leaves everything as it was
     abbrev pub Tells : (R → Contents → Type 0) → Type 0
     Tells is_told = HasCleanDisk (shown new) → IfOk result (λ answer. Reads schema (shown old) (shown new) × is_told answer (stored_in old))
+
+    -- the same of an answer that may need no statement
+    abbrev pub Knows : (R → Contents → Type 0) → Type 0
+    Knows is_told = HasCleanDisk (shown new) → IfOk result (λ answer. IsAsBefore (shown old) (shown new) × is_told answer (stored_in old))
 
     -- the same of a database without tables
     abbrev pub TellsNone : (R → Type 0) → Type 0

@@ -7,3 +7,4 @@ pub mod Needs
 pub mod Opening
 pub mod Schema
 pub mod Spelled
+pub mod Teams

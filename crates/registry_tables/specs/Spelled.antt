@@ -5,10 +5,15 @@ use Rattle.registry_names.specs.Texts.{Text}
 use Rattle.registry_names.specs.declared.dist_tag.DistTag.{DistTag}
 use Rattle.registry_names.specs.declared.status.Status.{Status}
 use Rattle.registry_names.specs.declared.status.Status.TheVariants.{Public, Restricted}
+use Rattle.registry_access.specs.declared.role.Role.{Role}
+use Rattle.registry_access.specs.declared.role.Role.TheVariants.{Developer, Admin, Owner}
+use Rattle.registry_access.specs.declared.grant.Grant.{Grant}
+use Rattle.registry_access.specs.declared.grant.Grant.TheVariants.{ReadOnly, ReadWrite}
+use Rattle.registry_packument.specs.declared.list.Member.{Member}
 use Rattle.registry_packument.specs.declared.packument.VersionRow.{VersionRow}
 use Rattle.registry_rules.specs.State.{Release}
 use Rattle.registry_rows.specs.Columns.{text_in, number_in, blob_in}
-use Rattle.registry_tables.specs.Contents.{status_of}
+use Rattle.registry_tables.specs.Contents.{role_of, status_of}
 use Rattle.registry_tables.specs.declared.versions.DocumentRow.{DocumentRow}
 
 -- bytes alone
@@ -23,6 +28,28 @@ status_number Public = 1
 -- a status alone
 abbrev pub status_spelled : Row → Status
 status_spelled r = status_of (number_in (column r 0))
+
+-- the number that a role is kept as
+abbrev pub role_number : Role → ℕ
+role_number Developer = 0
+role_number Admin = 1
+role_number Owner = 2
+
+-- a role alone
+abbrev pub role_spelled : Row → Role
+role_spelled r = role_of (number_in (column r 0))
+
+-- a member and his role
+abbrev pub member_spelled : Row → Text × Role
+member_spelled r = (text_in (column r 0), role_of (number_in (column r 1)))
+
+abbrev pub member_entry : Member → Text × Role
+member_entry m = (m.user, m.role)
+
+-- the number that a grant is kept as
+abbrev pub grant_number : Grant → ℕ
+grant_number ReadOnly = 1
+grant_number ReadWrite = 2
 
 -- a tag and its version
 abbrev pub tag_spelled : Row → Text × Text

@@ -5,8 +5,14 @@ ghost use Rattle.registry_rules.specs.Changes.{change_of};
 ghost use Rattle.registry_tables.specs.Changes.{stored_by};
 ghost use Rattle.registry_tables.specs.Effects.{InForm, Makes};
 
+use crate::members::{drop_member, put_member};
+use crate::organisations::add_organisation;
 use crate::statuses::put_status;
 use crate::tags::{drop_tag, put_tag};
+use crate::team_members::put_team_member;
+use crate::teams::add_team;
+use crate::tokens::add_token;
+use crate::users::add_user;
 use crate::versions::put_version;
 use registry_names::Fault;
 use registry_rules::Change;
@@ -23,6 +29,22 @@ pub fn make<S: Alter>(tx: &mut Transaction<'_, S>, change: &Change<'_>) -> Resul
     ensures makes { Makes S.Store tx.old tx.new result (stored_by (change_of change.now)) }
 {
     match *change {
+        Change::AddUser { user } => add_user(tx, user.text()),
+        Change::AddToken { digest, user } => add_token(tx, digest, user.text()),
+        Change::AddOrg { organisation } => add_organisation(tx, organisation),
+        Change::PutMember {
+            organisation,
+            user,
+            role,
+            stands,
+        } => put_member(tx, organisation, user.text(), role, stands),
+        Change::DropMember { organisation, user } => drop_member(tx, organisation, user.text()),
+        Change::AddTeam { organisation, team } => add_team(tx, organisation, team),
+        Change::PutTeamMember {
+            organisation,
+            team,
+            user,
+        } => put_team_member(tx, organisation, team, user.text()),
         Change::PutStatus {
             package,
             status,

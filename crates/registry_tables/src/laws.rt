@@ -3,17 +3,22 @@
 
 ghost use Rattle.std.specs.Prelude.{◌≡◌, ℕ, List, None, Some, false, is_some};
 ghost use Rattle.sqlite.specs.declared.transaction.Transaction.{Transaction};
+ghost use Rattle.registry_access.specs.Callers.{team_granted};
+ghost use Rattle.registry_access.specs.declared.grant.Grant.{Grant};
 ghost use Rattle.registry_names.specs.Maps.{at};
+ghost use Rattle.registry_names.specs.Names.{scope_of};
+ghost use Rattle.registry_names.specs.Texts.{Text};
 ghost use Rattle.registry_publish.specs.Form.{FormParts};
 ghost use Rattle.registry_publish.specs.Needs.{needs_of};
 ghost use Rattle.registry_rules.specs.Actions.{version_of};
 ghost use Rattle.registry_rules.specs.Changes.{Change, all_made, made};
 ghost use Rattle.registry_tables.specs.Changes.{all_stored, stored_by, version_put};
-ghost use Rattle.registry_tables.specs.Contents.{Contents, registry_of};
+ghost use Rattle.registry_tables.specs.Contents.{Contents, access_of, registry_of};
 ghost use Rattle.registry_tables.specs.Effects.{shown};
 ghost use Rattle.registry_tables.specs.Fresh.{fresh};
 ghost use Rattle.registry_tables.specs.Needs.{HoldsNeeds};
 ghost use Rattle.registry_tables.specs.Opening.{Finds, HasNothing, HasNumber, HasUsersAlone, IsMade, Understands, first_creation};
+ghost use Rattle.registry_tables.specs.Teams.{GrantsInScope, granted_in};
 
 use sqlite::Alter;
 
@@ -46,4 +51,11 @@ pub fn answers_tell_what_is_there<S: Alter>()
 pub fn tables_are_made_once<S: Alter>()
     ensures understood { (old new : Transaction S) → IsMade S.Store old new → Understands (shown S.Store old) first_creation }
     ensures users { (old new : Transaction S) → HasUsersAlone (shown S.Store old) → ¬ IsMade S.Store old new }
+{}
+
+/// Where each grant is on a package of its organisation's scope, the teams of that organisation
+/// have all that a user is granted on the package. Where it has no scope he is granted nothing.
+pub fn grants_stay_in_scope()
+    ensures scoped { (c : Contents) (o u p : Text) (g : Grant) → GrantsInScope c → scope_of p ≡ Some o → granted_in c o u p g ≡ team_granted (access_of c) u p g }
+    ensures unscoped { (c : Contents) (u p : Text) (g : Grant) → GrantsInScope c → scope_of p ≡ None → team_granted (access_of c) u p g ≡ false }
 {}

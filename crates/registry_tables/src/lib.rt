@@ -1,27 +1,48 @@
 //! What the registry holds, kept in the tables of an SQL database.
 //!
-//! Each call runs fixed texts with parameters, each over one table, inside the caller's
-//! transaction: it changes what the transaction sees, and nothing is kept until that is
+//! Each call runs fixed texts with parameters, each over one table or a join of two, inside the
+//! caller's transaction: it changes what the transaction sees, and nothing is kept until that is
 //! committed. A statement that runs out of memory is answered by the fault `Memory`, and every
 //! other error by `Database`.
 #![tactic(auto)]
 
+mod access;
+mod callers;
 mod change;
+mod grants;
+mod idents;
 pub mod laws;
+mod maintainers;
+mod members;
 mod meta;
 mod needs;
+mod organisations;
 mod schema;
 mod spent;
 mod statuses;
 mod tags;
+mod team_members;
+mod teams;
+mod tokens;
+mod users;
 mod versions;
 
+pub use crate::access::load_access;
+pub use crate::callers::load_caller;
 pub use crate::change::make;
+pub use crate::grants::{has_grant, load_grants};
+pub use crate::maintainers::is_maintainer;
+pub use crate::members::{has_other_owner, load_members, load_role};
 pub use crate::meta::opened;
+pub use crate::organisations::has_organisation;
 pub use crate::schema::create;
 pub use crate::spent::is_spent;
 pub use crate::statuses::load_status;
 pub use crate::tags::{has_tag, load_tag, load_tags};
+pub use crate::team_members::{is_in_team, load_team_users, load_user_teams};
+pub use crate::teams::has_team;
+pub use crate::tokens::load_token_user;
+pub use crate::users::has_user;
 pub use crate::versions::{
     DocumentRow, has_version, load_archive, load_document, load_versions, put_version,
 };

@@ -10,11 +10,13 @@
 mod fixture;
 
 use crate::access::fixture::{registry, standing};
+use crate::outcome::same;
 use registry_access::{
     AccessRows, Ask, Caller, Level, Standing, allowed, allowed_by, level, level_of,
 };
 use registry_names::{Ident, Name, Refusal, Rule, Stop};
-use std::alloc::{AllocError, Global};
+use std::alloc::Global;
+use std::test::Fail;
 
 type Answer = Result<Rule, Refusal>;
 
@@ -111,83 +113,61 @@ static PACKAGES: [Case; 31] = [
     ("anonymous", "@ghost/kit", Level::Nothing, UNREAD_ANONYMOUS),
 ];
 
-// Whether the rows answer so.
-fn rows_answer(rows: &AccessRows, caller: &Caller, name: &Name, answers: &Answers) -> bool {
-    let [publish, write, owners, read] = answers;
-    allowed(rows, caller, &Ask::Publish(name)) == *publish
-        && allowed(rows, caller, &Ask::Write(name)) == *write
-        && allowed(rows, caller, &Ask::Owners(name)) == *owners
-        && allowed(rows, caller, &Ask::Read(name)) == *read
+fn rows_say(rows: &AccessRows, caller: &Caller, name: &Name) -> (Level, Answers) {
+    let answers = [
+        allowed(rows, caller, &Ask::Publish(name)),
+        allowed(rows, caller, &Ask::Write(name)),
+        allowed(rows, caller, &Ask::Owners(name)),
+        allowed(rows, caller, &Ask::Read(name)),
+    ];
+    (level(rows, caller, name), answers)
 }
 
-fn standing_answers(standing: &Standing, caller: &Caller, name: &Name, answers: &Answers) -> bool {
-    let [publish, write, owners, read] = answers;
-    allowed_by(standing, caller, &Ask::Publish(name)) == *publish
-        && allowed_by(standing, caller, &Ask::Write(name)) == *write
-        && allowed_by(standing, caller, &Ask::Owners(name)) == *owners
-        && allowed_by(standing, caller, &Ask::Read(name)) == *read
+fn standing_says(standing: &Standing, caller: &Caller, name: &Name) -> (Level, Answers) {
+    let answers = [
+        allowed_by(standing, caller, &Ask::Publish(name)),
+        allowed_by(standing, caller, &Ask::Write(name)),
+        allowed_by(standing, caller, &Ask::Owners(name)),
+        allowed_by(standing, caller, &Ask::Read(name)),
+    ];
+    (level_of(standing, caller), answers)
 }
 
-/// What a caller's level and answers follow from.
-#[derive(Drop)]
-enum Source<'a> {
-    Rows(&'a AccessRows),
-    Standing,
-}
-
-fn rows_say(rows: &AccessRows, caller: &Caller, name: &Name, case: &Case) -> bool {
-    let (_, _, wanted, answers) = case;
-    level(rows, caller, name) == *wanted && rows_answer(rows, caller, name, answers)
-}
-
-fn standing_says(alloc: Global, caller: &Caller, name: &Name, case: &Case) -> Result<bool, Stop> {
-    let (who, package, wanted, answers) = case;
-    let standing = standing(alloc, who, package)?;
-    let is_level = level_of(&standing, caller) == *wanted;
-    Ok(is_level && standing_answers(&standing, caller, name, answers))
-}
-
-// Whether the source says what is wanted.
-fn says(alloc: Global, source: &Source, case: &Case) -> Result<bool, Stop> {
-    let (who, package, _, _) = case;
+fn said_by_rows(
+    alloc: Global,
+    rows: &AccessRows,
+    who: &str,
+    package: &str,
+) -> Result<(Level, Answers), Stop> {
     let caller = caller(alloc, who)?;
     let name = Name::parse(alloc, package)?;
-    match *source {
-        Source::Rows(rows) => Ok(rows_say(rows, &caller, &name, case)),
-        Source::Standing => standing_says(alloc, &caller, &name, case),
-    }
+    Ok(rows_say(rows, &caller, &name))
 }
 
-/// A caller, and what he is asked about.
-type Other = (&'static str, &'static str);
+fn said_by_standing(alloc: Global, who: &str, package: &str) -> Result<(Level, Answers), Stop> {
+    let caller = caller(alloc, who)?;
+    let name = Name::parse(alloc, package)?;
+    let standing = standing(alloc, who, package)?;
+    Ok(standing_says(&standing, &caller, &name))
+}
 
-const NO_MEMORY: Other = ("no", "memory");
-
-// Whether the source says all that is wanted, and else of whom and what it says something else.
-fn all_said(alloc: Global, source: &Source) -> Result<(), Other> {
-    for case in &PACKAGES {
-        if says(alloc, source, case) != Ok(true) {
-            return Err((case.0, case.1));
-        }
+#[test]
+fn packages_by_rows(rt: HostRuntime) -> Result<(), Fail> {
+    let rows = registry(rt.alloc())?;
+    for (who, package, level, answers) in &PACKAGES {
+        let said = said_by_rows(rt.alloc(), &rows, who, package)?;
+        same((*who, *package), said, (*level, *answers))?;
     }
     Ok(())
 }
 
-fn all_said_by_rows(alloc: Global) -> Result<(), Other> {
-    match registry(alloc) {
-        Ok(rows) => all_said(alloc, &Source::Rows(&rows)),
-        Err(AllocError) => Err(NO_MEMORY),
+#[test]
+fn packages_by_standings(rt: HostRuntime) -> Result<(), Fail> {
+    for (who, package, level, answers) in &PACKAGES {
+        let said = said_by_standing(rt.alloc(), who, package)?;
+        same((*who, *package), said, (*level, *answers))?;
     }
-}
-
-#[test]
-fn packages_by_rows(rt: HostRuntime) -> Result<(), Other> {
-    all_said_by_rows(rt.alloc())
-}
-
-#[test]
-fn packages_by_standings(rt: HostRuntime) -> Result<(), Other> {
-    all_said(rt.alloc(), &Source::Standing)
+    Ok(())
 }
 
 /// The answers where a caller asks to operate, and about the members, the teams and the sight of an
@@ -227,47 +207,28 @@ static ORGANISATIONS: [OrganisationCase; 12] = [
     ("anonymous", "ghost", NOBODY),
 ];
 
-fn organisation_answers(
-    rows: &AccessRows,
-    caller: &Caller,
-    organisation: &Ident,
-    answers: &OrganisationAnswers,
-) -> bool {
-    let [operate, members, teams, read] = answers;
-    allowed(rows, caller, &Ask::Operate) == *operate
-        && allowed(rows, caller, &Ask::OrgMembers(organisation)) == *members
-        && allowed(rows, caller, &Ask::OrgTeams(organisation)) == *teams
-        && allowed(rows, caller, &Ask::OrgRead(organisation)) == *read
-}
-
-fn organisation_says(
+fn answers_in(
     alloc: Global,
     rows: &AccessRows,
-    case: &OrganisationCase,
-) -> Result<bool, Stop> {
-    let (who, organisation, answers) = case;
+    who: &str,
+    organisation: &str,
+) -> Result<OrganisationAnswers, Stop> {
     let caller = caller(alloc, who)?;
     let organisation = Ident::parse(alloc, organisation)?;
-    Ok(organisation_answers(rows, &caller, &organisation, answers))
-}
-
-fn all_said_in(alloc: Global, rows: &AccessRows) -> Result<(), Other> {
-    for case in &ORGANISATIONS {
-        if organisation_says(alloc, rows, case) != Ok(true) {
-            return Err((case.0, case.1));
-        }
-    }
-    Ok(())
-}
-
-fn all_organisations(alloc: Global) -> Result<(), Other> {
-    match registry(alloc) {
-        Ok(rows) => all_said_in(alloc, &rows),
-        Err(AllocError) => Err(NO_MEMORY),
-    }
+    Ok([
+        allowed(rows, &caller, &Ask::Operate),
+        allowed(rows, &caller, &Ask::OrgMembers(&organisation)),
+        allowed(rows, &caller, &Ask::OrgTeams(&organisation)),
+        allowed(rows, &caller, &Ask::OrgRead(&organisation)),
+    ])
 }
 
 #[test]
-fn organisations(rt: HostRuntime) -> Result<(), Other> {
-    all_organisations(rt.alloc())
+fn organisations(rt: HostRuntime) -> Result<(), Fail> {
+    let rows = registry(rt.alloc())?;
+    for (who, organisation, answers) in &ORGANISATIONS {
+        let said = answers_in(rt.alloc(), &rows, who, organisation)?;
+        same((*who, *organisation), said, *answers)?;
+    }
+    Ok(())
 }

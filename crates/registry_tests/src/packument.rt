@@ -5,10 +5,11 @@ mod stream;
 
 use crate::outcome::same;
 use crate::packument::stream::{KIT, KIT_TAGS, KIT_VERSIONS, KIT_WITHOUT_VERSIONS};
+use registry_access::{Grant, Role};
 use registry_names::{DistTag, Fault, Text};
 use registry_packument::{
-    Grant, GrantLevel, List, Member, MemberRole, PackHead, VersionRow, VersionRows, list_text,
-    packument_text, version_text,
+    Granted, List, Member, PackHead, VersionRow, VersionRows, list_text, packument_text,
+    version_text,
 };
 use std::alloc::{AllocError, Global};
 use std::test::Fail;
@@ -28,11 +29,11 @@ enum Asked {
     /// The list of a package's tags.
     Tags(&'static [TagCase]),
     /// The list of an organisation's members.
-    Members(&'static [(&'static str, MemberRole)]),
+    Members(&'static [(&'static str, Role)]),
     /// The list of names.
     Names(&'static [&'static str]),
     /// The list of a team's grants.
-    Grants(&'static [(&'static str, GrantLevel)]),
+    Grants(&'static [(&'static str, Grant)]),
 }
 
 /// What a case shows, what is asked for, and its text, or None where a version has no document.
@@ -90,7 +91,7 @@ fn tag_list(alloc: Global, cases: &[TagCase]) -> Result<List, AllocError> {
     Ok(List::Tags(tags(alloc, cases)?))
 }
 
-fn members(alloc: Global, cases: &[(&str, MemberRole)]) -> Result<List, AllocError> {
+fn members(alloc: Global, cases: &[(&str, Role)]) -> Result<List, AllocError> {
     let mut members = Vec::new(alloc);
     for (user, role) in cases {
         members.push(member(alloc, user, *role)?)?;
@@ -98,7 +99,7 @@ fn members(alloc: Global, cases: &[(&str, MemberRole)]) -> Result<List, AllocErr
     Ok(List::Members(members))
 }
 
-fn member(alloc: Global, user: &str, role: MemberRole) -> Result<Member, AllocError> {
+fn member(alloc: Global, user: &str, role: Role) -> Result<Member, AllocError> {
     Ok(Member {
         user: Text::from_str(alloc, user)?,
         role,
@@ -113,18 +114,18 @@ fn names(alloc: Global, cases: &[&str]) -> Result<List, AllocError> {
     Ok(List::Names(names))
 }
 
-fn grants(alloc: Global, cases: &[(&str, GrantLevel)]) -> Result<List, AllocError> {
+fn grants(alloc: Global, cases: &[(&str, Grant)]) -> Result<List, AllocError> {
     let mut grants = Vec::new(alloc);
-    for (name, level) in cases {
-        grants.push(grant(alloc, name, *level)?)?;
+    for (name, grant) in cases {
+        grants.push(granted(alloc, name, *grant)?)?;
     }
     Ok(List::Grants(grants))
 }
 
-fn grant(alloc: Global, name: &str, level: GrantLevel) -> Result<Grant, AllocError> {
-    Ok(Grant {
+fn granted(alloc: Global, name: &str, grant: Grant) -> Result<Granted, AllocError> {
+    Ok(Granted {
         name: Text::from_str(alloc, name)?,
-        level,
+        grant,
     })
 }
 
@@ -295,9 +296,9 @@ static LISTS: [Case; 8] = [
     (
         "three members",
         Asked::Members(&[
-            ("ann", MemberRole::Owner),
-            ("bob", MemberRole::Developer),
-            ("eve", MemberRole::Admin),
+            ("ann", Role::Owner),
+            ("bob", Role::Developer),
+            ("eve", Role::Admin),
         ]),
         Some(r#"{"ann":"owner","bob":"developer","eve":"admin"}"#),
     ),
@@ -309,9 +310,9 @@ static LISTS: [Case; 8] = [
     (
         "three grants",
         Asked::Grants(&[
-            ("@lab/kit", GrantLevel::ReadWrite),
-            ("@lab/pad", GrantLevel::ReadOnly),
-            ("@lab/rig", GrantLevel::ReadWrite),
+            ("@lab/kit", Grant::ReadWrite),
+            ("@lab/pad", Grant::ReadOnly),
+            ("@lab/rig", Grant::ReadWrite),
         ]),
         Some(r#"{"@lab/kit":"read-write","@lab/pad":"read-only","@lab/rig":"read-write"}"#),
     ),

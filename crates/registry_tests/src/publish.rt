@@ -9,12 +9,13 @@ mod needs;
 mod order;
 mod tokens;
 
+use crate::outcome::same;
 use crate::publish::case::Body::{Nested, With, Zeros};
-use crate::publish::case::Told::Refused;
-use crate::publish::case::{BAD_BODY, BAD_NAME, BAD_VERSION, Case, Change, Told, all_told};
-use registry_names::Refusal;
+use crate::publish::case::{
+    BAD_BODY, BAD_NAME, BAD_VERSION, Case, Change, TOO_LARGE, Told, all_told,
+};
 use registry_publish::integrity_of;
-use std::alloc::Global;
+use std::test::Fail;
 
 /// What the npm client sends to publish a package whose archive is the bytes `abc`.
 const KIT: &str =
@@ -35,13 +36,13 @@ static FIRST_VERSION: [Case; 8] = [
     ("its tag", With(&[]), Told::Tag("latest")),
     ("its status", With(&[]), Told::Access(None)),
     ("its manifest", With(&[]), Told::Manifest(KIT_MANIFEST)),
-    ("its archive", With(&[]), Told::Archive("abc")),
+    ("its archive", With(&[]), Told::Archive(b"abc")),
     ("its integrity", With(&[]), Told::Integrity(ABC_INTEGRITY)),
     ("its needs", With(&[]), Told::Needs(&[])),
 ];
 
 #[test]
-fn the_body_of_a_first_version(rt: HostRuntime) -> Result<(), &'static str> {
+fn the_body_of_a_first_version(rt: HostRuntime) -> Result<(), Fail> {
     all_told(rt.alloc(), &FIRST_VERSION)
 }
 
@@ -91,7 +92,7 @@ static BROKEN: [Case; 10] = [
 ];
 
 #[test]
-fn broken_bodies(rt: HostRuntime) -> Result<(), &'static str> {
+fn broken_bodies(rt: HostRuntime) -> Result<(), Fail> {
     all_told(rt.alloc(), &BROKEN)
 }
 
@@ -99,15 +100,11 @@ static LIMITS: [Case; 4] = [
     ("many levels", Nested(100), Told::Form),
     ("too many levels", Nested(200), BAD_BODY),
     ("the most bytes", Zeros(4_194_304), BAD_BODY),
-    (
-        "too many bytes",
-        Zeros(4_194_305),
-        Refused(Refusal::TooLarge),
-    ),
+    ("too many bytes", Zeros(4_194_305), TOO_LARGE),
 ];
 
 #[test]
-fn limits_of_bodies(rt: HostRuntime) -> Result<(), &'static str> {
+fn limits_of_bodies(rt: HostRuntime) -> Result<(), Fail> {
     all_told(rt.alloc(), &LIMITS)
 }
 
@@ -139,20 +136,18 @@ static VERSIONS: [Case; 6] = [
 ];
 
 #[test]
-fn versions_of_bodies(rt: HostRuntime) -> Result<(), &'static str> {
+fn versions_of_bodies(rt: HostRuntime) -> Result<(), Fail> {
     all_told(rt.alloc(), &VERSIONS)
 }
 
-// Whether the bytes have this integrity, and else the bytes.
-fn is_integrity(alloc: Global, bytes: &'static str, want: &str) -> Result<(), &'static str> {
-    match integrity_of(alloc, bytes.as_bytes()) {
-        Ok(integrity) if integrity.as_str() == want => Ok(()),
-        _ => Err(bytes),
-    }
-}
+// Bytes and their integrity.
+static BYTES: [(&str, &str); 2] = [("", EMPTY_INTEGRITY), ("abc", ABC_INTEGRITY)];
 
 #[test]
-fn integrities_of_bytes(rt: HostRuntime) -> Result<(), &'static str> {
-    is_integrity(rt.alloc(), "", EMPTY_INTEGRITY)?;
-    is_integrity(rt.alloc(), "abc", ABC_INTEGRITY)
+fn integrities_of_bytes(rt: HostRuntime) -> Result<(), Fail> {
+    for (bytes, wanted) in &BYTES {
+        let integrity = integrity_of(rt.alloc(), bytes.as_bytes())?;
+        same(*bytes, integrity.as_str(), *wanted)?;
+    }
+    Ok(())
 }

@@ -11,6 +11,7 @@ use crate::rules::case::Ask::{
 use crate::rules::case::Held::{Nothing, Version, Withdrawn};
 use crate::rules::case::{Ask, Case, Held, Want, all_told, all_turned_away};
 use registry_names::{Refusal, Status};
+use std::test::Fail;
 
 const OF_LAB: &str = "@lab/kit";
 
@@ -64,7 +65,7 @@ static FIRST_PUBLICATIONS: [Case; 4] = [
 ];
 
 #[test]
-fn first_publications(rt: HostRuntime) -> Result<(), &'static str> {
+fn first_publications(rt: HostRuntime) -> Result<(), Fail> {
     all_told(rt.alloc(), &FIRST_PUBLICATIONS)
 }
 
@@ -102,7 +103,7 @@ static LATER_PUBLISHES: [Case; 5] = [
 ];
 
 #[test]
-fn later_publishes(rt: HostRuntime) -> Result<(), &'static str> {
+fn later_publishes(rt: HostRuntime) -> Result<(), Fail> {
     all_told(rt.alloc(), &LATER_PUBLISHES)
 }
 
@@ -134,7 +135,7 @@ static REFUSED_PUBLISHES: [Case; 4] = [
 ];
 
 #[test]
-fn refused_publishes(rt: HostRuntime) -> Result<(), &'static str> {
+fn refused_publishes(rt: HostRuntime) -> Result<(), Fail> {
     all_told(rt.alloc(), &REFUSED_PUBLISHES)
 }
 
@@ -184,7 +185,7 @@ static TAGS: [Case; 7] = [
 ];
 
 #[test]
-fn tags_that_are_set_and_removed(rt: HostRuntime) -> Result<(), &'static str> {
+fn tags_that_are_set_and_removed(rt: HostRuntime) -> Result<(), Fail> {
     all_told(rt.alloc(), &TAGS)
 }
 
@@ -203,7 +204,7 @@ static QUERIES: [Case; 6] = [
 ];
 
 #[test]
-fn queries_of_what_lives(rt: HostRuntime) -> Result<(), &'static str> {
+fn queries_of_what_lives(rt: HostRuntime) -> Result<(), Fail> {
     all_told(rt.alloc(), &QUERIES)
 }
 
@@ -217,6 +218,6 @@ static REQUESTS: [(&str, Ask); 6] = [
 ];
 
 #[test]
-fn requests_of_nobody(rt: HostRuntime) -> Result<(), &'static str> {
+fn requests_of_nobody(rt: HostRuntime) -> Result<(), Fail> {
     all_turned_away(rt.alloc(), &REQUESTS)
 }

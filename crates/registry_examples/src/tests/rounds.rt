@@ -4,20 +4,14 @@ ghost use Rattle.std.specs.Prelude.{◌<◌};
 
 use crate::example::{Ask, Expected, Step};
 use crate::tests::have_their_replies;
-use registry_names::{Refusal, Stop};
+use registry_names::Refusal;
 use std::alloc::{AllocError, Global};
+use std::test::Fail;
 
 #[test]
-fn both_ways_have_the_same_outcomes(rt: HostRuntime) -> Result<(), &'static str> {
-    match rounds_have_their_replies(rt.alloc()) {
-        Ok(true) => Ok(()),
-        _ => Err("a round has other outcomes"),
-    }
-}
-
-fn rounds_have_their_replies(alloc: Global) -> Result<bool, Stop> {
-    let steps = fifty_rounds(alloc)?;
-    have_their_replies(alloc, &steps)
+fn both_ways_have_the_same_outcomes(rt: HostRuntime) -> Result<(), Fail> {
+    let steps = fifty_rounds(rt.alloc())?;
+    have_their_replies(rt.alloc(), "fifty rounds", &steps)
 }
 
 // Rounds over seven packages in turn, each with its next version.

@@ -3,6 +3,7 @@
 use crate::publish::case::Body::With;
 use crate::publish::case::{BAD_BODY, BAD_INTEGRITY, Case, Change, Told, all_told};
 use crate::publish::{ABC_INTEGRITY, EMPTY_INTEGRITY};
+use std::test::Fail;
 
 const DATA: &str = r#""data":"YWJj","length":3"#;
 
@@ -47,7 +48,7 @@ static ARCHIVES: [Case; 9] = [
 ];
 
 #[test]
-fn archives_out_of_form(rt: HostRuntime) -> Result<(), &'static str> {
+fn archives_out_of_form(rt: HostRuntime) -> Result<(), Fail> {
     all_told(rt.alloc(), &ARCHIVES)
 }
 
@@ -77,7 +78,7 @@ static INTEGRITIES: [Case; 8] = [
     (
         "an empty archive",
         With(&[NOTHING, OF_NOTHING]),
-        Told::Archive(""),
+        Told::Archive(b""),
     ),
     (
         "the integrity of nothing",
@@ -87,6 +88,6 @@ static INTEGRITIES: [Case; 8] = [
 ];
 
 #[test]
-fn integrities_of_archives(rt: HostRuntime) -> Result<(), &'static str> {
+fn integrities_of_archives(rt: HostRuntime) -> Result<(), Fail> {
     all_told(rt.alloc(), &INTEGRITIES)
 }

@@ -3,6 +3,7 @@
 use crate::publish::case::Body::With;
 use crate::publish::case::{BAD_BODY, Case, Told, all_told};
 use registry_names::Status;
+use std::test::Fail;
 
 const TAGS: &str = r#""dist-tags":{"latest":"1.0.0"}"#;
 
@@ -50,7 +51,7 @@ static ASKED_TAGS: [Case; 8] = [
 ];
 
 #[test]
-fn tags_that_are_asked_for(rt: HostRuntime) -> Result<(), &'static str> {
+fn tags_that_are_asked_for(rt: HostRuntime) -> Result<(), Fail> {
     all_told(rt.alloc(), &ASKED_TAGS)
 }
 
@@ -89,6 +90,6 @@ static ASKED_STATUSES: [Case; 7] = [
 ];
 
 #[test]
-fn statuses_that_are_asked_for(rt: HostRuntime) -> Result<(), &'static str> {
+fn statuses_that_are_asked_for(rt: HostRuntime) -> Result<(), Fail> {
     all_told(rt.alloc(), &ASKED_STATUSES)
 }

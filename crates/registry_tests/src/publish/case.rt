@@ -1,33 +1,37 @@
 //! A case: a body, and what its reading tells.
 
+use crate::outcome::same;
 use crate::publish::KIT;
 use crate::publish::client::SENT;
-use crate::publish::needs::are_needs;
+use crate::publish::needs::pairs;
 use crate::publish::order::SHAPE;
 use registry_names::{Refusal, Status, Stop};
 use registry_publish::PublishForm;
 use std::alloc::{AllocError, Global};
+use std::test::Fail;
 
-pub const BAD_BODY: Told = Told::Refused(Refusal::BadBody);
+pub const TOO_LARGE: Told = Told::Stopped(Stop::Refused(Refusal::TooLarge));
 
-pub const BAD_NAME: Told = Told::Refused(Refusal::BadName);
+pub const BAD_BODY: Told = Told::Stopped(Stop::Refused(Refusal::BadBody));
 
-pub const BAD_VERSION: Told = Told::Refused(Refusal::BadVersion);
+pub const BAD_NAME: Told = Told::Stopped(Stop::Refused(Refusal::BadName));
 
-pub const RANGE_TAG: Told = Told::Refused(Refusal::RangeTag);
+pub const BAD_VERSION: Told = Told::Stopped(Stop::Refused(Refusal::BadVersion));
 
-pub const BAD_TAG: Told = Told::Refused(Refusal::BadTag);
+pub const RANGE_TAG: Told = Told::Stopped(Stop::Refused(Refusal::RangeTag));
 
-pub const BAD_INTEGRITY: Told = Told::Refused(Refusal::BadIntegrity);
+pub const BAD_TAG: Told = Told::Stopped(Stop::Refused(Refusal::BadTag));
+
+pub const BAD_INTEGRITY: Told = Told::Stopped(Stop::Refused(Refusal::BadIntegrity));
 
 /// What a body shows, how it is made, and what its reading tells.
-pub type Case = (&'static str, Body, Told);
+pub type Case = (&'static str, Body, Told<'static>);
 
 /// A text, and what stands in its place.
 pub type Change = (&'static str, &'static str);
 
 /// A target, and the range of it that is needed.
-pub type NeedCase = (&'static str, &'static str);
+pub type NeedCase<'a> = (&'a str, &'a str);
 
 /// How a body is made.
 pub enum Body {
@@ -46,66 +50,64 @@ pub enum Body {
 }
 
 /// What the reading of a body tells.
-pub enum Told {
-    /// The body is refused.
-    Refused(Refusal),
+#[derive(Clone, Copy, Debug, PartialEq)]
+pub enum Told<'a> {
+    /// The body is refused, or a fault comes.
+    Stopped(Stop),
     /// The body has a form.
     Form,
     /// The body has a form with this name.
-    Name(&'static str),
+    Name(&'a str),
     /// With this version.
-    Version(&'static str),
+    Version(&'a str),
     /// With this tag.
-    Tag(&'static str),
+    Tag(&'a str),
     /// With this status.
     Access(Option<Status>),
     /// With this manifest.
-    Manifest(&'static str),
+    Manifest(&'a str),
     /// With an archive of this integrity.
-    Integrity(&'static str),
+    Integrity(&'a str),
     /// With an archive of these bytes.
-    Archive(&'static str),
+    Archive(&'a [u8]),
     /// With an archive of so many bytes.
     ArchiveLen(usize),
     /// With these needs.
-    Needs(&'static [NeedCase]),
+    Needs(&'a [NeedCase<'a>]),
 }
 
-/// Whether each case is told, and else what the first shows that isn't.
-pub fn all_told(alloc: Global, cases: &'static [Case]) -> Result<(), &'static str> {
-    for (shows, body, told) in cases {
-        if is_told(alloc, body, told) != Ok(true) {
-            return Err(shows);
-        }
+/// Whether each case is told.
+pub fn all_told(alloc: Global, cases: &'static [Case]) -> Result<(), Fail> {
+    for (shows, body, wanted) in cases {
+        let text = made(alloc, body)?;
+        is_told(alloc, shows, &text, wanted)?;
     }
     Ok(())
 }
 
-fn is_told(alloc: Global, body: &Body, told: &Told) -> Result<bool, AllocError> {
-    let text = made(alloc, body)?;
-    Ok(tells(alloc, &text, told))
-}
-
-fn tells(alloc: Global, text: &str, told: &Told) -> bool {
+fn is_told(alloc: Global, shows: &str, text: &str, wanted: &Told) -> Result<(), Fail> {
     match PublishForm::read(alloc, text.as_bytes()) {
-        Ok(form) => says(&form, told),
-        Err(stop) => matches!(told, Told::Refused(refusal) if stop == Stop::Refused(*refusal)),
+        Ok(form) => {
+            let needs = pairs(alloc, form.needs())?;
+            same(shows, said(&form, &needs, wanted), *wanted)
+        }
+        Err(stop) => same(shows, Told::Stopped(stop), *wanted),
     }
 }
 
-fn says(form: &PublishForm, told: &Told) -> bool {
-    match told {
-        Told::Refused(_) => false,
-        Told::Form => true,
-        Told::Name(name) => form.name().text() == *name,
-        Told::Version(version) => form.version().text() == *version,
-        Told::Tag(tag) => form.tag().text() == *tag,
-        Told::Access(access) => form.access() == *access,
-        Told::Manifest(manifest) => form.manifest_text() == *manifest,
-        Told::Integrity(integrity) => form.integrity() == *integrity,
-        Told::Archive(bytes) => form.archive() == bytes.as_bytes(),
-        Told::ArchiveLen(len) => form.archive().len() == *len,
-        Told::Needs(needs) => are_needs(form.needs(), needs),
+// What a form with these needs says of what is asked for.
+fn said<'a>(form: &'a PublishForm, needs: &'a [NeedCase<'a>], asked: &Told) -> Told<'a> {
+    match asked {
+        Told::Stopped(_) | Told::Form => Told::Form,
+        Told::Name(_) => Told::Name(form.name().text()),
+        Told::Version(_) => Told::Version(form.version().text()),
+        Told::Tag(_) => Told::Tag(form.tag().text()),
+        Told::Access(_) => Told::Access(form.access()),
+        Told::Manifest(_) => Told::Manifest(form.manifest_text()),
+        Told::Integrity(_) => Told::Integrity(form.integrity()),
+        Told::Archive(_) => Told::Archive(form.archive()),
+        Told::ArchiveLen(_) => Told::ArchiveLen(form.archive().len()),
+        Told::Needs(_) => Told::Needs(needs),
     }
 }
 

@@ -2,6 +2,7 @@
 
 use crate::publish::case::Body::{Text, With};
 use crate::publish::case::{BAD_BODY, Case, all_told};
+use std::test::Fail;
 
 const VERSIONS: &str = r#""versions":"#;
 
@@ -58,6 +59,6 @@ static MEMBERS: [Case; 13] = [
 ];
 
 #[test]
-fn members_out_of_form(rt: HostRuntime) -> Result<(), &'static str> {
+fn members_out_of_form(rt: HostRuntime) -> Result<(), Fail> {
     all_told(rt.alloc(), &MEMBERS)
 }

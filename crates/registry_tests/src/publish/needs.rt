@@ -1,25 +1,19 @@
 //! What manifests depend on.
 
+use crate::outcome::same;
 use crate::publish::case::NeedCase;
 use registry_names::{Refusal, Stop};
 use registry_publish::{Need, needs_of};
-use std::alloc::Global;
+use std::alloc::{AllocError, Global};
+use std::test::Fail;
 
-// Whether the needs are these, in this order.
-pub(super) fn are_needs(needs: &[Need], cases: &[NeedCase]) -> bool {
-    if needs.len() != cases.len() {
-        return false;
+// The target and the range of each need, in their order.
+pub(super) fn pairs<'a>(alloc: Global, needs: &'a [Need]) -> Result<Vec<NeedCase<'a>>, AllocError> {
+    let mut pairs = Vec::new(alloc);
+    for need in needs {
+        pairs.push((need.target.as_str(), need.range.as_str()))?;
     }
-    for index in 0..cases.len() {
-        if !is_need(&needs[index], &cases[index]) {
-            return false;
-        }
-    }
-    true
-}
-
-fn is_need(need: &Need, (target, range): &NeedCase) -> bool {
-    need.target.as_str() == *target && need.range.as_str() == *range
+    Ok(pairs)
 }
 
 // A manifest, and its needs, or None where it is out of form.
@@ -49,25 +43,18 @@ static MANIFESTS: [(&str, Option<&[NeedCase]>); 14] = [
     (r#"{"peerDependencies":{"a":1}}"#, None),
 ];
 
-fn has_needs(alloc: Global, manifest: &str, cases: Option<&[NeedCase]>) -> bool {
-    match (needs_of(alloc, manifest), cases) {
-        (Ok(needs), Some(cases)) => are_needs(&needs, cases),
-        (Err(stop), None) => stop == Stop::Refused(Refusal::BadBody),
-        _ => false,
+fn has_needs(alloc: Global, manifest: &str, cases: Option<&[NeedCase]>) -> Result<(), Fail> {
+    let wanted = cases.ok_or(Stop::Refused(Refusal::BadBody));
+    match needs_of(alloc, manifest) {
+        Ok(needs) => same(manifest, Ok(pairs(alloc, &needs)?.as_slice()), wanted),
+        Err(stop) => same(manifest, Err(stop), wanted),
     }
-}
-
-// Whether each manifest has its needs, and else the first that has others.
-fn all_told(alloc: Global) -> Result<(), &'static str> {
-    for (manifest, cases) in &MANIFESTS {
-        if !has_needs(alloc, manifest, *cases) {
-            return Err(manifest);
-        }
-    }
-    Ok(())
 }
 
 #[test]
-fn needs_of_manifests(rt: HostRuntime) -> Result<(), &'static str> {
-    all_told(rt.alloc())
+fn needs_of_manifests(rt: HostRuntime) -> Result<(), Fail> {
+    for (manifest, cases) in &MANIFESTS {
+        has_needs(rt.alloc(), manifest, *cases)?;
+    }
+    Ok(())
 }

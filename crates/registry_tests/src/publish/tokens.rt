@@ -1,7 +1,9 @@
 //! Tokens and their digests.
 
+use crate::outcome::same;
 use registry_publish::TokenDigest;
 use std::alloc::{AllocError, Global};
+use std::test::Fail;
 
 static DIGEST: [u8; 32] = [
     0xb6, 0x10, 0x52, 0x09, 0xb6, 0xcd, 0xa5, 0x9e, 0x36, 0xef, 0xc1, 0x96, 0x8b, 0xa5, 0x2a, 0xa7,
@@ -9,12 +11,11 @@ static DIGEST: [u8; 32] = [
 ];
 
 #[test]
-fn the_digest_of_a_token(_: HostRuntime) -> Result<(), &'static str> {
-    match TokenDigest::of("npm_bob_000000001") {
-        Some(digest) if digest.as_slice() == DIGEST.as_slice() => Ok(()),
-        Some(_) => Err("another digest"),
-        None => Err("no digest"),
-    }
+fn the_digest_of_a_token(_: HostRuntime) -> Result<(), Fail> {
+    let token = "npm_bob_000000001";
+    let digest = TokenDigest::of(token);
+    let bytes = digest.as_ref().map(TokenDigest::as_slice);
+    same(token, bytes, Some(DIGEST.as_slice()))
 }
 
 // A text, how often it stands in a row, and whether that is a token.
@@ -35,17 +36,14 @@ fn is_token(alloc: Global, text: &str, times: usize) -> Result<bool, AllocError>
     Ok(TokenDigest::of(&token).is_some())
 }
 
-// Whether each is told, and else the first text that isn't, and how often it stands.
-fn all_told(alloc: Global) -> Result<(), (&'static str, usize)> {
-    for (text, times, told) in &TOKENS {
-        if is_token(alloc, text, *times) != Ok(*told) {
-            return Err((text, *times));
-        }
+#[test]
+fn tokens(rt: HostRuntime) -> Result<(), Fail> {
+    for (text, times, wanted) in &TOKENS {
+        same(
+            (*text, *times),
+            is_token(rt.alloc(), text, *times)?,
+            *wanted,
+        )?;
     }
     Ok(())
-}
-
-#[test]
-fn tokens(rt: HostRuntime) -> Result<(), (&'static str, usize)> {
-    all_told(rt.alloc())
 }

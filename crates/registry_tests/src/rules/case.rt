@@ -1,5 +1,6 @@
 //! A case: what is held, what is asked, and what both calls tell of it.
 
+use crate::outcome::same;
 use crate::publish::case::changed;
 use registry_access::Caller;
 use registry_names::{Moment, Name, Refusal, Status, Stop, TagText, Ver};
@@ -7,7 +8,8 @@ use registry_publish::PublishForm;
 use registry_rules::{
     About, Action, Change, Credential, Facts, PublishFacts, Request, decide, may_ask,
 };
-use std::alloc::Global;
+use std::alloc::{AllocError, Global};
+use std::test::Fail;
 
 const BODY: &str =
     r#"{"name":"NAME","versions":{"1.0.0":{"name":"NAME","version":"1.0.0"}},"dist-tags":TAGS,"access":ACCESS,"_attachments":{"kit.tgz":{"data":"YWJj"}}}"#;
@@ -19,10 +21,11 @@ const NOW: i64 = 1_700_000_000;
 pub type Case = (&'static str, Held, Ask, Told);
 
 /// The changes, or the refusal.
-pub type Told = Result<&'static [Want], Refusal>;
+pub type Told = Result<&'static [Want<'static>], Refusal>;
 
 /// A change of the package that is asked about, and of its version 1.0.0.
-pub enum Want {
+#[derive(Clone, Copy, Debug, PartialEq)]
+pub enum Want<'a> {
     /// It has its first status.
     NewStatus(Status),
     /// It has another status than before.
@@ -30,11 +33,13 @@ pub enum Want {
     /// The version lives.
     Version,
     /// A tag that didn't stand names the version.
-    NewTag(&'static str),
+    NewTag(&'a str),
     /// A tag that stood names the version.
-    MovedTag(&'static str),
+    MovedTag(&'a str),
     /// The tag is gone.
-    NoTag(&'static str),
+    NoTag(&'a str),
+    /// A change of this other package, or of this other version, which no case wants.
+    Other(&'a str),
 }
 
 /// What is held of the package.
@@ -65,108 +70,100 @@ pub enum Ask {
     Tags,
 }
 
-/// Whether the calls tell each case, and else what the first shows of which they don't.
-pub fn all_told(alloc: Global, cases: &'static [Case]) -> Result<(), &'static str> {
+/// Whether the calls tell each case.
+pub fn all_told(alloc: Global, cases: &'static [Case]) -> Result<(), Fail> {
     for (shows, held, ask, told) in cases {
-        if is_told(alloc, held, ask, told) != Ok(true) {
-            return Err(shows);
-        }
+        let facts = Facts {
+            caller: Some(Caller::Anonymous),
+            about: about(held, ask),
+        };
+        both_tell(alloc, shows, &facts, ask, *told)?;
     }
     Ok(())
 }
 
-fn is_told(alloc: Global, held: &Held, ask: &Ask, told: &Told) -> Result<bool, Stop> {
-    let facts = Facts {
-        caller: Some(Caller::Anonymous),
-        about: about(held, ask),
-    };
-    let request = request(alloc, ask)?;
-    Ok(tells(alloc, &facts, &request, package(ask), told))
-}
-
 // Whether both calls tell this.
-fn tells(alloc: Global, facts: &Facts, request: &Request, package: &str, told: &Told) -> bool {
-    let may = may_ask(facts, request);
-    match (decide(alloc, facts, request), told) {
-        (Ok(changes), Ok(want)) => may.is_ok() && are_wanted(&changes, package, want),
-        (Err(stop), Err(want)) => may == Err(*want) && stop == Stop::Refused(*want),
-        _ => false,
+fn both_tell(alloc: Global, shows: &str, facts: &Facts, ask: &Ask, told: Told) -> Result<(), Fail> {
+    let request = request(alloc, ask)?;
+    same(shows, may_ask(facts, &request), told.map(|_| ()))?;
+    let wanted = told.map_err(Stop::Refused);
+    match decide(alloc, facts, &request) {
+        Ok(changes) => same(shows, Ok(seen(alloc, &changes, ask)?.as_slice()), wanted),
+        Err(stop) => same(shows, Err(stop), wanted),
     }
 }
 
-fn are_wanted(changes: &[Change<'_>], package: &str, wants: &[Want]) -> bool {
-    changes.len() == wants.len()
-        && changes
-            .iter()
-            .zip(wants)
-            .all(|(change, want)| is_wanted(change, package, want))
+fn seen<'a>(alloc: Global, changes: &[Change<'a>], ask: &Ask) -> Result<Vec<Want<'a>>, AllocError> {
+    let mut wants = Vec::new(alloc);
+    for change in changes {
+        wants.push(seen_of(*change, package(ask)))?;
+    }
+    Ok(wants)
 }
 
-fn is_wanted(change: &Change<'_>, package: &str, want: &Want) -> bool {
+fn seen_of<'a>(change: Change<'a>, package: &str) -> Want<'a> {
     match change {
         Change::PutStatus {
             package: of,
             status,
             stands,
-        } => { of.text() == package && is_status(*status, *stands, want) }
+        } => where_meant(of.text(), package, status_put(status, stands)),
         Change::AddVersion { form, at } => {
-            form.name().text() == package && at.seconds() == NOW && matches!(want, Want::Version)
+            let meant = where_meant(form.version().text(), "1.0.0", version_at(at));
+            where_meant(form.name().text(), package, meant)
         }
         Change::PutTag {
             package: of,
             tag,
             version,
             stands,
-        } => { of.text() == package && version.text() == "1.0.0" && is_tag(tag, *stands, want) }
-        Change::DropTag { package: of, tag } => of.text() == package && is_no_tag(tag, want),
-    }
-}
-
-fn is_status(status: Status, stands: bool, want: &Want) -> bool {
-    match want {
-        Want::NewStatus(wanted) => status == *wanted && !stands,
-        Want::OtherStatus(wanted) => status == *wanted && stands,
-        _ => false,
-    }
-}
-
-fn is_tag(tag: &str, stands: bool, want: &Want) -> bool {
-    match want {
-        Want::NewTag(wanted) => tag == *wanted && !stands,
-        Want::MovedTag(wanted) => tag == *wanted && stands,
-        _ => false,
-    }
-}
-
-fn is_no_tag(tag: &str, want: &Want) -> bool {
-    match want {
-        Want::NoTag(wanted) => tag == *wanted,
-        _ => false,
-    }
-}
-
-/// Whether each of these is turned away where nobody asks it, and else what the first shows that
-/// isn't.
-pub fn all_turned_away(
-    alloc: Global,
-    asks: &'static [(&'static str, Ask)],
-) -> Result<(), &'static str> {
-    for (shows, ask) in asks {
-        if is_turned_away(alloc, ask) != Ok(true) {
-            return Err(shows);
+        } => {
+            let meant = where_meant(version.text(), "1.0.0", tag_put(tag, stands));
+            where_meant(of.text(), package, meant)
         }
+        Change::DropTag { package: of, tag } => where_meant(of.text(), package, Want::NoTag(tag)),
+    }
+}
+
+// The change, where it is of the package or version that is meant.
+fn where_meant<'a>(of: &'a str, meant: &str, change: Want<'a>) -> Want<'a> {
+    if of == meant { change } else { Want::Other(of) }
+}
+
+fn status_put(status: Status, stands: bool) -> Want<'static> {
+    if stands {
+        Want::OtherStatus(status)
+    } else {
+        Want::NewStatus(status)
+    }
+}
+
+fn version_at(at: &Moment) -> Want<'static> {
+    if at.seconds() == NOW {
+        Want::Version
+    } else {
+        Want::Other("at another moment")
+    }
+}
+
+fn tag_put(tag: &str, stands: bool) -> Want<'_> {
+    if stands {
+        Want::MovedTag(tag)
+    } else {
+        Want::NewTag(tag)
+    }
+}
+
+/// Whether each of these is turned away where nobody asks it.
+pub fn all_turned_away(alloc: Global, asks: &'static [(&'static str, Ask)]) -> Result<(), Fail> {
+    for (shows, ask) in asks {
+        let facts = Facts {
+            caller: None,
+            about: about(&Held::Nothing, ask),
+        };
+        both_tell(alloc, shows, &facts, ask, Err(Refusal::NoCaller))?;
     }
     Ok(())
-}
-
-fn is_turned_away(alloc: Global, ask: &Ask) -> Result<bool, Stop> {
-    let facts = Facts {
-        caller: None,
-        about: about(&Held::Nothing, ask),
-    };
-    let request = request(alloc, ask)?;
-    let told = Err(Refusal::NoCaller);
-    Ok(tells(alloc, &facts, &request, package(ask), &told))
 }
 
 fn request(alloc: Global, ask: &Ask) -> Result<Request, Stop> {

@@ -1,0 +1,7 @@
+pub mod CascadeLaws
+pub mod Cascades
+pub mod JoinLaws
+pub mod Joins
+pub mod Laws
+pub mod PartLaws
+pub mod Places

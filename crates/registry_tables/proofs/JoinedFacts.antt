@@ -1,0 +1,146 @@
+-- What the join of team_members and grants shows: what a user's teams are granted. Those of a package's scope are all that he has.
+use Rattle.std.proofs.Common.{◌≡◌, inl, inr, ℕ, List, [], ◌∷◌, map, codes, Bool, true, false, ◌&&◌, Option, Some, None, refl, sym, ap, ap₂, subst, ◌∙◌, true≢false}
+use Rattle.std.specs.Prelude.{◌↔◌, IsSome, is_some}
+use Rattle.std.specs.List.{list_any}
+use Rattle.std.proofs.lemmas.Bool.{cases_Bool, and_parts, and_from, false_from_ne_true}
+use Rattle.sqlite.specs.declared.types.Value.TheVariants.{Text as Stored}
+use Rattle.sqlite_value.specs.Order.{Row}
+use Rattle.sqlite_sql.specs.Term.{col}
+use Rattle.sqlite.specs.Command.TheVariants.{Select}
+use Rattle.sqlite.specs.Listing.{understood}
+use Rattle.sqlite.specs.State.{State as Shown, HasCleanDisk}
+use Rattle.sqlite_tied.specs.Compute.{everything}
+use Rattle.sqlite_rules.specs.Lists.{Has}
+use Rattle.sqlite_rules.proofs.ListLemmas.{some_has, some_from}
+use Rattle.registry_names.specs.Texts.{Text, is}
+use Rattle.registry_names.specs.Keys.{Triple, pair_is}
+use Rattle.registry_names.specs.Maps.{at, entries, keys}
+use Rattle.registry_names.specs.Names.{scope_of}
+use Rattle.registry_names.proofs.TextFacts.{is_true, is_self, is_sym}
+use Rattle.registry_names.proofs.KeyFacts.{triple_key}
+use Rattle.registry_names.proofs.EntryFacts.{entries_rise}
+use Rattle.registry_names.proofs.MapFacts.{at-entries}
+use Rattle.registry_access.specs.Callers.{grants, team_granted}
+use Rattle.registry_access.specs.Levels.{is_grant}
+use Rattle.registry_access.specs.Standings.{is_listed}
+use Rattle.registry_access.specs.declared.grant.Grant.{Grant}
+use Rattle.registry_rows.specs.Statements.{MeansQuery}
+use Rattle.registry_rows.specs.Ready.{Ready, Reads, Queried}
+use Rattle.registry_rows.proofs.ListFacts.{has_mapped, map_has}
+use Rattle.registry_rows.proofs.ListingFacts.{first_risen}
+use Rattle.registry_rows.proofs.OrderFacts.{found_has}
+use Rattle.registry_rows.proofs.RowFacts.{some_same}
+use Rattle.registry_parts.specs.Joins.{Side, given, first, second, comparisons, join, joins, IsJoined}
+use Rattle.registry_parts.proofs.JoinFacts.{select_joins}
+use Rattle.registry_tables.specs.Schema.{schema}
+use Rattle.registry_tables.specs.Contents.{Contents, access_of}
+use Rattle.registry_tables.specs.Effects.{stored}
+use Rattle.registry_tables.specs.Teams.{AreGranted, GrantsInScope, grant_spelled, granted_in}
+use Rattle.registry_tables.proofs.MappedFacts.{team_members_mapped, grants_mapped}
+
+-- the organisation, the user, the organisation again, the team and the package
+abbrev grant_sides : List (Side × Side)
+grant_sides = (first 0, given 0) ∷ (first 2, given 1) ∷ (second 0, given 0) ∷ (second 1, first 1) ∷ (second 2, given 2) ∷ []
+
+granted_some : (o : Option Grant) (g : Grant) → grants o g ≡ true → (h : Grant) × (o ≡ Some h) × (is_grant h g ≡ true)
+granted_some None g t = absurd (true≢false (sym t))
+granted_some (Some h) g t = (h, refl, t)
+
+module _ (c : Contents) (o u p : Text) (shown : List Grant)
+    (tells : (y : Grant) → Has shown y ↔ IsJoined 2 2 c.team_members c.grants (joins 2 2 (Stored o ∷ Stored u ∷ Stored p ∷ []) grant_sides) (λ k x l z. z) y) (g : Grant) where
+  abbrev test : Triple → Bool
+  test k = pair_is (o, u) (k.0, k.1.1) && grants (at c.grants (k.0, (k.1.0, p))) g
+
+  -- a grant that is shown is one of a team
+  shown_granted : is_listed shown g ≡ true → granted_in c o u p g ≡ true
+  shown_granted any =
+      let h = some_has (λ h. is_grant h g) shown any in
+      let it = (tells h.0).0 h.1 in
+      let k = it.key in
+      let l = it.other_key in
+      let org = and_parts (is o k.0) _ it.pass in
+      let user = and_parts (is u k.1.1) _ org.1 in
+      let same_org = and_parts (is o l.0) _ user.1 in
+      let team = and_parts (is k.1.0 l.1.0) _ same_org.1 in
+      let pack = and_parts (is p l.1.1) _ team.1 in
+      let key : l ≡ (k.0, (k.1.0, p)) = ap₂ (λ (a : Text) (b : Text × Text). (a, b)) (sym (is_true o l.0 same_org.0) ∙ is_true o k.0 org.0)
+      (ap₂ (λ (a b : Text). (a, b)) (sym (is_true k.1.0 l.1.0 team.0)) (sym (is_true p l.1.1 pack.0))) in
+      let there : Has (keys (entries c.team_members)) k = map_has (λ (e : Triple × Unit {0}). e.0) (entries c.team_members) _ (found_has triple_key k it.value (entries c.team_members) (sym (at-entries triple_key c.team_members k) ∙ it.there)) in
+      some_from test (keys (entries c.team_members)) k there
+      (and_from _ _ (and_from _ _ org.0 user.0) (ap (λ x. grants x g) (ap (at c.grants) (sym key) ∙ it.other_there) ∙ ap (λ (z : Grant). is_grant z g) (sym it.shown) ∙ h.2))
+
+  -- a grant of a team is shown
+  granted_shown : granted_in c o u p g ≡ true → is_listed shown g ≡ true
+  granted_shown any =
+      let k = some_has test (keys (entries c.team_members)) any in
+      let both = and_parts _ _ k.2 in
+      let own = and_parts (is o k.0.0) (is u k.0.1.1) both.0 in
+      let e = has_mapped (λ (e : Triple × Unit {0}). e.0) (entries c.team_members) k.0 k.1 in
+      let x = first_risen triple_key k.0 e.0.1 (entries c.team_members) (entries_rise c.team_members) (subst (λ (j : Triple). Has (entries c.team_members) (j, e.0.1)) (sym e.2) e.1) in
+      let h = granted_some _ g both.1 in
+      let pass : joins 2 2 (Stored o ∷ Stored u ∷ Stored p ∷ []) grant_sides k.0 (k.0.0, (k.0.1.0, p)) ≡ true =
+      and_from _ _ own.0 (and_from _ _ own.1 (and_from _ _ own.0 (and_from _ _ (is_self k.0.1.0) (and_from _ _ (is_self p) refl)))) in
+      some_from (λ z. is_grant z g) shown h.0 ((tells h.0).1 (record {
+        key = k.0;
+        value = e.0.1;
+        other_key = (k.0.0, (k.0.1.0, p));
+        other = h.0;
+        there = at-entries triple_key c.team_members k.0 ∙ x;
+        other_there = h.1;
+        pass = pass;
+        shown = refl;
+      })) h.2
+
+  listed_is_granted : is_listed shown g ≡ granted_in c o u p g
+  listed_is_granted = elim (cases_Bool (granted_in c o u p g)) [
+    | inl some ↦ granted_shown some ∙ sym some
+    | inr none ↦ false_from_ne_true _ (λ any. true≢false (sym (shown_granted any) ∙ none)) ∙ sym none
+  ]
+
+joined_are_granted : (c : Contents) (o u p : Text) (shown : List Grant)
+    → ((y : Grant) → Has shown y ↔ IsJoined 2 2 c.team_members c.grants (joins 2 2 (Stored o ∷ Stored u ∷ Stored p ∷ []) grant_sides) (λ k x l z. z) y) → AreGranted c o u p shown
+joined_are_granted c o u p shown tells g = listed_is_granted c o u p shown tells g
+
+-- ---- SELECT from team_members and grants
+
+abbrev grants_text : List ℕ
+grants_text = codes "SELECT grants.level FROM team_members, grants WHERE team_members.org = ?1 AND team_members.user = ?2 AND grants.org = ?1 AND grants.team = team_members.team AND grants.package = ?3"
+
+grants_means : MeansQuery schema grants_text (Select (record { lets = []; body = join 10 14 (comparisons grant_sides) (col 2 4 ∷ []) }) (codes "level" ∷ []))
+unfolding understood everything
+grants_means = ((refl, (refl, refl)), refl)
+
+pub grants_listed : (o u p : Text) (old new : Shown) (rows : List Row) → Ready schema old → Queried grants_text (Stored o ∷ Stored u ∷ Stored p ∷ []) old new rows → HasCleanDisk new
+    → Reads schema old new × AreGranted (stored old) o u p (map grant_spelled rows)
+grants_listed o u p old new rows form call clean =
+    let it = select_joins team_members_mapped grants_mapped grant_sides grants_text (col 2 4 ∷ []) _ grants_means (Stored o ∷ Stored u ∷ Stored p ∷ []) refl grant_spelled (λ k x l z. z) (λ id other vs us. refl) old new rows form call clean in
+    (it.0, joined_are_granted (stored old) o u p (map grant_spelled rows) it.1)
+
+-- ---- the scope of a package
+
+nothing : (a : Bool) → (a && false) ≡ false
+nothing true = refl
+nothing false = refl
+
+is_there : {X : Type 0} {o : Option X} {x : X} → o ≡ Some x → IsSome o
+is_there e = ap is_some e
+
+module _ (c : Contents) (kept : GrantsInScope c) (u p : Text) (g : Grant) where
+  -- whoever's team has a grant on the package, it is one of its scope
+  scope_is : (k : Triple) → grants (at c.grants (k.0, (k.1.0, p))) g ≡ true → scope_of p ≡ Some k.0
+  scope_is k t = kept k.0 k.1.0 p (is_there (granted_some _ g t).1)
+
+  pub scoped_are_all : (o : Text) → scope_of p ≡ Some o → granted_in c o u p g ≡ team_granted (access_of c) u p g
+  scoped_are_all o scope = λ i. list_any (λ k. same k i) (keys (entries c.team_members))
+    where
+      same : (k : Triple) → (pair_is (o, u) (k.0, k.1.1) && grants (at c.grants (k.0, (k.1.0, p))) g) ≡ (is k.1.1 u && grants (at c.grants (k.0, (k.1.0, p))) g)
+      same k = elim (cases_Bool (grants (at c.grants (k.0, (k.1.0, p))) g)) [
+        | inl some ↦ ap (λ b. b && grants (at c.grants (k.0, (k.1.0, p))) g) (ap₂ (λ a b. a && b) (ap (is o) (some_same (sym (scope_is k some) ∙ scope)) ∙ is_self o) (is_sym u k.1.1))
+        | inr none ↦ ap (λ b. pair_is (o, u) (k.0, k.1.1) && b) none ∙ nothing (pair_is (o, u) (k.0, k.1.1)) ∙ sym (nothing (is k.1.1 u)) ∙ ap (λ b. is k.1.1 u && b) (sym none)
+      ]
+
+  pub unscoped_have_none : scope_of p ≡ None → team_granted (access_of c) u p g ≡ false
+  unscoped_have_none none = false_from_ne_true _ (λ any.
+      let k = some_has (λ (k : Triple). is k.1.1 u && grants (at c.grants (k.0, (k.1.0, p))) g) (keys (entries c.team_members)) any in
+      let scope = scope_is k.0 (and_parts _ _ k.2).1 in
+      absurd (let e = sym none ∙ scope in cc))

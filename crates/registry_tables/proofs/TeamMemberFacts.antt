@@ -1,0 +1,69 @@
+-- What the statements on the members of teams make and show.
+use Rattle.std.proofs.Common.{◌≡◌, ◌==◌, ℕ, List, [], ◌∷◌, not, is_some, length, Ok, refl, codes}
+use Rattle.sqlite.specs.declared.types.Value.TheVariants.{Null, Text as Stored}
+use Rattle.sqlite.specs.Command.TheVariants.{Insert, Delete, Select}
+use Rattle.sqlite.specs.Source.TheVariants.{Values}
+use Rattle.sqlite.specs.Listing.{understood}
+use Rattle.sqlite.specs.State.{State as Shown, HasCleanDisk}
+use Rattle.sqlite_tied.specs.Compute.{everything}
+use Rattle.sqlite_value.specs.Order.{Row}
+use Rattle.sqlite_sql.specs.Term.{Term, lit, col}
+use Rattle.registry_names.specs.Texts.{Text}
+use Rattle.registry_names.specs.Maps.{at, erase, put}
+use Rattle.registry_rows.specs.Frames.{Wrote}
+use Rattle.registry_rows.specs.Ready.{Ready, Leaves, Reads, Queried}
+use Rattle.registry_rows.specs.Statements.{Means, MeansQuery, IsUncascaded, scan, by_texts}
+use Rattle.registry_rows.proofs.StatementFacts.{insert_puts, delete_erases}
+use Rattle.registry_tables.specs.Schema.{schema}
+use Rattle.registry_tables.specs.Schema as table
+use Rattle.registry_tables.specs.Contents.{contents}
+use Rattle.registry_tables.specs.Effects.{stored}
+use Rattle.registry_tables.proofs.FoundFacts.{there_found}
+use Rattle.registry_tables.proofs.MappedFacts.{team_members_mapped}
+
+-- ---- INSERT
+
+abbrev put_text : List ℕ
+put_text = codes "INSERT INTO team_members VALUES (?1, ?2, ?3)"
+
+abbrev put_cells : List Term
+put_cells = col 0 0 ∷ col 0 1 ∷ col 0 2 ∷ []
+
+put_means : Means schema put_text (Insert 5 (Values (lit Null ∷ put_cells) 4))
+unfolding understood everything
+put_means = (refl, (refl, refl))
+
+pub team_member_put : (o t u : Text) (old new : Shown) → Ready schema old → Wrote put_text (Stored o ∷ Stored t ∷ Stored u ∷ []) old new → HasCleanDisk new
+    → Leaves schema contents (record (stored old) { team_members = put (stored old).team_members (o, (t, u)) tt }) new
+team_member_put o t u old new form call = insert_puts team_members_mapped put_text put_cells put_means (Stored o ∷ Stored t ∷ Stored u ∷ []) refl old new (Ok call.0) form call.1
+
+-- ---- DELETE
+
+abbrev drop_text : List ℕ
+drop_text = codes "DELETE FROM team_members WHERE org = ?1 AND team = ?2 AND user = ?3"
+
+drop_means : Means schema drop_text (Delete 5 (record { lets = []; body = scan 10 (by_texts 2 1 0) (col 1 0 ∷ []) [] }))
+unfolding understood everything
+drop_means = (refl, (refl, refl))
+
+-- nothing refers to a member of a team
+nothing_refers : IsUncascaded schema table.team_members
+unfolding everything
+nothing_refers olds = refl
+
+pub team_member_dropped : (o t u : Text) (old new : Shown) → Ready schema old → Wrote drop_text (Stored o ∷ Stored t ∷ Stored u ∷ []) old new → HasCleanDisk new
+    → Leaves schema contents (record (stored old) { team_members = erase (stored old).team_members (o, (t, u)) }) new
+team_member_dropped o t u old new form call = delete_erases team_members_mapped drop_text drop_means nothing_refers (o, (t, u)) old new (Ok call.0) form call.1
+
+-- ---- SELECT
+
+abbrev find_text : List ℕ
+find_text = codes "SELECT user FROM team_members WHERE org = ?1 AND team = ?2 AND user = ?3"
+
+find_means : MeansQuery schema find_text (Select (record { lets = []; body = scan 10 (by_texts 2 1 0) (col 1 3 ∷ []) [] }) (codes "user" ∷ []))
+unfolding understood everything
+find_means = ((refl, (refl, refl)), refl)
+
+pub team_member_found : (o t u : Text) (old new : Shown) (rows : List Row) → Ready schema old → Queried find_text (Stored o ∷ Stored t ∷ Stored u ∷ []) old new rows → HasCleanDisk new
+    → Reads schema old new × (not (length rows == 0) ≡ is_some (at (stored old).team_members (o, (t, u))))
+team_member_found o t u = there_found team_members_mapped find_text (col 1 3 ∷ []) _ find_means (o, (t, u))

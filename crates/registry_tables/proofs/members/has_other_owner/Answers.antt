@@ -1,0 +1,17 @@
+use Rattle.std.proofs.Common.{◌∙◌, ap, Bool, ◌&&◌, not, Some}
+use Rattle.std.specs.List.{list_any}
+use Rattle.registry_access.specs.Levels.{is_owner}
+use Rattle.registry_access.specs.declared.role.Role.{Role}
+use Rattle.registry_names.specs.Texts.{Text, is}
+use Rattle.registry_tables.specs.Spelled.{member_entry}
+use Rattle.registry_tables.proofs.MemberFacts.{any_listed}
+use Rattle.registry_tables.proofs.members.has_other_owner.Goals as goal
+
+pub returns-clause-tells : goal.returns-clause-tells
+returns-clause-tells g c clean =
+    let it = c.in_ok-members.ensures.tells clean in
+    let test : Text × Role → Bool = λ e. not (is e.0 c.args.user.now) && is_owner (Some e.1) in
+    (
+      it.0,
+      c.owned_by_another.ensures ∙ ap (list_any (λ m. test (member_entry m))) c.deref.ensures.value ∙ any_listed test c.in_ok-members.members.items ∙ ap (list_any test) it.1,
+    )

@@ -1,0 +1,64 @@
+-- What goes with a member and with a team, who is in a team, and what its members are granted by that.
+use Rattle.std.specs.Prelude.{◌≡◌, Bool, not, ◌&&◌, List, map, filter, Some, IsSome}
+use Rattle.std.specs.List.{list_any}
+use Rattle.sqlite_value.specs.Order.{Row, column}
+use Rattle.registry_names.specs.Texts.{Text}
+use Rattle.registry_names.specs.Names.{scope_of}
+use Rattle.registry_names.specs.Keys.{pair_is}
+use Rattle.registry_names.specs.Maps.{at, erase, keep, entries, keys, pairs_of, parts}
+use Rattle.registry_access.specs.Callers.{grants}
+use Rattle.registry_access.specs.Standings.{is_listed}
+use Rattle.registry_access.specs.declared.grant.Grant.{Grant}
+use Rattle.registry_rows.specs.Columns.{text_in, number_in}
+use Rattle.registry_tables.specs.Contents.{Contents, grant_of}
+
+-- ---- what goes
+
+-- the user is no member, and in no team of the organisation
+abbrev pub without_member : Text → Text → Contents → Contents
+without_member o u c = record c {
+  members = erase c.members (o, u);
+  team_members = keep c.team_members (λ k. not (pair_is (o, u) (k.0, k.1.1)));
+}
+
+-- the team is gone, nobody is in it, and nothing is granted to it
+abbrev pub without_team : Text → Text → Contents → Contents
+without_team o t c = record c {
+  teams = erase c.teams (o, t);
+  team_members = keep c.team_members (λ k. not (pair_is (o, t) (k.0, k.1.0)));
+  grants = keep c.grants (λ k. not (pair_is (o, t) (k.0, k.1.0)));
+}
+
+-- ---- who is in a team
+
+-- the users in a team of an organisation, in byte order
+abbrev pub users_of : Contents → Text → Text → List Text
+users_of c o t = keys (parts (pairs_of c.team_members o) t)
+
+-- the teams of an organisation that a user is in, in byte order
+abbrev pub teams_of : Contents → Text → Text → List Text
+teams_of c o u = map (λ e. e.0.1.0) (filter (λ e. pair_is (o, u) (e.0.0, e.0.1.1)) (entries c.team_members))
+
+-- ---- what is granted
+
+-- whether a team of the organisation that the user is in has this grant on the package
+abbrev pub granted_in : Contents → Text → Text → Text → Grant → Bool
+granted_in c o u p g = list_any (λ k. pair_is (o, u) (k.0, k.1.1) && grants (at c.grants (k.0, (k.1.0, p))) g) (keys (entries c.team_members))
+
+-- the list has what is granted so, and nothing else. Neither the order counts nor how often a grant stands there
+abbrev pub AreGranted : Contents → Text → Text → Text → List Grant → Type 0
+AreGranted c o u p gs = (g : Grant) → is_listed gs g ≡ granted_in c o u p g
+
+-- each grant is on a package of its organisation's scope
+abbrev pub GrantsInScope : Contents → Type 0
+GrantsInScope c = (o t p : Text) → IsSome (at c.grants (o, (t, p))) → scope_of p ≡ Some o
+
+-- ---- what rows of answers spell
+
+-- a text alone
+abbrev pub text_spelled : Row → Text
+text_spelled r = text_in (column r 0)
+
+-- a grant alone
+abbrev pub grant_spelled : Row → Grant
+grant_spelled r = grant_of (number_in (column r 0))

@@ -1,0 +1,118 @@
+//! What the policy asks of an organisation.
+
+ghost use Rattle.std.specs.Prelude.{◌≡◌, IfOk, [], ◌∷◌};
+ghost use Rattle.registry_access.specs.Agreement.{SameOrganisation};
+ghost use Rattle.registry_access.specs.Callers.{role_of};
+ghost use Rattle.registry_access.specs.Positions.{has_organisation as is_there};
+ghost use Rattle.registry_access.specs.RowMaps.{state_of};
+ghost use Rattle.registry_access.specs.declared.caller.Caller.TheVariants as caller;
+ghost use Rattle.registry_access.specs.declared.rows.AccessRows.{AccessRows as Rows};
+ghost use Rattle.registry_rows.specs.Frames.{Stays};
+ghost use Rattle.registry_tables.specs.Contents.{access_of};
+ghost use Rattle.registry_tables.specs.Effects.{InForm, Knows, Tells};
+
+use crate::members::load_role;
+use crate::organisations::has_organisation;
+use registry_access::{AccessRows, Caller, MemberRow, Role};
+use registry_names::{Fault, Ident, Text};
+use sqlite::{Alter, Transaction};
+use std::alloc::Global;
+
+/// What the policy asks of an organisation and a caller: whether it is there, and his role in it.
+pub fn load_access<S: Alter>(
+    alloc: Global,
+    tx: &mut Transaction<'_, S>,
+    caller: &Caller,
+    organisation: &str,
+) -> Result<AccessRows, Fault>
+    requires in_form { InForm S.Store tx.old }
+    ensures stays { Stays S.Store tx.old tx.new }
+    ensures tells { Tells S.Store tx.old tx.new result (λ rows c. SameOrganisation (state_of rows) (access_of c) caller.now organisation.now) }
+{
+    let organisations = organisation_rows(alloc, tx, organisation)?;
+    let members = member_rows(alloc, tx, caller, organisation)?;
+    Ok(AccessRows {
+        organisations,
+        members,
+        teams: Vec::new(alloc),
+        team_members: Vec::new(alloc),
+        grants: Vec::new(alloc),
+        packages: Vec::new(alloc),
+        maintainers: Vec::new(alloc),
+    })
+}
+
+// The organisation, if it is there.
+fn organisation_rows<S: Alter>(
+    alloc: Global,
+    tx: &mut Transaction<'_, S>,
+    organisation: &str,
+) -> Result<Vec<Text>, Fault>
+    requires in_form { InForm S.Store tx.old }
+    ensures stays { Stays S.Store tx.old tx.new }
+    ensures tells { Tells S.Store tx.old tx.new result (λ names c. (rows : Rows) → rows.organisations.items ≡ names.items → is_there (state_of rows) organisation.now ≡ is_there (access_of c) organisation.now) }
+{
+    if has_organisation(tx, organisation)? {
+        one_name(alloc, organisation)
+    } else {
+        Ok(Vec::new(alloc))
+    }
+}
+
+fn one_name(alloc: Global, name: &str) -> Result<Vec<Text>, Fault>
+    ensures { IfOk result (λ names. names.items ≡ name.now ∷ []) }
+{
+    let name = Text::from_str(alloc, name)?;
+    Ok(vec![in alloc; name]?)
+}
+
+// The membership of a caller, if he is a member. Of one who is no user nothing is asked.
+fn member_rows<S: Alter>(
+    alloc: Global,
+    tx: &mut Transaction<'_, S>,
+    caller: &Caller,
+    organisation: &str,
+) -> Result<Vec<MemberRow>, Fault>
+    requires in_form { InForm S.Store tx.old }
+    ensures stays { Stays S.Store tx.old tx.new }
+    ensures knows { Knows S.Store tx.old tx.new result (λ members c. (rows : Rows) → rows.members.items ≡ members.items → role_of (state_of rows) caller.now organisation.now ≡ role_of (access_of c) caller.now organisation.now) }
+{
+    match caller {
+        Caller::User(user) => user_rows(alloc, tx, user, organisation),
+        Caller::Operator | Caller::Anonymous => Ok(Vec::new(alloc)),
+    }
+}
+
+// The membership of a user, if he is a member.
+fn user_rows<S: Alter>(
+    alloc: Global,
+    tx: &mut Transaction<'_, S>,
+    user: &Ident,
+    organisation: &str,
+) -> Result<Vec<MemberRow>, Fault>
+    requires in_form { InForm S.Store tx.old }
+    ensures stays { Stays S.Store tx.old tx.new }
+    ensures tells { Tells S.Store tx.old tx.new result (λ members c. (rows : Rows) → rows.members.items ≡ members.items → role_of (state_of rows) (caller.User user.now) organisation.now ≡ role_of (access_of c) (caller.User user.now) organisation.now) }
+{
+    match load_role(tx, organisation, user.text())? {
+        Some(role) => one_member(alloc, organisation, user.text(), role),
+        None => Ok(Vec::new(alloc)),
+    }
+}
+
+fn one_member(
+    alloc: Global,
+    organisation: &str,
+    user: &str,
+    role: Role,
+) -> Result<Vec<MemberRow>, Fault>
+    ensures { IfOk result (λ members. members.items
+        ≡ record { organisation = organisation.now; user = user.now; role = role } ∷ []) }
+{
+    let member = MemberRow {
+        organisation: Text::from_str(alloc, organisation)?,
+        user: Text::from_str(alloc, user)?,
+        role,
+    };
+    Ok(vec![in alloc; member]?)
+}

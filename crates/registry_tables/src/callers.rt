@@ -1,0 +1,70 @@
+//! Who asks.
+
+ghost use Rattle.std.specs.Prelude.{◌≡◌, IfOk, None};
+ghost use Rattle.registry_rows.specs.Frames.{Stays};
+ghost use Rattle.registry_rows.specs.Ready.{Reads};
+ghost use Rattle.sqlite.specs.State.{HasCleanDisk};
+ghost use Rattle.registry_rules.specs.Callers.{caller_of};
+ghost use Rattle.registry_rules.specs.declared.request.Credential.TheVariants as shown_as;
+ghost use Rattle.registry_tables.specs.Contents.{registry_of};
+ghost use Rattle.registry_tables.specs.Effects.{InForm, Knows, Tells, shown};
+ghost use Rattle.registry_tables.specs.Schema.{schema};
+
+use crate::idents::ident_of;
+use crate::tokens::load_token_user;
+use crate::users::has_user;
+use registry_access::Caller;
+use registry_names::{Fault, Ident};
+use registry_publish::TokenDigest;
+use registry_rules::Credential;
+use sqlite::{Alter, Transaction};
+use std::alloc::Global;
+
+/// The caller of a credential: a user who is there, or the one whose token it is. None where it
+/// names nobody. Of the operator, and of somebody without a credential, nothing is asked.
+pub fn load_caller<S: Alter>(
+    alloc: Global,
+    tx: &mut Transaction<'_, S>,
+    who: &Credential,
+) -> Result<Option<Caller>, Fault>
+    requires in_form { InForm S.Store tx.old }
+    ensures stays { Stays S.Store tx.old tx.new }
+    ensures knows { Knows S.Store tx.old tx.new result (λ caller c. caller ≡ caller_of (registry_of c) who.now) }
+    ensures nobody { HasCleanDisk (shown S.Store tx.new) → IfOk result (λ caller. caller ≡ None → Reads schema (shown S.Store tx.old) (shown S.Store tx.new)) }
+{
+    match who {
+        Credential::Operator => Ok(Some(Caller::Operator)),
+        Credential::User(user) => load_user(alloc, tx, user),
+        Credential::Token(digest) => load_token(alloc, tx, digest),
+        Credential::Anonymous => Ok(Some(Caller::Anonymous)),
+    }
+}
+
+fn load_user<S: Alter>(
+    alloc: Global,
+    tx: &mut Transaction<'_, S>,
+    user: &Ident,
+) -> Result<Option<Caller>, Fault>
+    requires in_form { InForm S.Store tx.old }
+    ensures stays { Stays S.Store tx.old tx.new }
+    ensures tells { Tells S.Store tx.old tx.new result (λ caller c. caller ≡ caller_of (registry_of c) (shown_as.User user.now)) }
+{
+    if has_user(tx, user.text())? {
+        Ok(Some(Caller::User(ident_of(alloc, user.text())?)))
+    } else {
+        Ok(None)
+    }
+}
+
+fn load_token<S: Alter>(
+    alloc: Global,
+    tx: &mut Transaction<'_, S>,
+    digest: &TokenDigest,
+) -> Result<Option<Caller>, Fault>
+    requires in_form { InForm S.Store tx.old }
+    ensures stays { Stays S.Store tx.old tx.new }
+    ensures tells { Tells S.Store tx.old tx.new result (λ caller c. caller ≡ caller_of (registry_of c) (shown_as.Token digest.now)) }
+{
+    let user = load_token_user(alloc, tx, digest)?;
+    Ok(user.map(Caller::User))
+}

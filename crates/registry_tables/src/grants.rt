@@ -1,0 +1,178 @@
+//! The table `grants`: what teams are granted on packages of their organisation's scope.
+
+ghost use Rattle.std.specs.Prelude.{◌≡◌, IfOk, is_some, map, pos};
+ghost use Rattle.registry_access.specs.declared.grant.Grant.{Grant as Granted};
+ghost use Rattle.registry_names.specs.Maps.{at, erase, put};
+ghost use Rattle.registry_rows.specs.Frames.{Stays};
+ghost use Rattle.registry_tables.specs.Changes.{amended, with_row};
+ghost use Rattle.registry_tables.specs.Effects.{InForm, Makes, Tells};
+ghost use Rattle.registry_tables.specs.Spelled.{grant_number};
+ghost use Rattle.registry_tables.specs.Teams.{AreGranted, grant_spelled};
+
+use registry_access::Grant;
+use registry_names::{Fault, Name};
+use registry_rows::{FromRow, read, values_in, write};
+use sqlite::{Alter, Error, Row, Transaction, params};
+use std::alloc::Global;
+
+/// Whether the team is granted something on the package.
+pub fn has_grant<S: Alter>(
+    tx: &mut Transaction<'_, S>,
+    organisation: &str,
+    team: &str,
+    name: &Name,
+) -> Result<bool, Fault>
+    requires in_form { InForm S.Store tx.old }
+    ensures stays { Stays S.Store tx.old tx.new }
+    ensures tells { Tells S.Store tx.old tx.new result (λ has c. has ≡ is_some (at c.grants (organisation.now, (team.now, name.now)))) }
+{
+    let rows = read(
+        tx,
+        "SELECT level FROM grants WHERE org = ?1 AND team = ?2 AND package = ?3",
+        params![organisation, team, name.text()],
+    )?;
+    Ok(!rows.is_empty())
+}
+
+/// Grants a team this on a package. `stands` says whether it is granted something on it already.
+pub(crate) fn put_grant<S: Alter>(
+    tx: &mut Transaction<'_, S>,
+    organisation: &str,
+    team: &str,
+    name: &str,
+    grant: Grant,
+    stands: bool,
+) -> Result<(), Fault>
+    requires in_form { InForm S.Store tx.old }
+    ensures stays { Stays S.Store tx.old tx.new }
+    ensures makes { Makes S.Store tx.old tx.new result (λ c. record c { grants = with_row c.grants (organisation.now, (team.now, name.now)) grant stands }) }
+{
+    if stands {
+        update_grant(tx, organisation, team, name, grant)
+    } else {
+        insert_grant(tx, organisation, team, name, grant)
+    }
+}
+
+fn insert_grant<S: Alter>(
+    tx: &mut Transaction<'_, S>,
+    organisation: &str,
+    team: &str,
+    name: &str,
+    grant: Grant,
+) -> Result<(), Fault>
+    requires in_form { InForm S.Store tx.old }
+    ensures stays { Stays S.Store tx.old tx.new }
+    ensures makes { Makes S.Store tx.old tx.new result (λ c. record c { grants = put c.grants (organisation.now, (team.now, name.now)) grant }) }
+{
+    write(
+        tx,
+        "INSERT INTO grants VALUES (?1, ?2, ?3, ?4)",
+        params![organisation, team, name, number_of(grant)],
+    )
+}
+
+fn update_grant<S: Alter>(
+    tx: &mut Transaction<'_, S>,
+    organisation: &str,
+    team: &str,
+    name: &str,
+    grant: Grant,
+) -> Result<(), Fault>
+    requires in_form { InForm S.Store tx.old }
+    ensures stays { Stays S.Store tx.old tx.new }
+    ensures makes { Makes S.Store tx.old tx.new result (λ c. record c { grants = amended c.grants (organisation.now, (team.now, name.now)) grant }) }
+{
+    write(
+        tx,
+        "UPDATE grants SET level = ?4 WHERE org = ?1 AND team = ?2 AND package = ?3",
+        params![organisation, team, name, number_of(grant)],
+    )
+}
+
+/// Takes from a team what it is granted on a package, if it is granted anything.
+pub(crate) fn drop_grant<S: Alter>(
+    tx: &mut Transaction<'_, S>,
+    organisation: &str,
+    team: &str,
+    name: &str,
+) -> Result<(), Fault>
+    requires in_form { InForm S.Store tx.old }
+    ensures stays { Stays S.Store tx.old tx.new }
+    ensures makes { Makes S.Store tx.old tx.new result (λ c. record c { grants = erase c.grants (organisation.now, (team.now, name.now)) }) }
+{
+    write(
+        tx,
+        "DELETE FROM grants WHERE org = ?1 AND team = ?2 AND package = ?3",
+        params![organisation, team, name],
+    )
+}
+
+fn number_of(grant: Grant) -> i64
+    ensures { result ≡ pos (grant_number grant) }
+{
+    match grant {
+        Grant::ReadOnly => 1,
+        Grant::ReadWrite => 2,
+    }
+}
+
+/// What the teams of an organisation that a user is in are granted on a package, in any order. A
+/// grant may stand there more than once.
+pub fn load_grants<S: Alter>(
+    alloc: Global,
+    tx: &mut Transaction<'_, S>,
+    organisation: &str,
+    user: &str,
+    name: &Name,
+) -> Result<Vec<Grant>, Fault>
+    requires in_form { InForm S.Store tx.old }
+    ensures stays { Stays S.Store tx.old tx.new }
+    ensures tells { Tells S.Store tx.old tx.new result (λ grants c. AreGranted c organisation.now user.now name.now grants.items) }
+{
+    let rows = read(
+        tx,
+        "SELECT grants.level FROM team_members, grants WHERE team_members.org = ?1 AND team_members.user = ?2 AND grants.org = ?1 AND grants.team = team_members.team AND grants.package = ?3",
+        params![organisation, user, name.text()],
+    )?;
+    grants_in(alloc, &rows)
+}
+
+fn grants_in(alloc: Global, rows: &[Row]) -> Result<Vec<Grant>, Fault>
+    ensures { IfOk result (λ grants. grants.items ≡ map grant_spelled rows.now) }
+{
+    let rows: Vec<GrantRow> = values_in(alloc, rows)?;
+    let grants = rows.into_iter().map(|row| row.grant).collect(alloc)?;
+    Ok(grants)
+}
+
+#[derive(Drop)]
+struct GrantRow {
+    grant: Grant,
+}
+
+impl FromRow for GrantRow {
+    ghost Seen = { Granted };
+
+    ghost seen = { λ row. row.grant };
+
+    ghost spelled = { grant_spelled };
+
+    fn from_row(row: &Row) -> Result<GrantRow, Error> {
+        let number: i64 = row.get(0)?;
+        Ok(GrantRow {
+            grant: grant_of(number)?,
+        })
+    }
+}
+
+// No other number is ever written.
+fn grant_of(number: i64) -> Result<Grant, Error>
+    ensures { IfOk result (λ grant. number ≡ pos (grant_number grant)) }
+{
+    match number {
+        1 => Ok(Grant::ReadOnly),
+        2 => Ok(Grant::ReadWrite),
+        _ => Err(Error::IntegralValueOutOfRange(0)),
+    }
+}

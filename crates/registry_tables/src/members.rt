@@ -1,0 +1,237 @@
+//! The table `members`: the members of every organisation, each with his role.
+
+ghost use Rattle.std.specs.Prelude.{◌≡◌, ◌&&◌, IfOk, Some, map, not, option_map, pos, slice_get};
+ghost use Rattle.std.specs.List.{list_any};
+ghost use Rattle.registry_access.specs.declared.role.Role.{Role as Rank};
+ghost use Rattle.registry_access.specs.Levels.{is_owner};
+ghost use Rattle.registry_names.specs.Maps.{at, of, put};
+ghost use Rattle.registry_names.specs.Texts.{Text as Bytes, is};
+ghost use Rattle.registry_rows.specs.Frames.{Stays};
+ghost use Rattle.registry_rules.specs.State as spec;
+ghost use Rattle.registry_tables.specs.Changes.{amended, with_row};
+ghost use Rattle.registry_tables.specs.Contents.{registry_of};
+ghost use Rattle.registry_tables.specs.Effects.{InForm, Makes, Tells};
+ghost use Rattle.registry_tables.specs.Spelled.{member_entry, member_spelled, role_number, role_spelled};
+ghost use Rattle.registry_tables.specs.Teams.{without_member};
+
+use registry_access::Role;
+use registry_names::{Fault, Text};
+use registry_packument::Member;
+use registry_rows::{FromRow, first_in, read, values_in, write};
+use sqlite::{Alter, Error, Row, Transaction, params};
+use std::alloc::Global;
+
+/// The role of a user in an organisation. None where he isn't a member of it.
+pub fn load_role<S: Alter>(
+    tx: &mut Transaction<'_, S>,
+    organisation: &str,
+    user: &str,
+) -> Result<Option<Role>, Fault>
+    requires in_form { InForm S.Store tx.old }
+    ensures stays { Stays S.Store tx.old tx.new }
+    ensures tells { Tells S.Store tx.old tx.new result (λ role c. role ≡ at c.members (organisation.now, user.now)) }
+{
+    let rows = read(
+        tx,
+        "SELECT role FROM members WHERE org = ?1 AND user = ?2",
+        params![organisation, user],
+    )?;
+    role_in(&rows)
+}
+
+fn role_in(rows: &[Row]) -> Result<Option<Role>, Fault>
+    ensures { IfOk result (λ role. role ≡ option_map role_spelled (slice_get rows.now 0)) }
+{
+    let found: Option<RoleRow> = first_in(rows)?;
+    Ok(found.map(|row| row.role))
+}
+
+/// The members of an organisation with their roles, in byte order of their names.
+pub fn load_members<S: Alter>(
+    alloc: Global,
+    tx: &mut Transaction<'_, S>,
+    organisation: &str,
+) -> Result<Vec<Member>, Fault>
+    requires in_form { InForm S.Store tx.old }
+    ensures stays { Stays S.Store tx.old tx.new }
+    ensures tells { Tells S.Store tx.old tx.new result (λ members c. map member_entry members.items ≡ of c.members organisation.now) }
+{
+    let rows = read(
+        tx,
+        "SELECT user, role FROM members WHERE org = ?1 ORDER BY user",
+        params![organisation],
+    )?;
+    members_in(alloc, &rows)
+}
+
+fn members_in(alloc: Global, rows: &[Row]) -> Result<Vec<Member>, Fault>
+    ensures { IfOk result (λ members. map member_entry members.items ≡ map member_spelled rows.now) }
+{
+    let rows: Vec<ListedMember> = values_in(alloc, rows)?;
+    let members = rows.into_iter().map(|row| row.member).collect(alloc)?;
+    Ok(members)
+}
+
+/// Whether another member of the organisation than this user is an owner.
+pub fn has_other_owner<S: Alter>(
+    alloc: Global,
+    tx: &mut Transaction<'_, S>,
+    organisation: &str,
+    user: &str,
+) -> Result<bool, Fault>
+    requires in_form { InForm S.Store tx.old }
+    ensures stays { Stays S.Store tx.old tx.new }
+    ensures tells { Tells S.Store tx.old tx.new result (λ has c. has ≡ spec.has_other_owner (registry_of c) organisation.now user.now) }
+{
+    let members = load_members(alloc, tx, organisation)?;
+    Ok(owned_by_another(&members, user))
+}
+
+fn owned_by_another(members: &[Member], user: &str) -> bool
+    ensures { result ≡ list_any (λ m. not (is m.user user.now) && is_owner (Some m.role)) members.now }
+{
+    members.iter().any(|member| !names(member, user) && matches!(member.role, Role::Owner))
+}
+
+#[tactic(auto, unfolding(registry_names::specs::Texts::is))]
+fn names(member: &Member, user: &str) -> bool
+    ensures { result ≡ is member.now.user user.now }
+{
+    member.user.as_str() == user
+}
+
+/// Gives a user this role in an organisation. `stands` says whether he is a member already.
+pub(crate) fn put_member<S: Alter>(
+    tx: &mut Transaction<'_, S>,
+    organisation: &str,
+    user: &str,
+    role: Role,
+    stands: bool,
+) -> Result<(), Fault>
+    requires in_form { InForm S.Store tx.old }
+    ensures stays { Stays S.Store tx.old tx.new }
+    ensures makes { Makes S.Store tx.old tx.new result (λ c. record c { members = with_row c.members (organisation.now, user.now) role stands }) }
+{
+    if stands {
+        update_member(tx, organisation, user, role)
+    } else {
+        insert_member(tx, organisation, user, role)
+    }
+}
+
+fn insert_member<S: Alter>(
+    tx: &mut Transaction<'_, S>,
+    organisation: &str,
+    user: &str,
+    role: Role,
+) -> Result<(), Fault>
+    requires in_form { InForm S.Store tx.old }
+    ensures stays { Stays S.Store tx.old tx.new }
+    ensures makes { Makes S.Store tx.old tx.new result (λ c. record c { members = put c.members (organisation.now, user.now) role }) }
+{
+    write(
+        tx,
+        "INSERT INTO members VALUES (?1, ?2, ?3)",
+        params![organisation, user, number_of(role)],
+    )
+}
+
+fn update_member<S: Alter>(
+    tx: &mut Transaction<'_, S>,
+    organisation: &str,
+    user: &str,
+    role: Role,
+) -> Result<(), Fault>
+    requires in_form { InForm S.Store tx.old }
+    ensures stays { Stays S.Store tx.old tx.new }
+    ensures makes { Makes S.Store tx.old tx.new result (λ c. record c { members = amended c.members (organisation.now, user.now) role }) }
+{
+    write(
+        tx,
+        "UPDATE members SET role = ?3 WHERE org = ?1 AND user = ?2",
+        params![organisation, user, number_of(role)],
+    )
+}
+
+/// Drops a member of an organisation, if he is one, and with that from each of its teams.
+pub(crate) fn drop_member<S: Alter>(
+    tx: &mut Transaction<'_, S>,
+    organisation: &str,
+    user: &str,
+) -> Result<(), Fault>
+    requires in_form { InForm S.Store tx.old }
+    ensures stays { Stays S.Store tx.old tx.new }
+    ensures makes { Makes S.Store tx.old tx.new result (without_member organisation.now user.now) }
+{
+    write(
+        tx,
+        "DELETE FROM members WHERE org = ?1 AND user = ?2",
+        params![organisation, user],
+    )
+}
+
+#[derive(Drop)]
+struct RoleRow {
+    role: Role,
+}
+
+impl FromRow for RoleRow {
+    ghost Seen = { Rank };
+
+    ghost seen = { λ row. row.role };
+
+    ghost spelled = { role_spelled };
+
+    fn from_row(row: &Row) -> Result<RoleRow, Error> {
+        let number: i64 = row.get(0)?;
+        Ok(RoleRow {
+            role: role_of(number)?,
+        })
+    }
+}
+
+#[derive(Drop)]
+struct ListedMember {
+    member: Member,
+}
+
+impl FromRow for ListedMember {
+    ghost Seen = { Bytes × Rank };
+
+    ghost seen = { λ row. member_entry row.member };
+
+    ghost spelled = { member_spelled };
+
+    fn from_row(row: &Row) -> Result<ListedMember, Error> {
+        let user: String = row.get(0)?;
+        let number: i64 = row.get(1)?;
+        Ok(ListedMember {
+            member: Member {
+                user: Text::from(user),
+                role: role_of(number)?,
+            },
+        })
+    }
+}
+
+fn number_of(role: Role) -> i64
+    ensures { result ≡ pos (role_number role) }
+{
+    match role {
+        Role::Developer => 0,
+        Role::Admin => 1,
+        Role::Owner => 2,
+    }
+}
+
+// No other number is ever written.
+fn role_of(number: i64) -> Result<Role, Error>
+    ensures { IfOk result (λ role. number ≡ pos (role_number role)) }
+{
+    match number {
+        0 => Ok(Role::Developer),
+        1 => Ok(Role::Admin),
+        2 => Ok(Role::Owner),
+        _ => Err(Error::IntegralValueOutOfRange(0)),
+    }
+}

@@ -1,0 +1,39 @@
+//! The table `orgs`: every organisation.
+
+ghost use Rattle.std.specs.Prelude.{◌≡◌, is_some};
+ghost use Rattle.registry_names.specs.Maps.{at, put};
+ghost use Rattle.registry_rows.specs.Frames.{Stays};
+ghost use Rattle.registry_tables.specs.Effects.{InForm, Makes, Tells};
+
+use registry_names::Fault;
+use registry_rows::{read, write};
+use sqlite::{Alter, Transaction, params};
+
+/// Whether there is an organisation of this name.
+pub fn has_organisation<S: Alter>(
+    tx: &mut Transaction<'_, S>,
+    organisation: &str,
+) -> Result<bool, Fault>
+    requires in_form { InForm S.Store tx.old }
+    ensures stays { Stays S.Store tx.old tx.new }
+    ensures tells { Tells S.Store tx.old tx.new result (λ has c. has ≡ is_some (at c.orgs organisation.now)) }
+{
+    let rows = read(
+        tx,
+        "SELECT name FROM orgs WHERE name = ?1",
+        params![organisation],
+    )?;
+    Ok(!rows.is_empty())
+}
+
+/// Adds an organisation. One of its name is a fault.
+pub(crate) fn add_organisation<S: Alter>(
+    tx: &mut Transaction<'_, S>,
+    organisation: &str,
+) -> Result<(), Fault>
+    requires in_form { InForm S.Store tx.old }
+    ensures stays { Stays S.Store tx.old tx.new }
+    ensures makes { Makes S.Store tx.old tx.new result (λ c. record c { orgs = put c.orgs organisation.now tt }) }
+{
+    write(tx, "INSERT INTO orgs VALUES (?1)", params![organisation])
+}

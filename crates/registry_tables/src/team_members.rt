@@ -1,0 +1,136 @@
+//! The table `team_members`: who is in which team. A member of a team is a member of its
+//! organisation.
+
+ghost use Rattle.std.specs.Prelude.{◌≡◌, IfOk, is_some, map};
+ghost use Rattle.registry_names.specs.Maps.{at, erase, put};
+ghost use Rattle.registry_names.specs.Texts.{Text as Bytes};
+ghost use Rattle.registry_rows.specs.Frames.{Stays};
+ghost use Rattle.registry_tables.specs.Effects.{InForm, Makes, Tells};
+ghost use Rattle.registry_tables.specs.Teams.{teams_of, text_spelled, users_of};
+
+use registry_names::{Fault, Text};
+use registry_rows::{FromRow, read, values_in, write};
+use sqlite::{Alter, Error, Row, Transaction, params};
+use std::alloc::Global;
+
+/// Whether the user is in this team of the organisation.
+pub fn is_in_team<S: Alter>(
+    tx: &mut Transaction<'_, S>,
+    organisation: &str,
+    team: &str,
+    user: &str,
+) -> Result<bool, Fault>
+    requires in_form { InForm S.Store tx.old }
+    ensures stays { Stays S.Store tx.old tx.new }
+    ensures tells { Tells S.Store tx.old tx.new result (λ is c. is ≡ is_some (at c.team_members (organisation.now, (team.now, user.now)))) }
+{
+    let rows = read(
+        tx,
+        "SELECT user FROM team_members WHERE org = ?1 AND team = ?2 AND user = ?3",
+        params![organisation, team, user],
+    )?;
+    Ok(!rows.is_empty())
+}
+
+/// Puts a user in a team. One who is in it is a fault, and so is a team that isn't there, or a user
+/// who isn't a member of the organisation.
+pub(crate) fn put_team_member<S: Alter>(
+    tx: &mut Transaction<'_, S>,
+    organisation: &str,
+    team: &str,
+    user: &str,
+) -> Result<(), Fault>
+    requires in_form { InForm S.Store tx.old }
+    ensures stays { Stays S.Store tx.old tx.new }
+    ensures makes { Makes S.Store tx.old tx.new result (λ c. record c { team_members = put c.team_members (organisation.now, (team.now, user.now)) tt }) }
+{
+    write(
+        tx,
+        "INSERT INTO team_members VALUES (?1, ?2, ?3)",
+        params![organisation, team, user],
+    )
+}
+
+/// Takes a user out of a team, if he is in it.
+pub(crate) fn drop_team_member<S: Alter>(
+    tx: &mut Transaction<'_, S>,
+    organisation: &str,
+    team: &str,
+    user: &str,
+) -> Result<(), Fault>
+    requires in_form { InForm S.Store tx.old }
+    ensures stays { Stays S.Store tx.old tx.new }
+    ensures makes { Makes S.Store tx.old tx.new result (λ c. record c { team_members = erase c.team_members (organisation.now, (team.now, user.now)) }) }
+{
+    write(
+        tx,
+        "DELETE FROM team_members WHERE org = ?1 AND team = ?2 AND user = ?3",
+        params![organisation, team, user],
+    )
+}
+
+/// The users in a team of an organisation, in byte order.
+pub fn load_team_users<S: Alter>(
+    alloc: Global,
+    tx: &mut Transaction<'_, S>,
+    organisation: &str,
+    team: &str,
+) -> Result<Vec<Text>, Fault>
+    requires in_form { InForm S.Store tx.old }
+    ensures stays { Stays S.Store tx.old tx.new }
+    ensures tells { Tells S.Store tx.old tx.new result (λ users c. users.items ≡ users_of c organisation.now team.now) }
+{
+    let rows = read(
+        tx,
+        "SELECT user FROM team_members WHERE org = ?1 AND team = ?2 ORDER BY user",
+        params![organisation, team],
+    )?;
+    texts_in(alloc, &rows)
+}
+
+/// The teams of an organisation that a user is in, in byte order.
+pub fn load_user_teams<S: Alter>(
+    alloc: Global,
+    tx: &mut Transaction<'_, S>,
+    organisation: &str,
+    user: &str,
+) -> Result<Vec<Text>, Fault>
+    requires in_form { InForm S.Store tx.old }
+    ensures stays { Stays S.Store tx.old tx.new }
+    ensures tells { Tells S.Store tx.old tx.new result (λ teams c. teams.items ≡ teams_of c organisation.now user.now) }
+{
+    let rows = read(
+        tx,
+        "SELECT team FROM team_members WHERE org = ?1 AND user = ?2 ORDER BY org, team, user",
+        params![organisation, user],
+    )?;
+    texts_in(alloc, &rows)
+}
+
+fn texts_in(alloc: Global, rows: &[Row]) -> Result<Vec<Text>, Fault>
+    ensures { IfOk result (λ texts. texts.items ≡ map text_spelled rows.now) }
+{
+    let rows: Vec<TextRow> = values_in(alloc, rows)?;
+    let texts = rows.into_iter().map(|row| row.text).collect(alloc)?;
+    Ok(texts)
+}
+
+#[derive(Drop)]
+struct TextRow {
+    text: Text,
+}
+
+impl FromRow for TextRow {
+    ghost Seen = { Bytes };
+
+    ghost seen = { λ row. row.text };
+
+    ghost spelled = { text_spelled };
+
+    fn from_row(row: &Row) -> Result<TextRow, Error> {
+        let text: String = row.get(0)?;
+        Ok(TextRow {
+            text: Text::from(text),
+        })
+    }
+}

@@ -1,0 +1,64 @@
+//! The table `teams`: the teams of every organisation.
+
+ghost use Rattle.std.specs.Prelude.{◌≡◌, is_some};
+ghost use Rattle.registry_names.specs.Maps.{at, put};
+ghost use Rattle.registry_rows.specs.Frames.{Stays};
+ghost use Rattle.registry_tables.specs.Effects.{InForm, Makes, Tells};
+ghost use Rattle.registry_tables.specs.Teams.{without_team};
+
+use registry_names::Fault;
+use registry_rows::{read, write};
+use sqlite::{Alter, Transaction, params};
+
+/// Whether the organisation has this team.
+pub fn has_team<S: Alter>(
+    tx: &mut Transaction<'_, S>,
+    organisation: &str,
+    team: &str,
+) -> Result<bool, Fault>
+    requires in_form { InForm S.Store tx.old }
+    ensures stays { Stays S.Store tx.old tx.new }
+    ensures tells { Tells S.Store tx.old tx.new result (λ has c. has ≡ is_some (at c.teams (organisation.now, team.now))) }
+{
+    let rows = read(
+        tx,
+        "SELECT team FROM teams WHERE org = ?1 AND team = ?2",
+        params![organisation, team],
+    )?;
+    Ok(!rows.is_empty())
+}
+
+/// Adds a team without members to an organisation. One of its name is a fault, and so is an
+/// organisation that isn't there.
+pub(crate) fn add_team<S: Alter>(
+    tx: &mut Transaction<'_, S>,
+    organisation: &str,
+    team: &str,
+) -> Result<(), Fault>
+    requires in_form { InForm S.Store tx.old }
+    ensures stays { Stays S.Store tx.old tx.new }
+    ensures makes { Makes S.Store tx.old tx.new result (λ c. record c { teams = put c.teams (organisation.now, team.now) tt }) }
+{
+    write(
+        tx,
+        "INSERT INTO teams VALUES (?1, ?2)",
+        params![organisation, team],
+    )
+}
+
+/// Drops a team of an organisation, if it is there, with who is in it and what it is granted.
+pub(crate) fn drop_team<S: Alter>(
+    tx: &mut Transaction<'_, S>,
+    organisation: &str,
+    team: &str,
+) -> Result<(), Fault>
+    requires in_form { InForm S.Store tx.old }
+    ensures stays { Stays S.Store tx.old tx.new }
+    ensures makes { Makes S.Store tx.old tx.new result (without_team organisation.now team.now) }
+{
+    write(
+        tx,
+        "DELETE FROM teams WHERE org = ?1 AND team = ?2",
+        params![organisation, team],
+    )
+}
