@@ -10,7 +10,7 @@ ghost use Rattle.registry_tables.specs.Effects.{InForm, Tells};
 ghost use Rattle.registry_tables.specs.Spelled.{document, document_entry};
 ghost use Rattle.registry_desk.specs.Found.{IsFoundFor};
 ghost use Rattle.registry_rules.specs.declared.request.Action.TheVariants as asked;
-ghost use Rattle.registry_rules.specs.declared.request.Asked.TheVariants as version;
+ghost use Rattle.registry_rules.specs.declared.request.Asked.TheVariants as which;
 
 use registry_access::Caller;
 use registry_names::{Blob, DistTag, Fault, Ident, LATEST, Name, TagText, Ver};
@@ -306,16 +306,30 @@ fn find_document<S: Alter>(
     ensures tells { Tells S.Store tx.old tx.new result
         (λ found c. (who : Caller) → IsFoundFor found (registry_of c) who (asked.VersionDoc name.now version.now)) }
 {
-    let document = match version {
-        Asked::Exact(version) => load_document(tx, name, version.text())?,
-        Asked::Latest => load_latest(tx, name)?,
-    };
+    let document = load_asked(tx, name, version)?;
     Ok(Found {
         about: About::Version {
             lives: document.is_some(),
         },
         rows: Rows::Document(document),
     })
+}
+
+// The manifest and the message of the version that is asked for, if it lives.
+fn load_asked<S: Alter>(
+    tx: &mut Transaction<'_, S>,
+    name: &Name,
+    version: &Asked,
+) -> Result<Option<DocumentRow>, Fault>
+    requires in_form { InForm S.Store tx.old }
+    ensures stays { Stays S.Store tx.old tx.new }
+    ensures tells { Tells S.Store tx.old tx.new result (λ found c. option_map document_entry found
+        ≡ option_map document (asked_release (registry_of c) name.now version.now)) }
+{
+    match version {
+        Asked::Exact(version) => load_document(tx, name, version.text()),
+        Asked::Latest => load_latest(tx, name),
+    }
 }
 
 // The manifest and the message of the version that `latest` names, if it stands.
@@ -326,10 +340,13 @@ fn load_latest<S: Alter>(
     requires in_form { InForm S.Store tx.old }
     ensures stays { Stays S.Store tx.old tx.new }
     ensures tells { Tells S.Store tx.old tx.new result (λ found c. option_map document_entry found
-        ≡ option_map document (asked_release (registry_of c) name.now version.Latest)) }
+        ≡ option_map document (asked_release (registry_of c) name.now which.Latest)) }
 {
     match load_tag(tx, name, LATEST)? {
-        Some(version) => load_document(tx, name, version.as_str()),
+        Some(version) => {
+            let document = load_document(tx, name, version.as_str())?;
+            Ok(document)
+        }
         None => Ok(None),
     }
 }

@@ -1,0 +1,28 @@
+use Rattle.std.proofs.Common.{◌≡◌, ◌∙◌, arith, ap, sym, Some, Option, option_map}
+use Rattle.std.specs.Prelude.{option_and_then}
+use Rattle.sqlite.specs.Effect.{Database}
+use Rattle.sqlite.specs.State.{HasCleanDisk}
+use Rattle.registry_names.specs.Maps.{at}
+use Rattle.registry_names.specs.Tags.{latest}
+use Rattle.registry_names.specs.Texts.{Text}
+use Rattle.registry_rows.proofs.QuietFacts.{reads_then}
+use Rattle.registry_tables.specs.Contents.{contents}
+use Rattle.registry_tables.specs.Effects.{shown, stored_in}
+use Rattle.registry_tables.specs.Schema.{schema}
+use Rattle.registry_tables.specs.Spelled.{document}
+use Rattle.registry_desk.proofs.found.load_latest.Goals as goal
+
+pub returns-in_ok-document-in-Some-clause-tells : goal.returns-in_ok-document-in-Some-clause-tells
+returns-in_ok-document-in-Some-clause-tells g c clean =
+    let mid = shown g.S.Store c.load_tag.new.tx in
+    let was = stored_in g.S.Store c.args.tx.now in
+    let p = c.args.name.now in
+    let were : HasCleanDisk mid = omega (arith, c.load_document.ensures.stays.survives.clean, clean) in
+    let named = c.in_ok-version.ensures.tells were in
+    let found = c.in_ok-document-in-Some.ensures.tells clean in
+    let tag : Some c.in-Some.version ≡ at was.tags (p, latest) = sym c.in-Some.is ∙ named.1 in (
+      reads_then schema (shown g.S.Store c.args.tx.now) mid (shown g.S.Store c.load_document.new.tx) named.0 found.0,
+      found.1 ∙ ap (λ (d : Database). option_map document (at (contents d.trees).versions (p, c.as_str.result.now))) named.0.same
+          ∙ ap (λ (v : Text). option_map document (at was.versions (p, v))) c.as_str.ensures.text
+          ∙ ap (λ (o : Option Text). option_map document (option_and_then (λ v. at was.versions (p, v)) o)) tag,
+    )
