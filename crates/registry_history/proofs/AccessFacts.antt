@@ -1,5 +1,5 @@
 -- Users, tokens, organisations, roles, teams and members of teams are the history's.
-use Rattle.std.proofs.Common.{◌≡◌, ℕ, Bool, true, false, cond, not, ◌&&◌, ◌||◌, List, [], ◌∷◌, Option, Some, None, is_some, is_none, refl, sym, ap, ◌∙◌, subst, true≢false, Ordering}
+use Rattle.std.proofs.Common.{◌≡◌, ℕ, Bool, true, false, cond, not, ◌&&◌, ◌||◌, List, [], ◌∷◌, Option, Some, None, is_some, is_none, refl, sym, ap, ap₂, ◌∙◌, subst, true≢false, Ordering}
 use Rattle.registry_names.specs.Keys.{IsKey, Pair, triple_is}
 use Rattle.registry_names.specs.Maps.{MapBy, at}
 use Rattle.registry_names.specs.Texts.{Text, is}
@@ -9,7 +9,7 @@ use Rattle.registry_names.proofs.TextFacts.{is_true}
 use Rattle.registry_access.specs.declared.caller.Caller.{Caller}
 use Rattle.registry_access.specs.declared.role.Role.{Role}
 use Rattle.registry_access.specs.declared.role.Role.TheVariants.{Owner}
-use Rattle.registry_rules.specs.State.{State, developers}
+use Rattle.registry_rules.specs.State.{State, developers, is_in_team}
 use Rattle.registry_rules.specs.declared.request.Action.{Action}
 use Rattle.registry_rules.specs.declared.request.Action.TheVariants.{UserAdd, TokenAdd, OrgCreate, OrgSet, OrgRemove, TeamCreate, TeamDestroy, TeamAdd, TeamRemove}
 use Rattle.registry_history.specs.AccessReadings.{HasAccess, adds_user, user_added, gives_token, token_user, creates, created, gives_role, removes, role, creates_team, destroys, team_stands, joins, leaves, in_team}
@@ -42,7 +42,7 @@ joined_after false false old said stood same = same
 
 -- `here`, `first` and `he` say that it is of this organisation, of its first team, and of this user; `member` that he had a role before
 member_after : (here first he member : Bool) (before : Option Role) (old : Option (Unit {0})) (said : Bool) → (here ≡ true → he ≡ true → is_some before ≡ member) → is_some old ≡ said
-    → is_some (cond member old (cond (here && first && he) (Some tt) old)) ≡ ((here && first && he && is_none before) || said)
+    → is_some (cond member old (cond (here && (first && he)) (Some tt) old)) ≡ ((here && (first && he) && is_none before) || said)
 member_after true true true true None old said was same = absurd (true≢false (sym (was refl refl)))
 member_after true true true false None old said was same = refl
 member_after true true true true (Some r) old said was same = same
@@ -83,24 +83,24 @@ module _ (S : State) (now : ℕ) (who : Caller) (h : List Entry) (has : HasAcces
 
   -- the role that he had before, told of the map and of the history
   had_role : (q v o u : Text) → is q o ≡ true → is v u ≡ true → is_some (role h o u) ≡ is_some (at S.access.roles (q, v))
-  had_role q v o u here he = ap is_some (sym (has.roles o u)) ∙ ap (λ (k : Pair). is_some (at S.access.roles k)) (λ i. (sym (is_true q o here) i, sym (is_true v u he) i))
+  had_role q v o u here he = ap is_some (sym (has.roles o u)) ∙ ap₂ (λ (p w : Text). is_some (at S.access.roles (p, w))) (sym (is_true q o here)) (sym (is_true v u he))
 
   members_step : (what : Action) (o t u : Text)
       → is_some (at (left_by S now who what).access.team_members (o, (t, u))) ≡ (joins what (role h o u) o t u || (not (leaves what o t u) && in_team h o t u))
   members_step (OrgCreate q v) o t u =
-      ap is_some (at-put triple_key S.access.team_members (q, (developers, v)) tt (o, (t, u))) ∙ put_there (is q o && is developers t && is v u) tt _ _ (has.team_members o t u)
+      ap is_some (at-put triple_key S.access.team_members (q, (developers, v)) tt (o, (t, u))) ∙ put_there (is q o && (is developers t && is v u)) tt _ _ (has.team_members o t u)
   members_step (OrgSet q v r) o t u =
       ap is_some (at-joined triple_key S.access.team_members (is_some (at S.access.roles (q, v))) (q, (developers, v)) (o, (t, u)))
-      ∙ member_after (is q o) (is developers t) (is v u) _ (role h o u) _ _ (had_role q v o u) (has.team_members o t u)
+      ∙ member_after (is q o) (is developers t) (is v u) (is_some (at S.access.roles (q, v))) (role h o u) _ _ (had_role q v o u) (has.team_members o t u)
   members_step (OrgRemove q v) o t u =
       ap is_some (at-keep triple_key S.access.team_members (λ k. not (is q k.0 && is v k.1.1)) (o, (t, u))) ∙ kept_after (not (is q o && is v u)) _ _ (has.team_members o t u)
   members_step (TeamDestroy q s) o t u =
       ap is_some (at-keep triple_key S.access.team_members (λ k. not (is q k.0 && is s k.1.0)) (o, (t, u))) ∙ kept_after (not (is q o && is s t)) _ _ (has.team_members o t u)
   members_step (TeamAdd q s v) o t u =
-      ap is_some (at-joined triple_key S.access.team_members _ (q, (s, v)) (o, (t, u)))
-      ∙ joined_after (is q o && is s t && is v u) _ _ _ (λ e. ap (λ k. is_some (at S.access.team_members k)) (same_true triple_key (q, (s, v)) (o, (t, u)) e)) (has.team_members o t u)
+      ap is_some (at-joined triple_key S.access.team_members (is_in_team S q s v) (q, (s, v)) (o, (t, u)))
+      ∙ joined_after (is q o && (is s t && is v u)) (is_in_team S q s v) _ _ (λ e. ap (λ k. is_some (at S.access.team_members k)) (same_true triple_key (q, (s, v)) (o, (t, u)) e)) (has.team_members o t u)
   members_step (TeamRemove q s v) o t u =
-      ap is_some (at-erase triple_key S.access.team_members (q, (s, v)) (o, (t, u))) ∙ erased_after (is q o && is s t && is v u) _ _ (has.team_members o t u)
+      ap is_some (at-erase triple_key S.access.team_members (q, (s, v)) (o, (t, u))) ∙ erased_after (is q o && (is s t && is v u)) _ _ (has.team_members o t u)
   members_step what o t u = has.team_members o t u
 
 pub has_access : (h : List Entry) → Legal h → HasAccess h (after h).access

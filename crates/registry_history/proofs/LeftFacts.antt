@@ -1,8 +1,8 @@
 -- What an action leaves, each map by itself.
-use Rattle.std.proofs.Common.{◌≡◌, ℕ, ◌||◌, refl}
+use Rattle.std.proofs.Common.{◌≡◌, ℕ, Bool, true, false, cond, ◌||◌, Option, Some, None, refl, ap, is_some, Ordering}
 use Rattle.registry_names.specs.Maps.{MapBy, at, put}
 use Rattle.registry_names.specs.Tags.{latest}
-use Rattle.registry_names.specs.Texts.{is}
+use Rattle.registry_names.specs.Texts.{Text, is}
 use Rattle.registry_names.specs.Versions.{text_of_version}
 use Rattle.registry_access.specs.declared.caller.Caller.{Caller}
 use Rattle.registry_access.specs.declared.role.Role.{Role}

@@ -83,14 +83,14 @@ team_stands (e ∷ h) o t = creates_team e.what o t || (not (destroys e.what o t
 
 -- Whether a command brings a user into a team: the owner with whom an organisation is created, and who is given a role in it and had none before, come into the first one
 abbrev pub joins : Action → Option Role → Text → Text → Text → Bool
-joins (OrgCreate q v) before o t u = is q o && is developers t && is v u
-joins (OrgSet q v r) before o t u = is q o && is developers t && is v u && is_none before
-joins (TeamAdd q s v) before o t u = is q o && is s t && is v u
+joins (OrgCreate q v) before o t u = is q o && (is developers t && is v u)
+joins (OrgSet q v r) before o t u = is q o && (is developers t && is v u) && is_none before
+joins (TeamAdd q s v) before o t u = is q o && (is s t && is v u)
 joins _ before o t u = false
 
 -- whether it takes the user out of the team: out of it alone, or out of the organisation, or the team is destroyed
 abbrev pub leaves : Action → Text → Text → Text → Bool
-leaves (TeamRemove q s v) o t u = is q o && is s t && is v u
+leaves (TeamRemove q s v) o t u = is q o && (is s t && is v u)
 leaves (OrgRemove q v) o t u = is q o && is v u
 leaves (TeamDestroy q s) o t u = is q o && is s t
 leaves _ o t u = false
