@@ -114,7 +114,8 @@ fn action_is_in_form(what: &Action)
         }
         Action::TeamCreate { organisation, team }
         | Action::TeamDestroy { organisation, team }
-        | Action::TeamMembers { organisation, team } => {
+        | Action::TeamMembers { organisation, team }
+        | Action::TeamPackages { organisation, team } => {
             organisation.text();
             team.text();
         }
@@ -130,6 +131,25 @@ fn action_is_in_form(what: &Action)
         } => {
             organisation.text();
             team.text();
+            user.text();
+        }
+        Action::Grant {
+            organisation,
+            team,
+            name,
+            ..
+        }
+        | Action::Revoke {
+            organisation,
+            team,
+            name,
+        } => {
+            organisation.text();
+            team.text();
+            name.text();
+        }
+        Action::OwnerAdd { name, user } | Action::OwnerRemove { name, user } => {
+            name.text();
             user.text();
         }
         Action::Publish { form } => parts_are_in_form(form),
@@ -150,7 +170,7 @@ fn action_is_in_form(what: &Action)
             name.text();
             version.text();
         }
-        Action::Packument { name } | Action::Tags { name } => {
+        Action::SetAccess { name, .. } | Action::Packument { name } | Action::Tags { name } => {
             name.text();
         }
     }
