@@ -16,31 +16,38 @@ use Rattle.registry_names.proofs.MapFacts.{at-empty, at-put, at-put_same, at-put
 use Rattle.registry_access.specs.Access.{Access}
 use Rattle.registry_access.specs.Hiding.{UnscopedArePublic}
 use Rattle.registry_names.specs.Names.{scope_of}
-use Rattle.registry_names.specs.declared.refusal.Refusal.TheVariants.{NotFound, LastOwner, KeepsDevelopers}
-use Rattle.registry_names.specs.declared.refusal.Rule.TheVariants.{A2, A3}
+use Rattle.registry_names.specs.declared.refusal.Refusal.TheVariants.{NotFound, LastOwner, KeepsDevelopers, AlwaysPublic}
+use Rattle.registry_names.specs.declared.refusal.Rule.TheVariants.{A2, A3, A6}
 use Rattle.registry_access.specs.Callers.{role_of}
-use Rattle.registry_access.specs.Levels.{is_owner, is_owner_or_admin}
-use Rattle.registry_access.specs.Positions.{has_organisation}
+use Rattle.registry_access.specs.Levels.{is_owner, is_owner_or_admin, reads, writes}
+use Rattle.registry_access.specs.Policy.{by_rule, may_publish, may_write}
+use Rattle.registry_access.specs.Positions.{has_organisation, level_at, position_in}
+use Rattle.registry_access.specs.declared.grant.Grant as granted
 use Rattle.registry_access.specs.declared.role.Role.{Role}
+use Rattle.registry_rules.specs.Permissions.{permission}
 use Rattle.registry_access.specs.declared.role.Role.TheVariants.{Owner, Admin, Developer}
 use Rattle.registry_access.specs.declared.caller.Caller.{Caller}
 use Rattle.registry_publish.specs.Form.{FormParts}
 use Rattle.registry_rules.specs.Actions.{version_of}
-use Rattle.registry_rules.specs.Callers.{caller_of}
-use Rattle.registry_rules.specs.Changes.{all_made, release_of}
-use Rattle.registry_rules.specs.Effects.{effects_for, joining, membership, publication, step, step_by}
+use Rattle.registry_rules.specs.Callers.{caller_of, is_known}
+use Rattle.registry_rules.specs.Changes.{PutGrant, PutStatus, made, all_made, release_of}
+use Rattle.registry_rules.specs.Effects.{effects_for, joining, membership, owning, publication, step, step_by}
 use Rattle.registry_rules.specs.Kept.{IsReleaseOf, IsWithdrawalOf, IsTagOf, IsSpelled, IsSound, IsKept}
-use Rattle.registry_rules.specs.Operations.{without_member, without_team, with_tag, without_tag}
-use Rattle.registry_rules.specs.Refusals.{policy_refusal, publish_refusal, refusal, refusal_for, state_refusal}
+use Rattle.registry_rules.specs.Operations.{without_maintainer, without_member, without_team, with_tag, without_tag}
+use Rattle.registry_rules.specs.Refusals.{grant_refusal, is_restricted, refuse, unless_allowed, publish_refusal, refusal, refusal_for, state_refusal}
 use Rattle.registry_rules.specs.Requests.{ArePartsInForm, IsInForm, IsActionInForm}
-use Rattle.registry_rules.specs.State.{State, Release, Withdrawal, nothing, developers, has_user, is_member, has_team, is_in_team, is_last_owner, is_live, stands}
+use Rattle.registry_rules.specs.State.{State, Release, Withdrawal, nothing, developers, has_user, is_member, has_team, is_in_team, has_grant, is_published, is_owned_by, has_other_maintainer, is_last_owner, is_live, stands}
 use Rattle.registry_rules.specs.declared.request.Action.{Action}
-use Rattle.registry_rules.specs.declared.request.Action.TheVariants.{UserAdd, TokenAdd, OrgCreate, OrgSet, OrgRemove, TeamCreate, TeamDestroy, TeamAdd, TeamRemove, Publish, TagSet, TagRemove}
+use Rattle.registry_rules.specs.declared.request.Action.TheVariants as asked
+use Rattle.registry_rules.specs.declared.request.Action.TheVariants.{UserAdd, TokenAdd, OrgCreate, OrgSet, OrgRemove, TeamCreate, TeamDestroy, TeamAdd, TeamRemove, Revoke, SetAccess, OwnerAdd, OwnerRemove, Publish, TagSet, TagRemove}
 use Rattle.registry_rules.specs.declared.request.Request.{Request}
-use Rattle.registry_rules.proofs.AllowedFacts.{IsAllowed, allowed_publish, is_there, isnt_kept, passed, not_false, first_passed, second_passed, organisation_there, user_there}
+use Rattle.registry_rules.proofs.AllowedFacts.{IsAllowed, allowed_publish, is_there, isnt_kept, passed, not_false, first_passed, second_passed, found_there, published_where_read, scope_there, publisher_is_user, may_grant, status_allowed, user_there}
 use Rattle.registry_rules.proofs.MadeFacts.{latest_put, role_put, tag_put}
-use Rattle.registry_rules.proofs.OtherFacts.{not_the_last}
-use Rattle.registry_rules.proofs.SoundFacts.{HasOwner, user_added, token_added, organisation_created, role_given, member_joined, member_removed, team_joined, team_created, team_destroyed, team_left}
+use Rattle.registry_rules.proofs.MadeFacts as made
+use Rattle.registry_rules.proofs.OtherFacts.{not_the_last, other_maintainer}
+use Rattle.registry_rules.proofs.CallerFacts.{caller_known}
+use Rattle.registry_rules.proofs.SoundFacts as sound
+use Rattle.registry_rules.proofs.SoundFacts.{HasOwner, HasPublisher, published, user_added, token_added, organisation_created, role_given, member_joined, member_removed, team_joined, team_created, team_destroyed, team_left}
 use Rattle.registry_rules.proofs.PublishedFacts.{statuses_after, status_of, after_publish, published_is}
 use Rattle.registry_names.proofs.PutFacts.{each_put, each_left, some_before, put_there, still_there}
 
@@ -69,6 +76,7 @@ nothing_sound = record {
   grants = λ o t p h. absurd (none_there _ (at-empty triple_key (o, (t, p))) h);
   maintainers = λ p u h. absurd (none_there _ (at-empty pair_key (p, u)) h);
   unscoped = λ p u h. none_there _ (at-empty text_key p) (ap is_some h);
+  maintained = λ p h. absurd (none_there _ (at-empty text_key p) h);
 }
 
 pub nothing_kept : IsKept nothing
@@ -84,30 +92,12 @@ nothing_kept = record {
 
 -- ---- a publish
 
--- where no package loses its status
-more_statuses_spelled : (A : Access) (statuses : TextMap Status) → ((p : Text) → IsSome (at statuses p) → IsName p) → IsSpelled A → IsSpelled (record A { statuses = statuses })
-more_statuses_spelled A statuses named spelled = record { users = spelled.users; tokens = spelled.tokens; organisations = spelled.organisations; teams = spelled.teams; statuses = named }
-
-more_statuses_sound : (A : Access) (statuses : TextMap Status) → ((p : Text) → IsSome (at A.statuses p) → IsSome (at statuses p)) → UnscopedArePublic (record A { statuses = statuses })
-    → IsSound A → IsSound (record A { statuses = statuses })
-more_statuses_sound A statuses still unscoped sound = record {
-  tokens = sound.tokens;
-  roles = sound.roles;
-  owners = sound.owners;
-  first_teams = sound.first_teams;
-  teams = sound.teams;
-  team_members = sound.team_members;
-  grants = λ o t p h. let grant = sound.grants o t p h in record { team = grant.team; status = still p grant.status; scope = grant.scope };
-  maintainers = λ p u h. let has = sound.maintainers p u h in (still p has.0, has.1);
-  unscoped = unscoped;
-}
-
-module _ (S : State) (p v t : Text) (release : Release) (status : Option Status) (allowed : IsAllowed S p v t release status) (kept : IsKept S) where
+module _ (S : State) (who : Caller) (p v t : Text) (release : Release) (status : Option Status) (allowed : IsAllowed S p v t release status) (publisher : HasPublisher S.access who p) (kept : IsKept S) where
   abbrev here : Bool
   here = stands S p latest || is t latest
 
   abbrev T : State
-  T = after_publish S p v t release status here
+  T = after_publish S who p v t release status here
 
   live_then : (q w : Text) → IsTrue (is_live S q w) → IsTrue (is_live T q w)
   live_then q w h = still_there pair_key S.live (p, v) release (q, w) h
@@ -134,10 +124,6 @@ module _ (S : State) (p v t : Text) (release : Release) (status : Option Status)
   status_stays : (o : Option Status) (q : Text) → IsSome (at S.access.statuses q) → IsSome (at (statuses_after S.access.statuses p o) q)
   status_stays None q h = h
   status_stays (Some s) q h = still_there text_key S.access.statuses p s q h
-
-  statuses_named : (o : Option Status) (q : Text) → IsSome (at (statuses_after S.access.statuses p o) q) → IsName q
-  statuses_named None q h = kept.spelled.statuses q h
-  statuses_named (Some s) q h = some_before text_key S.access.statuses p s IsName kept.spelled.statuses allowed.is_release.name q h
 
   have_status : (k : Pair) → IsSome (at T.live k) → IsSome (at T.access.statuses k.0)
   have_status = some_before pair_key S.live (p, v) release (λ k. IsSome (at T.access.statuses k.0)) (λ k h. status_stays status k.0 (kept.status k.0 k.1 h)) allowed.has_status
@@ -176,11 +162,8 @@ module _ (S : State) (p v t : Text) (release : Release) (status : Option Status)
       (λ k h. still_there pair_key (latest_put S.tags p v here) (p, t) v (k.0, latest) (latest_stays here k.0 (kept.latest k.0 k.1 h)))
       (latest_here (stands S p latest) (is t latest) refl refl)
 
-  statuses_are : (o : Option Status) → (scope_of p ≡ None → o ≢ Some Restricted) → (q : Text) (s : Status) → at (statuses_after S.access.statuses p o) q ≡ Some s → scope_of q ≡ None → s ≢ Restricted
-  statuses_are None may = λ q s e u f. kept.sound.unscoped q u (e ∙ ap (λ (x : Status). Some x) f)
-  statuses_are (Some status) may =
-      each_put text_key S.access.statuses p status (λ q s. scope_of q ≡ None → s ≢ Restricted)
-      (λ q s e u f. kept.sound.unscoped q u (e ∙ ap (λ (x : Status). Some x) f)) (λ u f. may u (ap (λ (x : Status). Some x) f))
+  access_after_is : IsSpelled T.access × IsSound T.access
+  access_after_is = published S.access who p status allowed.is_release.name allowed.has_status allowed.is_public publisher kept.spelled kept.sound
 
   all_kept : IsKept T
   all_kept = record {
@@ -189,14 +172,22 @@ module _ (S : State) (p v t : Text) (release : Release) (status : Option Status)
     tags = λ q u w h. tags_are (q, u) w h;
     status = λ q w h. have_status (q, w) h;
     latest = λ q w h. have_latest (q, w) h;
-    spelled = more_statuses_spelled S.access (statuses_after S.access.statuses p status) (statuses_named status) kept.spelled;
-    sound = more_statuses_sound S.access (statuses_after S.access.statuses p status) (status_stays status)
-        (λ q u h. statuses_are status allowed.is_public q Restricted h u refl) kept.sound;
+    spelled = access_after_is.0;
+    sound = access_after_is.1;
   }
 
-publish_kept : (S : State) (f : FormParts) (now : ℕ) → ArePartsInForm f → now ≤ last_second → publish_refusal S f ≡ None → IsKept S → IsKept (all_made S (publication S now f))
-publish_kept S f now form moment may kept =
-    subst IsKept (sym (published_is S f now)) (all_kept S f.name (version_of f) f.tag (release_of f now) (status_of S f) (allowed_publish S f now form moment may) kept)
+-- who publishes a new package may, and is known
+publisher_there : (S : State) (who : Caller) (p : Text) → is_known S who ≡ true → unless_allowed (may_publish who (is_some (scope_of p)) (position_in S.access who p)) ≡ None → IsSound S.access → HasPublisher S.access who p
+publisher_there S who p known policy sound = record {
+  team = λ o scoped. sound.first_teams o (scope_there S.access who p o scoped policy);
+  user = λ none unscoped. let user = publisher_is_user S.access who p unscoped none policy in (user.0, user.1, sym (ap (is_known S) user.1) ∙ known);
+}
+
+publish_kept : (S : State) (who : Caller) (f : FormParts) (now : ℕ) → is_known S who ≡ true → ArePartsInForm f → now ≤ last_second → unless_allowed (permission S.access who (Publish f)) ≡ None
+    → publish_refusal S f ≡ None → IsKept S → IsKept (all_made S (publication S now who f))
+publish_kept S who f now known form moment policy may kept =
+    subst IsKept (sym (published_is S who f now)) (all_kept S who f.name (version_of f) f.tag (release_of f now) (status_of S f) (allowed_publish S f now form moment may)
+    (publisher_there S who f.name known policy kept.sound) kept)
 
 -- ---- a tag
 
@@ -278,12 +269,12 @@ role_kept S o u role (Some r) e organisation user left kept =
 role_kept S o u role None e organisation user left kept =
     changed_kept S _ (λ p h. h) (member_joined S.access o u role organisation user left kept.spelled kept.sound) kept
 
-set_kept : (S : State) (now : ℕ) (who : Caller) (o u : Text) (role : Role) → policy_refusal S.access who (OrgSet o u role) ≡ None → state_refusal S now (OrgSet o u role) ≡ None
+set_kept : (S : State) (now : ℕ) (who : Caller) (o u : Text) (role : Role) → unless_allowed (permission S.access who (OrgSet o u role)) ≡ None → state_refusal S now (OrgSet o u role) ≡ None
     → IsKept S → IsKept (all_made S (membership o u role (at S.access.roles (o, u))))
 set_kept S now who o u role policy may kept =
     let user = passed (not (has_user S u)) NotFound _ may in
     let owner = passed (not (is_owner (Some role)) && is_last_owner S o u) LastOwner None user.1 in
-    role_kept S o u role (at S.access.roles (o, u)) refl (organisation_there who (has_organisation S.access o) (is_owner (role_of S.access who o)) A2 policy) (not_false _ user.0)
+    role_kept S o u role (at S.access.roles (o, u)) refl (found_there who (has_organisation S.access o) (by_rule A2 (is_owner (role_of S.access who o))) policy) (not_false _ user.0)
     (owner_given S o u role owner.0) kept
 
 removed_kept : (S : State) (now : ℕ) (o u : Text) → state_refusal S now (OrgRemove o u) ≡ None → IsKept S → IsKept (without_member S o u)
@@ -306,32 +297,68 @@ destroyed_kept S now o t may kept =
     let other = passed (is t developers) KeepsDevelopers None team.1 in
     changed_kept S _ (λ p h. h) (team_destroyed S.access o t other.0 kept.spelled kept.sound) kept
 
+-- ---- rights to a package
+
+grant_kept : (S : State) (o t p : Text) (grant : granted.Grant) → grant_refusal (has_team S o t) (is_published S p) o p ≡ None → IsKept S → IsKept (made S (PutGrant o t p grant (has_grant S o t p)))
+grant_kept S o t p grant may kept =
+    let is = may_grant (has_team S o t) (is_published S p) o p may in
+    subst IsKept (sym (made.grant_put S o t p grant (has_grant S o t p) (λ there. there)))
+    (changed_kept S _ (λ q h. h) (sound.grant_put S.access o t p grant (record { team = is.0; status = is.1; scope = is.2 }) kept.spelled kept.sound) kept)
+
+status_kept : (S : State) (who : Caller) (p : Text) (status : Status) → IsName p → unless_allowed (may_write who (position_in S.access who p)) ≡ None
+    → refuse (is_restricted (Some status) && is_none (scope_of p)) AlwaysPublic None ≡ None → IsKept S → IsKept (made S (PutStatus p status (is_published S p)))
+status_kept S who p status name policy may kept =
+    let shut = passed (is_restricted (Some status) && is_none (scope_of p)) AlwaysPublic None may in
+    let read = found_there who (reads (level_at (position_in S.access who p))) (by_rule A6 (writes (level_at (position_in S.access who p)))) policy in
+    subst IsKept (sym (made.status_put S p status (is_published S p) (λ there. there)))
+    (changed_kept S _ (λ q h. still_there text_key S.access.statuses p status q h)
+    (sound.status_put S.access p status name (published_where_read S.access who p read) (status_allowed p status shut.0) kept.spelled kept.sound) kept)
+
+owning_kept : (S : State) (p u : Text) (already : Bool) → IsSome (at S.access.statuses p) → IsSome (at S.access.users u) → IsKept S → IsKept (all_made S (owning p u already))
+owning_kept S p u true was there kept = kept
+owning_kept S p u false was there kept = changed_kept S _ (λ q h. h) (sound.maintainer_put S.access p u was there kept.spelled kept.sound) kept
+
+disowned_kept : (S : State) (p u : Text) → refuse (not (is_owned_by S p u)) NotFound (refuse (not (has_other_maintainer S p u)) LastOwner None) ≡ None → IsKept S → IsKept (without_maintainer S p u)
+disowned_kept S p u may kept =
+    let owner = passed (not (is_owned_by S p u)) NotFound _ may in
+    let more = passed (not (has_other_maintainer S p u)) LastOwner None owner.1 in
+    let other = other_maintainer S p u (not_false _ more.0) in
+    changed_kept S _ (λ q h. h) (sound.maintainer_dropped S.access p u
+    (other.0, ap is_some (at-erase_other pair_key S.access.maintainers (p, u) (p, other.0) (and_right (is p p) (is u other.0) other.1)) ∙ other.2) kept.spelled kept.sound) kept
+
 -- ---- a request
 
-action_kept : (S : State) (now : ℕ) (who : Caller) (what : Action) → now ≤ last_second → IsActionInForm what → policy_refusal S.access who what ≡ None → state_refusal S now what ≡ None
+action_kept : (S : State) (now : ℕ) (who : Caller) (what : Action) → now ≤ last_second → IsActionInForm what → is_known S who ≡ true → unless_allowed (permission S.access who what) ≡ None → state_refusal S now what ≡ None
     → IsKept S → IsKept (step_by S now who what)
-action_kept S now who (UserAdd u) moment form policy may kept = changed_kept S _ (λ p h. h) (user_added S.access u form kept.spelled kept.sound) kept
-action_kept S now who (TokenAdd u digest) moment form policy may kept =
+action_kept S now who (UserAdd u) moment form known policy may kept = changed_kept S _ (λ p h. h) (user_added S.access u form kept.spelled kept.sound) kept
+action_kept S now who (TokenAdd u digest) moment form known policy may kept =
     changed_kept S _ (λ p h. h) (token_added S.access digest u form.1 (user_there _ _ may) kept.spelled kept.sound) kept
-action_kept S now who (OrgCreate o u) moment form policy may kept =
+action_kept S now who (OrgCreate o u) moment form known policy may kept =
     changed_kept S _ (λ p h. h) (organisation_created S.access o u form.0 (user_there _ _ may) kept.spelled kept.sound) kept
-action_kept S now who (OrgSet o u role) moment form policy may kept = set_kept S now who o u role policy may kept
-action_kept S now who (OrgRemove o u) moment form policy may kept = removed_kept S now o u may kept
-action_kept S now who (TeamCreate o t) moment form policy may kept =
-    let organisation = organisation_there who (has_organisation S.access o) (is_owner_or_admin (role_of S.access who o)) A3 policy in
+action_kept S now who (OrgSet o u role) moment form known policy may kept = set_kept S now who o u role policy may kept
+action_kept S now who (OrgRemove o u) moment form known policy may kept = removed_kept S now o u may kept
+action_kept S now who (TeamCreate o t) moment form known policy may kept =
+    let organisation = found_there who (has_organisation S.access o) (by_rule A3 (is_owner_or_admin (role_of S.access who o))) policy in
     changed_kept S _ (λ p h. h) (team_created S.access o t form.1 organisation kept.spelled kept.sound) kept
-action_kept S now who (TeamDestroy o t) moment form policy may kept = destroyed_kept S now o t may kept
-action_kept S now who (TeamAdd o t u) moment form policy may kept = joined_kept S o t u (is_in_team S o t u) (is_there _ may) kept
-action_kept S now who (TeamRemove o t u) moment form policy may kept = changed_kept S _ (λ p h. h) (team_left S.access o t u kept.spelled kept.sound) kept
-action_kept S now who (Publish f) moment form policy may kept = publish_kept S f now form moment may kept
-action_kept S now who (TagSet p t v) moment form policy may kept =
+action_kept S now who (TeamDestroy o t) moment form known policy may kept = destroyed_kept S now o t may kept
+action_kept S now who (TeamAdd o t u) moment form known policy may kept = joined_kept S o t u (is_in_team S o t u) (is_there _ may) kept
+action_kept S now who (TeamRemove o t u) moment form known policy may kept = changed_kept S _ (λ p h. h) (team_left S.access o t u kept.spelled kept.sound) kept
+action_kept S now who (asked.Grant o t p grant) moment form known policy may kept = grant_kept S o t p grant may kept
+action_kept S now who (Revoke o t p) moment form known policy may kept = changed_kept S _ (λ q h. h) (sound.grant_dropped S.access o t p kept.spelled kept.sound) kept
+action_kept S now who (SetAccess p status) moment form known policy may kept = status_kept S who p status form policy may kept
+action_kept S now who (OwnerAdd p u) moment form known policy may kept =
+    let read = found_there who (reads (level_at (position_in S.access who p))) _ policy in
+    owning_kept S p u (is_owned_by S p u) (published_where_read S.access who p read) (is_there _ may) kept
+action_kept S now who (OwnerRemove p u) moment form known policy may kept = disowned_kept S p u may kept
+action_kept S now who (Publish f) moment form known policy may kept = publish_kept S who f now known form moment policy may kept
+action_kept S now who (TagSet p t v) moment form known policy may kept =
     subst IsKept (sym (tag_put S p t (text_of_version v) (stands S p t) (λ there. there))) (tag_set_kept S p t (text_of_version v) form.0 form.1 (is_there _ may) kept)
-action_kept S now who (TagRemove p t) moment form policy may kept = tag_removed_kept S p t (isnt_kept (stands S p t) (is t latest) may) kept
-action_kept S now who _ moment form policy may kept = kept
+action_kept S now who (TagRemove p t) moment form known policy may kept = tag_removed_kept S p t (isnt_kept (stands S p t) (is t latest) may) kept
+action_kept S now who _ moment form known policy may kept = kept
 
 pub step_kept : (S : State) (r : Request) → IsInForm r → refusal S r ≡ None → IsKept S → IsKept (step S r)
-step_kept S r form may kept = by_caller (caller_of S r.who) may
+step_kept S r form may kept = by_caller (caller_of S r.who) refl may
   where
-    by_caller : (who : Option Caller) → refusal_for S r.at who r.what ≡ None → IsKept (all_made S (effects_for S r.at who r.what))
-    by_caller None may = kept
-    by_caller (Some who) may = action_kept S r.at who r.what form.at form.what (first_passed _ _ may) (second_passed _ _ may) kept
+    by_caller : (who : Option Caller) → caller_of S r.who ≡ who → refusal_for S r.at who r.what ≡ None → IsKept (all_made S (effects_for S r.at who r.what))
+    by_caller None e may = kept
+    by_caller (Some who) e may = action_kept S r.at who r.what form.at form.what (caller_known S kept.sound r.who who e) (first_passed _ _ may) (second_passed _ _ may) kept

@@ -57,10 +57,9 @@ pub fn decide<'a>(
     ensures fault { IfErr result (λ stop. (fault : Fault) → stop ≡ Stop.Fault fault
         → fault ≡ Fault.Memory) }
 {
-    may_ask(facts, request).map_err(Stop::Refused)?;
-    match &facts.caller {
-        Some(caller) => Ok(changes(alloc, caller, &facts.about, request)?),
-        None => Ok(Vec::new(alloc)),
+    match may_ask(facts, request) {
+        Ok(()) => Ok(changes_for(alloc, &facts.caller, &facts.about, request)?),
+        Err(refusal) => Err(Stop::Refused(refusal)),
     }
 }
 
@@ -195,6 +194,25 @@ fn unless_there(found: bool) -> Option<Refusal>
     ensures { result ≡ spec.unless_there found }
 {
     if found { None } else { Some(Refusal::NotFound) }
+}
+
+// What a request that isn't turned away changes. One of nobody is turned away.
+fn changes_for<'a>(
+    alloc: Global,
+    caller: &'a Option<Caller>,
+    about: &About,
+    request: &'a Request,
+) -> Result<Changes<'a>, AllocError>
+    ensures command { IfOk result (λ changes. (S : State) (who : Caller) → caller.now ≡ Some who
+        → StandsAbout about.now S who request.now.what
+        → map change_of changes.items ≡ effects S request.now.at who request.now.what) }
+    ensures query { is_command request.now.what ≡ false
+        → IfOk result (λ changes. changes.items ≡ []) }
+{
+    match caller {
+        Some(caller) => changes(alloc, caller, about, request),
+        None => Ok(Vec::new(alloc)),
+    }
 }
 
 // What a request that isn't turned away changes.

@@ -3,7 +3,7 @@
 
 ghost use Rattle.std.specs.Prelude.{◌≡◌, None};
 ghost use Rattle.registry_rules.specs.Kept.{IsKept};
-ghost use Rattle.registry_rules.specs.Laws.{NewTeamsAreEmpty, TeamMembersAreAdded, TeamMembersAreRemoved, TeamsAreCreated, TeamsAreDestroyed, MembersAreRemoved, OrganisationsAreCreated, OtherOwnersAreOwners, RolesAreSet, PackagesStandApart, PublishesAddVersions, PublishesSetStatuses, PublishesSetTags, QueriesChangeNothing, RemovedTagsAreGone, SetTagsName, TokensAreAdded, UsersAreAdded};
+ghost use Rattle.registry_rules.specs.Laws.{GrantsAreGiven, GrantsAreRevoked, MaintainersAreAdded, MaintainersAreRemoved, OtherMaintainersAreMaintainers, PublishesGiveFirstRights, StatusesAreSet, NewTeamsAreEmpty, TeamMembersAreAdded, TeamMembersAreRemoved, TeamsAreCreated, TeamsAreDestroyed, MembersAreRemoved, OrganisationsAreCreated, OtherOwnersAreOwners, RolesAreSet, PackagesStandApart, PublishesAddVersions, PublishesSetStatuses, PublishesSetTags, QueriesChangeNothing, RemovedTagsAreGone, SetTagsName, TokensAreAdded, UsersAreAdded};
 ghost use Rattle.registry_rules.specs.Refusals.{refusal};
 ghost use Rattle.registry_rules.specs.Requests.{ArePartsInForm, IsActionInForm, IsAskedInForm, IsInForm};
 ghost use Rattle.registry_rules.specs.State.{State, nothing};
@@ -45,12 +45,30 @@ pub fn other_owners_are_owners()
 {}
 
 /// A publish makes its version live, with its manifest, its archive and its moment; its tag names
-/// the version, and so does `latest` where none stood; and its package has a status. No other
-/// version, tag or status changes, and nothing else.
+/// the version, and so does `latest` where none stood; and its package has a status. The first team
+/// of a new package's scope reads and writes it, and without a scope its publisher maintains it. No
+/// other version, tag, status, grant or maintainer changes, and nothing else.
 pub fn publishes_add_versions()
     ensures versions { PublishesAddVersions }
     ensures tags { PublishesSetTags }
     ensures statuses { PublishesSetStatuses }
+    ensures rights { PublishesGiveFirstRights }
+{}
+
+/// What a team is granted on a package it is granted, in place of what it was before, and what is
+/// revoked is gone. A package has the status that it is given. Who is made a maintainer is one, and
+/// who is removed is none. Nothing else changes.
+pub fn rights_come_and_go()
+    ensures granted { GrantsAreGiven }
+    ensures revoked { GrantsAreRevoked }
+    ensures status { StatusesAreSet }
+    ensures added { MaintainersAreAdded }
+    ensures removed { MaintainersAreRemoved }
+{}
+
+/// Another maintainer of a package than a user is another user who is a maintainer of it.
+pub fn other_maintainers_are_maintainers()
+    ensures { OtherMaintainersAreMaintainers }
 {}
 
 /// A tag that is set names the version, and one that is removed is gone. Nothing else changes.
