@@ -184,7 +184,7 @@ static MEMBERS: [Case; 18] = [
 ];
 
 #[test]
-fn members(rt: HostRuntime) -> Result<(), &'static str> {
+fn members_that_come_and_go(rt: HostRuntime) -> Result<(), &'static str> {
     all_told(rt.alloc(), &MEMBERS)
 }
 
@@ -249,7 +249,7 @@ static TEAMS: [Case; 17] = [
 ];
 
 #[test]
-fn teams(rt: HostRuntime) -> Result<(), &'static str> {
+fn teams_that_come_and_go(rt: HostRuntime) -> Result<(), &'static str> {
     all_told(rt.alloc(), &TEAMS)
 }
 
@@ -319,7 +319,7 @@ static GRANTS: [Case; 12] = [
 ];
 
 #[test]
-fn grants(rt: HostRuntime) -> Result<(), &'static str> {
+fn grants_that_are_given_and_revoked(rt: HostRuntime) -> Result<(), &'static str> {
     all_told(rt.alloc(), &GRANTS)
 }
 
