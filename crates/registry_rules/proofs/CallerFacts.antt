@@ -1,6 +1,8 @@
 -- What is answered to a caller whom the registry knows.
-use Rattle.std.proofs.Common.{◌≡◌, ℕ, Bool, true, false, List, is_some, Option, Some, None, option_map, refl, sym, subst, true≢false, if◌then◌else◌}
-use Rattle.std.specs.Prelude.{is_ok}
+use Rattle.std.proofs.Common.{◌≡◌, ℕ, Bool, true, false, List, is_some, Option, Some, None, option_map, refl, sym, ap, ◌∙◌, subst, true≢false, if◌then◌else◌}
+use Rattle.std.specs.Prelude.{is_ok, Result, Err}
+use Rattle.registry_names.specs.declared.stop.Stop.{Stop}
+use Rattle.registry_names.specs.declared.stop.Stop.TheVariants.{Refused}
 use Rattle.registry_names.specs.declared.refusal.Refusal.{Refusal}
 use Rattle.registry_access.specs.declared.caller.Caller.{Caller}
 use Rattle.registry_names.specs.Maps.{at}
@@ -25,6 +27,13 @@ module _ (S : State) (now : ℕ) (what : Action) where
 pub not_refused : (r : Option Refusal) → is_ok (permitted r) ≡ true → r ≡ None
 not_refused None h = refl
 not_refused (Some r) h = absurd (true≢false (sym h))
+
+-- a request is turned away by the reason that there is
+pub refused_both : {X : Type 0} (o : Option Refusal) (given : Refusal) → permitted o ≡ Err given → (r : Refusal)
+    → (o ≡ Some r → ◌≡◌ {A = Result X Stop} (Err (Refused given)) (Err (Refused r))) × (◌≡◌ {A = Result X Stop} (Err (Refused given)) (Err (Refused r)) → o ≡ Some r)
+refused_both None given e r = (λ h. cc, λ h. cc)
+refused_both (Some x) given e r = let same : x ≡ given = cc in
+    (λ h. let one : x ≡ r = cc in ap (λ y. Err (Refused y)) (sym same ∙ one), λ h. let one : given ≡ r = cc in ap (λ y. Some y) (same ∙ one))
 
 -- ---- the registry knows whom a credential names
 
