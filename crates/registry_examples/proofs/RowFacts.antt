@@ -24,10 +24,11 @@ abbrev number_cells : List Term
 number_cells = col 0 0 ∷ col 0 1 ∷ []
 
 number_means : Means schema number_text (Insert 6 (Values (lit Null ∷ number_cells) 3))
-unfolding understood everything
+unfolding understood everything schema
 number_means = (refl, (refl, refl))
 
 pub number_keeps : (p : Text) (n : ℤ) (old new : State) → Ready schema old → Wrote number_text (Stored p ∷ Int n ∷ []) old new → Ready schema new
+unfolding schema
 number_keeps p n old new form call clean on = (insert_puts packages_mapped number_text number_cells number_means (Stored p ∷ Int n ∷ []) refl old new (Ok call.0) form call.1 clean).ready
 
 -- ---- a version that was withdrawn
@@ -39,10 +40,11 @@ abbrev spent_cells : List Term
 spent_cells = col 0 0 ∷ col 0 1 ∷ lit (Int (pos 1)) ∷ lit (Int (pos 2)) ∷ []
 
 spent_means : Means schema spent_text (Insert 10 (Values (lit Null ∷ spent_cells) 5))
-unfolding understood everything
+unfolding understood everything schema
 spent_means = (refl, (refl, refl))
 
 pub withdrawal_keeps : (p v : Text) (old new : State) → Ready schema old → Wrote spent_text (Stored p ∷ Stored v ∷ []) old new → Ready schema new
+unfolding schema
 withdrawal_keeps p v old new form call clean on = (insert_puts spent_mapped spent_text spent_cells spent_means (Stored p ∷ Stored v ∷ []) refl old new (Ok call.0) form call.1 clean).ready
 
 -- ---- users
@@ -69,10 +71,11 @@ abbrev organisation_cells : List Term
 organisation_cells = col 0 0 ∷ []
 
 organisation_means : Means schema organisation_text (Insert 2 (Values (lit Null ∷ organisation_cells) 2))
-unfolding understood everything
+unfolding understood everything schema
 organisation_means = (refl, (refl, refl))
 
 pub organisation_keeps : (o : Text) (old new : State) → Ready schema old → Wrote organisation_text (Stored o ∷ []) old new → Ready schema new
+unfolding schema
 organisation_keeps o old new form call clean on = (insert_puts orgs_mapped organisation_text organisation_cells organisation_means (Stored o ∷ []) refl old new (Ok call.0) form call.1 clean).ready
 
 -- ---- members
@@ -84,10 +87,11 @@ abbrev member_cells : List Term
 member_cells = col 0 0 ∷ col 0 1 ∷ lit (Int (pos 0)) ∷ []
 
 member_means : Means schema member_text (Insert 3 (Values (lit Null ∷ member_cells) 4))
-unfolding understood everything
+unfolding understood everything schema
 member_means = (refl, (refl, refl))
 
 pub member_keeps : (o u : Text) (old new : State) → Ready schema old → Wrote member_text (Stored o ∷ Stored u ∷ []) old new → Ready schema new
+unfolding schema
 member_keeps o u old new form call clean on = (insert_puts members_mapped member_text member_cells member_means (Stored o ∷ Stored u ∷ []) refl old new (Ok call.0) form call.1 clean).ready
 
 -- ---- teams
@@ -99,10 +103,11 @@ abbrev team_cells : List Term
 team_cells = col 0 0 ∷ col 0 1 ∷ []
 
 team_means : Means schema team_text (Insert 4 (Values (lit Null ∷ team_cells) 3))
-unfolding understood everything
+unfolding understood everything schema
 team_means = (refl, (refl, refl))
 
 pub team_keeps : (o t : Text) (old new : State) → Ready schema old → Wrote team_text (Stored o ∷ Stored t ∷ []) old new → Ready schema new
+unfolding schema
 team_keeps o t old new form call clean on = (insert_puts teams_mapped team_text team_cells team_means (Stored o ∷ Stored t ∷ []) refl old new (Ok call.0) form call.1 clean).ready
 
 -- ---- users of teams
@@ -114,10 +119,11 @@ abbrev team_member_cells : List Term
 team_member_cells = col 0 0 ∷ col 0 1 ∷ col 0 2 ∷ []
 
 team_member_means : Means schema team_member_text (Insert 5 (Values (lit Null ∷ team_member_cells) 4))
-unfolding understood everything
+unfolding understood everything schema
 team_member_means = (refl, (refl, refl))
 
 pub team_member_keeps : (o t u : Text) (old new : State) → Ready schema old → Wrote team_member_text (Stored o ∷ Stored t ∷ Stored u ∷ []) old new → Ready schema new
+unfolding schema
 team_member_keeps o t u old new form call clean on = (insert_puts team_members_mapped team_member_text team_member_cells team_member_means (Stored o ∷ Stored t ∷ Stored u ∷ []) refl old new (Ok call.0) form call.1 clean).ready
 
 -- ---- any number for a grant
@@ -129,8 +135,9 @@ abbrev grant_cells : List Term
 grant_cells = col 0 0 ∷ col 0 1 ∷ col 0 2 ∷ col 0 3 ∷ []
 
 grant_means : Means schema grant_text (Insert 7 (Values (lit Null ∷ grant_cells) 5))
-unfolding understood everything
+unfolding understood everything schema
 grant_means = (refl, (refl, refl))
 
 pub grant_keeps : (o t p : Text) (n : ℤ) (old new : State) → Ready schema old → Wrote grant_text (Stored o ∷ Stored t ∷ Stored p ∷ Int n ∷ []) old new → Ready schema new
+unfolding schema
 grant_keeps o t p n old new form call clean on = (insert_puts grants_mapped grant_text grant_cells grant_means (Stored o ∷ Stored t ∷ Stored p ∷ Int n ∷ []) refl old new (Ok call.0) form call.1 clean).ready

@@ -39,11 +39,12 @@ abbrev put_cells : List Term
 put_cells = col 0 0 ∷ col 0 1 ∷ []
 
 put_means : Means schema put_text (insert_values 16 (lit Null ∷ put_cells))
-unfolding understood everything
+unfolding understood everything schema
 put_means = (refl, (refl, refl))
 
 pub archive_put : (integrity : Text) (bytes : List ℕ) (old new : Shown) → Ready schema old → Wrote put_text (Stored integrity ∷ Blob bytes ∷ []) old new → HasCleanDisk new
     → TakesNext schema contents table.archives archive_in (λ c m. record c { archives = m }) table.counters.tree (λ c n. record c { last_archive = n }) (Stored integrity ∷ Blob bytes ∷ []) old new
+unfolding schema
 archive_put integrity bytes old new form call = insert_numbers archives_numbered archives_counted put_text put_cells put_means (Stored integrity ∷ Blob bytes ∷ []) refl old new (Ok call.0) form call.1
 
 -- ---- SELECT by integrity
@@ -52,7 +53,7 @@ abbrev list_text : List ℕ
 list_text = codes "SELECT id, bytes FROM archives WHERE integrity = ?1 ORDER BY id"
 
 list_means : MeansQuery schema list_text (select_where table.archives (col 1 0 ∷ col 1 3 ∷ []) (by_column 1) numbers.order (codes "id" ∷ codes "bytes" ∷ []))
-unfolding understood everything
+unfolding understood everything schema
 list_means = ((refl, (refl, refl)), refl)
 
 abbrev bytes_of : Archive → List ℕ
@@ -62,6 +63,7 @@ bytes_of a = a.bytes
 first_whole : (integrity : Text) (bytes : List ℕ) (es : List (ℤ × Archive))
     → option_map (λ (e : ℤ × List ℕ). e.0) (find (λ (e : ℤ × List ℕ). is bytes e.1) (map (seen bytes_of) (filter (λ (e : ℤ × Archive). is integrity e.1.integrity) es)))
     ≡ option_map (λ (e : ℤ × Archive). e.0) (find (λ (e : ℤ × Archive). is_archive integrity bytes e.1) es)
+unfolding schema
 first_whole integrity bytes [] = refl
 first_whole integrity bytes (e ∷ es) = each (is integrity e.1.integrity) (is bytes e.1.bytes) refl refl (first_whole integrity bytes es)
   where
@@ -76,6 +78,7 @@ first_whole integrity bytes (e ∷ es) = each (is integrity e.1.integrity) (is b
 
 pub archive_listed : (integrity : Text) (bytes : List ℕ) (old new : Shown) (rows : List Row) → Ready schema old → Queried list_text (Stored integrity ∷ []) old new rows → HasCleanDisk new
     → Reads schema old new × (number_among bytes (map archive_spelled rows) ≡ number_of integrity bytes (stored old).archives)
+unfolding schema
 archive_listed integrity bytes old new rows form call clean =
     let it = select_has_by (by_number_given archives_numbered) 1 (Stored integrity) refl (λ (a : Archive). is integrity a.integrity) (λ vs. refl) list_text (col 1 0 ∷ col 1 3 ∷ []) _ list_means
     archive_spelled bytes_of (λ id vs. refl) old new rows form call clean in
@@ -84,6 +87,7 @@ archive_listed integrity bytes old new rows form call clean =
 -- an archive with other bytes is passed over
 pub among_next : (bytes : List ℕ) (rows : List Row) (i : ℕ) (r : Row) → i < length rows → r ≡ get_or rows i r → is bytes (blob_in (column r 1)) ≡ false
     → number_among bytes (map archive_spelled (drop i rows)) ≡ number_among bytes (map archive_spelled (drop (i + 1) rows))
+unfolding schema
 among_next bytes rows i r within is_row other =
     ap (λ l. number_among bytes (map archive_spelled l)) (drop_more rows i r within ∙ ap (λ (x : Row). x ∷ drop (i + 1) rows) (sym is_row))
     ∙ ap (λ b. option_map (λ (e : ℤ × List ℕ). e.0) (cond b (Some (archive_spelled r)) (find (λ (e : ℤ × List ℕ). is bytes e.1) (map archive_spelled (drop (i + 1) rows))))) other
@@ -91,6 +95,7 @@ among_next bytes rows i r within is_row other =
 -- and one with these bytes is found
 pub among_here : (bytes : List ℕ) (rows : List Row) (i : ℕ) (r : Row) → i < length rows → r ≡ get_or rows i r → is bytes (blob_in (column r 1)) ≡ true
     → number_among bytes (map archive_spelled (drop i rows)) ≡ Some (int_in (column r 0))
+unfolding schema
 among_here bytes rows i r within is_row same =
     ap (λ l. number_among bytes (map archive_spelled l)) (drop_more rows i r within ∙ ap (λ (x : Row). x ∷ drop (i + 1) rows) (sym is_row))
     ∙ ap (λ b. option_map (λ (e : ℤ × List ℕ). e.0) (cond b (Some (archive_spelled r)) (find (λ (e : ℤ × List ℕ). is bytes e.1) (map archive_spelled (drop (i + 1) rows))))) same
@@ -101,11 +106,12 @@ abbrev bytes_text : List ℕ
 bytes_text = codes "SELECT bytes FROM archives WHERE id = ?1"
 
 bytes_means : MeansQuery schema bytes_text (select_where table.archives (col 1 3 ∷ []) numbers.wanted [] (codes "bytes" ∷ []))
-unfolding understood everything
+unfolding understood everything schema
 bytes_means = ((refl, (refl, refl)), refl)
 
 pub bytes_found : (n : ℤ) (old new : Shown) (rows : List Row) → Ready schema old → Queried bytes_text (Int n ∷ []) old new rows → HasCleanDisk new
     → Reads schema old new × (option_map bytes_spelled (slice_get rows 0) ≡ option_map bytes_of (at (stored old).archives n))
+unfolding schema
 bytes_found n old new rows form call clean =
     let it = select_finds_by (by_number_given archives_numbered) bytes_text (col 1 3 ∷ []) _ bytes_means n bytes_spelled bytes_of (λ id vs. refl) old new rows form call clean in
     (it.0, first_listed bytes_spelled rows _ it.1)
@@ -119,22 +125,24 @@ abbrev hold_cells : List Term
 hold_cells = col 0 0 ∷ col 0 1 ∷ col 0 2 ∷ []
 
 hold_means : Means schema hold_text (insert_values 15 hold_cells)
-unfolding understood everything
+unfolding understood everything schema
 hold_means = (refl, (refl, refl))
 
 pub archive_held : (p v : Text) (n : ℤ) (old new : Shown) → Ready schema old → Wrote hold_text (Stored p ∷ Stored v ∷ Int n ∷ []) old new → HasCleanDisk new
     → Leaves schema contents (record (stored old) { held = put (stored old).held (p, v) n }) new
+unfolding schema
 archive_held p v n old new form call = insert_puts held_mapped hold_text hold_cells hold_means (Stored p ∷ Stored v ∷ Int n ∷ []) refl old new (Ok call.0) form call.1
 
 abbrev held_text : List ℕ
 held_text = codes "SELECT archive FROM held WHERE package = ?1 AND version = ?2"
 
 held_means : MeansQuery schema held_text (select_where table.held (col 1 3 ∷ []) (by_texts 1 1 0) [] (codes "archive" ∷ []))
-unfolding understood everything
+unfolding understood everything schema
 held_means = ((refl, (refl, refl)), refl)
 
 pub held_found : (p v : Text) (old new : Shown) (rows : List Row) → Ready schema old → Queried held_text (Stored p ∷ Stored v ∷ []) old new rows → HasCleanDisk new
     → Reads schema old new × (option_map held_spelled (slice_get rows 0) ≡ at (stored old).held (p, v))
+unfolding schema
 held_found p v old new rows form call clean =
     let it = select_finds held_mapped held_text (col 1 3 ∷ []) _ held_means (p, v) held_spelled (λ (n : ℤ). n) (λ id vs. refl) old new rows form call clean in
     (it.0, first_listed held_spelled rows _ it.1 ∙ option_map_id (at (stored old).held (p, v)))
@@ -143,6 +151,7 @@ held_found p v old new rows form call clean =
 
 -- it stands as it was
 pub stands_stored : (integrity : Text) (bytes : List ℕ) (c : Contents) (n : ℤ) → number_of integrity bytes c.archives ≡ Some n → (c ≡ with_archive integrity bytes c) × (n ≡ archive_number integrity bytes c)
+unfolding schema
 stands_stored integrity bytes c n e = (
   rw (ap is_some e) refl,
   sym (ap (λ o. unwrap_or o (next_archive c)) e),
@@ -151,6 +160,7 @@ stands_stored integrity bytes c n e = (
 -- it is added
 pub is_added : (integrity : Text) (bytes : List ℕ) (c : Contents) → number_of integrity bytes c.archives ≡ None
     → (record c { archives = put c.archives (next_archive c) (record { integrity = integrity; bytes = bytes }); last_archive = next_archive c } ≡ with_archive integrity bytes c) × (next_archive c ≡ archive_number integrity bytes c)
+unfolding schema
 is_added integrity bytes c e = (
   rw (ap is_some e) refl,
   sym (ap (λ o. unwrap_or o (next_archive c)) e),

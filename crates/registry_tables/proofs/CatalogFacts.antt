@@ -38,16 +38,16 @@ pub record ReadsListing (s : Schema) : Type 0 where
   pub listing : reads_listing s listing_query ≡ true
 
 ours_read : ReadsListing schema
-unfolding understood listing_schema everything
+unfolding understood listing_schema everything schema
 ours_read = record { means = (refl, (refl, refl)); listing = refl }
 
 none_read : ReadsListing no_tables
-unfolding understood listing_schema everything
+unfolding understood listing_schema everything schema
 none_read = record { means = (refl, (refl, refl)); listing = refl }
 
 pub listing_shown : (s : Schema) → ReadsListing s → (old new : State) (rows : List Row) → (IsTrue old.is_open → old.now.schema ≡ s) → Shown listing_query [] old new rows
     → IsUnchanged old new × ((db : Database) × IsSourceOf true old.now db × Answers lists_names db [] rows)
-unfolding Shown
+unfolding Shown schema
 listing_shown s it old new rows has h = go h.0.returning refl h.2
   where
     go : (o : Option Returning) → h.0.returning ≡ o → ShowsRows old new listing_query h.0 (timed [] h.0.formats h.1.now) rows o
@@ -66,14 +66,17 @@ listing_shown s it old new rows has h = go h.0.returning refl h.2
 -- ---- rows are shown exactly where there are objects
 
 put_some : (new : Row) (rows : List Row) → ¬ (put_row new rows ≡ [])
+unfolding schema
 put_some new [] e = cc
 put_some new (r ∷ rs) e = elim (value_cmp (rowid r) (rowid new)) as (λ o. match_ordering o (r ∷ put_row new rs) (new ∷ rs) (new ∷ r ∷ rs) ≡ [] → ⊥) [ Less ↦ λ e. cc | Equal ↦ λ e. cc | Greater ↦ λ e. cc ] e
 
 all_some : (rows more : List Row) → ¬ (rows ≡ []) → ¬ (put_all rows more ≡ [])
+unfolding schema
 all_some rows [] some = some
 all_some rows (r ∷ more) some = all_some (put_row r rows) more (put_some r rows)
 
 pub none_shown : (now db : Database) (rows : List Row) → IsSourceOf true now db → Answers lists_names db [] rows → now.trees catalog_tree ≡ [] → rows ≡ []
+unfolding schema
 none_shown now db [] source answer none = refl
 none_shown now db (x ∷ rows) source answer none =
     let found = finds [] (col 1 2 ∷ []) [] [] (db.trees 0) (x ∷ rows) (selects 0 [] (col 1 2 ∷ []) [] [] db.trees (x ∷ rows) answer.answer) in
@@ -81,6 +84,7 @@ none_shown now db (x ∷ rows) source answer none =
     absurd (subst (λ l. Has l it.0) (source.1 ∙ ap (λ l. put_all [] (map shown l)) none) it.1)
 
 pub some_shown : (now db : Database) → IsSourceOf true now db → Answers lists_names db [] [] → (objects : List Row) → now.trees catalog_tree ≡ objects → objects ≡ []
+unfolding schema
 some_shown now db source answer [] is = refl
 some_shown now db source answer (r ∷ objects) is =
     let found = finds [] (col 1 2 ∷ []) [] [] (db.trees 0) [] (selects 0 [] (col 1 2 ∷ []) [] [] db.trees [] answer.answer) in
@@ -94,6 +98,7 @@ some_shown now db source answer (r ∷ objects) is =
 -- ---- there are objects exactly where there are tables
 
 none_listed : (objects : List Row) → AreListed objects no_tables → objects ≡ []
+unfolding schema
 none_listed [] h = refl
 none_listed (r ∷ objects) h = absurd (go (is_table_row r) (is_view_row r) refl refl)
   where
@@ -103,9 +108,11 @@ none_listed (r ∷ objects) h = absurd (go (is_table_row r) (is_view_row r) refl
     go false false is_table is_view = subst₂ (λ c d. AllZip (IsIndexRow []) (cond (not (c || d)) (r ∷ filter is_index_row objects) (filter is_index_row objects)) []) is_table is_view h.indexes
 
 ours_listed : (objects : List Row) → AreListed objects schema → ¬ (objects ≡ [])
+unfolding schema
 ours_listed objects h none = subst (λ l. AllZip IsTableRow (filter is_table_row l) schema.tables) none h.tables
 
 unchanged_reads : (s : Schema) (old new : State) → IsReady s old → IsUnchanged old new → Reads s old new
+unfolding schema
 unchanged_reads s old new ready same = record {
   was_open = same.0.was_open;
   ready = ready_same s old new same.0.now_is ready;
@@ -117,10 +124,12 @@ unchanged_reads s old new ready same = record {
 -- ---- what the query shows
 
 counts_some : (rows : List Row) → ¬ (rows ≡ []) → (length rows == 0) ≡ false
+unfolding schema
 counts_some [] some = absurd (some refl)
 counts_some (r ∷ rows) some = ne_eqb _ 0 (omega arith)
 
 pub none_found : (old new : State) (rows : List Row) → Ready no_tables old → Queried listing_query [] old new rows → HasCleanDisk new → Reads no_tables old new × ((length rows == 0) ≡ true)
+unfolding schema
 none_found old new rows form call clean =
     let ready = form (omega (arith, call.survives.clean, clean)) in
     let it = listing_shown no_tables none_read old new rows (λ up. (ready up).schema_is) (call.shown clean) in
@@ -129,6 +138,7 @@ none_found old new rows form call clean =
     (unchanged_reads no_tables old new was it.0, ap (λ (l : List Row). length l == 0) (none_shown old.now it.1.0 rows it.1.1 it.1.2 none))
 
 pub ours_found : (old new : State) (rows : List Row) → Ready schema old → Queried listing_query [] old new rows → HasCleanDisk new → Reads schema old new × ((length rows == 0) ≡ false)
+unfolding schema
 ours_found old new rows form call clean =
     let ready = form (omega (arith, call.survives.clean, clean)) in
     let it = listing_shown schema ours_read old new rows (λ up. (ready up).schema_is) (call.shown clean) in

@@ -12,6 +12,7 @@ use Rattle.registry_tables.specs.Contents.{contents, archive_in, held_in, nothin
 use Rattle.registry_tables.specs.Fresh.{no_contents}
 
 pub contents_depend : DependsOn schema contents
+unfolding schema
 contents_depend old new (users, (tokens, (orgs, (members, (teams, (team_members, (packages, (grants, (owners, (versions, (spent, (tags, (needs, (meta, (need_ranges, (held, (archives, (counters, none)))))))))))))))))) = λ i. record {
   users = map_of 0 nothing_in (users i);
   tokens = map_by bytes user_in (tokens i);
@@ -34,5 +35,5 @@ contents_depend old new (users, (tokens, (orgs, (members, (teams, (team_members,
 }
 
 pub no_rows : contents (λ _. []) ≡ no_contents
-unfolding rows empty unary
+unfolding rows empty unary schema
 no_rows = refl

@@ -24,12 +24,14 @@ use Rattle.registry_tables.proofs.ContentsFacts.{contents_depend, no_rows}
 use Rattle.registry_tables.proofs.SchemaFacts.{AddsTable, adds, creation_length, means_archives, means_index, users_exists}
 
 add_first : (sql : List ℕ) → AddsTable 0 sql → (old new : State) (count : ℕ) → Ready no_tables old → Executed sql [] old new (Ok count) → HasCleanDisk new → Blank (first_tables 1) new
+unfolding schema
 add_first sql it old new count form call clean = inside (Blank (first_tables 1) new) no_tables sql [] old new (Ok count) form call clean (λ n ready ran on.
     let made = creates_ready no_tables sql it.table old new it.means ready n ran in
     subst (λ s. Blank s new) it.next (record { ready = made.0; empty = (made.2, tt); mode = on }))
 
 -- the tables with a primary key of columns are made first
 first_made : (n : ℕ) → n ≤ 16 → schema_after n ≡ first_tables n
+unfolding schema
 first_made n few =
     let tables : nat_lt 16 n ≡ false = le-ltb 16 n few in
     let indexes : nat_lt 17 n ≡ false = le-ltb 17 n (omega (arith, few)) in
@@ -40,18 +42,22 @@ abbrev MakesNext : ℕ → Type 1
 MakesNext n = (old new : State) (count : ℕ) → (HasCleanDisk old → Blank (schema_after n) old) → Executed (get_or creation n []) [] old new (Ok count) → HasCleanDisk new → Blank (schema_after (suc n)) new
 
 add_table : (n : ℕ) → n < 16 → MakesNext n
+unfolding schema
 add_table n few old new count made call clean =
     let it = adds n few in
     subst (λ s. Blank s new) (it.next ∙ sym (first_made (suc n) few))
     (create_adds (first_tables n) (get_or creation n []) it.table it.means old new (Ok count) (λ before. subst (λ s. Blank s old) (first_made n (omega (arith, few))) (made before)) call clean)
 
 add_archives : MakesNext 16
+unfolding schema
 add_archives old new count made call clean = create_adds_counter (first_tables 16) (get_or creation 16 []) (record table.archives { tree = 0 }) means_archives old new (Ok count) made call clean
 
 add_index : MakesNext 17
+unfolding schema
 add_index old new count made call clean = index_keeps_blank (schema_after 17) (get_or creation 17 []) 16 table.archives (record table.archives_by_integrity { tree = 0 }) means_index old new (Ok count) made call clean
 
 add_next : (n : ℕ) → n < 18 → MakesNext n
+unfolding schema
 add_next n few = elim (cases_lt n 16) [
   | inl early ↦ add_table n early
   | inr late ↦ elim (cases_lt n 17) [
@@ -62,7 +68,7 @@ add_next n few = elim (cases_lt n 16) [
 
 -- a text that isn't understood isn't run
 never_run : (schema : Schema) (sql : List ℕ) (e : CompileError) → understood schema sql ≡ Err e → (old new : State) (count : ℕ) → Ready schema old → Executed sql [] old new (Ok count) → ¬ HasCleanDisk new
-unfolding ExecutesIn
+unfolding ExecutesIn schema
 never_run schema sql e refused old new count form call clean = inside ⊥ schema sql [] old new (Ok count) form call clean (λ n ready ran on.
     absurd (let both = sym (ap (λ s. understood s sql) ready.schema_is ∙ refused) ∙ ran.1.is in cc))
 
@@ -70,6 +76,7 @@ module _ {S : Type 0} (store : Ghosts S) where
   -- the next text, after those so far
   pub makes_next : (i : ℕ) (first old new : Transaction S) → i < length creation → (i ≡ 0 → old ≡ first) → (0 < i → HasNoTables store first → HasMade store i old)
       → Wrote (get_or creation i []) [] (shown store old) (shown store new) → HasNoTables store first → HasMade store (i + 1) new
+  unfolding schema
   makes_next zero first old new within idle made call none =
       add_first (get_or creation 0 []) (adds 0 (omega arith)) (shown store old) (shown store new) call.0 (subst (HasNoTables store) (sym (idle refl)) none) call.1
   makes_next (suc n) first old new within idle made call none =
@@ -79,6 +86,7 @@ module _ {S : Type 0} (store : Ghosts S) where
   -- where the tables were there, no text is run
   pub refuses_next : (i : ℕ) (first old new : Transaction S) → (i ≡ 0 → old ≡ first) → (0 < i → InForm store first → ¬ HasCleanDisk (shown store old))
       → Wrote (get_or creation i []) [] (shown store old) (shown store new) → InForm store first → ¬ HasCleanDisk (shown store new)
+  unfolding schema
   refuses_next zero first old new idle refused call form =
       never_run schema (get_or creation 0 []) Exists users_exists (shown store old) (shown store new) call.0 (subst (InForm store) (sym (idle refl)) form) call.1
   refuses_next (suc n) first old new idle refused call form = λ clean. refused (omega arith) form (omega (arith, call.1.survives.clean, clean))
@@ -86,6 +94,7 @@ module _ {S : Type 0} (store : Ghosts S) where
   -- the number of the schema is put when all tables are there
   pub numbered : {E : Type 0} (old new : Transaction S) (r : Result (Unit {0}) E) → HasMade store 18 old → (HasCleanDisk (shown store new) → HasCleanDisk (shown store old))
       → (InForm store old → Makes store old new r (λ c. with_number c schema_number)) → HasCleanDisk (shown store new) → OnOk r (Leaves schema contents fresh (shown store new))
+  unfolding schema
   numbered old new r made before put clean =
       let blank : Blank schema (shown store old) = made (before clean) in
       let none : stored_in store old ≡ no_contents = blank_holds schema contents (shown store old) contents_depend blank ∙ no_rows in

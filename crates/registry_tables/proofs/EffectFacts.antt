@@ -8,6 +8,7 @@ use Rattle.registry_tables.specs.Schema.{schema}
 
 -- a query, and then a call that changed nothing
 pub reads_as_before : (a b c : Shown) → Reads schema a b → IsAsBefore b c → Reads schema a c
+unfolding schema
 reads_as_before a b c one two = record {
   was_open = one.was_open;
   ready = two.ready one.ready;
@@ -18,6 +19,7 @@ reads_as_before a b c one two = record {
 
 -- a call that changed nothing, and then a query
 pub before_reads : (a b c : Shown) → IsAsBefore a b → Reads schema b c → Reads schema a c
+unfolding schema
 before_reads a b c one two = record {
   was_open = one.committed.was_open two.was_open;
   ready = two.ready;
@@ -28,4 +30,5 @@ before_reads a b c one two = record {
 
 -- the tables are in form after a call that changed nothing
 pub form_after : (a b : Shown) → (HasCleanDisk b → HasCleanDisk a) → (HasCleanDisk b → IsAsBefore a b) → Ready schema a → Ready schema b
+unfolding schema
 form_after a b clean it form now on = let same = it now in same.ready (form (clean now) (same.committed.was_open on))

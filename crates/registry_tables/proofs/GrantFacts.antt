@@ -36,11 +36,12 @@ abbrev put_cells : List Term
 put_cells = col 0 0 ∷ col 0 1 ∷ col 0 2 ∷ col 0 3 ∷ []
 
 put_means : Means schema put_text (Insert 7 (Values (lit Null ∷ put_cells) 5))
-unfolding understood everything
+unfolding understood everything schema
 put_means = (refl, (refl, refl))
 
 pub grant_put : (o t p : Text) (grant : Grant) (old new : Shown) → Ready schema old → Wrote put_text (Stored o ∷ Stored t ∷ Stored p ∷ Int (pos (grant_number grant)) ∷ []) old new → HasCleanDisk new
     → Leaves schema contents (record (stored old) { grants = put (stored old).grants (o, (t, p)) grant }) new
+unfolding schema
 grant_put o t p ReadOnly old new form call = insert_puts grants_mapped put_text put_cells put_means (Stored o ∷ Stored t ∷ Stored p ∷ Int (pos 1) ∷ []) refl old new (Ok call.0) form call.1
 grant_put o t p ReadWrite old new form call = insert_puts grants_mapped put_text put_cells put_means (Stored o ∷ Stored t ∷ Stored p ∷ Int (pos 2) ∷ []) refl old new (Ok call.0) form call.1
 
@@ -54,11 +55,12 @@ abbrev sets : List (Option ℕ)
 sets = None ∷ None ∷ None ∷ Some 3 ∷ []
 
 set_means : Means schema set_text (Update 7 (record { lets = []; body = scan 14 (by_texts 2 1 0) (col 1 0 ∷ col 1 0 ∷ set_terms 1 sets) [] }))
-unfolding understood everything
+unfolding understood everything schema
 set_means = (refl, (refl, refl))
 
 pub grant_set : (o t p : Text) (grant : Grant) (old new : Shown) → Ready schema old → Wrote set_text (Stored o ∷ Stored t ∷ Stored p ∷ Int (pos (grant_number grant)) ∷ []) old new → HasCleanDisk new
     → Leaves schema contents (record (stored old) { grants = amended (stored old).grants (o, (t, p)) grant }) new
+unfolding schema
 grant_set o t p ReadOnly old new form call clean = subst (λ m. Leaves schema contents (record (stored old) { grants = m }) new) (revised triple_key (stored old).grants (o, (t, p)) ReadOnly)
     (update_revises grants_mapped set_text sets set_means refl (o, (t, p)) (Int (pos 1) ∷ []) refl (λ _. ReadOnly) (λ vs. refl) (λ vs. refl) old new (Ok call.0) form call.1 clean)
 grant_set o t p ReadWrite old new form call clean = subst (λ m. Leaves schema contents (record (stored old) { grants = m }) new) (revised triple_key (stored old).grants (o, (t, p)) ReadWrite)
@@ -70,16 +72,17 @@ abbrev drop_text : List ℕ
 drop_text = codes "DELETE FROM grants WHERE org = ?1 AND team = ?2 AND package = ?3"
 
 drop_means : Means schema drop_text (Delete 7 (record { lets = []; body = scan 14 (by_texts 2 1 0) (col 1 0 ∷ []) [] }))
-unfolding understood everything
+unfolding understood everything schema
 drop_means = (refl, (refl, refl))
 
 -- nothing refers to a grant
 nothing_refers : IsUncascaded schema table.grants
-unfolding everything
+unfolding everything schema
 nothing_refers olds = refl
 
 pub grant_dropped : (o t p : Text) (old new : Shown) → Ready schema old → Wrote drop_text (Stored o ∷ Stored t ∷ Stored p ∷ []) old new → HasCleanDisk new
     → Leaves schema contents (record (stored old) { grants = erase (stored old).grants (o, (t, p)) }) new
+unfolding schema
 grant_dropped o t p old new form call = delete_erases grants_mapped drop_text drop_means nothing_refers (o, (t, p)) old new (Ok call.0) form call.1
 
 -- ---- SELECT
@@ -88,9 +91,10 @@ abbrev find_text : List ℕ
 find_text = codes "SELECT level FROM grants WHERE org = ?1 AND team = ?2 AND package = ?3"
 
 find_means : MeansQuery schema find_text (Select (record { lets = []; body = scan 14 (by_texts 2 1 0) (col 1 4 ∷ []) [] }) (codes "level" ∷ []))
-unfolding understood everything
+unfolding understood everything schema
 find_means = ((refl, (refl, refl)), refl)
 
 pub grant_found : (o t p : Text) (old new : Shown) (rows : List Row) → Ready schema old → Queried find_text (Stored o ∷ Stored t ∷ Stored p ∷ []) old new rows → HasCleanDisk new
     → Reads schema old new × (not (length rows == 0) ≡ is_some (at (stored old).grants (o, (t, p))))
+unfolding schema
 grant_found o t p = there_found grants_mapped find_text (col 1 4 ∷ []) _ find_means (o, (t, p))

@@ -43,6 +43,7 @@ abbrev grant_sides : List (Side × Side)
 grant_sides = (first 0, given 0) ∷ (first 2, given 1) ∷ (second 0, given 0) ∷ (second 1, first 1) ∷ (second 2, given 2) ∷ []
 
 granted_some : (o : Option Grant) (g : Grant) → grants o g ≡ true → (h : Grant) × (o ≡ Some h) × (is_grant h g ≡ true)
+unfolding schema
 granted_some None g t = absurd (true≢false (sym t))
 granted_some (Some h) g t = (h, refl, t)
 
@@ -53,6 +54,7 @@ module _ (c : Contents) (o u p : Text) (shown : List Grant)
 
   -- a grant that is shown is one of a team
   shown_granted : is_listed shown g ≡ true → granted_in c o u p g ≡ true
+  unfolding schema
   shown_granted any =
       let h = some_has (λ h. is_grant h g) shown any in
       let it = (tells h.0).0 h.1 in
@@ -71,6 +73,7 @@ module _ (c : Contents) (o u p : Text) (shown : List Grant)
 
   -- a grant of a team is shown
   granted_shown : granted_in c o u p g ≡ true → is_listed shown g ≡ true
+  unfolding schema
   granted_shown any =
       let k = some_has test (keys (entries c.team_members)) any in
       let both = and_parts _ _ k.2 in
@@ -92,6 +95,7 @@ module _ (c : Contents) (o u p : Text) (shown : List Grant)
       })) h.2
 
   listed_is_granted : is_listed shown g ≡ granted_in c o u p g
+  unfolding schema
   listed_is_granted = elim (cases_Bool (granted_in c o u p g)) [
     | inl some ↦ granted_shown some ∙ sym some
     | inr none ↦ false_from_ne_true _ (λ any. true≢false (sym (shown_granted any) ∙ none)) ∙ sym none
@@ -99,6 +103,7 @@ module _ (c : Contents) (o u p : Text) (shown : List Grant)
 
 joined_are_granted : (c : Contents) (o u p : Text) (shown : List Grant)
     → ((y : Grant) → Has shown y ↔ IsJoined 2 2 c.team_members c.grants (joins 2 2 (Stored o ∷ Stored u ∷ Stored p ∷ []) grant_sides) (λ k x l z. z) y) → AreGranted c o u p shown
+unfolding schema
 joined_are_granted c o u p shown tells g = listed_is_granted c o u p shown tells g
 
 -- ---- SELECT from team_members and grants
@@ -107,11 +112,12 @@ abbrev grants_text : List ℕ
 grants_text = codes "SELECT grants.level FROM team_members, grants WHERE team_members.org = ?1 AND team_members.user = ?2 AND grants.org = ?1 AND grants.team = team_members.team AND grants.package = ?3"
 
 grants_means : MeansQuery schema grants_text (Select (record { lets = []; body = join 10 14 (comparisons grant_sides) (col 2 4 ∷ []) }) (codes "level" ∷ []))
-unfolding understood everything
+unfolding understood everything schema
 grants_means = ((refl, (refl, refl)), refl)
 
 pub grants_listed : (o u p : Text) (old new : Shown) (rows : List Row) → Ready schema old → Queried grants_text (Stored o ∷ Stored u ∷ Stored p ∷ []) old new rows → HasCleanDisk new
     → Reads schema old new × AreGranted (stored old) o u p (map grant_spelled rows)
+unfolding schema
 grants_listed o u p old new rows form call clean =
     let it = select_joins team_members_mapped grants_mapped grant_sides grants_text (col 2 4 ∷ []) _ grants_means (Stored o ∷ Stored u ∷ Stored p ∷ []) refl grant_spelled (λ k x l z. z) (λ id other vs us. refl) old new rows form call clean in
     (it.0, joined_are_granted (stored old) o u p (map grant_spelled rows) it.1)
@@ -119,18 +125,22 @@ grants_listed o u p old new rows form call clean =
 -- ---- the scope of a package
 
 nothing : (a : Bool) → (a && false) ≡ false
+unfolding schema
 nothing true = refl
 nothing false = refl
 
 is_there : {X : Type 0} {o : Option X} {x : X} → o ≡ Some x → IsSome o
+unfolding schema
 is_there e = ap is_some e
 
 module _ (c : Contents) (kept : GrantsInScope c) (u p : Text) (g : Grant) where
   -- whoever's team has a grant on the package, it is one of its scope
   scope_is : (k : Triple) → grants (at c.grants (k.0, (k.1.0, p))) g ≡ true → scope_of p ≡ Some k.0
+  unfolding schema
   scope_is k t = kept k.0 k.1.0 p (is_there (granted_some _ g t).1)
 
   pub scoped_are_all : (o : Text) → scope_of p ≡ Some o → granted_in c o u p g ≡ team_granted (access_of c) u p g
+  unfolding schema
   scoped_are_all o scope = λ i. list_any (λ k. same k i) (keys (entries c.team_members))
     where
       same : (k : Triple) → (pair_is (o, u) (k.0, k.1.1) && grants (at c.grants (k.0, (k.1.0, p))) g) ≡ (is k.1.1 u && grants (at c.grants (k.0, (k.1.0, p))) g)
@@ -140,6 +150,7 @@ module _ (c : Contents) (kept : GrantsInScope c) (u p : Text) (g : Grant) where
       ]
 
   pub unscoped_have_none : scope_of p ≡ None → team_granted (access_of c) u p g ≡ false
+  unfolding schema
   unscoped_have_none none = false_from_ne_true _ (λ any.
       let k = some_has (λ (k : Triple). is k.1.1 u && grants (at c.grants (k.0, (k.1.0, p))) g) (keys (entries c.team_members)) any in
       let scope = scope_is k.0 (and_parts _ _ k.2).1 in

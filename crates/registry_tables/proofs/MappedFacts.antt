@@ -12,47 +12,61 @@ pub users_mapped : IsMapped schema contents 0 table.users 0 nothing_in (λ c m. 
 users_mapped = record { found = refl; shape = refl; indexed = refl; plain = refl; texts = refl; depends = contents_depend; alone = λ db rows. refl }
 
 pub tokens_mapped : IsMappedByBytes schema contents 1 table.tokens user_in (λ c m. record c { tokens = m })
+unfolding schema
 tokens_mapped = record { found = refl; shape = refl; indexed = refl; plain = refl; begins = refl; depends = contents_depend; alone = λ db rows. refl }
 
 pub orgs_mapped : IsMapped schema contents 2 table.orgs 0 nothing_in (λ c m. record c { orgs = m })
+unfolding schema
 orgs_mapped = record { found = refl; shape = refl; indexed = refl; plain = refl; texts = refl; depends = contents_depend; alone = λ db rows. refl }
 
 pub members_mapped : IsMapped schema contents 3 table.members 1 role_in (λ c m. record c { members = m })
+unfolding schema
 members_mapped = record { found = refl; shape = refl; indexed = refl; plain = refl; texts = refl; depends = contents_depend; alone = λ db rows. refl }
 
 pub teams_mapped : IsMapped schema contents 4 table.teams 1 nothing_in (λ c m. record c { teams = m })
+unfolding schema
 teams_mapped = record { found = refl; shape = refl; indexed = refl; plain = refl; texts = refl; depends = contents_depend; alone = λ db rows. refl }
 
 pub team_members_mapped : IsMapped schema contents 5 table.team_members 2 nothing_in (λ c m. record c { team_members = m })
+unfolding schema
 team_members_mapped = record { found = refl; shape = refl; indexed = refl; plain = refl; texts = refl; depends = contents_depend; alone = λ db rows. refl }
 
 pub packages_mapped : IsMapped schema contents 6 table.packages 0 status_in (λ c m. record c { packages = m })
+unfolding schema
 packages_mapped = record { found = refl; shape = refl; indexed = refl; plain = refl; texts = refl; depends = contents_depend; alone = λ db rows. refl }
 
 pub grants_mapped : IsMapped schema contents 7 table.grants 2 grant_in (λ c m. record c { grants = m })
+unfolding schema
 grants_mapped = record { found = refl; shape = refl; indexed = refl; plain = refl; texts = refl; depends = contents_depend; alone = λ db rows. refl }
 
 pub owners_mapped : IsMapped schema contents 8 table.owners 1 nothing_in (λ c m. record c { owners = m })
+unfolding schema
 owners_mapped = record { found = refl; shape = refl; indexed = refl; plain = refl; texts = refl; depends = contents_depend; alone = λ db rows. refl }
 
 pub versions_mapped : IsMapped schema contents 9 table.versions 1 release_in (λ c m. record c { versions = m })
+unfolding schema
 versions_mapped = record { found = refl; shape = refl; indexed = refl; plain = refl; texts = refl; depends = contents_depend; alone = λ db rows. refl }
 
 pub tags_mapped : IsMapped schema contents 11 table.tags 1 named_in (λ c m. record c { tags = m })
+unfolding schema
 tags_mapped = record { found = refl; shape = refl; indexed = refl; plain = refl; texts = refl; depends = contents_depend; alone = λ db rows. refl }
 
 pub need_ranges_mapped : IsMapped schema contents 14 table.need_ranges 3 nothing_in (λ c m. record c { need_ranges = m })
+unfolding schema
 need_ranges_mapped = record { found = refl; shape = refl; indexed = refl; plain = refl; texts = refl; depends = contents_depend; alone = λ db rows. refl }
 
 pub spent_mapped : IsMapped schema contents 10 table.spent 1 withdrawal_in (λ c m. record c { spent = m })
+unfolding schema
 spent_mapped = record { found = refl; shape = refl; indexed = refl; plain = refl; texts = refl; depends = contents_depend; alone = λ db rows. refl }
 
 pub held_mapped : IsMapped schema contents 15 table.held 1 held_in (λ c m. record c { held = m })
+unfolding schema
 held_mapped = record { found = refl; shape = refl; indexed = refl; plain = refl; texts = refl; depends = contents_depend; alone = λ db rows. refl }
 
 pub archives_numbered : IsNumbered schema contents 16 table.archives archive_in (λ c m. record c { archives = m })
+unfolding schema
 archives_numbered = record { found = refl; shape = refl; plain = refl; depends = contents_depend; alone = λ db rows. refl }
 
 pub archives_counted : IsCounted schema contents table.archives table.counters.tree (λ c n. record c { last_archive = n })
-unfolding everything
+unfolding everything schema
 archives_counted = record { counts = refl; sequence_is = refl; apart = refl; quiet = refl; counted = λ db rows. refl }

@@ -38,11 +38,12 @@ abbrev put_cells : List Term
 put_cells = col 0 0 ∷ col 0 1 ∷ col 0 2 ∷ []
 
 put_means : Means schema put_text (Insert 3 (Values (lit Null ∷ put_cells) 4))
-unfolding understood everything
+unfolding understood everything schema
 put_means = (refl, (refl, refl))
 
 pub member_put : (o u : Text) (role : Role) (old new : Shown) → Ready schema old → Wrote put_text (Stored o ∷ Stored u ∷ Int (pos (role_number role)) ∷ []) old new → HasCleanDisk new
     → Leaves schema contents (record (stored old) { members = put (stored old).members (o, u) role }) new
+unfolding schema
 member_put o u Developer old new form call = insert_puts members_mapped put_text put_cells put_means (Stored o ∷ Stored u ∷ Int (pos 0) ∷ []) refl old new (Ok call.0) form call.1
 member_put o u Admin old new form call = insert_puts members_mapped put_text put_cells put_means (Stored o ∷ Stored u ∷ Int (pos 1) ∷ []) refl old new (Ok call.0) form call.1
 member_put o u Owner old new form call = insert_puts members_mapped put_text put_cells put_means (Stored o ∷ Stored u ∷ Int (pos 2) ∷ []) refl old new (Ok call.0) form call.1
@@ -57,11 +58,12 @@ abbrev sets : List (Option ℕ)
 sets = None ∷ None ∷ Some 2 ∷ []
 
 set_means : Means schema set_text (Update 3 (record { lets = []; body = scan 6 (by_texts 1 1 0) (col 1 0 ∷ col 1 0 ∷ set_terms 1 sets) [] }))
-unfolding understood everything
+unfolding understood everything schema
 set_means = (refl, (refl, refl))
 
 pub member_set : (o u : Text) (role : Role) (old new : Shown) → Ready schema old → Wrote set_text (Stored o ∷ Stored u ∷ Int (pos (role_number role)) ∷ []) old new → HasCleanDisk new
     → Leaves schema contents (record (stored old) { members = amended (stored old).members (o, u) role }) new
+unfolding schema
 member_set o u Developer old new form call clean = subst (λ m. Leaves schema contents (record (stored old) { members = m }) new) (revised pair_key (stored old).members (o, u) Developer)
     (update_revises members_mapped set_text sets set_means refl (o, u) (Int (pos 0) ∷ []) refl (λ _. Developer) (λ vs. refl) (λ vs. refl) old new (Ok call.0) form call.1 clean)
 member_set o u Admin old new form call clean = subst (λ m. Leaves schema contents (record (stored old) { members = m }) new) (revised pair_key (stored old).members (o, u) Admin)
@@ -75,11 +77,12 @@ abbrev find_text : List ℕ
 find_text = codes "SELECT role FROM members WHERE org = ?1 AND user = ?2"
 
 find_means : MeansQuery schema find_text (Select (record { lets = []; body = scan 6 (by_texts 1 1 0) (col 1 3 ∷ []) [] }) (codes "role" ∷ []))
-unfolding understood everything
+unfolding understood everything schema
 find_means = ((refl, (refl, refl)), refl)
 
 pub role_found : (o u : Text) (old new : Shown) (rows : List Row) → Ready schema old → Queried find_text (Stored o ∷ Stored u ∷ []) old new rows → HasCleanDisk new
     → Reads schema old new × (option_map role_spelled (slice_get rows 0) ≡ at (stored old).members (o, u))
+unfolding schema
 role_found o u old new rows form call clean =
     let it = select_finds members_mapped find_text (col 1 3 ∷ []) _ find_means (o, u) role_spelled (λ (role : Role). role) (λ id vs. refl) old new rows form call clean in
     (it.0, first_listed role_spelled rows _ it.1 ∙ option_map_id (at (stored old).members (o, u)))
@@ -91,16 +94,18 @@ abbrev list_columns : List Term
 list_columns = col 1 2 ∷ col 1 3 ∷ []
 
 list_means : MeansQuery schema list_text (Select (record { lets = []; body = scan 6 (by_texts 0 1 0) list_columns (in_order 0 2) }) (codes "user" ∷ codes "role" ∷ []))
-unfolding understood everything
+unfolding understood everything schema
 list_means = ((refl, (refl, refl)), refl)
 
 pub members_listed : (o : Text) (old new : Shown) (rows : List Row) → Ready schema old → Queried list_text (Stored o ∷ []) old new rows → HasCleanDisk new
     → Reads schema old new × (map member_spelled rows ≡ of (stored old).members o)
+unfolding schema
 members_listed o old new rows form call clean =
     let it = select_lists members_mapped list_text list_columns _ list_means o member_spelled (λ (role : Role). role) (λ id vs. refl) old new rows form call clean in
     (it.0, it.1 ∙ seen_as_is (of (stored old).members o))
 
 -- a test of members is one of their entries
 pub any_listed : (test : Text × Role → Bool) (members : List Member) → list_any (λ m. test (member_entry m)) members ≡ list_any test (map member_entry members)
+unfolding schema
 any_listed test [] = refl
 any_listed test (m ∷ members) = ap (λ b. test (member_entry m) || b) (any_listed test members)

@@ -24,6 +24,7 @@ use Rattle.registry_tables.specs.Fresh.{schema_key, with_number}
 use Rattle.registry_tables.proofs.ContentsFacts.{contents_depend}
 
 pub meta_mapped : IsMapped schema contents 13 table.meta 0 number_named_in (λ c m. record c { meta = m })
+unfolding schema
 meta_mapped = record { found = refl; shape = refl; indexed = refl; plain = refl; texts = refl; depends = contents_depend; alone = λ db rows. refl }
 
 abbrev insert_text : List ℕ
@@ -33,11 +34,12 @@ abbrev cells : List Term
 cells = lit (Stored (codes "schema")) ∷ col 0 0 ∷ []
 
 insert_means : Means schema insert_text (Insert 13 (Values (lit Null ∷ cells) 3))
-unfolding understood everything
+unfolding understood everything schema
 insert_means = (refl, (refl, refl))
 
 pub number_put : (number : ℕ) (old new : State) → Ready schema old → Wrote insert_text (Int (pos number) ∷ []) old new → HasCleanDisk new
     → Leaves schema contents (with_number (stored old) number) new
+unfolding schema
 number_put number old new form call = insert_puts meta_mapped insert_text cells insert_means (Int (pos number) ∷ []) refl old new (Ok call.0) form call.1
 
 -- ---- SELECT value FROM meta WHERE name = ?1
@@ -46,11 +48,12 @@ abbrev select_text : List ℕ
 select_text = codes "SELECT value FROM meta WHERE name = ?1"
 
 select_means : MeansQuery schema select_text (Select (record { lets = []; body = scan 26 (by_texts 0 1 0) (col 1 2 ∷ []) [] }) (codes "value" ∷ []))
-unfolding understood everything
+unfolding understood everything schema
 select_means = ((refl, (refl, refl)), refl)
 
 pub number_found : (old new : State) (rows : List Row) → Ready schema old → Queried select_text (Stored schema_key ∷ []) old new rows → HasCleanDisk new
     → Reads schema old new × (option_map (λ r. number_in (column r 0)) (slice_get rows 0) ≡ at (stored old).meta schema_key)
+unfolding schema
 number_found old new rows form call clean =
     let it = select_finds meta_mapped select_text (col 1 2 ∷ []) (codes "value" ∷ []) select_means schema_key (λ r. number_in (column r 0)) (λ n. n) (λ id vs. refl) old new rows form call clean in
     (it.0, first_listed (λ r. number_in (column r 0)) rows _ it.1 ∙ as_is (at (stored old).meta schema_key))

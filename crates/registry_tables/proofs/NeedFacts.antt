@@ -39,11 +39,12 @@ abbrev put_cells : List Term
 put_cells = col 0 0 ∷ col 0 1 ∷ col 0 2 ∷ col 0 3 ∷ []
 
 put_means : Means schema put_text (Insert 14 (Values (lit Null ∷ put_cells) 5))
-unfolding understood everything
+unfolding understood everything schema
 put_means = (refl, (refl, refl))
 
 pub need_put : (p v : Text) (need : Need) (old new : Shown) → Ready schema old → Wrote put_text (Stored p ∷ Stored v ∷ Stored need.target ∷ Stored need.range ∷ []) old new → HasCleanDisk new
     → Leaves schema contents (record (stored old) { need_ranges = with_need (stored old).need_ranges p v need }) new
+unfolding schema
 need_put p v need old new form call = insert_puts need_ranges_mapped put_text put_cells put_means (Stored p ∷ Stored v ∷ Stored need.target ∷ Stored need.range ∷ []) refl old new (Ok call.0) form call.1
 
 -- ---- SELECT
@@ -52,11 +53,12 @@ abbrev find_text : List ℕ
 find_text = codes "SELECT target FROM need_ranges WHERE package = ?1 AND version = ?2 AND target = ?3 AND range = ?4"
 
 find_means : MeansQuery schema find_text (Select (record { lets = []; body = scan 28 (by_texts 3 1 0) (col 1 3 ∷ []) [] }) (codes "target" ∷ []))
-unfolding understood everything
+unfolding understood everything schema
 find_means = ((refl, (refl, refl)), refl)
 
 pub need_found : (p v : Text) (need : Need) (old new : Shown) (rows : List Row) → Ready schema old → Queried find_text (Stored p ∷ Stored v ∷ Stored need.target ∷ Stored need.range ∷ []) old new rows → HasCleanDisk new
     → Reads schema old new × (not (length rows == 0) ≡ is_some (at (stored old).need_ranges (need_key p v need)))
+unfolding schema
 need_found p v need old new rows form call clean =
     let it = select_finds need_ranges_mapped find_text (col 1 3 ∷ []) _ find_means (need_key p v need) nothing_in (λ u. u) (λ id vs. refl) old new rows form call clean in
     (it.0, some_found nothing_in rows _ it.1 ∙ ap is_some (option_map_id (at (stored old).need_ranges (need_key p v need))))
@@ -65,6 +67,7 @@ need_found p v need old new rows form call clean =
 
 -- a key that is there is put for nothing
 there_already : (m : TextsMap 3 (Unit {0})) (q : Texts 3) → is_some (at m q) ≡ true → put m q tt ≡ m
+unfolding schema
 there_already m q there = same_map (texts_key 3) _ _ (λ k. at-put (texts_key 3) m q tt k ∙ each k (texts_are 3 q k) refl)
   where
     is_there : (o : Option (Unit {0})) → is_some o ≡ true → Some tt ≡ o
@@ -77,15 +80,18 @@ there_already m q there = same_map (texts_key 3) _ _ (λ k. at-put (texts_key 3)
 
 -- a need that is there stands already
 pub stands_already : (p v : Text) (need : Need) (c : Contents) → is_some (at c.need_ranges (need_key p v need)) ≡ true → c ≡ record c { need_ranges = with_need c.need_ranges p v need }
+unfolding schema
 stands_already p v need c there = λ i. record c { need_ranges = sym (there_already c.need_ranges (need_key p v need) there) i }
 
 with_needs-more : (p v : Text) (needs : List Need) (need : Need) (m : TextsMap 3 (Unit {0})) → with_needs m p v (needs ++ need ∷ []) ≡ with_need (with_needs m p v needs) p v need
+unfolding schema
 with_needs-more p v [] need m = refl
 with_needs-more p v (first ∷ needs) need m = with_needs-more p v needs need (with_need m p v first)
 
 -- one more need of the list
 pub needs_next : (p v : Text) (needs : List Need) (i : ℕ) (need : Need) (first mid new : Contents) → i < length needs → need ≡ get_or needs i need → mid ≡ record first { need_ranges = with_needs first.need_ranges p v (take i needs) }
     → new ≡ record mid { need_ranges = with_need mid.need_ranges p v need } → new ≡ record first { need_ranges = with_needs first.need_ranges p v (take (i + 1) needs) }
+unfolding schema
 needs_next p v needs i need first mid new within is_next so_far once =
     let more : take (i + 1) needs ≡ take i needs ++ need ∷ [] = take_more needs i need within ∙ ap (λ n. take i needs ++ n ∷ []) (sym is_next) in
     once ∙ ap (λ (c : Contents). record c { need_ranges = with_need c.need_ranges p v need }) so_far

@@ -29,11 +29,12 @@ abbrev put_cells : List Term
 put_cells = col 0 0 ∷ []
 
 put_means : Means schema put_text (Insert 2 (Values (lit Null ∷ put_cells) 2))
-unfolding understood everything
+unfolding understood everything schema
 put_means = (refl, (refl, refl))
 
 pub organisation_put : (o : Text) (old new : Shown) → Ready schema old → Wrote put_text (Stored o ∷ []) old new → HasCleanDisk new
     → Leaves schema contents (record (stored old) { orgs = put (stored old).orgs o tt }) new
+unfolding schema
 organisation_put o old new form call = insert_puts orgs_mapped put_text put_cells put_means (Stored o ∷ []) refl old new (Ok call.0) form call.1
 
 -- ---- SELECT
@@ -42,9 +43,10 @@ abbrev find_text : List ℕ
 find_text = codes "SELECT name FROM orgs WHERE name = ?1"
 
 find_means : MeansQuery schema find_text (Select (record { lets = []; body = scan 4 (by_texts 0 1 0) (col 1 1 ∷ []) [] }) (codes "name" ∷ []))
-unfolding understood everything
+unfolding understood everything schema
 find_means = ((refl, (refl, refl)), refl)
 
 pub organisation_found : (o : Text) (old new : Shown) (rows : List Row) → Ready schema old → Queried find_text (Stored o ∷ []) old new rows → HasCleanDisk new
     → Reads schema old new × (not (length rows == 0) ≡ is_some (at (stored old).orgs o))
+unfolding schema
 organisation_found o = there_found orgs_mapped find_text (col 1 1 ∷ []) _ find_means o

@@ -44,6 +44,7 @@ abbrev HeldRow : Row → Type 0
 HeldRow r = (id : Value) × (p : Text) × (v : Text) × (n : ℤ) × (r ≡ id ∷ Stored p ∷ Stored v ∷ Int n ∷ [])
 
 held_values : (id : Value) (vs r : Row) → r ≡ id ∷ vs → AreOf table.held.columns vs → HeldRow r
+unfolding schema
 held_values id [] r e h = absurd h
 held_values id (a ∷ []) r e h = absurd h.1
 held_values id (a ∷ b ∷ []) r e h = absurd h.1.1
@@ -52,28 +53,30 @@ held_values id (a ∷ b ∷ c ∷ []) r e h =
 held_values id (a ∷ b ∷ c ∷ d ∷ vs) r e h = absurd h.1.1.1
 
 to_archives : parent_key schema.tables (reference (3 ∷ []) (codes "archives") NoAction) ≡ Some (table.archives.tree, 0 ∷ [], plain)
-unfolding everything
+unfolding everything schema
 to_archives = refl
 
 to_versions : parent_key schema.tables (reference (1 ∷ 2 ∷ []) (codes "versions") Cascade) ≡ Some (table.versions.tree, 1 ∷ 2 ∷ [], plain)
-unfolding everything
+unfolding everything schema
 to_versions = refl
 
 module _ (s : State) (ready : IsReady schema s) where
   held_row : (r : Row) → Has (s.now.trees table.held.tree) r → HeldRow r
+  unfolding schema
   held_row r h =
       let parts = row_parts r (all_has _ (s.now.trees table.held.tree) r (table_rowids schema s 15 table.held ready refl).1 h) in
       held_values parts.0 (drop 1 r) r parts.1 (types_of held_mapped s ready r h)
 
   -- what the map has was read off a row
   row_for : (k : Pair) (n : ℤ) → at (stored s).held k ≡ Some n → (r : Row) × Has (s.now.trees table.held.tree) r × HeldRow r × (key_of 1 r ≡ k) × (int_in (column (drop 1 r) 2) ≡ n)
+  unfolding schema
   row_for k n e =
       let it = (rows_tell_by (by_texts_given held_mapped) s ready k n).0 e in
       (it.0, it.1, held_row it.0 it.1, it.2, it.3)
 
   -- the row of its archive
   pub archive_there : (k : Pair) (n : ℤ) → at (stored s).held k ≡ Some n → is_some (at (stored s).archives n) ≡ true
-  unfolding first_key
+  unfolding first_key schema
   archive_there k n e =
       let row = row_for k n e in
       let r = row.0 in
@@ -91,7 +94,7 @@ module _ (s : State) (ready : IsReady schema s) where
 
   -- the row of its version
   pub version_there : (k : Pair) (n : ℤ) → at (stored s).held k ≡ Some n → is_some (at (stored s).versions k) ≡ true
-  unfolding first_key
+  unfolding first_key schema
   version_there k n e =
       let row = row_for k n e in
       let r = row.0 in
@@ -117,4 +120,5 @@ module _ (s : State) (ready : IsReady schema s) where
       told t x is h = same_true text_key t (text_in x) (sym (text_test (text_in x) t) ∙ subst (λ y. is_true (binary (Compare Eq Binary) y (Stored t)) ≡ true) is h)
 
   pub held_stored : HeldAreStored (stored s)
+  unfolding schema
   held_stored = archive_there

@@ -18,76 +18,76 @@ pub record AddsTable (n : ℕ) (sql : List ℕ) : Type 0 where
   pub next : created (first_tables n) table ≡ first_tables (suc n)
 
 adds_users : AddsTable 0 (get_or creation 0 [])
-unfolding understood everything creation
+unfolding understood everything creation schema
 adds_users = record { table = record table.users { tree = 0 }; means = record { command = (refl, (refl, refl)); text = refl; defined = refl; bare = refl }; next = refl }
 
 adds_tokens : AddsTable 1 (get_or creation 1 [])
-unfolding understood everything creation
+unfolding understood everything creation schema
 adds_tokens = record { table = record table.tokens { tree = 0 }; means = record { command = (refl, (refl, refl)); text = refl; defined = refl; bare = refl }; next = refl }
 
 adds_orgs : AddsTable 2 (get_or creation 2 [])
-unfolding understood everything creation
+unfolding understood everything creation schema
 adds_orgs = record { table = record table.orgs { tree = 0 }; means = record { command = (refl, (refl, refl)); text = refl; defined = refl; bare = refl }; next = refl }
 
 adds_members : AddsTable 3 (get_or creation 3 [])
-unfolding understood everything creation
+unfolding understood everything creation schema
 adds_members = record { table = record table.members { tree = 0 }; means = record { command = (refl, (refl, refl)); text = refl; defined = refl; bare = refl }; next = refl }
 
 adds_teams : AddsTable 4 (get_or creation 4 [])
-unfolding understood everything creation
+unfolding understood everything creation schema
 adds_teams = record { table = record table.teams { tree = 0 }; means = record { command = (refl, (refl, refl)); text = refl; defined = refl; bare = refl }; next = refl }
 
 adds_team_members : AddsTable 5 (get_or creation 5 [])
-unfolding understood everything creation
+unfolding understood everything creation schema
 adds_team_members = record { table = record table.team_members { tree = 0 }; means = record { command = (refl, (refl, refl)); text = refl; defined = refl; bare = refl }; next = refl }
 
 adds_packages : AddsTable 6 (get_or creation 6 [])
-unfolding understood everything creation
+unfolding understood everything creation schema
 adds_packages = record { table = record table.packages { tree = 0 }; means = record { command = (refl, (refl, refl)); text = refl; defined = refl; bare = refl }; next = refl }
 
 adds_grants : AddsTable 7 (get_or creation 7 [])
-unfolding understood everything creation
+unfolding understood everything creation schema
 adds_grants = record { table = record table.grants { tree = 0 }; means = record { command = (refl, (refl, refl)); text = refl; defined = refl; bare = refl }; next = refl }
 
 adds_owners : AddsTable 8 (get_or creation 8 [])
-unfolding understood everything creation
+unfolding understood everything creation schema
 adds_owners = record { table = record table.owners { tree = 0 }; means = record { command = (refl, (refl, refl)); text = refl; defined = refl; bare = refl }; next = refl }
 
 adds_versions : AddsTable 9 (get_or creation 9 [])
-unfolding understood everything creation
+unfolding understood everything creation schema
 adds_versions = record { table = record table.versions { tree = 0 }; means = record { command = (refl, (refl, refl)); text = refl; defined = refl; bare = refl }; next = refl }
 
 adds_spent : AddsTable 10 (get_or creation 10 [])
-unfolding understood everything creation
+unfolding understood everything creation schema
 adds_spent = record { table = record table.spent { tree = 0 }; means = record { command = (refl, (refl, refl)); text = refl; defined = refl; bare = refl }; next = refl }
 
 adds_tags : AddsTable 11 (get_or creation 11 [])
-unfolding understood everything creation
+unfolding understood everything creation schema
 adds_tags = record { table = record table.tags { tree = 0 }; means = record { command = (refl, (refl, refl)); text = refl; defined = refl; bare = refl }; next = refl }
 
 adds_needs : AddsTable 12 (get_or creation 12 [])
-unfolding understood everything creation
+unfolding understood everything creation schema
 adds_needs = record { table = record table.needs { tree = 0 }; means = record { command = (refl, (refl, refl)); text = refl; defined = refl; bare = refl }; next = refl }
 
 adds_meta : AddsTable 13 (get_or creation 13 [])
-unfolding understood everything creation
+unfolding understood everything creation schema
 adds_meta = record { table = record table.meta { tree = 0 }; means = record { command = (refl, (refl, refl)); text = refl; defined = refl; bare = refl }; next = refl }
 
 adds_need_ranges : AddsTable 14 (get_or creation 14 [])
-unfolding understood everything creation
+unfolding understood everything creation schema
 adds_need_ranges = record { table = record table.need_ranges { tree = 0 }; means = record { command = (refl, (refl, refl)); text = refl; defined = refl; bare = refl }; next = refl }
 
 adds_held : AddsTable 15 (get_or creation 15 [])
-unfolding understood everything creation
+unfolding understood everything creation schema
 adds_held = record { table = record table.held { tree = 0 }; means = record { command = (refl, (refl, refl)); text = refl; defined = refl; bare = refl }; next = refl }
 
 -- the archives are the first table that counts
 pub means_archives : MeansFirstCounted (first_tables 16) (get_or creation 16 []) (record table.archives { tree = 0 })
-unfolding understood everything creation
+unfolding understood everything creation schema
 means_archives = record { command = (refl, (refl, refl)); text = refl; defined = refl; first = refl }
 
 pub means_index : MeansIndex (schema_after 17) (get_or creation 17 []) 16 table.archives (record table.archives_by_integrity { tree = 0 })
-unfolding understood everything creation
+unfolding understood everything creation schema
 means_index = record { command = (refl, (refl, refl)); text = refl; found = refl; defined = refl }
 
 -- the texts add tables one after another
@@ -96,27 +96,29 @@ AddsAll n [] = Unit {0}
 AddsAll n (sql ∷ sqls) = AddsTable n sql × AddsAll (suc n) sqls
 
 each_adds : (sqls : List (List ℕ)) (n i : ℕ) → AddsAll n sqls → i < length sqls → AddsTable (n + i) (get_or sqls i [])
+unfolding schema
 each_adds [] n i all within = absurd (omega arith)
 each_adds (sql ∷ sqls) n zero all within = let same : n ≡ n + 0 = omega arith in subst (λ k. AddsTable k sql) same all.0
 each_adds (sql ∷ sqls) n (suc i) all within = let same : suc n + i ≡ n + suc i = omega arith in subst (λ k. AddsTable k (get_or sqls i [])) same (each_adds sqls (suc n) i all.1 (omega arith))
 
 all_add : AddsAll 0 (take 16 creation)
-unfolding creation
+unfolding creation schema
 all_add = (adds_users, (adds_tokens, (adds_orgs, (adds_members, (adds_teams, (adds_team_members, (adds_packages, (adds_grants, (adds_owners, (adds_versions, (adds_spent, (adds_tags, (adds_needs, (adds_meta, (adds_need_ranges, (adds_held, tt))))))))))))))))
 
 first_length : length (take 16 creation) ≡ 16
-unfolding creation
+unfolding creation schema
 first_length = refl
 
 -- each of the first sixteen
 pub adds : (i : ℕ) → i < 16 → AddsTable i (get_or creation i [])
+unfolding schema
 adds i within =
     let long : length (take 16 creation) ≡ 16 = first_length in
     let same : 0 + i ≡ i = omega arith in
     subst (λ sql. AddsTable i sql) (get_or-take 16 creation i [] within) (subst (λ k. AddsTable k (get_or (take 16 creation) i [])) same (each_adds (take 16 creation) 0 i all_add (omega (arith, long, within))))
 
 pub creation_length : length creation ≡ 18
-unfolding creation
+unfolding creation schema
 creation_length = refl
 
 -- where all tables are there, the first text can't be run

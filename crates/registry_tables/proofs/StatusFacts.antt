@@ -36,11 +36,12 @@ abbrev put_cells : List Term
 put_cells = col 0 0 ∷ col 0 1 ∷ []
 
 put_means : Means schema put_text (Insert 6 (Values (lit Null ∷ put_cells) 3))
-unfolding understood everything
+unfolding understood everything schema
 put_means = (refl, (refl, refl))
 
 pub status_put : (p : Text) (status : Status) (old new : Shown) → Ready schema old → Wrote put_text (Stored p ∷ Int (pos (status_number status)) ∷ []) old new → HasCleanDisk new
     → Leaves schema contents (record (stored old) { packages = put (stored old).packages p status }) new
+unfolding schema
 status_put p Public old new form call = insert_puts packages_mapped put_text put_cells put_means (Stored p ∷ Int (pos 1) ∷ []) refl old new (Ok call.0) form call.1
 status_put p Restricted old new form call = insert_puts packages_mapped put_text put_cells put_means (Stored p ∷ Int (pos 0) ∷ []) refl old new (Ok call.0) form call.1
 
@@ -54,11 +55,12 @@ abbrev sets : List (Option ℕ)
 sets = None ∷ Some 1 ∷ []
 
 set_means : Means schema set_text (Update 6 (record { lets = []; body = scan 12 (by_texts 0 1 0) (col 1 0 ∷ col 1 0 ∷ set_terms 1 sets) [] }))
-unfolding understood everything
+unfolding understood everything schema
 set_means = (refl, (refl, refl))
 
 pub status_set : (p : Text) (status : Status) (old new : Shown) → Ready schema old → Wrote set_text (Stored p ∷ Int (pos (status_number status)) ∷ []) old new → HasCleanDisk new
     → Leaves schema contents (record (stored old) { packages = amended (stored old).packages p status }) new
+unfolding schema
 status_set p Public old new form call clean = subst (λ m. Leaves schema contents (record (stored old) { packages = m }) new) (revised text_key (stored old).packages p Public)
     (update_revises packages_mapped set_text sets set_means refl p (Int (pos 1) ∷ []) refl (λ _. Public) (λ vs. refl) (λ vs. refl) old new (Ok call.0) form call.1 clean)
 status_set p Restricted old new form call clean = subst (λ m. Leaves schema contents (record (stored old) { packages = m }) new) (revised text_key (stored old).packages p Restricted)
@@ -70,11 +72,12 @@ abbrev find_text : List ℕ
 find_text = codes "SELECT status FROM packages WHERE name = ?1"
 
 find_means : MeansQuery schema find_text (Select (record { lets = []; body = scan 12 (by_texts 0 1 0) (col 1 2 ∷ []) [] }) (codes "status" ∷ []))
-unfolding understood everything
+unfolding understood everything schema
 find_means = ((refl, (refl, refl)), refl)
 
 pub status_found : (p : Text) (old new : Shown) (rows : List Row) → Ready schema old → Queried find_text (Stored p ∷ []) old new rows → HasCleanDisk new
     → Reads schema old new × (option_map status_spelled (slice_get rows 0) ≡ at (stored old).packages p)
+unfolding schema
 status_found p old new rows form call clean =
     let it = select_finds packages_mapped find_text (col 1 2 ∷ []) _ find_means p status_spelled (λ (s : Status). s) (λ id vs. refl) old new rows form call clean in
     (it.0, first_listed status_spelled rows _ it.1 ∙ option_map_id (at (stored old).packages p))

@@ -36,11 +36,12 @@ abbrev put_cells : List Term
 put_cells = col 0 0 ∷ col 0 1 ∷ col 0 2 ∷ []
 
 put_means : Means schema put_text (Insert 11 (Values (lit Null ∷ put_cells) 4))
-unfolding understood everything
+unfolding understood everything schema
 put_means = (refl, (refl, refl))
 
 pub tag_put : (p t v : Text) (old new : Shown) → Ready schema old → Wrote put_text (Stored p ∷ Stored t ∷ Stored v ∷ []) old new → HasCleanDisk new
     → Leaves schema contents (record (stored old) { tags = put (stored old).tags (p, t) v }) new
+unfolding schema
 tag_put p t v old new form call = insert_puts tags_mapped put_text put_cells put_means (Stored p ∷ Stored t ∷ Stored v ∷ []) refl old new (Ok call.0) form call.1
 
 -- ---- UPDATE
@@ -53,11 +54,12 @@ abbrev sets : List (Option ℕ)
 sets = None ∷ None ∷ Some 2 ∷ []
 
 set_means : Means schema set_text (Update 11 (record { lets = []; body = scan 22 (by_texts 1 1 0) (col 1 0 ∷ col 1 0 ∷ set_terms 1 sets) [] }))
-unfolding understood everything
+unfolding understood everything schema
 set_means = (refl, (refl, refl))
 
 pub tag_moved : (p t v : Text) (old new : Shown) → Ready schema old → Wrote set_text (Stored p ∷ Stored t ∷ Stored v ∷ []) old new → HasCleanDisk new
     → Leaves schema contents (record (stored old) { tags = amended (stored old).tags (p, t) v }) new
+unfolding schema
 tag_moved p t v old new form call clean = subst (λ m. Leaves schema contents (record (stored old) { tags = m }) new) (revised pair_key (stored old).tags (p, t) v)
     (update_revises tags_mapped set_text sets set_means refl (p, t) (Stored v ∷ []) refl (λ _. v) (λ vs. refl) (λ vs. refl) old new (Ok call.0) form call.1 clean)
 
@@ -67,16 +69,17 @@ abbrev drop_text : List ℕ
 drop_text = codes "DELETE FROM tags WHERE package = ?1 AND tag = ?2"
 
 drop_means : Means schema drop_text (Delete 11 (record { lets = []; body = scan 22 (by_texts 1 1 0) (col 1 0 ∷ []) [] }))
-unfolding understood everything
+unfolding understood everything schema
 drop_means = (refl, (refl, refl))
 
 -- nothing refers to a tag
 nothing_refers : IsUncascaded schema table.tags
-unfolding everything
+unfolding everything schema
 nothing_refers olds = refl
 
 pub tag_dropped : (p t : Text) (old new : Shown) → Ready schema old → Wrote drop_text (Stored p ∷ Stored t ∷ []) old new → HasCleanDisk new
     → Leaves schema contents (record (stored old) { tags = erase (stored old).tags (p, t) }) new
+unfolding schema
 tag_dropped p t old new form call = delete_erases tags_mapped drop_text drop_means nothing_refers (p, t) old new (Ok call.0) form call.1
 
 -- ---- SELECT
@@ -85,17 +88,19 @@ abbrev find_text : List ℕ
 find_text = codes "SELECT version FROM tags WHERE package = ?1 AND tag = ?2"
 
 find_means : MeansQuery schema find_text (Select (record { lets = []; body = scan 22 (by_texts 1 1 0) (col 1 3 ∷ []) [] }) (codes "version" ∷ []))
-unfolding understood everything
+unfolding understood everything schema
 find_means = ((refl, (refl, refl)), refl)
 
 pub tag_found : (p t : Text) (old new : Shown) (rows : List Row) → Ready schema old → Queried find_text (Stored p ∷ Stored t ∷ []) old new rows → HasCleanDisk new
     → Reads schema old new × (not (length rows == 0) ≡ is_some (at (stored old).tags (p, t)))
+unfolding schema
 tag_found p t old new rows form call clean =
     let it = select_finds tags_mapped find_text (col 1 3 ∷ []) _ find_means (p, t) named_spelled (λ (v : Text). v) (λ id vs. refl) old new rows form call clean in
     (it.0, some_found named_spelled rows _ it.1 ∙ ap is_some (option_map_id (at (stored old).tags (p, t))))
 
 pub tag_named : (p t : Text) (old new : Shown) (rows : List Row) → Ready schema old → Queried find_text (Stored p ∷ Stored t ∷ []) old new rows → HasCleanDisk new
     → Reads schema old new × (option_map named_spelled (slice_get rows 0) ≡ at (stored old).tags (p, t))
+unfolding schema
 tag_named p t old new rows form call clean =
     let it = select_finds tags_mapped find_text (col 1 3 ∷ []) _ find_means (p, t) named_spelled (λ (v : Text). v) (λ id vs. refl) old new rows form call clean in
     (it.0, first_listed named_spelled rows _ it.1 ∙ option_map_id (at (stored old).tags (p, t)))
@@ -107,11 +112,12 @@ abbrev list_columns : List Term
 list_columns = col 1 2 ∷ col 1 3 ∷ []
 
 list_means : MeansQuery schema list_text (Select (record { lets = []; body = scan 22 (by_texts 0 1 0) list_columns (in_order 0 2) }) (codes "tag" ∷ codes "version" ∷ []))
-unfolding understood everything
+unfolding understood everything schema
 list_means = ((refl, (refl, refl)), refl)
 
 pub tags_listed : (p : Text) (old new : Shown) (rows : List Row) → Ready schema old → Queried list_text (Stored p ∷ []) old new rows → HasCleanDisk new
     → Reads schema old new × (map tag_spelled rows ≡ of (stored old).tags p)
+unfolding schema
 tags_listed p old new rows form call clean =
     let it = select_lists tags_mapped list_text list_columns _ list_means p tag_spelled (λ (v : Text). v) (λ id vs. refl) old new rows form call clean in
     (it.0, it.1 ∙ seen_as_is (of (stored old).tags p))

@@ -32,11 +32,12 @@ abbrev put_cells : List Term
 put_cells = col 0 0 ∷ col 0 1 ∷ []
 
 put_means : Means schema put_text (Insert 4 (Values (lit Null ∷ put_cells) 3))
-unfolding understood everything
+unfolding understood everything schema
 put_means = (refl, (refl, refl))
 
 pub team_put : (o t : Text) (old new : Shown) → Ready schema old → Wrote put_text (Stored o ∷ Stored t ∷ []) old new → HasCleanDisk new
     → Leaves schema contents (record (stored old) { teams = put (stored old).teams (o, t) tt }) new
+unfolding schema
 team_put o t old new form call = insert_puts teams_mapped put_text put_cells put_means (Stored o ∷ Stored t ∷ []) refl old new (Ok call.0) form call.1
 
 -- ---- SELECT
@@ -45,18 +46,19 @@ abbrev find_text : List ℕ
 find_text = codes "SELECT team FROM teams WHERE org = ?1 AND team = ?2"
 
 find_means : MeansQuery schema find_text (Select (record { lets = []; body = scan 8 (by_texts 1 1 0) (col 1 2 ∷ []) [] }) (codes "team" ∷ []))
-unfolding understood everything
+unfolding understood everything schema
 find_means = ((refl, (refl, refl)), refl)
 
 pub team_found : (o t : Text) (old new : Shown) (rows : List Row) → Ready schema old → Queried find_text (Stored o ∷ Stored t ∷ []) old new rows → HasCleanDisk new
     → Reads schema old new × (not (length rows == 0) ≡ is_some (at (stored old).teams (o, t)))
+unfolding schema
 team_found o t = there_found teams_mapped find_text (col 1 2 ∷ []) _ find_means (o, t)
 
 abbrev list_text : List ℕ
 list_text = codes "SELECT team FROM teams WHERE org = ?1 ORDER BY team"
 
 list_means : MeansQuery schema list_text (Select (record { lets = []; body = scan 8 (by_texts 0 1 0) (col 1 2 ∷ []) (in_order 0 2) }) (codes "team" ∷ []))
-unfolding understood everything
+unfolding understood everything schema
 list_means = ((refl, (refl, refl)), refl)
 
 -- a team that is there
@@ -65,6 +67,7 @@ team_entry r = (text_spelled r, tt)
 
 pub teams_listed : (o : Text) (old new : Shown) (rows : List Row) → Ready schema old → Queried list_text (Stored o ∷ []) old new rows → HasCleanDisk new
     → Reads schema old new × (map text_spelled rows ≡ keys (of (stored old).teams o))
+unfolding schema
 teams_listed o old new rows form call clean =
     let it = select_lists teams_mapped list_text (col 1 2 ∷ []) _ list_means o team_entry (λ (u : Unit {0}). u) (λ id vs. refl) old new rows form call clean in
     (it.0, sym (map-map (λ (e : Text × Unit {0}). e.0) team_entry rows) ∙ ap keys (it.1 ∙ seen_as_is (of (stored old).teams o)))

@@ -51,7 +51,7 @@ abbrev teams_text : List ℕ
 teams_text = codes "SELECT team FROM team_members WHERE org = ?1 AND user = ?2 ORDER BY org, team, user"
 
 teams_means : MeansQuery schema teams_text (Select (record { lets = []; body = scan 10 (by_places 1 (0, 2) 0) (col 1 2 ∷ []) (in_order 2 1) }) (codes "team" ∷ []))
-unfolding understood everything
+unfolding understood everything schema
 teams_means = ((refl, (refl, refl)), refl)
 
 -- the user in a team
@@ -60,6 +60,7 @@ team_entry o u r = ((o, (text_spelled r, u)), tt)
 
 pub teams_listed : (o u : Text) (old new : Shown) (rows : List Row) → Ready schema old → Queried teams_text (Stored o ∷ Stored u ∷ []) old new rows → HasCleanDisk new
     → Reads schema old new × (map text_spelled rows ≡ teams_of (stored old) o u)
+unfolding schema
 teams_listed o u old new rows form call clean =
     let it = select_part team_members_mapped 1 (0, 2) refl teams_text (col 1 2 ∷ []) _ teams_means (o, u) (team_entry o u) (λ (x : Unit {0}). x) whole old new rows form call clean in
     (it.0, sym (map-map (λ (e : Texts 2 × Unit {0}). e.0.1.0) (team_entry o u) rows) ∙ ap (map (λ (e : Texts 2 × Unit {0}). e.0.1.0)) (it.1 ∙ seen_as_is _))

@@ -30,11 +30,12 @@ abbrev put_cells : List Term
 put_cells = col 0 0 ∷ col 0 1 ∷ col 0 2 ∷ []
 
 put_means : Means schema put_text (Insert 5 (Values (lit Null ∷ put_cells) 4))
-unfolding understood everything
+unfolding understood everything schema
 put_means = (refl, (refl, refl))
 
 pub team_member_put : (o t u : Text) (old new : Shown) → Ready schema old → Wrote put_text (Stored o ∷ Stored t ∷ Stored u ∷ []) old new → HasCleanDisk new
     → Leaves schema contents (record (stored old) { team_members = put (stored old).team_members (o, (t, u)) tt }) new
+unfolding schema
 team_member_put o t u old new form call = insert_puts team_members_mapped put_text put_cells put_means (Stored o ∷ Stored t ∷ Stored u ∷ []) refl old new (Ok call.0) form call.1
 
 -- ---- DELETE
@@ -43,16 +44,17 @@ abbrev drop_text : List ℕ
 drop_text = codes "DELETE FROM team_members WHERE org = ?1 AND team = ?2 AND user = ?3"
 
 drop_means : Means schema drop_text (Delete 5 (record { lets = []; body = scan 10 (by_texts 2 1 0) (col 1 0 ∷ []) [] }))
-unfolding understood everything
+unfolding understood everything schema
 drop_means = (refl, (refl, refl))
 
 -- nothing refers to a member of a team
 nothing_refers : IsUncascaded schema table.team_members
-unfolding everything
+unfolding everything schema
 nothing_refers olds = refl
 
 pub team_member_dropped : (o t u : Text) (old new : Shown) → Ready schema old → Wrote drop_text (Stored o ∷ Stored t ∷ Stored u ∷ []) old new → HasCleanDisk new
     → Leaves schema contents (record (stored old) { team_members = erase (stored old).team_members (o, (t, u)) }) new
+unfolding schema
 team_member_dropped o t u old new form call = delete_erases team_members_mapped drop_text drop_means nothing_refers (o, (t, u)) old new (Ok call.0) form call.1
 
 -- ---- SELECT
@@ -61,9 +63,10 @@ abbrev find_text : List ℕ
 find_text = codes "SELECT user FROM team_members WHERE org = ?1 AND team = ?2 AND user = ?3"
 
 find_means : MeansQuery schema find_text (Select (record { lets = []; body = scan 10 (by_texts 2 1 0) (col 1 3 ∷ []) [] }) (codes "user" ∷ []))
-unfolding understood everything
+unfolding understood everything schema
 find_means = ((refl, (refl, refl)), refl)
 
 pub team_member_found : (o t u : Text) (old new : Shown) (rows : List Row) → Ready schema old → Queried find_text (Stored o ∷ Stored t ∷ Stored u ∷ []) old new rows → HasCleanDisk new
     → Reads schema old new × (not (length rows == 0) ≡ is_some (at (stored old).team_members (o, (t, u))))
+unfolding schema
 team_member_found o t u = there_found team_members_mapped find_text (col 1 3 ∷ []) _ find_means (o, (t, u))

@@ -32,11 +32,12 @@ abbrev put_cells : List Term
 put_cells = col 0 0 ∷ col 0 1 ∷ []
 
 put_means : Means schema put_text (Insert 1 (Values (lit Null ∷ put_cells) 3))
-unfolding understood everything
+unfolding understood everything schema
 put_means = (refl, (refl, refl))
 
 pub token_put : (digest u : Text) (old new : Shown) → Ready schema old → Wrote put_text (Blob digest ∷ Stored u ∷ []) old new → HasCleanDisk new
     → Leaves schema contents (record (stored old) { tokens = put (stored old).tokens digest u }) new
+unfolding schema
 token_put digest u old new form call = insert_puts_bytes tokens_mapped put_text put_cells put_means (Blob digest ∷ Stored u ∷ []) refl old new (Ok call.0) form call.1
 
 -- ---- SELECT
@@ -45,7 +46,7 @@ abbrev find_text : List ℕ
 find_text = codes "SELECT user FROM tokens WHERE digest = ?1"
 
 find_means : MeansQuery schema find_text (Select (record { lets = []; body = scan 2 (by_texts 0 1 0) (col 1 2 ∷ []) [] }) (codes "user" ∷ []))
-unfolding understood everything
+unfolding understood everything schema
 find_means = ((refl, (refl, refl)), refl)
 
 pub user_of_found : (digest : Text) (old new : Shown) (rows : List Row) → Ready schema old → Queried find_text (Blob digest ∷ []) old new rows → HasCleanDisk new

@@ -29,7 +29,7 @@ abbrev put_cells : List Term
 put_cells = col 0 0 ∷ []
 
 put_means : Means schema put_text (Insert 0 (Values (lit Null ∷ put_cells) 2))
-unfolding understood everything
+unfolding understood everything schema
 put_means = (refl, (refl, refl))
 
 pub user_put : (u : Text) (old new : Shown) → Ready schema old → Wrote put_text (Stored u ∷ []) old new → HasCleanDisk new
@@ -42,7 +42,7 @@ abbrev find_text : List ℕ
 find_text = codes "SELECT name FROM users WHERE name = ?1"
 
 find_means : MeansQuery schema find_text (Select (record { lets = []; body = scan 0 (by_texts 0 1 0) (col 1 1 ∷ []) [] }) (codes "name" ∷ []))
-unfolding understood everything
+unfolding understood everything schema
 find_means = ((refl, (refl, refl)), refl)
 
 pub user_found : (u : Text) (old new : Shown) (rows : List Row) → Ready schema old → Queried find_text (Stored u ∷ []) old new rows → HasCleanDisk new

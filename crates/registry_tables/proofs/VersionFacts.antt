@@ -33,17 +33,19 @@ abbrev put_cells : List Term
 put_cells = col 0 0 ∷ col 0 1 ∷ col 0 2 ∷ col 0 3 ∷ lit (Stored []) ∷ lit (Blob []) ∷ []
 
 put_means : Means schema put_text (Insert 9 (Values (lit Null ∷ put_cells) 7))
-unfolding understood everything
+unfolding understood everything schema
 put_means = (refl, (refl, refl))
 
 pub version_inserted : (p v : Text) (published : ℕ) (manifest : Text) (old new : Shown) → Ready schema old
     → Wrote put_text (Stored p ∷ Stored v ∷ Int (pos published) ∷ Stored manifest ∷ []) old new → HasCleanDisk new
     → Leaves schema contents (record (stored old) { versions = put (stored old).versions (p, v) (record { at = published; manifest = manifest; archive = []; message = [] }) }) new
+unfolding schema
 version_inserted p v published manifest old new form call = insert_puts versions_mapped put_text put_cells put_means (Stored p ∷ Stored v ∷ Int (pos published) ∷ Stored manifest ∷ []) refl old new (Ok call.0) form call.1
 
 -- an answered INSERT had a new key
 pub version_is_new : (p v : Text) (published : ℕ) (manifest : Text) (old new : Shown) → Ready schema old
     → Wrote put_text (Stored p ∷ Stored v ∷ Int (pos published) ∷ Stored manifest ∷ []) old new → HasCleanDisk new → at (stored old).versions (p, v) ≡ None
+unfolding schema
 version_is_new p v published manifest old new form call = insert_meets_none versions_mapped put_text put_cells put_means (Stored p ∷ Stored v ∷ Int (pos published) ∷ Stored manifest ∷ []) refl old new (Ok call.0) form call.1
 
 -- ---- SELECT by package and version
@@ -52,11 +54,12 @@ abbrev find_text : List ℕ
 find_text = codes "SELECT published FROM versions WHERE package = ?1 AND version = ?2"
 
 find_means : MeansQuery schema find_text (Select (record { lets = []; body = scan 18 (by_texts 1 1 0) (col 1 3 ∷ []) [] }) (codes "published" ∷ []))
-unfolding understood everything
+unfolding understood everything schema
 find_means = ((refl, (refl, refl)), refl)
 
 pub version_found : (p v : Text) (old new : Shown) (rows : List Row) → Ready schema old → Queried find_text (Stored p ∷ Stored v ∷ []) old new rows → HasCleanDisk new
     → Reads schema old new × (not (length rows == 0) ≡ is_some (at (live_of (stored old)) (p, v)))
+unfolding schema
 version_found p v old new rows form call clean =
     let it = select_finds versions_mapped find_text (col 1 3 ∷ []) _ find_means (p, v) number_spelled (λ (r : Release). r.at) (λ id vs. refl) old new rows form call clean in
     (it.0, some_found number_spelled rows _ it.1 ∙ some_seen (λ (r : Release). r.at) (at (stored old).versions (p, v)) ∙ sym (lives_as_row (stored old) (p, v)))
@@ -65,11 +68,12 @@ abbrev document_text : List ℕ
 document_text = codes "SELECT manifest, deprecated FROM versions WHERE package = ?1 AND version = ?2"
 
 document_means : MeansQuery schema document_text (Select (record { lets = []; body = scan 18 (by_texts 1 1 0) (col 1 4 ∷ col 1 5 ∷ []) [] }) (codes "manifest" ∷ codes "deprecated" ∷ []))
-unfolding understood everything
+unfolding understood everything schema
 document_means = ((refl, (refl, refl)), refl)
 
 pub document_found : (p v : Text) (old new : Shown) (rows : List Row) → Ready schema old → Queried document_text (Stored p ∷ Stored v ∷ []) old new rows → HasCleanDisk new
     → Reads schema old new × (option_map document_spelled (slice_get rows 0) ≡ option_map document (at (live_of (stored old)) (p, v)))
+unfolding schema
 document_found p v old new rows form call clean =
     let it = select_finds versions_mapped document_text (col 1 4 ∷ col 1 5 ∷ []) _ document_means (p, v) document_spelled document (λ id vs. refl) old new rows form call clean in
     (it.0, first_listed document_spelled rows _ it.1 ∙ sym (document_as_row (stored old) (p, v)))
@@ -83,11 +87,12 @@ abbrev list_columns : List Term
 list_columns = col 1 2 ∷ col 1 4 ∷ col 1 5 ∷ []
 
 list_means : MeansQuery schema list_text (Select (record { lets = []; body = scan 18 (by_texts 0 1 0) list_columns (in_order 0 2) }) (codes "version" ∷ codes "manifest" ∷ codes "deprecated" ∷ []))
-unfolding understood everything
+unfolding understood everything schema
 list_means = ((refl, (refl, refl)), refl)
 
 pub versions_listed : (p : Text) (old new : Shown) (rows : List Row) → Ready schema old → Queried list_text (Stored p ∷ []) old new rows → HasCleanDisk new
     → Reads schema old new × (map row_spelled rows ≡ map (seen document) (of (live_of (stored old)) p))
+unfolding schema
 versions_listed p old new rows form call clean =
     let it = select_lists versions_mapped list_text list_columns _ list_means p row_spelled document (λ id vs. refl) old new rows form call clean in
     (it.0, it.1 ∙ sym (documents_as_rows (stored old) p))
@@ -96,12 +101,13 @@ abbrev live_text : List ℕ
 live_text = codes "SELECT version FROM versions WHERE package = ?1 ORDER BY version"
 
 live_means : MeansQuery schema live_text (Select (record { lets = []; body = scan 18 (by_texts 0 1 0) (col 1 2 ∷ []) (in_order 0 2) }) (codes "version" ∷ []))
-unfolding understood everything
+unfolding understood everything schema
 live_means = ((refl, (refl, refl)), refl)
 
 -- a version of the package lives where there are rows
 pub live_found : (p : Text) (old new : Shown) (rows : List Row) → Ready schema old → Queried live_text (Stored p ∷ []) old new rows → HasCleanDisk new
     → Reads schema old new × (not (length rows == 0) ≡ has_live (registry_of (stored old)) p)
+unfolding schema
 live_found p old new rows form call clean =
     let it = select_lists versions_mapped live_text (col 1 2 ∷ []) _ live_means p version_spelled (λ (r : Release). tt) (λ id vs. refl) old new rows form call clean in
     (it.0, some_listed version_spelled rows (λ (r : Release). tt) (of (stored old).versions p) it.1 ∙ sym (lives_as_rows (stored old) p))
