@@ -25,6 +25,7 @@ pub use crate::ask::Ask;
 pub use crate::caller::Caller;
 pub use crate::grant::Grant;
 pub use crate::levels::Level;
+pub use crate::policy::may_operate;
 pub use crate::role::Role;
 pub use crate::rows::{
     AccessRows, GrantRow, MaintainerRow, MemberRow, PackageRow, TeamMemberRow, TeamRow,

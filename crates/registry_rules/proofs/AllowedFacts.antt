@@ -5,17 +5,23 @@ use Rattle.registry_names.specs.Maps.{TextMap, at}
 use Rattle.registry_names.specs.Moments.{last_second}
 use Rattle.registry_names.specs.Tags.{is_tag}
 use Rattle.registry_names.specs.Texts.{Text}
+use Rattle.std.specs.Option.{option_or}
+use Rattle.registry_names.specs.declared.refusal.Refusal.{Refusal}
 use Rattle.registry_names.specs.declared.refusal.Refusal.TheVariants.{NotFound, Published, Spent, KeepsLatest, AlwaysPublic}
 use Rattle.registry_names.specs.declared.status.Status.{Status}
 use Rattle.registry_names.specs.declared.status.Status.TheVariants.{Public, Restricted}
 use Rattle.registry_names.proofs.KeyFacts.{text_key}
 use Rattle.registry_names.specs.Names.{scope_of}
+use Rattle.registry_names.specs.declared.refusal.Rule.{Rule}
+use Rattle.registry_access.specs.Policy.{for_known, where_found, by_rule}
+use Rattle.registry_access.specs.declared.caller.Caller.{Caller}
+use Rattle.registry_access.specs.declared.caller.Caller.TheVariants.{Operator, User, Anonymous}
 use Rattle.registry_publish.specs.Form.{FormParts}
 use Rattle.registry_rules.specs.Actions.{version_of}
 use Rattle.registry_rules.specs.Changes.{release_of}
 use Rattle.registry_rules.specs.Effects.{new_status}
 use Rattle.registry_rules.specs.Kept.{IsReleaseOf}
-use Rattle.registry_rules.specs.Refusals.{is_restricted, publish_refusal, refuse, unless_there}
+use Rattle.registry_rules.specs.Refusals.{is_restricted, publish_refusal, refuse, unless_allowed, unless_new, unless_there}
 use Rattle.registry_rules.specs.Requests.{ArePartsInForm}
 use Rattle.registry_rules.specs.State.{State, Release, is_spent}
 use Rattle.registry_names.proofs.PutFacts.{put_there}
@@ -70,3 +76,33 @@ pub isnt_kept : (there latest : Bool) → refuse (not there) NotFound (refuse la
 isnt_kept false b h = cc
 isnt_kept true true h = cc
 isnt_kept true false h = refl
+
+-- a user whose token may be added is there
+pub user_there : (there taken : Bool) → refuse (not there) NotFound (unless_new taken) ≡ None → there ≡ true
+user_there true b h = refl
+user_there false b h = cc
+
+-- what isn't refused passes the test, and the tests behind it
+pub passed : (b : Bool) (r : Refusal) (rest : Option Refusal) → refuse b r rest ≡ None → (b ≡ false) × (rest ≡ None)
+passed true r rest h = cc
+passed false r rest h = (refl, h)
+
+pub not_false : (b : Bool) → not b ≡ false → b ≡ true
+not_false true h = refl
+not_false false h = cc
+
+-- whom the policy lets do something in an organisation, for him it is there
+pub organisation_there : (who : Caller) (there holds : Bool) (rule : Rule) → unless_allowed (for_known who (where_found there (by_rule rule holds))) ≡ None → there ≡ true
+organisation_there who true holds rule h = refl
+organisation_there Operator false holds rule h = cc
+organisation_there (User u) false holds rule h = cc
+organisation_there Anonymous false holds rule h = cc
+
+-- what neither of two reasons turns away isn't turned away by one
+pub first_passed : (a b : Option Refusal) → option_or a b ≡ None → a ≡ None
+first_passed None b h = refl
+first_passed (Some r) b h = cc
+
+pub second_passed : (a b : Option Refusal) → option_or a b ≡ None → b ≡ None
+second_passed None b h = h
+second_passed (Some r) b h = cc

@@ -1,22 +1,18 @@
 -- What is answered to a caller whom the registry knows.
-use Rattle.std.proofs.Common.{◌≡◌, ℕ, true, List, is_some, Option, Some, None, refl, sym, true≢false}
+use Rattle.std.proofs.Common.{◌≡◌, ℕ, true, List, Option, Some, None, refl, sym, true≢false}
 use Rattle.std.specs.Prelude.{is_ok}
 use Rattle.registry_names.specs.declared.refusal.Refusal.{Refusal}
 use Rattle.registry_access.specs.declared.caller.Caller.{Caller}
 use Rattle.registry_rules.specs.Changes.{Change}
 use Rattle.registry_rules.specs.Effects.{effects, effects_for}
-use Rattle.registry_rules.specs.Refusals.{refusal_by, refusal_for, permitted}
+use Rattle.registry_rules.specs.Refusals.{refusal_for, permitted}
 use Rattle.registry_rules.specs.State.{State}
 use Rattle.registry_rules.specs.declared.request.Action.{Action}
 
 module _ (S : State) (now : ℕ) (what : Action) where
-  pub refused_as_known : (who : Option Caller) (reason : Option Refusal) → is_some who ≡ true → ((c : Caller) → reason ≡ refusal_by S now c what) → reason ≡ refusal_for S now who what
-  refused_as_known None reason known e = absurd (true≢false (sym known))
-  refused_as_known (Some who) reason known e = e who
-
-  pub changes_as_known : (who : Option Caller) (changes : List Change) → refusal_for S now who what ≡ None → ((c : Caller) → changes ≡ effects S now c what) → changes ≡ effects_for S now who what
+  pub changes_as_known : (who : Option Caller) (changes : List Change) → refusal_for S now who what ≡ None → ((c : Caller) → who ≡ Some c → changes ≡ effects S now c what) → changes ≡ effects_for S now who what
   changes_as_known None changes may e = cc
-  changes_as_known (Some who) changes may e = e who
+  changes_as_known (Some who) changes may e = e who refl
 
 -- a request that may be asked isn't turned away
 pub not_refused : (r : Option Refusal) → is_ok (permitted r) ≡ true → r ≡ None

@@ -1,24 +1,30 @@
 -- The laws of what commands make.
-use Rattle.std.proofs.Common.{◌≡◌, ◌≢◌, ℕ, Bool, true, false, cond, ◌&&◌, ◌||◌, is_some, Option, Some, None, refl, sym, ap, ◌∙◌, subst, true≢false, if◌then◌else◌, Ordering}
+use Rattle.std.proofs.Common.{◌≡◌, ◌≢◌, ℕ, Bool, true, false, cond, not, ◌&&◌, ◌||◌, is_some, Option, Some, None, refl, sym, ap, ◌∙◌, subst, true≢false, if◌then◌else◌, Ordering}
 use Rattle.std.specs.Prelude.{IsSome}
-use Rattle.registry_names.specs.Keys.{IsKey, Pair, pair_is}
-use Rattle.registry_names.specs.Maps.{TextMap, PairMap, at, put}
+use Rattle.registry_names.specs.Keys.{IsKey, Pair, Triple, pair_is}
+use Rattle.registry_names.specs.Maps.{TextMap, PairMap, TripleMap, at, put, keep}
 use Rattle.registry_names.specs.Tags.{latest}
 use Rattle.registry_names.specs.Texts.{Text, is}
 use Rattle.registry_names.specs.Versions.{text_of_version}
 use Rattle.registry_names.specs.declared.status.Status.{Status}
 use Rattle.registry_names.specs.declared.status.Status.TheVariants.{Public, Restricted}
-use Rattle.registry_names.proofs.KeyFacts.{text_key, pair_key, same_true}
-use Rattle.registry_names.proofs.MapFacts.{at-put, at-put_same, at-put_other, at-erase_same, at-erase_other}
+use Rattle.registry_names.proofs.KeyFacts.{text_key, pair_key, triple_key, same_true, same_self}
+use Rattle.registry_names.proofs.MapFacts.{at-put, at-put_same, at-put_other, at-erase_same, at-erase_other, at-keep}
+use Rattle.registry_names.proofs.PutFacts.{put_there}
+use Rattle.registry_access.specs.Access.{Access}
+use Rattle.registry_access.specs.declared.grant.Grant.{Grant}
+use Rattle.registry_access.specs.declared.role.Role.{Role}
+use Rattle.registry_access.specs.declared.role.Role.TheVariants.{Owner}
 use Rattle.registry_publish.specs.Form.{FormParts}
-use Rattle.registry_rules.specs.Actions.{version_of}
-use Rattle.registry_rules.specs.Changes.{release_of}
-use Rattle.registry_rules.specs.Effects.{first_status, new_status}
-use Rattle.registry_rules.specs.Laws.{AddsVersion, SetsTags, SetsStatus, IsTagChange, IsSameOf, PublishesAddVersions, PublishesSetTags, PublishesSetStatuses, SetTagsName, RemovedTagsAreGone, QueriesChangeNothing, PackagesStandApart}
-use Rattle.registry_rules.specs.Operations.{with_tag, without_tag}
-use Rattle.registry_rules.specs.State.{State, stands}
-use Rattle.registry_rules.specs.declared.request.Action.TheVariants.{Publish, TagSet, TagRemove}
-use Rattle.registry_rules.proofs.MadeFacts.{latest_put, tag_put}
+use Rattle.registry_rules.specs.Actions.{version_of, ends_team}
+use Rattle.registry_rules.specs.Changes.{all_made, release_of}
+use Rattle.registry_rules.specs.Effects.{first_status, joining, membership, new_status}
+use Rattle.registry_rules.specs.Laws.{SetsRole, OrganisationsAreCreated, RolesAreSet, MembersAreRemoved, UsersAreAdded, TokensAreAdded, AddsVersion, SetsTags, SetsStatus, IsTagChange, IsApart, DestroysTeam, IsTeamMemberChange, TeamsAreCreated, NewTeamsAreEmpty, TeamsAreDestroyed, TeamMembersAreAdded, TeamMembersAreRemoved, PublishesAddVersions, PublishesSetTags, PublishesSetStatuses, SetTagsName, RemovedTagsAreGone, QueriesChangeNothing, PackagesStandApart}
+use Rattle.registry_rules.specs.Operations.{without_team, with_tag, without_tag}
+use Rattle.registry_rules.specs.State.{State, developers, is_in_team, stands}
+use Rattle.registry_rules.specs.declared.request.Action.{Action}
+use Rattle.registry_rules.specs.declared.request.Action.TheVariants.{UserAdd, TokenAdd, OrgCreate, OrgSet, OrgRemove, TeamCreate, TeamDestroy, TeamAdd, TeamRemove, Publish, TagSet, TagRemove}
+use Rattle.registry_rules.proofs.MadeFacts.{latest_put, role_put, tag_put}
 use Rattle.registry_rules.proofs.PublishedFacts.{statuses_after, status_of, after_publish, published_is}
 
 -- keys that differ fail the test
@@ -32,6 +38,128 @@ unlike {same} key q k differ = by_test (same q k) refl
 either_way : {X : Type 0} (b : Bool) (o : Option X) (x : X) → o ≡ Some x → cond b (Some x) o ≡ Some x
 either_way true o x e = refl
 either_way false o x e = e
+
+-- ---- users and tokens
+
+pub users_are_added : UsersAreAdded
+users_are_added S now who u = record {
+  user = put_there text_key S.access.users u tt;
+  users = λ w differ. at-put_other text_key S.access.users u tt w (unlike text_key u w differ);
+  rest = refl;
+}
+
+pub tokens_are_added : TokensAreAdded
+tokens_are_added S now who u digest = record {
+  token = at-put_same text_key S.access.tokens digest u;
+  tokens = λ d differ. at-put_other text_key S.access.tokens digest u d (unlike text_key digest d differ);
+  rest = refl;
+}
+
+-- ---- organisations
+
+pub organisations_are_created : OrganisationsAreCreated
+organisations_are_created S now who o u = let A = S.access in record {
+  organisation = put_there text_key A.organisations o tt;
+  owner = at-put_same pair_key A.roles (o, u) Owner;
+  team = put_there pair_key A.teams (o, developers) tt;
+  member = put_there triple_key A.team_members (o, (developers, u)) tt;
+  organisations = λ p differ. at-put_other text_key A.organisations o tt p (unlike text_key o p differ);
+  roles = λ k differ. at-put_other pair_key A.roles (o, u) Owner k (unlike pair_key _ k differ);
+  teams = λ k differ. at-put_other pair_key A.teams (o, developers) tt k (unlike pair_key _ k differ);
+  team_members = λ k differ. at-put_other triple_key A.team_members (o, (developers, u)) tt k (unlike triple_key _ k differ);
+  rest = refl;
+}
+
+role_set : (S : State) (o u : Text) (role : Role) (old : Option Role) → at S.access.roles (o, u) ≡ old → SetsRole S (all_made S (membership o u role old)) o u role
+role_set S o u role (Some r) e = subst (λ T. SetsRole S T o u role) (sym (role_put S o u role (ap is_some e))) (record {
+  role = at-put_same pair_key S.access.roles (o, u) role;
+  roles = λ k differ. at-put_other pair_key S.access.roles (o, u) role k (unlike pair_key _ k differ);
+  joins = λ none. absurd (true≢false (sym (ap is_some e) ∙ ap is_some none));
+  stays = λ had. refl;
+  team_members = λ k differ. refl;
+  rest = refl;
+})
+role_set S o u role None e = record {
+  role = at-put_same pair_key S.access.roles (o, u) role;
+  roles = λ k differ. at-put_other pair_key S.access.roles (o, u) role k (unlike pair_key _ k differ);
+  joins = λ none. put_there triple_key S.access.team_members (o, (developers, u)) tt;
+  stays = λ had. absurd (true≢false (sym had ∙ ap is_some e));
+  team_members = λ k differ. at-put_other triple_key S.access.team_members (o, (developers, u)) tt k (unlike triple_key _ k differ);
+  rest = refl;
+}
+
+pub roles_are_set : RolesAreSet
+roles_are_set S now who o u role = role_set S o u role (at S.access.roles (o, u)) refl
+
+pub members_are_removed : MembersAreRemoved
+members_are_removed S now who o u = let A = S.access in record {
+  role = at-erase_same pair_key A.roles (o, u);
+  roles = λ k differ. at-erase_other pair_key A.roles (o, u) k (unlike pair_key _ k differ);
+  teams = λ t. at-keep triple_key A.team_members stays (o, (t, u)) ∙ ap (λ b. cond (not b) (at A.team_members (o, (t, u))) None) (same_self pair_key (o, u));
+  team_members = λ p t w differ. at-keep triple_key A.team_members stays (p, (t, w)) ∙ ap (λ b. cond (not b) (at A.team_members (p, (t, w))) None) (unlike pair_key (o, u) (p, w) differ);
+  rest = refl;
+}
+  where
+    stays : Triple → Bool
+    stays k = not (is o k.0 && is u k.1.1)
+
+-- ---- teams
+
+pub teams_are_created : TeamsAreCreated
+teams_are_created S now who o t = record {
+  team = put_there pair_key S.access.teams (o, t) tt;
+  teams = λ k differ. at-put_other pair_key S.access.teams (o, t) tt k (unlike pair_key _ k differ);
+  rest = refl;
+}
+
+none_left : {X : Type 0} (o : Option X) → (IsSome o → ⊥) → o ≡ None
+none_left None h = refl
+none_left (Some x) h = absurd (h refl)
+
+gone : {X : Type 0} (o : Option X) → o ≡ None → IsSome o → ⊥
+gone o e h = true≢false (sym h ∙ ap is_some e)
+
+pub new_teams_are_empty : NewTeamsAreEmpty
+new_teams_are_empty S now who o t sound none = record {
+  members = λ u. none_left _ (λ h. gone _ none (sound.team_members o t u h).0);
+  grants = λ p. none_left _ (λ h. gone _ none (sound.grants o t p h).team);
+}
+
+module _ (S : State) (o t : Text) where
+  abbrev others : Triple → Bool
+  others k = not (is o k.0 && is t k.1.0)
+
+  dropped : {X : Type 0} (m : TripleMap X) (x : Text) → at (keep m others) (o, (t, x)) ≡ None
+  dropped m x = at-keep triple_key m others (o, (t, x)) ∙ ap (λ b. cond (not b) (at m (o, (t, x))) None) (same_self pair_key (o, t))
+
+  undropped : {X : Type 0} (m : TripleMap X) (p s x : Text) → ◌≢◌ {A = Pair} (p, s) (o, t) → at (keep m others) (p, (s, x)) ≡ at m (p, (s, x))
+  undropped m p s x differ = at-keep triple_key m others (p, (s, x)) ∙ ap (λ b. cond (not b) (at m (p, (s, x))) None) (unlike pair_key (o, t) (p, s) differ)
+
+  team_destroyed : DestroysTeam S (without_team S o t) o t
+  team_destroyed = record {
+    team = at-erase_same pair_key S.access.teams (o, t);
+    teams = λ k differ. at-erase_other pair_key S.access.teams (o, t) k (unlike pair_key _ k differ);
+    emptied = record { members = dropped S.access.team_members; grants = dropped S.access.grants };
+    team_members = undropped S.access.team_members;
+    grants = undropped S.access.grants;
+    rest = refl;
+  }
+
+pub teams_are_destroyed : TeamsAreDestroyed
+teams_are_destroyed S now who o t = team_destroyed S o t
+
+team_member_added : (S : State) (o t u : Text) (inside : Bool) → is_in_team S o t u ≡ inside → let T = all_made S (joining o t u inside) in
+    IsSome (at T.access.team_members (o, (t, u))) × IsTeamMemberChange S T o t u
+team_member_added S o t u true e = (e, record { team_members = λ k differ. refl; rest = refl })
+team_member_added S o t u false e =
+    (put_there triple_key S.access.team_members (o, (t, u)) tt, record { team_members = λ k differ. at-put_other triple_key S.access.team_members (o, (t, u)) tt k (unlike triple_key _ k differ); rest = refl })
+
+pub team_members_are_added : TeamMembersAreAdded
+team_members_are_added S now who o t u = team_member_added S o t u (is_in_team S o t u) refl
+
+pub team_members_are_removed : TeamMembersAreRemoved
+team_members_are_removed S now who o t u =
+    (at-erase_same triple_key S.access.team_members (o, (t, u)), record { team_members = λ k differ. at-erase_other triple_key S.access.team_members (o, (t, u)) k (unlike triple_key _ k differ); rest = refl })
 
 -- ---- a publish
 
@@ -138,29 +266,48 @@ removed_tags_are_gone S now who p t =
 -- ---- all actions
 
 pub queries_change_nothing : QueriesChangeNothing
+queries_change_nothing S now who (UserAdd u) e = absurd (true≢false e)
+queries_change_nothing S now who (TokenAdd u digest) e = absurd (true≢false e)
+queries_change_nothing S now who (OrgCreate o u) e = absurd (true≢false e)
+queries_change_nothing S now who (OrgSet o u role) e = absurd (true≢false e)
+queries_change_nothing S now who (OrgRemove o u) e = absurd (true≢false e)
+queries_change_nothing S now who (TeamCreate o t) e = absurd (true≢false e)
+queries_change_nothing S now who (TeamDestroy o t) e = absurd (true≢false e)
+queries_change_nothing S now who (TeamAdd o t u) e = absurd (true≢false e)
+queries_change_nothing S now who (TeamRemove o t u) e = absurd (true≢false e)
 queries_change_nothing S now who (Publish f) e = absurd (true≢false e)
 queries_change_nothing S now who (TagSet p t v) e = absurd (true≢false e)
 queries_change_nothing S now who (TagRemove p t) e = absurd (true≢false e)
 queries_change_nothing S now who _ e = refl
 
-same_of_itself : (S : State) (p : Text) → IsSameOf S S p
-same_of_itself S p = record { live = λ v. refl; spent = λ v. refl; tags = λ t. refl; status = refl; maintainers = λ u. refl; grants = λ o t. refl }
+-- the grants on a package, but those of a team that is ended
+abbrev granted_after : State → Action → Text → Text → Text → Option Grant
+granted_after S what p o t = if ends_team what o t then None else at S.access.grants (o, (t, p))
+
+same_of_itself : (S : State) (what : Action) (p : Text) → ((o t : Text) → at S.access.grants (o, (t, p)) ≡ granted_after S what p o t) → IsApart S S what p
+same_of_itself S what p grants = record { live = λ v. refl; spent = λ v. refl; tags = λ t. refl; status = refl; maintainers = λ u. refl; grants = grants }
+
+-- where nothing of the package is changed in who may do what
+apart_in_access : (S : State) (A : Access) (what : Action) (p : Text) → at A.statuses p ≡ at S.access.statuses p → ((u : Text) → at A.maintainers (p, u) ≡ at S.access.maintainers (p, u))
+    → ((o t : Text) → at A.grants (o, (t, p)) ≡ granted_after S what p o t) → IsApart S (record S { access = A }) what p
+apart_in_access S A what p status maintainers grants = record { live = λ v. refl; spent = λ v. refl; tags = λ t. refl; status = status; maintainers = maintainers; grants = grants }
 
 -- a key of another package is another key
 elsewhere : (q p w v : Text) → is q p ≡ false → pair_is (q, w) (p, v) ≡ false
 elsewhere q p w v other = ap (λ b. b && is w v) other
 
-apart_from_tag : (S T : State) (p : Text) → T.live ≡ S.live → T.spent ≡ S.spent → T.access ≡ S.access → ((t : Text) → at T.tags (p, t) ≡ at S.tags (p, t)) → IsSameOf S T p
-apart_from_tag S T p live spent access tags = record {
+apart_from_tag : (S T : State) (what : Action) (p : Text) → T.live ≡ S.live → T.spent ≡ S.spent → T.access ≡ S.access → ((t : Text) → at T.tags (p, t) ≡ at S.tags (p, t))
+    → ((o t : Text) → at S.access.grants (o, (t, p)) ≡ granted_after S what p o t) → IsApart S T what p
+apart_from_tag S T what p live spent access tags grants = record {
   live = λ v. ap (λ m. at m (p, v)) live;
   spent = λ v. ap (λ m. at m (p, v)) spent;
   tags = tags;
   status = ap (λ a. at a.statuses p) access;
   maintainers = λ u. ap (λ a. at a.maintainers (p, u)) access;
-  grants = λ o t. ap (λ a. at a.grants (o, (t, p))) access;
+  grants = λ o t. ap (λ a. at a.grants (o, (t, p))) access ∙ grants o t;
 }
 
-apart_from_publish : (S : State) (now : ℕ) (f : FormParts) (p : Text) → is f.name p ≡ false → IsSameOf S (T S now f) p
+apart_from_publish : (S : State) (now : ℕ) (f : FormParts) (p : Text) → is f.name p ≡ false → IsApart S (T S now f) (Publish f) p
 apart_from_publish S now f p other = record {
   live = λ v. at-put_other pair_key S.live (f.name, version_of f) (release_of f now) (p, v) (elsewhere f.name p (version_of f) v other);
   spent = λ v. refl;
@@ -174,11 +321,44 @@ apart_from_publish S now f p other = record {
     latest_elsewhere t true = refl
     latest_elsewhere t false = at-put_other pair_key S.tags (f.name, latest) (version_of f) (p, t) (elsewhere f.name p latest t other)
 
+apart_from_role : (S : State) (o u : Text) (role : Role) (old : Option Role) → at S.access.roles (o, u) ≡ old → (p : Text) → IsApart S (all_made S (membership o u role old)) (OrgSet o u role) p
+apart_from_role S o u role (Some r) e p =
+    subst (λ T. IsApart S T (OrgSet o u role) p) (sym (role_put S o u role (ap is_some e))) (apart_in_access S _ (OrgSet o u role) p refl (λ w. refl) (λ o t. refl))
+apart_from_role S o u role None e p = apart_in_access S _ (OrgSet o u role) p refl (λ w. refl) (λ o t. refl)
+
+apart_from_joining : (S : State) (o t u : Text) (inside : Bool) (p : Text) → IsApart S (all_made S (joining o t u inside)) (TeamAdd o t u) p
+apart_from_joining S o t u true p = same_of_itself S (TeamAdd o t u) p (λ o t. refl)
+apart_from_joining S o t u false p = apart_in_access S _ (TeamAdd o t u) p refl (λ w. refl) (λ o t. refl)
+
+unless_ended : {X : Type 0} (b : Bool) (old : Option X) → cond (not b) old None ≡ (if b then None else old)
+unless_ended true old = refl
+unless_ended false old = refl
+
+apart_from_destroying : (S : State) (o t : Text) (p : Text) → IsApart S (without_team S o t) (TeamDestroy o t) p
+apart_from_destroying S o t p = record {
+  live = λ v. refl;
+  spent = λ v. refl;
+  tags = λ t. refl;
+  status = refl;
+  maintainers = λ u. refl;
+  grants = λ q s. at-keep triple_key S.access.grants (others S o t) (q, (s, p)) ∙ unless_ended (is o q && is t s) (at S.access.grants (q, (s, p)));
+}
+
 pub packages_stand_apart : PackagesStandApart
-packages_stand_apart S now who (Publish f) p other = subst (λ T. IsSameOf S T p) (sym (published_is S f now)) (apart_from_publish S now f p other)
+packages_stand_apart S now who (UserAdd u) p other = apart_in_access S _ (UserAdd u) p refl (λ w. refl) (λ o t. refl)
+packages_stand_apart S now who (TokenAdd u digest) p other = apart_in_access S _ (TokenAdd u digest) p refl (λ w. refl) (λ o t. refl)
+packages_stand_apart S now who (OrgCreate o u) p other = apart_in_access S _ (OrgCreate o u) p refl (λ w. refl) (λ o t. refl)
+packages_stand_apart S now who (OrgSet o u role) p other = apart_from_role S o u role (at S.access.roles (o, u)) refl p
+packages_stand_apart S now who (OrgRemove o u) p other = apart_in_access S _ (OrgRemove o u) p refl (λ w. refl) (λ o t. refl)
+packages_stand_apart S now who (TeamCreate o t) p other = apart_in_access S _ (TeamCreate o t) p refl (λ w. refl) (λ o t. refl)
+packages_stand_apart S now who (TeamDestroy o t) p other = apart_from_destroying S o t p
+packages_stand_apart S now who (TeamAdd o t u) p other = apart_from_joining S o t u (is_in_team S o t u) p
+packages_stand_apart S now who (TeamRemove o t u) p other = apart_in_access S _ (TeamRemove o t u) p refl (λ w. refl) (λ o t. refl)
+packages_stand_apart S now who (Publish f) p other = subst (λ T. IsApart S T (Publish f) p) (sym (published_is S f now)) (apart_from_publish S now f p other)
 packages_stand_apart S now who (TagSet q t v) p other =
-    subst (λ T. IsSameOf S T p) (sym (tag_put S q t (text_of_version v) (stands S q t) (λ there. there)))
-    (apart_from_tag S (with_tag S q t (text_of_version v)) p refl refl refl (λ u. at-put_other pair_key S.tags (q, t) (text_of_version v) (p, u) (elsewhere q p t u other)))
+    subst (λ T. IsApart S T (TagSet q t v) p) (sym (tag_put S q t (text_of_version v) (stands S q t) (λ there. there)))
+    (apart_from_tag S (with_tag S q t (text_of_version v)) (TagSet q t v) p refl refl refl
+    (λ u. at-put_other pair_key S.tags (q, t) (text_of_version v) (p, u) (elsewhere q p t u other)) (λ o s. refl))
 packages_stand_apart S now who (TagRemove q t) p other =
-    apart_from_tag S (without_tag S q t) p refl refl refl (λ u. at-erase_other pair_key S.tags (q, t) (p, u) (elsewhere q p t u other))
-packages_stand_apart S now who _ p other = same_of_itself S p
+    apart_from_tag S (without_tag S q t) (TagRemove q t) p refl refl refl (λ u. at-erase_other pair_key S.tags (q, t) (p, u) (elsewhere q p t u other)) (λ o s. refl)
+packages_stand_apart S now who _ p other = same_of_itself S _ p (λ o t. refl)

@@ -1,13 +1,22 @@
 -- What an action is. A case that names its actions says so of these, and the last case of all others.
-use Rattle.std.specs.Prelude.{Bool, true, false}
+use Rattle.std.specs.Prelude.{Bool, true, false, ◌&&◌}
 use Rattle.registry_names.specs.Texts.{Text, is}
 use Rattle.registry_names.specs.Versions.{text_of_version}
 use Rattle.registry_publish.specs.Form.{FormParts}
 use Rattle.registry_rules.specs.declared.request.Action.{Action}
-use Rattle.registry_rules.specs.declared.request.Action.TheVariants.{Publish, TagSet, TagRemove}
+use Rattle.registry_rules.specs.declared.request.Action.TheVariants.{UserAdd, TokenAdd, OrgCreate, OrgSet, OrgRemove, TeamCreate, TeamDestroy, TeamAdd, TeamRemove, Publish, TagSet, TagRemove}
 
 -- whether it may change the registry
 abbrev pub is_command : Action → Bool
+is_command (UserAdd u) = true
+is_command (TokenAdd u digest) = true
+is_command (OrgCreate o u) = true
+is_command (OrgSet o u role) = true
+is_command (OrgRemove o u) = true
+is_command (TeamCreate o t) = true
+is_command (TeamDestroy o t) = true
+is_command (TeamAdd o t u) = true
+is_command (TeamRemove o t u) = true
 is_command (Publish f) = true
 is_command (TagSet p t v) = true
 is_command (TagRemove p t) = true
@@ -23,3 +32,8 @@ names (Publish f) p = is f.name p
 names (TagSet q t v) p = is q p
 names (TagRemove q t) p = is q p
 names _ p = false
+
+-- whether it is the command that ends this team
+abbrev pub ends_team : Action → Text → Text → Bool
+ends_team (TeamDestroy o t) p s = is o p && is t s
+ends_team _ p s = false

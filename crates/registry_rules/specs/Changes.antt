@@ -3,15 +3,27 @@ use Rattle.std.specs.Prelude.{ℕ, Bool, List, [], ◌∷◌, if◌then◌else�
 use Rattle.registry_names.specs.Texts.{Text}
 use Rattle.registry_names.specs.Versions.{text_of_version}
 use Rattle.registry_names.specs.declared.status.Status.{Status}
+use Rattle.registry_access.specs.declared.role.Role.{Role}
 use Rattle.registry_publish.specs.Form.{FormParts}
 use Rattle.registry_rules.specs.Actions.{version_of}
-use Rattle.registry_rules.specs.Operations.{with_status, restated, with_version, with_tag, moved, without_tag}
+use Rattle.registry_rules.specs.Operations.{with_user, with_token, with_organisation, with_member, with_role, without_member, with_team, without_team, with_team_member, without_team_member, with_status, restated, with_version, with_tag, moved, without_tag}
 use Rattle.registry_rules.specs.State.{State, Release}
 use Rattle.registry_rules.specs.declared.change.Change as declared
 use Rattle.registry_rules.specs.declared.change.Change.TheVariants as change
 
 -- a change as values; the program's borrows them
 pub data Change : Type 0 where
+  AddUser : (user : Text) → Change
+  -- the digest of a token, and its user
+  AddToken : (digest user : Text) → Change
+  AddOrg : (organisation : Text) → Change
+  -- an organisation, a user, his role in it, and whether he is a member already
+  PutMember : (organisation user : Text) (role : Role) (stands : Bool) → Change
+  DropMember : (organisation user : Text) → Change
+  AddTeam : (organisation team : Text) → Change
+  PutTeamMember : (organisation team user : Text) → Change
+  DropTeamMember : (organisation team user : Text) → Change
+  DropTeam : (organisation team : Text) → Change
   -- a package, its status, and whether it has one already
   PutStatus : (name : Text) (status : Status) (stands : Bool) → Change
   -- the form that is published, and when, in seconds
@@ -26,6 +38,15 @@ release_of f now = record { at = now; manifest = f.manifest; archive = f.archive
 
 -- A change of what stands already changes nothing where it doesn't stand
 abbrev pub made : State → Change → State
+made S (AddUser u) = with_user S u
+made S (AddToken digest u) = with_token S digest u
+made S (AddOrg o) = with_organisation S o
+made S (PutMember o u role stands) = if stands then with_role S o u role else with_member S o u role
+made S (DropMember o u) = without_member S o u
+made S (AddTeam o t) = with_team S o t
+made S (PutTeamMember o t u) = with_team_member S o t u
+made S (DropTeamMember o t u) = without_team_member S o t u
+made S (DropTeam o t) = without_team S o t
 made S (PutStatus p status stands) = if stands then restated S p status else with_status S p status
 made S (AddVersion f now) = with_version S f.name (version_of f) (release_of f now)
 made S (PutTag p t v stands) = if stands then moved S p t v else with_tag S p t v
@@ -38,6 +59,15 @@ all_made S (c ∷ cs) = all_made (made S c) cs
 
 -- the values of a change of the program
 abbrev pub change_of : declared.Change → Change
+change_of (change.AddUser u) = AddUser u.now
+change_of (change.AddToken digest u) = AddToken digest.now u.now
+change_of (change.AddOrg o) = AddOrg o.now
+change_of (change.PutMember o u role stands) = PutMember o.now u.now role stands
+change_of (change.DropMember o u) = DropMember o.now u.now
+change_of (change.AddTeam o t) = AddTeam o.now t.now
+change_of (change.PutTeamMember o t u) = PutTeamMember o.now t.now u.now
+change_of (change.DropTeamMember o t u) = DropTeamMember o.now t.now u.now
+change_of (change.DropTeam o t) = DropTeam o.now t.now
 change_of (change.PutStatus p status stands) = PutStatus p.now status stands
 change_of (change.AddVersion f now) = AddVersion f.now now.now
 change_of (change.PutTag p t v stands) = PutTag p.now t.now (text_of_version v.now) stands

@@ -1,5 +1,5 @@
 -- What each command changes where nothing refuses it: one equation a command. A query changes nothing.
-use Rattle.std.specs.Prelude.{ℕ, List, [], ◌∷◌, ◌++◌, ◌||◌, false, is_some, Option, Some, None, if◌then◌else◌}
+use Rattle.std.specs.Prelude.{ℕ, Bool, List, [], ◌∷◌, ◌++◌, ◌||◌, true, false, is_some, Option, Some, None, if◌then◌else◌}
 use Rattle.registry_names.specs.Tags.{latest}
 use Rattle.registry_names.specs.Texts.{Text, is}
 use Rattle.registry_names.specs.Maps.{at}
@@ -8,14 +8,33 @@ use Rattle.registry_names.specs.declared.status.Status.{Status}
 use Rattle.registry_names.specs.declared.status.Status.TheVariants.{Public, Restricted}
 use Rattle.registry_names.specs.Names.{scope_of}
 use Rattle.registry_access.specs.declared.caller.Caller.{Caller}
+use Rattle.registry_access.specs.declared.role.Role.{Role}
+use Rattle.registry_access.specs.declared.role.Role.TheVariants.{Owner}
 use Rattle.registry_publish.specs.Form.{FormParts}
 use Rattle.registry_rules.specs.Actions.{version_of}
 use Rattle.registry_rules.specs.Callers.{caller_of}
-use Rattle.registry_rules.specs.Changes.{Change, PutStatus, AddVersion, PutTag, DropTag, all_made}
-use Rattle.registry_rules.specs.State.{State, stands}
+use Rattle.registry_rules.specs.Changes.{Change, AddUser, AddToken, AddOrg, PutMember, DropMember, AddTeam, PutTeamMember, DropTeamMember, DropTeam, PutStatus, AddVersion, PutTag, DropTag, all_made}
+use Rattle.registry_rules.specs.State.{State, developers, is_in_team, stands}
 use Rattle.registry_rules.specs.declared.request.Action.{Action}
-use Rattle.registry_rules.specs.declared.request.Action.TheVariants.{Publish, TagSet, TagRemove}
+use Rattle.registry_rules.specs.declared.request.Action.TheVariants.{UserAdd, TokenAdd, OrgCreate, OrgSet, OrgRemove, TeamCreate, TeamDestroy, TeamAdd, TeamRemove, Publish, TagSet, TagRemove}
 use Rattle.registry_rules.specs.declared.request.Request.{Request}
+
+-- ---- organisations
+
+-- it has an owner, and its first team with the owner in it
+abbrev pub creation : Text → Text → List Change
+creation o u = AddOrg o ∷ PutMember o u Owner false ∷ AddTeam o developers ∷ PutTeamMember o developers u ∷ []
+
+-- a member has another role; who becomes a member joins the first team
+abbrev pub membership : Text → Text → Role → Option Role → List Change
+membership o u role (Some old) = PutMember o u role true ∷ []
+membership o u role None = PutMember o u role false ∷ PutTeamMember o developers u ∷ []
+
+-- ---- teams
+
+-- who is in the team already stays in it
+abbrev pub joining : Text → Text → Text → Bool → List Change
+joining o t u inside = if inside then [] else PutTeamMember o t u ∷ []
 
 -- ---- a publish
 
@@ -45,6 +64,15 @@ publication S now f = put_status f.name (new_status f.access (at S.access.status
 -- ---- all commands
 
 abbrev pub effects : State → ℕ → Caller → Action → List Change
+effects S now who (UserAdd u) = AddUser u ∷ []
+effects S now who (TokenAdd u digest) = AddToken digest u ∷ []
+effects S now who (OrgCreate o u) = creation o u
+effects S now who (OrgSet o u role) = membership o u role (at S.access.roles (o, u))
+effects S now who (OrgRemove o u) = DropMember o u ∷ []
+effects S now who (TeamCreate o t) = AddTeam o t ∷ []
+effects S now who (TeamDestroy o t) = DropTeam o t ∷ []
+effects S now who (TeamAdd o t u) = joining o t u (is_in_team S o t u)
+effects S now who (TeamRemove o t u) = DropTeamMember o t u ∷ []
 effects S now who (Publish f) = publication S now f
 effects S now who (TagSet p t v) = PutTag p t (text_of_version v) (stands S p t) ∷ []
 effects S now who (TagRemove p t) = DropTag p t ∷ []

@@ -1,18 +1,25 @@
 -- When what a decision rests on is what the registry holds of a request.
-use Rattle.std.specs.Prelude.{◌≡◌}
+use Rattle.std.specs.Prelude.{◌≡◌, Bool, Option, Some}
 use Rattle.registry_names.specs.Maps.{at}
 use Rattle.registry_names.specs.Tags.{latest}
 use Rattle.registry_names.specs.Versions.{text_of_version}
+use Rattle.registry_names.specs.Texts.{Text}
+use Rattle.registry_access.specs.Agreement.{SameOrganisation}
+use Rattle.registry_access.specs.Positions.{has_organisation}
+use Rattle.registry_access.specs.RowMaps.{state_of}
+use Rattle.registry_access.specs.declared.caller.Caller.{Caller}
+use Rattle.registry_access.specs.declared.role.Role.{Role}
+use Rattle.registry_access.specs.declared.rows.AccessRows.{AccessRows}
 use Rattle.registry_publish.specs.Form.{FormParts}
 use Rattle.registry_rules.specs.Actions.{version_of}
 use Rattle.registry_rules.specs.Callers.{caller_of}
-use Rattle.registry_rules.specs.State.{State, is_live, is_spent, has_live, stands}
+use Rattle.registry_rules.specs.State.{State, has_user, has_team, is_member, is_in_team, has_other_owner, has_token, is_live, is_spent, has_live, stands, asked_version, lives}
 use Rattle.registry_rules.specs.declared.facts.About.{About}
 use Rattle.registry_rules.specs.declared.facts.About.TheVariants as about
 use Rattle.registry_rules.specs.declared.facts.Facts.{Facts}
 use Rattle.registry_rules.specs.declared.facts.PublishFacts.{PublishFacts}
 use Rattle.registry_rules.specs.declared.request.Action.{Action}
-use Rattle.registry_rules.specs.declared.request.Action.TheVariants.{Publish, TagSet, TagRemove, Packument, Archive, Tags}
+use Rattle.registry_rules.specs.declared.request.Action.TheVariants.{UserAdd, TokenAdd, OrgCreate, OrgSet, OrgRemove, TeamCreate, TeamDestroy, TeamAdd, TeamRemove, Publish, TagSet, TagRemove, Packument, VersionDoc, Archive, Tags, Members, Teams, TeamMembers}
 use Rattle.registry_rules.specs.declared.request.Request.{Request}
 
 pub record ArePublishFacts (facts : PublishFacts) (S : State) (f : FormParts) : Type 0 where
@@ -22,17 +29,56 @@ pub record ArePublishFacts (facts : PublishFacts) (S : State) (f : FormParts) : 
   pub tag_stands : facts.tag_stands ≡ stands S f.name f.tag
   pub latest_stands : facts.latest_stands ≡ stands S f.name latest
 
--- what is told of an action is so. What is told of another kind of action stands for no state
-abbrev pub StandsAbout : About → State → Action → Type 0
-StandsAbout (about.Publish facts) S (Publish f) = ArePublishFacts facts S f
-StandsAbout (about.TagSet version_lives tag_stands) S (TagSet p t v) = (version_lives ≡ is_live S p (text_of_version v)) × (tag_stands ≡ stands S p t)
-StandsAbout (about.TagRemove tag_stands) S (TagRemove p t) = tag_stands ≡ stands S p t
-StandsAbout (about.Version lives) S (Archive p v) = lives ≡ is_live S p (text_of_version v)
-StandsAbout (about.Package lives) S (Packument p) = lives ≡ has_live S p
-StandsAbout (about.Package lives) S (Tags p) = lives ≡ has_live S p
-StandsAbout _ S _ = ⊥
+-- the rows say of the organisation, and of the caller's role in it, what the registry holds
+abbrev pub SayOf : AccessRows → State → Caller → Text → Type 0
+SayOf rows S who o = SameOrganisation (state_of rows) S.access who o
 
--- the facts are what the registry holds for the request
+pub record AreOrgSetFacts (rows : AccessRows) (exists : Bool) (old : Option Role) (other : Bool) (S : State) (who : Caller) (o u : Text) : Type 0 where
+  pub rows_say : SayOf rows S who o
+  pub user_exists : exists ≡ has_user S u
+  pub role : old ≡ at S.access.roles (o, u)
+  pub other_owner : other ≡ has_other_owner S o u
+
+pub record AreOrgRemoveFacts (rows : AccessRows) (old : Option Role) (other : Bool) (S : State) (who : Caller) (o u : Text) : Type 0 where
+  pub rows_say : SayOf rows S who o
+  pub role : old ≡ at S.access.roles (o, u)
+  pub other_owner : other ≡ has_other_owner S o u
+
+pub record AreTeamAddFacts (rows : AccessRows) (there member already : Bool) (S : State) (who : Caller) (o t u : Text) : Type 0 where
+  pub rows_say : SayOf rows S who o
+  pub team_exists : there ≡ has_team S o t
+  pub is_member : member ≡ is_member S o u
+  pub is_in_team : already ≡ is_in_team S o t u
+
+pub record AreTeamRemoveFacts (rows : AccessRows) (there inside : Bool) (S : State) (who : Caller) (o t u : Text) : Type 0 where
+  pub rows_say : SayOf rows S who o
+  pub team_exists : there ≡ has_team S o t
+  pub is_in_team : inside ≡ is_in_team S o t u
+
+-- What is told of a caller's action is so. What is told of another kind of action stands for no state
+abbrev pub StandsAbout : About → State → Caller → Action → Type 0
+StandsAbout (about.UserAdd exists) S who (UserAdd u) = exists ≡ has_user S u
+StandsAbout (about.TokenAdd user_exists exists) S who (TokenAdd u digest) = (user_exists ≡ has_user S u) × (exists ≡ has_token S digest)
+StandsAbout (about.OrgCreate owner_exists exists) S who (OrgCreate o u) = (owner_exists ≡ has_user S u) × (exists ≡ has_organisation S.access o)
+StandsAbout (about.OrgSet rows user_exists role other_owner) S who (OrgSet o u new) = AreOrgSetFacts rows user_exists role other_owner S who o u
+StandsAbout (about.OrgRemove rows role other_owner) S who (OrgRemove o u) = AreOrgRemoveFacts rows role other_owner S who o u
+StandsAbout (about.TeamCreate rows exists) S who (TeamCreate o t) = SayOf rows S who o × (exists ≡ has_team S o t)
+StandsAbout (about.TeamDestroy rows exists) S who (TeamDestroy o t) = SayOf rows S who o × (exists ≡ has_team S o t)
+StandsAbout (about.TeamAdd rows team_exists member already) S who (TeamAdd o t u) = AreTeamAddFacts rows team_exists member already S who o t u
+StandsAbout (about.TeamRemove rows team_exists inside) S who (TeamRemove o t u) = AreTeamRemoveFacts rows team_exists inside S who o t u
+StandsAbout (about.Publish facts) S who (Publish f) = ArePublishFacts facts S f
+StandsAbout (about.TagSet version_lives tag_stands) S who (TagSet p t v) = (version_lives ≡ is_live S p (text_of_version v)) × (tag_stands ≡ stands S p t)
+StandsAbout (about.TagRemove tag_stands) S who (TagRemove p t) = tag_stands ≡ stands S p t
+StandsAbout (about.Version found) S who (VersionDoc p asked) = found ≡ lives S p (asked_version S p asked)
+StandsAbout (about.Version found) S who (Archive p v) = found ≡ is_live S p (text_of_version v)
+StandsAbout (about.Package found) S who (Packument p) = found ≡ has_live S p
+StandsAbout (about.Package found) S who (Tags p) = found ≡ has_live S p
+StandsAbout (about.Organisation rows) S who (Members o) = SayOf rows S who o
+StandsAbout (about.Organisation rows) S who (Teams o) = SayOf rows S who o
+StandsAbout (about.Team rows exists) S who (TeamMembers o t) = SayOf rows S who o × (exists ≡ has_team S o t)
+StandsAbout _ S who _ = ⊥
+
+-- The facts are what the registry holds for the request. Of an action of nobody nothing has to be told
 pub record StandsFor (facts : Facts) (S : State) (r : Request) : Type 0 where
   pub caller : facts.caller ≡ caller_of S r.who
-  pub about : StandsAbout facts.about S r.what
+  pub about : (who : Caller) → facts.caller ≡ Some who → StandsAbout facts.about S who r.what

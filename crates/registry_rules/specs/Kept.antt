@@ -1,5 +1,5 @@
 -- What holds of all that the registry comes to hold, from nothing on: of each entry of each map, and of its key.
-use Rattle.std.specs.Prelude.{◌≡◌, ◌≤◌, false, length, codes, Some, IsSome, IsTrue}
+use Rattle.std.specs.Prelude.{◌≡◌, ◌≤◌, false, length, Some, IsSome, IsTrue}
 use Rattle.registry_names.specs.Idents.{is_ident}
 use Rattle.registry_names.specs.Maps.{at}
 use Rattle.registry_names.specs.Messages.{is_message}
@@ -13,7 +13,7 @@ use Rattle.registry_access.specs.Hiding.{UnscopedArePublic}
 use Rattle.registry_names.specs.Names.{scope_of}
 use Rattle.registry_access.specs.declared.role.Role.TheVariants.{Owner}
 use Rattle.registry_publish.specs.Form.{IsManifestText}
-use Rattle.registry_rules.specs.State.{State, Release, Withdrawal, is_live}
+use Rattle.registry_rules.specs.State.{State, Release, Withdrawal, developers, is_live}
 
 -- ---- packages
 
@@ -43,15 +43,13 @@ pub record IsTagOf (S : State) (p t v : Text) : Type 0 where
 
 -- ---- who is there, and what he may do
 
--- the team that each organisation has
-abbrev pub developers : Text
-developers = codes "developers"
-
--- the organisation has an owner, and its first team
-pub record IsOrganisation (A : Access) (o : Text) : Type 0 where
-  pub name : IsTrue (is_ident o)
-  pub owner : (u : Text) × (at A.roles (o, u) ≡ Some Owner)
-  pub team : IsSome (at A.teams (o, developers))
+-- each name is in form, and a digest has 32 bytes
+pub record IsSpelled (A : Access) : Type 0 where
+  pub users : (u : Text) → IsSome (at A.users u) → IsTrue (is_ident u)
+  pub tokens : (digest : Text) → IsSome (at A.tokens digest) → length digest ≡ 32
+  pub organisations : (o : Text) → IsSome (at A.organisations o) → IsTrue (is_ident o)
+  pub teams : (o t : Text) → IsSome (at A.teams (o, t)) → IsTrue (is_ident t)
+  pub statuses : (p : Text) → IsSome (at A.statuses p) → IsName p
 
 -- the team may be granted something on the package, which is of its organisation's scope
 pub record IsGrant (A : Access) (o t p : Text) : Type 0 where
@@ -59,17 +57,20 @@ pub record IsGrant (A : Access) (o t p : Text) : Type 0 where
   pub status : IsSome (at A.statuses p)
   pub scope : scope_of p ≡ Some o
 
-pub record IsAccessKept (A : Access) : Type 0 where
-  pub users : (u : Text) → IsSome (at A.users u) → IsTrue (is_ident u)
-  -- a digest has 32 bytes
-  pub tokens : (digest u : Text) → at A.tokens digest ≡ Some u → (length digest ≡ 32) × IsSome (at A.users u)
-  pub organisations : (o : Text) → IsSome (at A.organisations o) → IsOrganisation A o
+-- what stands refers to what is there, and what each organisation and each package needs is there
+pub record IsSound (A : Access) : Type 0 where
+  -- a token is a user's
+  pub tokens : (digest u : Text) → at A.tokens digest ≡ Some u → IsSome (at A.users u)
+  -- a member is a user, and his organisation is there
   pub roles : (o u : Text) → IsSome (at A.roles (o, u)) → IsSome (at A.organisations o) × IsSome (at A.users u)
-  pub teams : (o t : Text) → IsSome (at A.teams (o, t)) → IsSome (at A.organisations o) × IsTrue (is_ident t)
+  -- an organisation has an owner, and its first team
+  pub owners : (o : Text) → IsSome (at A.organisations o) → (u : Text) × (at A.roles (o, u) ≡ Some Owner)
+  pub first_teams : (o : Text) → IsSome (at A.organisations o) → IsSome (at A.teams (o, developers))
+  pub teams : (o t : Text) → IsSome (at A.teams (o, t)) → IsSome (at A.organisations o)
   -- who is in a team is a member of its organisation
   pub team_members : (o t u : Text) → IsSome (at A.team_members (o, (t, u))) → IsSome (at A.teams (o, t)) × IsSome (at A.roles (o, u))
   pub grants : (o t p : Text) → IsSome (at A.grants (o, (t, p))) → IsGrant A o t p
-  pub statuses : (p : Text) → IsSome (at A.statuses p) → IsName p
+  -- a maintainer is a user, and his package was published
   pub maintainers : (p u : Text) → IsSome (at A.maintainers (p, u)) → IsSome (at A.statuses p) × IsSome (at A.users u)
   pub unscoped : UnscopedArePublic A
 
@@ -82,4 +83,5 @@ pub record IsKept (S : State) : Type 0 where
   -- a package with a live version has a status and a tag `latest`
   pub status : (p v : Text) → IsTrue (is_live S p v) → IsSome (at S.access.statuses p)
   pub latest : (p v : Text) → IsTrue (is_live S p v) → IsSome (at S.tags (p, latest))
-  pub access : IsAccessKept S.access
+  pub spelled : IsSpelled S.access
+  pub sound : IsSound S.access

@@ -1,6 +1,6 @@
 -- What commands make of what the registry holds, told of each map apart.
-use Rattle.std.specs.Prelude.{◌≡◌, ◌≢◌, ℕ, false, [], Some, None, IsSome}
-use Rattle.registry_names.specs.Keys.{Pair}
+use Rattle.std.specs.Prelude.{◌≡◌, ◌≢◌, ◌↔◌, ℕ, true, false, [], Some, None, IsSome, if◌then◌else◌}
+use Rattle.registry_names.specs.Keys.{Pair, Triple}
 use Rattle.registry_names.specs.Maps.{at}
 use Rattle.registry_names.specs.Tags.{latest}
 use Rattle.registry_names.specs.Texts.{Text}
@@ -9,12 +9,131 @@ use Rattle.registry_names.specs.declared.status.Status.{Status}
 use Rattle.registry_names.specs.declared.status.Status.TheVariants.{Public, Restricted}
 use Rattle.registry_names.specs.Names.{scope_of}
 use Rattle.registry_access.specs.declared.caller.Caller.{Caller}
+use Rattle.registry_access.specs.declared.role.Role.{Role}
+use Rattle.registry_access.specs.declared.role.Role.TheVariants.{Owner}
 use Rattle.registry_publish.specs.Form.{FormParts}
-use Rattle.registry_rules.specs.Actions.{is_command, version_of, names}
+use Rattle.registry_rules.specs.Actions.{is_command, version_of, names, ends_team}
 use Rattle.registry_rules.specs.Effects.{step_by}
-use Rattle.registry_rules.specs.State.{State}
+use Rattle.registry_rules.specs.Kept.{IsSound}
+use Rattle.registry_rules.specs.State.{State, developers, has_other_owner}
 use Rattle.registry_rules.specs.declared.request.Action.{Action}
-use Rattle.registry_rules.specs.declared.request.Action.TheVariants.{Publish, TagSet, TagRemove}
+use Rattle.registry_rules.specs.declared.request.Action.TheVariants.{UserAdd, TokenAdd, OrgCreate, OrgSet, OrgRemove, TeamCreate, TeamDestroy, TeamAdd, TeamRemove, Publish, TagSet, TagRemove}
+
+-- ---- users and tokens
+
+-- the user is there, and nobody else has come or gone
+pub record AddsUser (S T : State) (u : Text) : Type 0 where
+  pub user : IsSome (at T.access.users u)
+  pub users : (w : Text) → w ≢ u → at T.access.users w ≡ at S.access.users w
+  pub rest : T ≡ record S { access = record S.access { users = T.access.users } }
+
+-- the token is this user's, and no other token has changed
+pub record AddsToken (S T : State) (digest u : Text) : Type 0 where
+  pub token : at T.access.tokens digest ≡ Some u
+  pub tokens : (d : Text) → d ≢ digest → at T.access.tokens d ≡ at S.access.tokens d
+  pub rest : T ≡ record S { access = record S.access { tokens = T.access.tokens } }
+
+abbrev pub UsersAreAdded : Type 0
+UsersAreAdded = (S : State) (now : ℕ) (who : Caller) (u : Text) → AddsUser S (step_by S now who (UserAdd u)) u
+
+abbrev pub TokensAreAdded : Type 0
+TokensAreAdded = (S : State) (now : ℕ) (who : Caller) (u digest : Text) → AddsToken S (step_by S now who (TokenAdd u digest)) digest u
+
+-- ---- organisations
+
+-- the organisation is there, with an owner and its first team, in which he is; nothing else has changed
+pub record CreatesOrganisation (S T : State) (o u : Text) : Type 0 where
+  pub organisation : IsSome (at T.access.organisations o)
+  pub owner : at T.access.roles (o, u) ≡ Some Owner
+  pub team : IsSome (at T.access.teams (o, developers))
+  pub member : IsSome (at T.access.team_members (o, (developers, u)))
+  pub organisations : (p : Text) → p ≢ o → at T.access.organisations p ≡ at S.access.organisations p
+  pub roles : (k : Pair) → k ≢ (o, u) → at T.access.roles k ≡ at S.access.roles k
+  pub teams : (k : Pair) → k ≢ (o, developers) → at T.access.teams k ≡ at S.access.teams k
+  pub team_members : (k : Triple) → k ≢ (o, (developers, u)) → at T.access.team_members k ≡ at S.access.team_members k
+  pub rest : T ≡ record S {
+    access = record S.access {
+      organisations = T.access.organisations;
+      roles = T.access.roles;
+      teams = T.access.teams;
+      team_members = T.access.team_members;
+    };
+  }
+
+-- the user has this role. Who had none joins the first team, and who had one stays where he is
+pub record SetsRole (S T : State) (o u : Text) (new : Role) : Type 0 where
+  pub role : at T.access.roles (o, u) ≡ Some new
+  pub roles : (k : Pair) → k ≢ (o, u) → at T.access.roles k ≡ at S.access.roles k
+  pub joins : at S.access.roles (o, u) ≡ None → IsSome (at T.access.team_members (o, (developers, u)))
+  pub stays : IsSome (at S.access.roles (o, u)) → T.access.team_members ≡ S.access.team_members
+  pub team_members : (k : Triple) → k ≢ (o, (developers, u)) → at T.access.team_members k ≡ at S.access.team_members k
+  pub rest : T ≡ record S { access = record S.access { roles = T.access.roles; team_members = T.access.team_members } }
+
+-- the user is no member, and in no team of the organisation; every other member stays, in all his teams
+pub record RemovesMember (S T : State) (o u : Text) : Type 0 where
+  pub role : at T.access.roles (o, u) ≡ None
+  pub roles : (k : Pair) → k ≢ (o, u) → at T.access.roles k ≡ at S.access.roles k
+  pub teams : (t : Text) → at T.access.team_members (o, (t, u)) ≡ None
+  pub team_members : (p t w : Text) → ◌≢◌ {A = Pair} (p, w) (o, u) → at T.access.team_members (p, (t, w)) ≡ at S.access.team_members (p, (t, w))
+  pub rest : T ≡ record S { access = record S.access { roles = T.access.roles; team_members = T.access.team_members } }
+
+abbrev pub OrganisationsAreCreated : Type 0
+OrganisationsAreCreated = (S : State) (now : ℕ) (who : Caller) (o u : Text) → CreatesOrganisation S (step_by S now who (OrgCreate o u)) o u
+
+abbrev pub RolesAreSet : Type 0
+RolesAreSet = (S : State) (now : ℕ) (who : Caller) (o u : Text) (role : Role) → SetsRole S (step_by S now who (OrgSet o u role)) o u role
+
+abbrev pub MembersAreRemoved : Type 0
+MembersAreRemoved = (S : State) (now : ℕ) (who : Caller) (o u : Text) → RemovesMember S (step_by S now who (OrgRemove o u)) o u
+
+-- another owner is another user who is an owner
+abbrev pub OtherOwnersAreOwners : Type 0
+OtherOwnersAreOwners = (S : State) (o u : Text) → (has_other_owner S o u ≡ true) ↔ ((w : Text) × (w ≢ u) × (at S.access.roles (o, w) ≡ Some Owner))
+
+-- ---- teams
+
+-- the organisation has the team, and no other team has come or gone
+pub record CreatesTeam (S T : State) (o t : Text) : Type 0 where
+  pub team : IsSome (at T.access.teams (o, t))
+  pub teams : (k : Pair) → k ≢ (o, t) → at T.access.teams k ≡ at S.access.teams k
+  pub rest : T ≡ record S { access = record S.access { teams = T.access.teams } }
+
+-- nobody is in the team, and it is granted nothing
+pub record IsEmptyTeam (S : State) (o t : Text) : Type 0 where
+  pub members : (u : Text) → at S.access.team_members (o, (t, u)) ≡ None
+  pub grants : (p : Text) → at S.access.grants (o, (t, p)) ≡ None
+
+-- the team is gone, with all that was said of it, and no other team has changed
+pub record DestroysTeam (S T : State) (o t : Text) : Type 0 where
+  pub team : at T.access.teams (o, t) ≡ None
+  pub teams : (k : Pair) → k ≢ (o, t) → at T.access.teams k ≡ at S.access.teams k
+  pub emptied : IsEmptyTeam T o t
+  pub team_members : (p s u : Text) → ◌≢◌ {A = Pair} (p, s) (o, t) → at T.access.team_members (p, (s, u)) ≡ at S.access.team_members (p, (s, u))
+  pub grants : (p s q : Text) → ◌≢◌ {A = Pair} (p, s) (o, t) → at T.access.grants (p, (s, q)) ≡ at S.access.grants (p, (s, q))
+  pub rest : T ≡ record S { access = record S.access { teams = T.access.teams; team_members = T.access.team_members; grants = T.access.grants } }
+
+-- who is in this team alone has changed, and of these this one
+pub record IsTeamMemberChange (S T : State) (o t u : Text) : Type 0 where
+  pub team_members : (k : Triple) → k ≢ (o, (t, u)) → at T.access.team_members k ≡ at S.access.team_members k
+  pub rest : T ≡ record S { access = record S.access { team_members = T.access.team_members } }
+
+abbrev pub TeamsAreCreated : Type 0
+TeamsAreCreated = (S : State) (now : ℕ) (who : Caller) (o t : Text) → CreatesTeam S (step_by S now who (TeamCreate o t)) o t
+
+-- also one of a name that a destroyed team had
+abbrev pub NewTeamsAreEmpty : Type 0
+NewTeamsAreEmpty = (S : State) (now : ℕ) (who : Caller) (o t : Text) → IsSound S.access → at S.access.teams (o, t) ≡ None → IsEmptyTeam (step_by S now who (TeamCreate o t)) o t
+
+abbrev pub TeamsAreDestroyed : Type 0
+TeamsAreDestroyed = (S : State) (now : ℕ) (who : Caller) (o t : Text) → DestroysTeam S (step_by S now who (TeamDestroy o t)) o t
+
+abbrev pub TeamMembersAreAdded : Type 0
+TeamMembersAreAdded = (S : State) (now : ℕ) (who : Caller) (o t u : Text) → let T = step_by S now who (TeamAdd o t u) in
+    IsSome (at T.access.team_members (o, (t, u))) × IsTeamMemberChange S T o t u
+
+abbrev pub TeamMembersAreRemoved : Type 0
+TeamMembersAreRemoved = (S : State) (now : ℕ) (who : Caller) (o t u : Text) → let T = step_by S now who (TeamRemove o t u) in
+    (at T.access.team_members (o, (t, u)) ≡ None) × IsTeamMemberChange S T o t u
 
 -- ---- a publish
 
@@ -73,15 +192,15 @@ RemovedTagsAreGone = (S : State) (now : ℕ) (who : Caller) (p t : Text) → let
 abbrev pub QueriesChangeNothing : Type 0
 QueriesChangeNothing = (S : State) (now : ℕ) (who : Caller) (what : Action) → is_command what ≡ false → step_by S now who what ≡ S
 
--- all that is held of the package is the same
-pub record IsSameOf (S T : State) (p : Text) : Type 0 where
+-- all that is held of the package is the same, but that a team that this action ends is granted nothing on it
+pub record IsApart (S T : State) (what : Action) (p : Text) : Type 0 where
   pub live : (v : Text) → at T.live (p, v) ≡ at S.live (p, v)
   pub spent : (v : Text) → at T.spent (p, v) ≡ at S.spent (p, v)
   pub tags : (t : Text) → at T.tags (p, t) ≡ at S.tags (p, t)
   pub status : at T.access.statuses p ≡ at S.access.statuses p
   pub maintainers : (u : Text) → at T.access.maintainers (p, u) ≡ at S.access.maintainers (p, u)
-  pub grants : (o t : Text) → at T.access.grants (o, (t, p)) ≡ at S.access.grants (o, (t, p))
+  pub grants : (o t : Text) → at T.access.grants (o, (t, p)) ≡ (if ends_team what o t then None else at S.access.grants (o, (t, p)))
 
 -- an action changes nothing of a package that it doesn't name
 abbrev pub PackagesStandApart : Type 0
-PackagesStandApart = (S : State) (now : ℕ) (who : Caller) (what : Action) (p : Text) → names what p ≡ false → IsSameOf S (step_by S now who what) p
+PackagesStandApart = (S : State) (now : ℕ) (who : Caller) (what : Action) (p : Text) → names what p ≡ false → IsApart S (step_by S now who what) what p

@@ -1,9 +1,61 @@
 -- The operations on what the registry holds. Each change is one of them.
-use Rattle.std.specs.Prelude.{is_some, if◌then◌else◌}
-use Rattle.registry_names.specs.Texts.{Text}
-use Rattle.registry_names.specs.Maps.{at, put, erase}
+use Rattle.std.specs.Prelude.{not, ◌&&◌, is_some, if◌then◌else◌}
+use Rattle.registry_names.specs.Texts.{Text, is}
+use Rattle.registry_names.specs.Maps.{at, put, erase, keep}
 use Rattle.registry_names.specs.declared.status.Status.{Status}
+use Rattle.registry_access.specs.declared.role.Role.{Role}
 use Rattle.registry_rules.specs.State.{State, Release}
+
+-- the user is there
+abbrev pub with_user : State → Text → State
+with_user S u = record S { access = record S.access { users = put S.access.users u tt } }
+
+-- the token is this user's
+abbrev pub with_token : State → Text → Text → State
+with_token S digest u = record S { access = record S.access { tokens = put S.access.tokens digest u } }
+
+-- the organisation is there
+abbrev pub with_organisation : State → Text → State
+with_organisation S o = record S { access = record S.access { organisations = put S.access.organisations o tt } }
+
+-- the user is a member of the organisation in this role
+abbrev pub with_member : State → Text → Text → Role → State
+with_member S o u role = record S { access = record S.access { roles = put S.access.roles (o, u) role } }
+
+-- a member has this role
+abbrev pub with_role : State → Text → Text → Role → State
+with_role S o u role = if is_some (at S.access.roles (o, u)) then with_member S o u role else S
+
+-- the user is no member, and in no team of the organisation
+abbrev pub without_member : State → Text → Text → State
+without_member S o u = record S {
+  access = record S.access {
+    roles = erase S.access.roles (o, u);
+    team_members = keep S.access.team_members (λ k. not (is o k.0 && is u k.1.1));
+  };
+}
+
+-- the organisation has the team
+abbrev pub with_team : State → Text → Text → State
+with_team S o t = record S { access = record S.access { teams = put S.access.teams (o, t) tt } }
+
+-- the user is in the team
+abbrev pub with_team_member : State → Text → Text → Text → State
+with_team_member S o t u = record S { access = record S.access { team_members = put S.access.team_members (o, (t, u)) tt } }
+
+-- the user isn't in the team
+abbrev pub without_team_member : State → Text → Text → Text → State
+without_team_member S o t u = record S { access = record S.access { team_members = erase S.access.team_members (o, (t, u)) } }
+
+-- the team isn't there; nobody is in it, and it is granted nothing
+abbrev pub without_team : State → Text → Text → State
+without_team S o t = record S {
+  access = record S.access {
+    teams = erase S.access.teams (o, t);
+    team_members = keep S.access.team_members (λ k. not (is o k.0 && is t k.1.0));
+    grants = keep S.access.grants (λ k. not (is o k.0 && is t k.1.0));
+  };
+}
 
 -- the package has this status
 abbrev pub with_status : State → Text → Status → State

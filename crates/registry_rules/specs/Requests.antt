@@ -1,5 +1,6 @@
 -- Requests in form.
-use Rattle.std.specs.Prelude.{◌≡◌, ◌≤◌, Some, IsTrue}
+use Rattle.std.specs.Prelude.{◌≡◌, ◌≤◌, length, Some, IsTrue}
+use Rattle.registry_names.specs.Idents.{is_ident}
 use Rattle.registry_names.specs.Moments.{last_second}
 use Rattle.registry_names.specs.Names.{IsName}
 use Rattle.registry_names.specs.Tags.{is_tag}
@@ -7,7 +8,9 @@ use Rattle.registry_names.specs.Versions.{IsVersionOf, text_of_version}
 use Rattle.registry_publish.specs.Form.{FormParts, IsManifestText}
 use Rattle.registry_publish.specs.Needs.{needs_of}
 use Rattle.registry_rules.specs.declared.request.Action.{Action}
-use Rattle.registry_rules.specs.declared.request.Action.TheVariants.{Publish, TagSet, TagRemove, Packument, Archive, Tags}
+use Rattle.registry_rules.specs.declared.request.Action.TheVariants.{UserAdd, TokenAdd, OrgCreate, OrgSet, OrgRemove, TeamCreate, TeamDestroy, TeamAdd, TeamRemove, Publish, TagSet, TagRemove, Packument, VersionDoc, Archive, Tags, Members, Teams, TeamMembers}
+use Rattle.registry_rules.specs.declared.request.Asked.{Asked}
+use Rattle.registry_rules.specs.declared.request.Asked.TheVariants.{Exact, Latest}
 use Rattle.registry_rules.specs.declared.request.Request.{Request}
 
 pub record ArePartsInForm (f : FormParts) : Type 0 where
@@ -17,13 +20,30 @@ pub record ArePartsInForm (f : FormParts) : Type 0 where
   pub manifest : IsManifestText f.name f.version f.manifest
   pub needs : needs_of f.manifest ≡ Some f.needs
 
+abbrev pub IsAskedInForm : Asked → Type 0
+IsAskedInForm (Exact v) = IsVersionOf (text_of_version v) v
+IsAskedInForm Latest = Unit {0}
+
 abbrev pub IsActionInForm : Action → Type 0
+IsActionInForm (UserAdd u) = IsTrue (is_ident u)
+IsActionInForm (TokenAdd u digest) = IsTrue (is_ident u) × (length digest ≡ 32)
+IsActionInForm (OrgCreate o u) = IsTrue (is_ident o) × IsTrue (is_ident u)
+IsActionInForm (OrgSet o u role) = IsTrue (is_ident o) × IsTrue (is_ident u)
+IsActionInForm (OrgRemove o u) = IsTrue (is_ident o) × IsTrue (is_ident u)
+IsActionInForm (TeamCreate o t) = IsTrue (is_ident o) × IsTrue (is_ident t)
+IsActionInForm (TeamDestroy o t) = IsTrue (is_ident o) × IsTrue (is_ident t)
+IsActionInForm (TeamAdd o t u) = IsTrue (is_ident o) × IsTrue (is_ident t) × IsTrue (is_ident u)
+IsActionInForm (TeamRemove o t u) = IsTrue (is_ident o) × IsTrue (is_ident t) × IsTrue (is_ident u)
 IsActionInForm (Publish f) = ArePartsInForm f
 IsActionInForm (TagSet p t v) = IsName p × IsTrue (is_tag t) × IsVersionOf (text_of_version v) v
 IsActionInForm (TagRemove p t) = IsName p × IsTrue (is_tag t)
 IsActionInForm (Packument p) = IsName p
+IsActionInForm (VersionDoc p asked) = IsName p × IsAskedInForm asked
 IsActionInForm (Archive p v) = IsName p × IsVersionOf (text_of_version v) v
 IsActionInForm (Tags p) = IsName p
+IsActionInForm (Members o) = IsTrue (is_ident o)
+IsActionInForm (Teams o) = IsTrue (is_ident o)
+IsActionInForm (TeamMembers o t) = IsTrue (is_ident o) × IsTrue (is_ident t)
 
 -- it is asked at a moment, and its texts are in form
 pub record IsInForm (r : Request) : Type 0 where

@@ -1,8 +1,15 @@
 -- What the registry holds: finite maps under names, and nothing of how they are kept.
-use Rattle.std.specs.Prelude.{ℕ, Bool, true, false, not, List, [], ◌∷◌, is_some}
-use Rattle.registry_names.specs.Texts.{Text}
+use Rattle.std.specs.Prelude.{ℕ, Bool, true, false, not, ◌&&◌, List, [], ◌∷◌, codes, is_some, Option, Some, None}
+use Rattle.registry_names.specs.Tags.{latest}
+use Rattle.std.specs.List.{list_any}
+use Rattle.registry_names.specs.Texts.{Text, is}
 use Rattle.registry_names.specs.Maps.{PairMap, empty, at, of}
+use Rattle.registry_names.specs.Versions.{text_of_version}
 use Rattle.registry_access.specs.Access.{Access}
+use Rattle.registry_access.specs.Levels.{is_owner}
+use Rattle.registry_access.specs.declared.role.Role.{Role}
+use Rattle.registry_rules.specs.declared.request.Asked.{Asked}
+use Rattle.registry_rules.specs.declared.request.Asked.TheVariants.{Exact, Latest}
 
 -- a version that was published and not withdrawn
 pub record Release : Type 0 where
@@ -30,6 +37,10 @@ pub record State : Type 0 where
 abbrev pub no_access : Access
 no_access = record { users = empty; tokens = empty; organisations = empty; roles = empty; teams = empty; team_members = empty; grants = empty; statuses = empty; maintainers = empty }
 
+-- the team that each organisation has
+abbrev pub developers : Text
+developers = codes "developers"
+
 -- a registry of which nothing was asked yet
 abbrev pub nothing : State
 nothing = record { access = no_access; live = empty; spent = empty; tags = empty }
@@ -39,6 +50,34 @@ nothing = record { access = no_access; live = empty; spent = empty; tags = empty
 abbrev pub is_empty : {X : Type 0} → List X → Bool
 is_empty [] = true
 is_empty (x ∷ xs) = false
+
+-- the user is there
+abbrev pub has_user : State → Text → Bool
+has_user S u = is_some (at S.access.users u)
+
+-- the user is a member of the organisation
+abbrev pub is_member : State → Text → Text → Bool
+is_member S o u = is_some (at S.access.roles (o, u))
+
+-- the organisation has the team
+abbrev pub has_team : State → Text → Text → Bool
+has_team S o t = is_some (at S.access.teams (o, t))
+
+-- the user is in the team
+abbrev pub is_in_team : State → Text → Text → Text → Bool
+is_in_team S o t u = is_some (at S.access.team_members (o, (t, u)))
+
+-- another member of the organisation than the user is an owner
+abbrev pub has_other_owner : State → Text → Text → Bool
+has_other_owner S o u = list_any (λ (e : Text × Role). not (is e.0 u) && is_owner (Some e.1)) (of S.access.roles o)
+
+-- he is the one owner of the organisation
+abbrev pub is_last_owner : State → Text → Text → Bool
+is_last_owner S o u = is_owner (at S.access.roles (o, u)) && not (has_other_owner S o u)
+
+-- there is a token with this digest
+abbrev pub has_token : State → Text → Bool
+has_token S digest = is_some (at S.access.tokens digest)
 
 -- the version lives
 abbrev pub is_live : State → Text → Text → Bool
@@ -55,3 +94,13 @@ has_live S p = not (is_empty (of S.live p))
 -- the tag stands
 abbrev pub stands : State → Text → Text → Bool
 stands S p t = is_some (at S.tags (p, t))
+
+-- the version that is asked for: this one, or the one that `latest` names, if it stands
+abbrev pub asked_version : State → Text → Asked → Option Text
+asked_version S p (Exact v) = Some (text_of_version v)
+asked_version S p Latest = at S.tags (p, latest)
+
+-- there is such a version, and it lives
+abbrev pub lives : State → Text → Option Text → Bool
+lives S p None = false
+lives S p (Some v) = is_live S p v

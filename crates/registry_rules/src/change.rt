@@ -1,7 +1,8 @@
 //! What a decision changes.
 
-use registry_names::{Moment, Name, Status, Ver};
-use registry_publish::PublishForm;
+use registry_access::Role;
+use registry_names::{Ident, Moment, Name, Status, Ver};
+use registry_publish::{PublishForm, TokenDigest};
 
 /// Changes, which are made in their order.
 pub type Changes<'a> = Vec<Change<'a>>;
@@ -10,6 +11,73 @@ pub type Changes<'a> = Vec<Change<'a>>;
 /// the request.
 #[derive(Clone, Copy)]
 pub enum Change<'a> {
+    /// There is this user.
+    AddUser {
+        /// The user.
+        user: &'a Ident,
+    },
+    /// There is this token.
+    AddToken {
+        /// The token's digest.
+        digest: &'a TokenDigest,
+        /// Whose it is.
+        user: &'a Ident,
+    },
+    /// There is this organisation.
+    AddOrg {
+        /// The organisation.
+        organisation: &'a str,
+    },
+    /// The user is a member of the organisation, in this role.
+    PutMember {
+        /// The organisation.
+        organisation: &'a str,
+        /// The user.
+        user: &'a Ident,
+        /// What he is in it.
+        role: Role,
+        /// Whether he is a member already, in another role or in this one.
+        stands: bool,
+    },
+    /// The user is no member of the organisation, and in none of its teams.
+    DropMember {
+        /// The organisation.
+        organisation: &'a str,
+        /// The user.
+        user: &'a Ident,
+    },
+    /// The organisation has this team.
+    AddTeam {
+        /// The organisation.
+        organisation: &'a str,
+        /// The team.
+        team: &'a str,
+    },
+    /// The user is in the team of the organisation.
+    PutTeamMember {
+        /// The organisation.
+        organisation: &'a str,
+        /// The team.
+        team: &'a str,
+        /// The user.
+        user: &'a Ident,
+    },
+    /// The user isn't in the team of the organisation.
+    DropTeamMember {
+        /// The organisation.
+        organisation: &'a str,
+        /// The team.
+        team: &'a str,
+        /// The user.
+        user: &'a Ident,
+    },
+    /// The organisation hasn't this team; nobody is in it, and it is granted nothing.
+    DropTeam {
+        /// The organisation.
+        organisation: &'a str,
+        /// The team.
+        team: &'a str,
+    },
     /// The package has this status.
     PutStatus {
         /// The package.

@@ -12,9 +12,14 @@ ghost use Rattle.registry_access.specs.declared.caller.Caller.{Caller};
 
 use crate::change::{Change, Changes};
 use crate::facts::{About, Facts};
+use crate::organisations::{creation, membership, org_remove_refusal, org_set_refusal};
+use crate::policy::policy_refusal;
 use crate::publish::{publish_changes, publish_refusal};
 use crate::request::{Action, Request};
 use crate::tags::tag_remove_refusal;
+use crate::teams::{team_destroy_refusal, team_joined};
+use crate::users::{added_to_refusal, unless_new};
+use registry_access::Caller;
 use registry_names::{Fault, Refusal, Stop};
 use std::alloc::{AllocError, Global};
 
@@ -25,12 +30,9 @@ pub fn may_ask(facts: &Facts, request: &Request) -> Result<(), Refusal>
     ensures { (S : State) → StandsFor facts.now S request.now
         → result ≡ permitted (refusal S request.now) }
 {
-    if facts.caller.is_none() {
-        return Err(Refusal::NoCaller);
-    }
-    match state_refusal(&facts.about, &request.what) {
-        Some(refusal) => Err(refusal),
-        None => Ok(()),
+    match &facts.caller {
+        None => Err(Refusal::NoCaller),
+        Some(caller) => permitted(refusal_by(caller, &facts.about, &request.what)),
     }
 }
 
@@ -54,12 +56,83 @@ pub fn decide<'a>(alloc: Global, facts: &Facts, request: &'a Request) -> Result<
     Ok(changes(alloc, &facts.about, request)?)
 }
 
+fn permitted(refusal: Option<Refusal>) -> Result<(), Refusal>
+    ensures { result ≡ spec.permitted refusal }
+{
+    match refusal {
+        Some(refusal) => Err(refusal),
+        None => Ok(()),
+    }
+}
+
+// Why this caller's action is turned away, if it is.
+fn refusal_by(caller: &Caller, about: &About, action: &Action) -> Option<Refusal>
+    ensures { (S : State) (now : ℕ) → StandsAbout about.now S caller.now action.now
+        → result ≡ spec.refusal_by S now caller.now action.now }
+{
+    policy_refusal(caller, about, action).or(state_refusal(about, action))
+}
+
 // Why what an action asks for can't be had, whoever asks.
 fn state_refusal(about: &About, action: &Action) -> Option<Refusal>
-    ensures { (S : State) (now : ℕ) → StandsAbout about.now S action.now
+    ensures { (S : State) (who : Caller) (now : ℕ) → StandsAbout about.now S who action.now
         → result ≡ spec.state_refusal S now action.now }
 {
     match (about, action) {
+        (About::UserAdd { exists }, Action::UserAdd { .. }) => unless_new(*exists),
+        (
+            About::TokenAdd {
+                user_exists,
+                exists,
+            },
+            Action::TokenAdd { .. },
+        ) => { added_to_refusal(*user_exists, *exists) }
+        (
+            About::OrgCreate {
+                owner_exists,
+                exists,
+            },
+            Action::OrgCreate { .. },
+        ) => { added_to_refusal(*owner_exists, *exists) }
+        (
+            About::OrgSet {
+                user_exists,
+                role: old,
+                other_owner,
+                ..
+            },
+            Action::OrgSet { role, .. },
+        ) => org_set_refusal(*user_exists, *old, *other_owner, *role),
+        (
+            About::OrgRemove {
+                role,
+                other_owner,
+                ..
+            },
+            Action::OrgRemove { .. },
+        ) => { org_remove_refusal(*role, *other_owner) }
+        (About::TeamCreate { exists, .. }, Action::TeamCreate { .. }) => unless_new(*exists),
+        (About::TeamDestroy { exists, .. }, Action::TeamDestroy { team, .. }) => {
+            team_destroy_refusal(*exists, team)
+        }
+        (
+            About::TeamAdd {
+                team_exists,
+                is_member,
+                ..
+            },
+            Action::TeamAdd { .. },
+        ) => { unless_there(*team_exists && *is_member) }
+        (
+            About::TeamRemove {
+                team_exists,
+                is_in_team,
+                ..
+            },
+            Action::TeamRemove { .. },
+        ) => { unless_there(*team_exists && *is_in_team) }
+        (About::Organisation { .. }, Action::Members { .. } | Action::Teams { .. }) => None,
+        (About::Team { exists, .. }, Action::TeamMembers { .. }) => unless_there(*exists),
         (About::Publish(facts), Action::Publish { form }) => publish_refusal(facts, form),
         (About::TagSet { version_lives, .. }, Action::TagSet { .. }) => unless_there(
             *version_lives,
@@ -67,7 +140,7 @@ fn state_refusal(about: &About, action: &Action) -> Option<Refusal>
         (About::TagRemove { tag_stands }, Action::TagRemove { tag, .. }) => {
             tag_remove_refusal(*tag_stands, tag)
         }
-        (About::Version { lives }, Action::Archive { .. })
+        (About::Version { lives }, Action::VersionDoc { .. } | Action::Archive { .. })
         | (About::Package { lives }, Action::Packument { .. } | Action::Tags { .. }) => {
             unless_there(*lives)
         }
@@ -88,12 +161,70 @@ fn changes<'a>(
     request: &'a Request,
 ) -> Result<Changes<'a>, AllocError>
     ensures command { IfOk result (λ changes. (S : State) (who : Caller)
-        → StandsAbout about.now S request.now.what
+        → StandsAbout about.now S who request.now.what
         → map change_of changes.items ≡ effects S request.now.at who request.now.what) }
     ensures query { is_command request.now.what ≡ false
         → IfOk result (λ changes. changes.items ≡ []) }
 {
     match (about, &request.what) {
+        (About::UserAdd { .. }, Action::UserAdd { user }) => {
+            Ok(vec![in alloc; Change::AddUser { user }]?)
+        }
+        (About::TokenAdd { .. }, Action::TokenAdd { user, digest }) => {
+            Ok(vec![in alloc; Change::AddToken { digest, user }]?)
+        }
+        (
+            About::OrgCreate { .. },
+            Action::OrgCreate {
+                organisation,
+                owner,
+            },
+        ) => { creation(alloc, organisation, owner) }
+        (
+            About::OrgSet { role: old, .. },
+            Action::OrgSet {
+                organisation,
+                user,
+                role,
+            },
+        ) => { membership(alloc, organisation, user, *role, *old) }
+        (About::OrgRemove { .. }, Action::OrgRemove { organisation, user }) => {
+            let organisation = organisation.text();
+            Ok(vec![in alloc; Change::DropMember { organisation, user }]?)
+        }
+        (About::TeamCreate { .. }, Action::TeamCreate { organisation, team }) => {
+            let (organisation, team) = (organisation.text(), team.text());
+            Ok(vec![in alloc; Change::AddTeam { organisation, team }]?)
+        }
+        (About::TeamDestroy { .. }, Action::TeamDestroy { organisation, team }) => {
+            let (organisation, team) = (organisation.text(), team.text());
+            Ok(vec![in alloc; Change::DropTeam { organisation, team }]?)
+        }
+        (
+            About::TeamAdd { is_in_team, .. },
+            Action::TeamAdd {
+                organisation,
+                team,
+                user,
+            },
+        ) => { team_joined(alloc, organisation, team, user, *is_in_team) }
+        (
+            About::TeamRemove { .. },
+            Action::TeamRemove {
+                organisation,
+                team,
+                user,
+            },
+        ) => {
+            let (organisation, team) = (organisation.text(), team.text());
+            Ok(vec![in alloc;
+                Change::DropTeamMember {
+                    organisation,
+                    team,
+                    user
+                },
+            ]?)
+        }
         (About::Publish(facts), Action::Publish { form }) => {
             publish_changes(alloc, facts, form, &request.at)
         }

@@ -1,6 +1,6 @@
 //! The facts that a decision rests on.
 
-use registry_access::Caller;
+use registry_access::{AccessRows, Caller, Role};
 use registry_names::Status;
 
 /// What the registry holds of a request: who asks, and what stands of what he asks.
@@ -13,9 +13,97 @@ pub struct Facts {
 }
 
 /// What the registry holds of what an action is about: of each kind of action what decides it, and
-/// no more.
+/// no more. Rows are those that the policy asks for: of the organisation, and of the caller's
+/// membership in it.
 #[derive(Drop)]
 pub enum About {
+    /// Of a user who is to be added.
+    UserAdd {
+        /// Whether he is there already.
+        exists: bool,
+    },
+    /// Of a token that is to be added.
+    TokenAdd {
+        /// Whether its user is there.
+        user_exists: bool,
+        /// Whether the token is there already.
+        exists: bool,
+    },
+    /// Of an organisation that is to be created.
+    OrgCreate {
+        /// Whether its owner is there.
+        owner_exists: bool,
+        /// Whether the organisation is there already.
+        exists: bool,
+    },
+    /// Of a role that a user is to have in an organisation.
+    OrgSet {
+        /// The organisation, and the caller in it.
+        rows: AccessRows,
+        /// Whether the user is there.
+        user_exists: bool,
+        /// What he is in the organisation, if he is a member of it.
+        role: Option<Role>,
+        /// Whether another member of it is an owner.
+        other_owner: bool,
+    },
+    /// Of a member who is to leave an organisation.
+    OrgRemove {
+        /// The organisation, and the caller in it.
+        rows: AccessRows,
+        /// What the user is in it, if he is a member of it.
+        role: Option<Role>,
+        /// Whether another member of it is an owner.
+        other_owner: bool,
+    },
+    /// Of a team that is to be created.
+    TeamCreate {
+        /// The organisation, and the caller in it.
+        rows: AccessRows,
+        /// Whether the team is there already.
+        exists: bool,
+    },
+    /// Of a team that is to be destroyed.
+    TeamDestroy {
+        /// The organisation, and the caller in it.
+        rows: AccessRows,
+        /// Whether the team is there.
+        exists: bool,
+    },
+    /// Of a member who is to be in a team.
+    TeamAdd {
+        /// The organisation, and the caller in it.
+        rows: AccessRows,
+        /// Whether the team is there.
+        team_exists: bool,
+        /// Whether the user is a member of the organisation.
+        is_member: bool,
+        /// Whether he is in the team already.
+        is_in_team: bool,
+    },
+    /// Of a member who is to leave a team.
+    TeamRemove {
+        /// The organisation, and the caller in it.
+        rows: AccessRows,
+        /// Whether the team is there.
+        team_exists: bool,
+        /// Whether the user is in the team.
+        is_in_team: bool,
+    },
+    /// Of a query about a team.
+    Team {
+        /// The organisation, and the caller in it.
+        rows: AccessRows,
+        /// Whether the team is there.
+        exists: bool,
+    },
+    /// Of a query about an organisation.
+    Organisation {
+        /// The organisation, and the caller in it.
+        rows: AccessRows,
+    },
+    /// Of an action of nobody: nothing is asked about it.
+    Nothing,
     /// Of a publish.
     Publish(PublishFacts),
     /// Of a tag that is to name a version.

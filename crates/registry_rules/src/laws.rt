@@ -3,15 +3,46 @@
 
 ghost use Rattle.std.specs.Prelude.{◌≡◌, None};
 ghost use Rattle.registry_rules.specs.Kept.{IsKept};
-ghost use Rattle.registry_rules.specs.Laws.{PackagesStandApart, PublishesAddVersions, PublishesSetStatuses, PublishesSetTags, QueriesChangeNothing, RemovedTagsAreGone, SetTagsName};
+ghost use Rattle.registry_rules.specs.Laws.{NewTeamsAreEmpty, TeamMembersAreAdded, TeamMembersAreRemoved, TeamsAreCreated, TeamsAreDestroyed, MembersAreRemoved, OrganisationsAreCreated, OtherOwnersAreOwners, RolesAreSet, PackagesStandApart, PublishesAddVersions, PublishesSetStatuses, PublishesSetTags, QueriesChangeNothing, RemovedTagsAreGone, SetTagsName, TokensAreAdded, UsersAreAdded};
 ghost use Rattle.registry_rules.specs.Refusals.{refusal};
-ghost use Rattle.registry_rules.specs.Requests.{ArePartsInForm, IsActionInForm, IsInForm};
+ghost use Rattle.registry_rules.specs.Requests.{ArePartsInForm, IsActionInForm, IsAskedInForm, IsInForm};
 ghost use Rattle.registry_rules.specs.State.{State, nothing};
 ghost use Rattle.registry_rules.specs.Effects.{step};
 ghost use Rattle.registry_rules.specs.declared.request.Request.{Request};
 
-use crate::request::{Action, Request};
+use crate::request::{Action, Asked, Request};
 use registry_publish::PublishForm;
+
+/// A user who is added is there, and a token that is added is his. Nothing else changes.
+pub fn users_and_tokens_are_added()
+    ensures users { UsersAreAdded }
+    ensures tokens { TokensAreAdded }
+{}
+
+/// An organisation that is created has an owner and the team `developers` with him in it. A user
+/// who is given a role has it, and joins that team where he had none. A member who is removed has
+/// no role, and is in no team of the organisation. Nothing else changes.
+pub fn members_come_and_go()
+    ensures created { OrganisationsAreCreated }
+    ensures set { RolesAreSet }
+    ensures removed { MembersAreRemoved }
+{}
+
+/// A team that is created is there, and empty, whatever an older one of its name was. A team that
+/// is destroyed is gone, with its members and its grants. Who is put into a team is in it, and who
+/// is taken out isn't. Nothing else changes.
+pub fn teams_come_and_go()
+    ensures created { TeamsAreCreated }
+    ensures new { NewTeamsAreEmpty }
+    ensures destroyed { TeamsAreDestroyed }
+    ensures added { TeamMembersAreAdded }
+    ensures removed { TeamMembersAreRemoved }
+{}
+
+/// Another owner of an organisation than a user is another user who is an owner of it.
+pub fn other_owners_are_owners()
+    ensures { OtherOwnersAreOwners }
+{}
 
 /// A publish makes its version live, with its manifest, its archive and its moment; its tag names
 /// the version, and so does `latest` where none stood; and its package has a status. No other
@@ -28,7 +59,8 @@ pub fn tags_are_set_and_removed()
     ensures removed { RemovedTagsAreGone }
 {}
 
-/// A query changes nothing, and a command nothing of a package that it doesn't name.
+/// A query changes nothing, and a command nothing of a package that it doesn't name, but that a
+/// team that is destroyed is granted nothing on it.
 pub fn packages_stand_apart()
     ensures queries { QueriesChangeNothing }
     ensures packages { PackagesStandApart }
@@ -54,6 +86,52 @@ fn action_is_in_form(what: &Action)
     ensures { IsActionInForm what.now }
 {
     match what {
+        Action::UserAdd { user } => {
+            user.text();
+        }
+        Action::TokenAdd { user, digest } => {
+            user.text();
+            digest.as_slice();
+        }
+        Action::OrgCreate {
+            organisation,
+            owner,
+        } => {
+            organisation.text();
+            owner.text();
+        }
+        Action::OrgSet {
+            organisation,
+            user,
+            ..
+        }
+        | Action::OrgRemove { organisation, user } => {
+            organisation.text();
+            user.text();
+        }
+        Action::Members { organisation } | Action::Teams { organisation } => {
+            organisation.text();
+        }
+        Action::TeamCreate { organisation, team }
+        | Action::TeamDestroy { organisation, team }
+        | Action::TeamMembers { organisation, team } => {
+            organisation.text();
+            team.text();
+        }
+        Action::TeamAdd {
+            organisation,
+            team,
+            user,
+        }
+        | Action::TeamRemove {
+            organisation,
+            team,
+            user,
+        } => {
+            organisation.text();
+            team.text();
+            user.text();
+        }
         Action::Publish { form } => parts_are_in_form(form),
         Action::TagSet { name, tag, version } => {
             name.text();
@@ -64,6 +142,10 @@ fn action_is_in_form(what: &Action)
             name.text();
             tag.text();
         }
+        Action::VersionDoc { name, version } => {
+            name.text();
+            asked_is_in_form(version);
+        }
         Action::Archive { name, version } => {
             name.text();
             version.text();
@@ -71,6 +153,17 @@ fn action_is_in_form(what: &Action)
         Action::Packument { name } | Action::Tags { name } => {
             name.text();
         }
+    }
+}
+
+fn asked_is_in_form(version: &Asked)
+    ensures { IsAskedInForm version.now }
+{
+    match version {
+        Asked::Exact(version) => {
+            version.text();
+        }
+        Asked::Latest => {}
     }
 }
 

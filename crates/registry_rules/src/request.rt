@@ -1,7 +1,8 @@
 //! What can be asked of the registry.
 
-use registry_names::{Moment, Name, TagText, Ver};
-use registry_publish::PublishForm;
+use registry_access::Role;
+use registry_names::{Ident, Moment, Name, TagText, Ver};
+use registry_publish::{PublishForm, TokenDigest};
 
 /// One thing that is asked of the registry.
 pub struct Request {
@@ -25,8 +26,14 @@ impl Drop for Request {
 }
 
 /// What a caller shows of himself.
-#[derive(Clone, Copy, Debug, PartialEq, Eq)]
+#[derive(Debug, Drop)]
 pub enum Credential {
+    /// That he runs the registry.
+    Operator,
+    /// That he is this user.
+    User(Ident),
+    /// The token of a user, of which nothing is kept but its digest.
+    Token(TokenDigest),
     /// Nothing.
     Anonymous,
 }
@@ -34,6 +41,77 @@ pub enum Credential {
 /// A command, which may change the registry, or a query, which doesn't.
 #[derive(Drop)]
 pub enum Action {
+    /// The operator's command to add a user.
+    UserAdd {
+        /// The user's name.
+        user: Ident,
+    },
+    /// The operator's command to add a token of a user.
+    TokenAdd {
+        /// The user's name.
+        user: Ident,
+        /// The token's digest.
+        digest: TokenDigest,
+    },
+    /// The operator's command to create an organisation, with its first owner and its team
+    /// `developers`.
+    OrgCreate {
+        /// The organisation's name.
+        organisation: Ident,
+        /// The owner's name.
+        owner: Ident,
+    },
+    /// An owner's command to give a user a role in an organisation, whether he is a member already
+    /// or becomes one.
+    OrgSet {
+        /// The organisation's name.
+        organisation: Ident,
+        /// The user's name.
+        user: Ident,
+        /// What he is to be in it.
+        role: Role,
+    },
+    /// An owner's command to remove a member from an organisation and from its teams.
+    OrgRemove {
+        /// The organisation's name.
+        organisation: Ident,
+        /// The member's name.
+        user: Ident,
+    },
+    /// An owner's or admin's command to create a team of an organisation, with nobody in it.
+    TeamCreate {
+        /// The organisation's name.
+        organisation: Ident,
+        /// The team's name.
+        team: Ident,
+    },
+    /// An owner's or admin's command to destroy a team other than `developers`, with all that it is
+    /// granted.
+    TeamDestroy {
+        /// The organisation's name.
+        organisation: Ident,
+        /// The team's name.
+        team: Ident,
+    },
+    /// An owner's or admin's command to put a member of an organisation into one of its teams,
+    /// whether he is in it already or not.
+    TeamAdd {
+        /// The organisation's name.
+        organisation: Ident,
+        /// The team's name.
+        team: Ident,
+        /// The member's name.
+        user: Ident,
+    },
+    /// An owner's or admin's command to take a member out of a team.
+    TeamRemove {
+        /// The organisation's name.
+        organisation: Ident,
+        /// The team's name.
+        team: Ident,
+        /// The member's name.
+        user: Ident,
+    },
     /// The command to publish a version of a package, for the first time or not.
     Publish {
         /// The version, with all that is published of it.
@@ -61,6 +139,13 @@ pub enum Action {
         /// The package's name.
         name: Name,
     },
+    /// The query for the document of a live version, which is its manifest.
+    VersionDoc {
+        /// The package's name.
+        name: Name,
+        /// The version.
+        version: Asked,
+    },
     /// The query for the archive of a live version.
     Archive {
         /// The package's name.
@@ -73,4 +158,30 @@ pub enum Action {
         /// The package's name.
         name: Name,
     },
+    /// A member's query for the members of an organisation, each with his role.
+    Members {
+        /// The organisation's name.
+        organisation: Ident,
+    },
+    /// A member's query for the teams of an organisation.
+    Teams {
+        /// The organisation's name.
+        organisation: Ident,
+    },
+    /// A member's query for those who are in a team.
+    TeamMembers {
+        /// The organisation's name.
+        organisation: Ident,
+        /// The team's name.
+        team: Ident,
+    },
+}
+
+/// Which version of a package is asked for.
+#[derive(Drop)]
+pub enum Asked {
+    /// This one.
+    Exact(Ver),
+    /// The one that the tag `latest` names.
+    Latest,
 }

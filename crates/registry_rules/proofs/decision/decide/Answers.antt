@@ -7,4 +7,4 @@ pub returns-clause-makes : goal.returns-clause-makes
 returns-clause-makes c = λ S stand.
     let r = c.args.request.now in
     let may = not_refused _ (sym (c.in_ok-map_err.ensures.variant ∙ ap is_ok (c.may_ask.ensures S stand))) in
-    (may, changes_as_known S r.at r.what _ _ may (λ who. c.in_ok-changes.ensures.command S who stand.about))
+    (may, changes_as_known S r.at r.what _ _ may (λ who e. c.in_ok-changes.ensures.command S who (stand.about who (stand.caller ∙ e))))
