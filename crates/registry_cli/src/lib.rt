@@ -2,8 +2,11 @@
 //! statuses are spelled, and what is printed of an answer.
 #![tactic(auto)]
 
+mod action;
 mod command;
 mod meaning;
+mod part;
+mod parts;
 mod printed;
 mod reading;
 pub mod spelling;
@@ -11,6 +14,7 @@ mod subcommand;
 mod usage;
 mod words;
 
+pub use crate::action::action_of;
 pub use crate::meaning::{Line, Who};
 pub use crate::printed::{Printed, render};
 pub use crate::reading::line;
