@@ -1,12 +1,13 @@
 //! The action that a line asks for.
 
-ghost use Rattle.std.specs.Prelude.{◌≡◌, [], is_some, true};
+ghost use Rattle.std.specs.Prelude.{◌≡◌, ◌≢◌, [], codes, is_some, true};
 ghost use Rattle.registry_cli.specs.Asked as spec;
+ghost use Rattle.registry_cli.specs.Lines.{IsWhole};
 ghost use Rattle.registry_cli.specs.Parts.{word_at};
 ghost use Rattle.registry_cli.specs.declared.action.Verb.TheVariants as verbs;
 
 use crate::meaning::{Line, Who};
-use crate::parts::{one, three, two, word_at};
+use crate::parts::{four, one, three, two, word_at};
 use registry_names::{Ident, Stop, Text};
 use registry_publish::PublishForm;
 use registry_rules::{Action, Credential};
@@ -24,9 +25,16 @@ pub(crate) enum Verb {
     TeamDestroy,
     TeamAdd,
     TeamRemove,
+    Grant,
+    Revoke,
+    SetAccess,
+    OwnerAdd,
+    OwnerRemove,
     Publish,
     TagSet,
     TagRemove,
+    Deprecate,
+    Withdraw,
     Packument,
     VersionDoc,
     Archive,
@@ -34,15 +42,17 @@ pub(crate) enum Verb {
     Members,
     Teams,
     TeamMembers,
+    TeamPackages,
 }
 
 /// The credential and the action that a line asks for, with the body of the file that it names,
-/// which `publish` alone reads.
+/// which `publish` alone reads. `serve` asks for no action.
 ///
 /// The texts are read from left to right, the user's name first, and the first that isn't in form
 /// gives its refusal. `Memory` comes where no memory is left.
 pub fn action_of(alloc: Global, line: &Line, body: &[u8]) -> Result<(Credential, Action), Stop>
-    requires { is_some (spec.verb_of (word_at line.now.what 0)) ≡ true }
+    requires whole { IsWhole line.now.what }
+    requires asks { word_at line.now.what 0 ≢ codes "serve" }
     ensures { spec.reads_line line.now body.now result }
 {
     let who = credential(alloc, &line.who)?;
@@ -83,9 +93,16 @@ fn verb_of(name: &str) -> Option<Verb>
         "team-destroy" => Some(Verb::TeamDestroy),
         "team-add" => Some(Verb::TeamAdd),
         "team-rm" => Some(Verb::TeamRemove),
+        "grant" => Some(Verb::Grant),
+        "revoke" => Some(Verb::Revoke),
+        "access" => Some(Verb::SetAccess),
+        "owner-add" => Some(Verb::OwnerAdd),
+        "owner-rm" => Some(Verb::OwnerRemove),
         "publish" => Some(Verb::Publish),
         "tag-set" => Some(Verb::TagSet),
         "tag-rm" => Some(Verb::TagRemove),
+        "deprecate" => Some(Verb::Deprecate),
+        "withdraw" => Some(Verb::Withdraw),
         "packument" => Some(Verb::Packument),
         "version-doc" => Some(Verb::VersionDoc),
         "archive" => Some(Verb::Archive),
@@ -93,6 +110,7 @@ fn verb_of(name: &str) -> Option<Verb>
         "members" => Some(Verb::Members),
         "teams" => Some(Verb::Teams),
         "team-members" => Some(Verb::TeamMembers),
+        "team-packages" => Some(Verb::TeamPackages),
         _ => None,
     }
 }
@@ -110,9 +128,16 @@ fn asked(alloc: Global, verb: Verb, words: &[Text], body: &[u8]) -> Result<Actio
         Verb::TeamDestroy => team_destroy(alloc, words),
         Verb::TeamAdd => team_add(alloc, words),
         Verb::TeamRemove => team_remove(alloc, words),
+        Verb::Grant => grant(alloc, words),
+        Verb::Revoke => revoke(alloc, words),
+        Verb::SetAccess => set_access(alloc, words),
+        Verb::OwnerAdd => owner_add(alloc, words),
+        Verb::OwnerRemove => owner_remove(alloc, words),
         Verb::Publish => publish(alloc, body),
         Verb::TagSet => tag_set(alloc, words),
         Verb::TagRemove => tag_remove(alloc, words),
+        Verb::Deprecate => deprecate(alloc, words),
+        Verb::Withdraw => withdraw(alloc, words),
         Verb::Packument => packument(alloc, words),
         Verb::VersionDoc => version_doc(alloc, words),
         Verb::Archive => archive(alloc, words),
@@ -120,6 +145,7 @@ fn asked(alloc: Global, verb: Verb, words: &[Text], body: &[u8]) -> Result<Actio
         Verb::Members => members(alloc, words),
         Verb::Teams => teams(alloc, words),
         Verb::TeamMembers => team_members(alloc, words),
+        Verb::TeamPackages => team_packages(alloc, words),
     }
 }
 
@@ -201,6 +227,50 @@ fn team_remove(alloc: Global, words: &[Text]) -> Result<Action, Stop>
     })
 }
 
+fn grant(alloc: Global, words: &[Text]) -> Result<Action, Stop>
+    ensures { spec.asked verbs.Grant words.now [] result }
+{
+    let (organisation, team, name, grant) = four(alloc, words)?;
+    Ok(Action::Grant {
+        organisation,
+        team,
+        name,
+        grant,
+    })
+}
+
+fn revoke(alloc: Global, words: &[Text]) -> Result<Action, Stop>
+    ensures { spec.asked verbs.Revoke words.now [] result }
+{
+    let (organisation, team, name) = three(alloc, words)?;
+    Ok(Action::Revoke {
+        organisation,
+        team,
+        name,
+    })
+}
+
+fn set_access(alloc: Global, words: &[Text]) -> Result<Action, Stop>
+    ensures { spec.asked verbs.SetAccess words.now [] result }
+{
+    let (name, status) = two(alloc, words)?;
+    Ok(Action::SetAccess { name, status })
+}
+
+fn owner_add(alloc: Global, words: &[Text]) -> Result<Action, Stop>
+    ensures { spec.asked verbs.OwnerAdd words.now [] result }
+{
+    let (name, user) = two(alloc, words)?;
+    Ok(Action::OwnerAdd { name, user })
+}
+
+fn owner_remove(alloc: Global, words: &[Text]) -> Result<Action, Stop>
+    ensures { spec.asked verbs.OwnerRemove words.now [] result }
+{
+    let (name, user) = two(alloc, words)?;
+    Ok(Action::OwnerRemove { name, user })
+}
+
 fn publish(alloc: Global, body: &[u8]) -> Result<Action, Stop>
     ensures { spec.asked verbs.Publish [] body.now result }
 {
@@ -220,6 +290,24 @@ fn tag_remove(alloc: Global, words: &[Text]) -> Result<Action, Stop>
 {
     let (name, tag) = two(alloc, words)?;
     Ok(Action::TagRemove { name, tag })
+}
+
+fn deprecate(alloc: Global, words: &[Text]) -> Result<Action, Stop>
+    ensures { spec.asked verbs.Deprecate words.now [] result }
+{
+    let (name, selector, message) = three(alloc, words)?;
+    Ok(Action::Deprecate {
+        name,
+        selector,
+        message,
+    })
+}
+
+fn withdraw(alloc: Global, words: &[Text]) -> Result<Action, Stop>
+    ensures { spec.asked verbs.Withdraw words.now [] result }
+{
+    let (name, version) = two(alloc, words)?;
+    Ok(Action::Withdraw { name, version })
 }
 
 fn packument(alloc: Global, words: &[Text]) -> Result<Action, Stop>
@@ -269,4 +357,11 @@ fn team_members(alloc: Global, words: &[Text]) -> Result<Action, Stop>
 {
     let (organisation, team) = two(alloc, words)?;
     Ok(Action::TeamMembers { organisation, team })
+}
+
+fn team_packages(alloc: Global, words: &[Text]) -> Result<Action, Stop>
+    ensures { spec.asked verbs.TeamPackages words.now [] result }
+{
+    let (organisation, team) = two(alloc, words)?;
+    Ok(Action::TeamPackages { organisation, team })
 }
