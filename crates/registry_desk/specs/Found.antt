@@ -6,7 +6,6 @@ use Rattle.registry_names.specs.Versions.{text_of_version}
 use Rattle.registry_access.specs.declared.caller.Caller.{Caller}
 use Rattle.registry_rules.specs.Actions.{is_command}
 use Rattle.registry_rules.specs.Callers.{caller_of}
-use Rattle.registry_rules.specs.Facts.{StandsAbout}
 use Rattle.registry_rules.specs.State.{State, Release, has_other_owner, has_team, has_user, is_in_team, is_member}
 use Rattle.registry_rules.specs.declared.request.Action.{Action}
 use Rattle.registry_rules.specs.declared.request.Action.TheVariants.{Packument, VersionDoc, Archive, Tags, Members, Teams, TeamMembers}
@@ -14,11 +13,10 @@ use Rattle.registry_rules.specs.declared.request.Request.{Request}
 use Rattle.registry_tables.specs.Contents.{Contents, registry_of}
 use Rattle.registry_tables.specs.Spelled.{document, document_entry, member_entry, row_entry, tag_entry}
 use Rattle.registry_history.specs.Answers.{asked_release}
-use Rattle.registry_desk.specs.declared.found.Candidate.{Candidate}
-use Rattle.registry_desk.specs.declared.found.Found.{Found}
-use Rattle.registry_desk.specs.declared.found.Place.{Place}
-use Rattle.registry_desk.specs.declared.found.Rows.{Rows}
-use Rattle.registry_desk.specs.declared.found.Rows.TheVariants as rows
+use Rattle.registry_desk.specs.declared.organisations.Candidate.{Candidate}
+use Rattle.registry_desk.specs.declared.teams.Place.{Place}
+use Rattle.registry_desk.specs.declared.rows.Rows.{Rows}
+use Rattle.registry_desk.specs.declared.rows.Rows.TheVariants as rows
 
 -- The rows are those that answer the action. A command is answered by none
 abbrev pub AreRowsOf : Rows → State → Action → Type 0
@@ -36,11 +34,6 @@ AreRowsOf _ S _ = ⊥
 -- this is the caller of the request, by what is stored
 abbrev pub IsCallerIn : Contents → Request → Caller → Type 0
 IsCallerIn c r who = Some who ≡ caller_of (registry_of c) r.who
-
--- what decides the caller's action, and what answers it
-pub record IsFoundFor (found : Found) (S : State) (who : Caller) (what : Action) : Type 0 where
-  pub about : StandsAbout found.about S who what
-  pub rows : AreRowsOf found.rows S what
 
 -- ---- parts of what decides
 

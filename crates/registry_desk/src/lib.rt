@@ -5,8 +5,13 @@
 #![tactic(auto)]
 
 mod answer;
-mod found;
+mod facts;
+mod organisations;
+mod packages;
+mod people;
 mod registry;
 mod reply;
+mod rows;
+mod teams;
 
 pub use crate::registry::Registry;

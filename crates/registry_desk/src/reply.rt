@@ -9,7 +9,7 @@ ghost use Rattle.registry_history.specs.Answers as answers;
 ghost use Rattle.registry_history.specs.Answers.{members_in, packument_in, tags_in};
 ghost use Rattle.registry_desk.specs.Found.{AreRowsOf};
 
-use crate::found::Rows;
+use crate::rows::Rows;
 use registry_names::{DistTag, Fault, Name, Text};
 use registry_packument::{
     List, Member, PackHead, VersionRow, VersionRows, list_text, packument_text, version_text,
