@@ -1,17 +1,23 @@
--- What a history says of who is there, and in what, by the last entry that speaks of it, and a state of which it says so.
+-- What a history says of who is there, in what, and of what he may do, by the last entry that speaks of it, and a state of which it says so.
 -- No reading shares a word with what a step makes: each is a recursion over the entries, and an entry
 -- that speaks of something else says nothing.
 use Rattle.std.specs.Prelude.{◌≡◌, Bool, false, not, ◌&&◌, ◌||◌, List, [], ◌∷◌, is_some, is_none, Option, Some, None, if◌then◌else◌}
 use Rattle.registry_names.specs.Texts.{Text, is}
 use Rattle.registry_names.specs.Maps.{at}
+use Rattle.registry_names.specs.Names.{scope_of}
 use Rattle.registry_access.specs.Access.{Access}
+use Rattle.registry_access.specs.declared.caller.Caller.{Caller}
+use Rattle.registry_access.specs.declared.caller.Caller.TheVariants.{User}
+use Rattle.registry_access.specs.declared.grant.Grant.{Grant}
+use Rattle.registry_access.specs.declared.grant.Grant.TheVariants.{ReadWrite}
 use Rattle.registry_access.specs.declared.role.Role.{Role}
 use Rattle.registry_access.specs.declared.role.Role.TheVariants.{Owner}
 use Rattle.registry_rules.specs.State.{developers}
 use Rattle.registry_rules.specs.declared.request.Action.{Action}
-use Rattle.registry_rules.specs.declared.request.Action.TheVariants.{UserAdd, TokenAdd, OrgCreate, OrgSet, OrgRemove, TeamCreate, TeamDestroy, TeamAdd, TeamRemove}
+use Rattle.registry_rules.specs.declared.request.Action.TheVariants as command
+use Rattle.registry_rules.specs.declared.request.Action.TheVariants.{UserAdd, TokenAdd, OrgCreate, OrgSet, OrgRemove, TeamCreate, TeamDestroy, TeamAdd, TeamRemove, Revoke, OwnerAdd, OwnerRemove, Publish}
 use Rattle.registry_history.specs.History.{Entry}
-use Rattle.registry_history.specs.Readings.{or_before, unless_ended}
+use Rattle.registry_history.specs.Readings.{or_before, unless_ended, is_published}
 
 -- ---- users, tokens and organisations, which never go
 
@@ -100,9 +106,56 @@ abbrev pub in_team : List Entry → Text → Text → Text → Bool
 in_team [] o t u = false
 in_team (e ∷ h) o t u = joins e.what (role h o u) o t u || (not (leaves e.what o t u) && in_team h o t u)
 
+-- ---- grants
+
+-- whether the package's scope, if it has one, is the organisation's
+abbrev pub is_of : Text → Option Text → Bool
+is_of o None = false
+is_of o (Some q) = is q o
+
+-- What a command grants a team on a package, which was published before or wasn't: the first publish of a scope's package grants the first team all
+abbrev pub gives_grant : Action → Bool → Text → Text → Text → Option Grant
+gives_grant (command.Grant q s r grant) before o t p = if is q o && (is s t && is r p) then Some grant else None
+gives_grant (Publish f) before o t p = if is_of o (scope_of f.name) && (is developers t && is f.name p) && not before then Some ReadWrite else None
+gives_grant _ before o t p = None
+
+-- whether it ends what the team is granted on the package: that is revoked, or the team is destroyed
+abbrev pub ends_grant : Action → Text → Text → Text → Bool
+ends_grant (Revoke q s r) o t p = is q o && (is s t && is r p)
+ends_grant (TeamDestroy q s) o t p = is q o && is s t
+ends_grant _ o t p = false
+
+-- a team has on a package what it was granted last, unless that was ended since
+abbrev pub granted : List Entry → Text → Text → Text → Option Grant
+granted [] o t p = None
+granted (e ∷ h) o t p = or_before (gives_grant e.what (is_published h p) o t p) (unless_ended (ends_grant e.what o t p) (granted h o t p))
+
+-- ---- maintainers
+
+-- whether the caller is this user
+abbrev pub is_he : Caller → Text → Bool
+is_he (User v) u = is v u
+is_he _ u = false
+
+-- Whether a command of this caller makes a user a maintainer of a package, which was published before or wasn't: the first publish of a package without a scope makes its publisher one
+abbrev pub makes_maintainer : Caller → Action → Bool → Text → Text → Bool
+makes_maintainer who (OwnerAdd q v) before p u = is q p && is v u
+makes_maintainer who (Publish f) before p u = is_none (scope_of f.name) && (is f.name p && is_he who u) && not before
+makes_maintainer who _ before p u = false
+
+-- whether it ends that
+abbrev pub ends_maintainer : Action → Text → Text → Bool
+ends_maintainer (OwnerRemove q v) p u = is q p && is v u
+ends_maintainer _ p u = false
+
+-- a user is a maintainer whom a command made one, unless one ended that since
+abbrev pub maintains : List Entry → Text → Text → Bool
+maintains [] p u = false
+maintains (e ∷ h) p u = makes_maintainer e.who e.what (is_published h p) p u || (not (ends_maintainer e.what p u) && maintains h p u)
+
 -- ---- a state of which the history speaks
 
--- Users, tokens, organisations, roles, teams and members of teams are the history's.
+-- Users, tokens, organisations, roles, teams, members of teams, grants and maintainers are the history's.
 pub record HasAccess (h : List Entry) (A : Access) : Type 0 where
   pub users : (u : Text) → is_some (at A.users u) ≡ user_added h u
   pub tokens : (digest : Text) → at A.tokens digest ≡ token_user h digest
@@ -110,3 +163,5 @@ pub record HasAccess (h : List Entry) (A : Access) : Type 0 where
   pub roles : (o u : Text) → at A.roles (o, u) ≡ role h o u
   pub teams : (o t : Text) → is_some (at A.teams (o, t)) ≡ team_stands h o t
   pub team_members : (o t u : Text) → is_some (at A.team_members (o, (t, u))) ≡ in_team h o t u
+  pub grants : (o t p : Text) → at A.grants (o, (t, p)) ≡ granted h o t p
+  pub maintainers : (p u : Text) → is_some (at A.maintainers (p, u)) ≡ maintains h p u

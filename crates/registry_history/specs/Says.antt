@@ -1,16 +1,17 @@
 -- A state of which all that a history says holds.
-use Rattle.std.specs.Prelude.{◌≡◌, List, [], ◌∷◌, None}
+use Rattle.std.specs.Prelude.{◌≡◌, List, [], ◌∷◌, Ok}
+use Rattle.registry_names.specs.declared.refusal.Rule.{Rule}
 use Rattle.registry_rules.specs.Kept.{IsSound}
-use Rattle.registry_rules.specs.Refusals.{policy_refusal}
+use Rattle.registry_rules.specs.Permissions.{permission}
 use Rattle.registry_rules.specs.State.{State}
 use Rattle.registry_history.specs.AccessReadings.{HasAccess}
 use Rattle.registry_history.specs.History.{Entry, Legal, after}
 use Rattle.registry_history.specs.Readings.{HasVersions, HasRecords, HasTags, HasStatuses}
 
--- the policy let the caller of each entry do it, on what the older ones left
+-- a rule let the caller of each entry do it, on what the older ones left
 abbrev pub AreAllowed : List Entry → Type 0
 AreAllowed [] = Unit {0}
-AreAllowed (e ∷ h) = (policy_refusal (after h).access e.who e.what ≡ None) × AreAllowed h
+AreAllowed (e ∷ h) = ((rule : Rule) × (permission (after h).access e.who e.what ≡ Ok rule)) × AreAllowed h
 
 -- S is what a legal history leaves, and all that the history says.
 pub record Says (h : List Entry) (S : State) : Type 0 where

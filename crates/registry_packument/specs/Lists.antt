@@ -52,3 +52,7 @@ members_text rows = compact_text (object (text_members member_texts rows))
 -- the text of names
 abbrev pub names_text : List (List ℕ) → List ℕ
 names_text names = compact_text (array (text_items names))
+
+-- the text of packages, each with what is granted on it
+abbrev pub grants_text : List Granted → List ℕ
+grants_text rows = compact_text (object (text_members grant_texts rows))

@@ -1,10 +1,10 @@
 -- A request in form that nothing refuses keeps what holds of all that the registry holds.
-use Rattle.std.proofs.Common.{◌≡◌, ℕ, ◌≤◌, Bool, true, false, cond, ◌||◌, is_some, Option, Some, None, refl, sym, ap, ◌∙◌, subst, true≢false, ◌&&◌}
+use Rattle.std.proofs.Common.{◌≡◌, ℕ, ◌≤◌, length, Bool, true, false, cond, ◌||◌, ◌&&◌, is_some, Option, Some, None, refl, sym, ap, ◌∙◌, subst, true≢false}
 use Rattle.std.proofs.lemmas.Bool.{and_right}
-use Rattle.std.specs.Prelude.{length, IsSome, IsTrue}
+use Rattle.std.specs.Prelude.{IsSome, IsTrue}
 use Rattle.registry_names.specs.Idents.{is_ident}
 use Rattle.registry_names.specs.Keys.{Pair, pair_is}
-use Rattle.registry_names.specs.Maps.{TextMap, at, put}
+use Rattle.registry_names.specs.Maps.{at, put}
 use Rattle.registry_names.specs.Moments.{last_second}
 use Rattle.registry_names.specs.Names.{IsName}
 use Rattle.registry_names.specs.Tags.{is_tag, latest}
@@ -12,27 +12,31 @@ use Rattle.registry_names.specs.Texts.{Text, is}
 use Rattle.registry_names.specs.Versions.{text_of_version}
 use Rattle.registry_names.specs.declared.status.Status.{Status}
 use Rattle.registry_names.proofs.KeyFacts.{text_key, pair_key, same_true}
-use Rattle.registry_names.proofs.MapFacts.{at-empty, at-put, at-erase_other, at-erase}
+use Rattle.registry_names.proofs.MapFacts.{at-empty, at-put, at-erase, at-erase_other}
 use Rattle.registry_access.specs.Access.{Access}
+use Rattle.registry_access.specs.declared.grant.Grant as granted
 use Rattle.registry_access.specs.declared.role.Role.{Role}
 use Rattle.registry_access.specs.declared.caller.Caller.{Caller}
 use Rattle.registry_publish.specs.Form.{FormParts}
 use Rattle.registry_rules.specs.Actions.{version_of}
 use Rattle.registry_rules.specs.Callers.{caller_of, is_known}
-use Rattle.registry_rules.specs.Changes.{all_made, release_of}
-use Rattle.registry_rules.specs.Effects.{effects_for, joining, membership, publication, step, step_by}
+use Rattle.registry_rules.specs.Changes.{PutGrant, PutStatus, made, all_made, release_of}
+use Rattle.registry_rules.specs.Effects.{effects_for, joining, membership, owning, publication, step, step_by}
 use Rattle.registry_rules.specs.Kept.{IsReleaseOf, IsWithdrawalOf, IsTagOf, IsSpelled, IsSound, IsKept}
 use Rattle.registry_rules.specs.Operations.{with_tag, without_tag}
 use Rattle.registry_rules.specs.Refusals.{publish_refusal, refusal, refusal_by, refusal_for}
 use Rattle.registry_rules.specs.Requests.{ArePartsInForm, IsInForm, IsActionInForm}
-use Rattle.registry_rules.specs.State.{developers, State, Release, Withdrawal, nothing, is_live, stands, is_in_team}
+use Rattle.registry_rules.specs.State.{State, Release, Withdrawal, nothing, developers, is_in_team, has_grant, is_published, is_owned_by, is_live, stands}
 use Rattle.registry_rules.specs.declared.request.Action.{Action}
-use Rattle.registry_rules.specs.declared.request.Action.TheVariants.{UserAdd, TokenAdd, OrgCreate, OrgSet, OrgRemove, TeamCreate, TeamDestroy, TeamAdd, TeamRemove, Publish, TagSet, TagRemove}
+use Rattle.registry_rules.specs.declared.request.Action.TheVariants as asked
+use Rattle.registry_rules.specs.declared.request.Action.TheVariants.{UserAdd, TokenAdd, OrgCreate, OrgSet, OrgRemove, TeamCreate, TeamDestroy, TeamAdd, TeamRemove, Revoke, SetAccess, OwnerAdd, OwnerRemove, Publish, TagSet, TagRemove}
 use Rattle.registry_rules.specs.declared.request.Request.{Request}
 use Rattle.registry_rules.proofs.AllowedFacts.{IsAllowed, allowed_publish, is_there, isnt_kept, state_passed}
 use Rattle.registry_rules.proofs.MadeFacts.{latest_put, role_put, tag_put}
+use Rattle.registry_rules.proofs.MadeFacts as made
+use Rattle.registry_rules.proofs.CallerFacts.{caller_known}
 use Rattle.registry_rules.proofs.SoundFacts.{created, destroyed, was_left}
-use Rattle.registry_rules.proofs.SoundSteps.{caller_known, none_there, nothing_sound, status_stays, statuses_sound, step_sound}
+use Rattle.registry_rules.proofs.SoundSteps.{none_there, nothing_sound, step_sound}
 use Rattle.registry_rules.proofs.PublishedFacts.{statuses_after, status_of, after_publish, published_is}
 use Rattle.registry_names.proofs.PutFacts.{each_put, each_left, some_before, put_there, still_there}
 
@@ -60,16 +64,12 @@ nothing_kept = record {
 
 -- ---- a publish
 
--- where no package loses its status
-more_statuses_spelled : (A : Access) (statuses : TextMap Status) → ((p : Text) → IsSome (at statuses p) → IsName p) → IsSpelled A → IsSpelled (record A { statuses = statuses })
-more_statuses_spelled A statuses named spelled = record { users = spelled.users; tokens = spelled.tokens; organisations = spelled.organisations; teams = spelled.teams; statuses = named }
-
-module _ (S : State) (p v t : Text) (release : Release) (status : Option Status) (allowed : IsAllowed S p v t release status) (kept : IsKept S) where
+module _ (S : State) (who : Caller) (p v t : Text) (release : Release) (status : Option Status) (allowed : IsAllowed S p v t release status) (kept : IsKept S) where
   abbrev here : Bool
   here = stands S p latest || is t latest
 
   abbrev T : State
-  T = after_publish S p v t release status here
+  T = after_publish S who p v t release status here
 
   live_then : (q w : Text) → IsTrue (is_live S q w) → IsTrue (is_live T q w)
   live_then q w h = still_there pair_key S.live (p, v) release (q, w) h
@@ -93,12 +93,12 @@ module _ (S : State) (p v t : Text) (release : Release) (status : Option Status)
   live_are : (k : Pair) (r : Release) → at T.live k ≡ Some r → IsReleaseOf k.0 k.1 r
   live_are = each_put pair_key S.live (p, v) release (λ k r. IsReleaseOf k.0 k.1 r) (λ k r. kept.live k.0 k.1 r) allowed.is_release
 
-  statuses_named : (o : Option Status) (q : Text) → IsSome (at (statuses_after S.access.statuses p o) q) → IsName q
-  statuses_named None q h = kept.spelled.statuses q h
-  statuses_named (Some s) q h = some_before text_key S.access.statuses p s IsName kept.spelled.statuses allowed.is_release.name q h
+  status_stays : (o : Option Status) (q : Text) → IsSome (at S.access.statuses q) → IsSome (at (statuses_after S.access.statuses p o) q)
+  status_stays None q h = h
+  status_stays (Some s) q h = still_there text_key S.access.statuses p s q h
 
   have_status : (k : Pair) → IsSome (at T.live k) → IsSome (at T.access.statuses k.0)
-  have_status = some_before pair_key S.live (p, v) release (λ k. IsSome (at T.access.statuses k.0)) (λ k h. status_stays S.access.statuses p status k.0 (kept.status k.0 k.1 h)) allowed.has_status
+  have_status = some_before pair_key S.live (p, v) release (λ k. IsSome (at T.access.statuses k.0)) (λ k h. status_stays status k.0 (kept.status k.0 k.1 h)) allowed.has_status
 
   -- what is live now and wasn't is what is published, and that was never withdrawn
   stays_gone : (k : Pair) (w : Withdrawal) → at S.spent k ≡ Some w → is_some (at S.live k) ≡ false → is_some (at T.live k) ≡ false
@@ -114,7 +114,7 @@ module _ (S : State) (p v t : Text) (release : Release) (status : Option Status)
     version = was.version;
     published = was.published;
     withdrawn = was.withdrawn;
-    status = status_stays S.access.statuses p status q was.status;
+    status = status_stays status q was.status;
     gone = stays_gone (q, w) withdrawal h was.gone;
   }
 
@@ -134,20 +134,29 @@ module _ (S : State) (p v t : Text) (release : Release) (status : Option Status)
       (λ k h. still_there pair_key (latest_put S.tags p v here) (p, t) v (k.0, latest) (latest_stays here k.0 (kept.latest k.0 k.1 h)))
       (latest_here (stands S p latest) (is t latest) refl refl)
 
-  all_kept : IsKept T
-  all_kept = record {
+  named_after : (o : Option Status) (q : Text) → IsSome (at (statuses_after S.access.statuses p o) q) → IsName q
+  named_after None q h = kept.spelled.statuses q h
+  named_after (Some s) q h = some_before text_key S.access.statuses p s IsName kept.spelled.statuses allowed.is_release.name q h
+
+  spelled_then : IsSpelled T.access
+  spelled_then = let spelled = kept.spelled in record { users = spelled.users; tokens = spelled.tokens; organisations = spelled.organisations; teams = spelled.teams; statuses = named_after status }
+
+  all_kept : IsSound T.access → IsKept T
+  all_kept sound = record {
     live = λ q w r h. live_are (q, w) r h;
     spent = spent_are;
     tags = λ q u w h. tags_are (q, u) w h;
     status = λ q w h. have_status (q, w) h;
     latest = λ q w h. have_latest (q, w) h;
-    spelled = more_statuses_spelled S.access (statuses_after S.access.statuses p status) (statuses_named status) kept.spelled;
-    sound = statuses_sound S.access p status allowed.is_public kept.sound;
+    spelled = spelled_then;
+    sound = sound;
   }
 
-publish_kept : (S : State) (f : FormParts) (now : ℕ) → ArePartsInForm f → now ≤ last_second → publish_refusal S f ≡ None → IsKept S → IsKept (all_made S (publication S now f))
-publish_kept S f now form moment may kept =
-    subst IsKept (sym (published_is S f now)) (all_kept S f.name (version_of f) f.tag (release_of f now) (status_of S f) (allowed_publish S f now form moment may) kept)
+publish_kept : (S : State) (who : Caller) (f : FormParts) (now : ℕ) → ArePartsInForm f → now ≤ last_second → publish_refusal S f ≡ None → IsSound (all_made S (publication S now who f)).access
+    → IsKept S → IsKept (all_made S (publication S now who f))
+publish_kept S who f now form moment may sound kept =
+    subst (λ (T : State). IsSound T.access → IsKept T) (sym (published_is S who f now))
+    (all_kept S who f.name (version_of f) f.tag (release_of f now) (status_of S f) (allowed_publish S f now form moment may) kept) sound
 
 -- ---- a tag
 
@@ -265,6 +274,41 @@ role_kept S o u role None e sound kept =
     let spelled = kept.spelled in
     access_kept S _ (λ p h. h) (record { users = spelled.users; tokens = spelled.tokens; organisations = spelled.organisations; teams = spelled.teams; statuses = spelled.statuses }) sound kept
 
+-- ---- rights to a package
+
+-- where the texts are as before
+unspelled_kept : (S : State) (A : Access) → A.users ≡ S.access.users → A.tokens ≡ S.access.tokens → A.organisations ≡ S.access.organisations → A.teams ≡ S.access.teams → A.statuses ≡ S.access.statuses
+    → IsSound A → IsKept S → IsKept (record S { access = A })
+unspelled_kept S A users tokens organisations teams statuses sound kept =
+    access_kept S A (λ p h. ap (λ m. is_some (at m p)) statuses ∙ h) (record {
+      users = λ u h. kept.spelled.users u (ap (λ m. is_some (at m u)) (sym users) ∙ h);
+      tokens = λ d h. kept.spelled.tokens d (ap (λ m. is_some (at m d)) (sym tokens) ∙ h);
+      organisations = λ o h. kept.spelled.organisations o (ap (λ m. is_some (at m o)) (sym organisations) ∙ h);
+      teams = λ o t h. kept.spelled.teams o t (ap (λ m. is_some (at m (o, t))) (sym teams) ∙ h);
+      statuses = λ p h. kept.spelled.statuses p (ap (λ m. is_some (at m p)) (sym statuses) ∙ h);
+    }) sound kept
+
+grant_kept : (S : State) (o t p : Text) (grant : granted.Grant) → IsSound (made S (PutGrant o t p grant (has_grant S o t p))).access → IsKept S → IsKept (made S (PutGrant o t p grant (has_grant S o t p)))
+grant_kept S o t p grant sound kept =
+    subst (λ (T : State). IsSound T.access → IsKept T) (sym (made.grant_put S o t p grant (has_grant S o t p) (λ there. there)))
+    (λ still. unspelled_kept S _ refl refl refl refl refl still kept) sound
+
+status_kept : (S : State) (p : Text) (status : Status) → IsName p → IsSound (made S (PutStatus p status (is_published S p))).access → IsKept S → IsKept (made S (PutStatus p status (is_published S p)))
+status_kept S p status name sound kept =
+    let spelled = kept.spelled in
+    subst (λ (T : State). IsSound T.access → IsKept T) (sym (made.status_put S p status (is_published S p) (λ there. there)))
+    (λ still. access_kept S _ (λ q h. still_there text_key S.access.statuses p status q h) (record {
+      users = spelled.users;
+      tokens = spelled.tokens;
+      organisations = spelled.organisations;
+      teams = spelled.teams;
+      statuses = some_before text_key S.access.statuses p status IsName spelled.statuses name;
+    }) still kept) sound
+
+owning_kept : (S : State) (p u : Text) (already : Bool) → IsSound (all_made S (owning p u already)).access → IsKept S → IsKept (all_made S (owning p u already))
+owning_kept S p u true sound kept = kept
+owning_kept S p u false sound kept = unspelled_kept S _ refl refl refl refl refl sound kept
+
 -- ---- a request
 
 action_kept : (S : State) (now : ℕ) (who : Caller) (what : Action) → now ≤ last_second → IsActionInForm what → is_known S who ≡ true → refusal_by S now who what ≡ None
@@ -291,7 +335,13 @@ action_kept S now who (TeamRemove o t u) moment form known may kept =
     let spelled = kept.spelled in
     access_kept S _ (λ p h. h) (record { users = spelled.users; tokens = spelled.tokens; organisations = spelled.organisations; teams = spelled.teams; statuses = spelled.statuses })
     (step_sound S now who (TeamRemove o t u) known may kept.sound) kept
-action_kept S now who (Publish f) moment form known may kept = publish_kept S f now form moment (state_passed S now who (Publish f) may) kept
+action_kept S now who (asked.Grant o t p grant) moment form known may kept = grant_kept S o t p grant (step_sound S now who (asked.Grant o t p grant) known may kept.sound) kept
+action_kept S now who (Revoke o t p) moment form known may kept = unspelled_kept S _ refl refl refl refl refl (step_sound S now who (Revoke o t p) known may kept.sound) kept
+action_kept S now who (SetAccess p status) moment form known may kept = status_kept S p status form (step_sound S now who (SetAccess p status) known may kept.sound) kept
+action_kept S now who (OwnerAdd p u) moment form known may kept = owning_kept S p u (is_owned_by S p u) (step_sound S now who (OwnerAdd p u) known may kept.sound) kept
+action_kept S now who (OwnerRemove p u) moment form known may kept = unspelled_kept S _ refl refl refl refl refl (step_sound S now who (OwnerRemove p u) known may kept.sound) kept
+action_kept S now who (Publish f) moment form known may kept =
+    publish_kept S who f now form moment (state_passed S now who (Publish f) may) (step_sound S now who (Publish f) known may kept.sound) kept
 action_kept S now who (TagSet p t v) moment form known may kept =
     subst IsKept (sym (tag_put S p t (text_of_version v) (stands S p t) (λ there. there)))
     (tag_set_kept S p t (text_of_version v) form.0 form.1 (is_there _ (state_passed S now who (TagSet p t v) may)) kept)

@@ -1,7 +1,8 @@
 -- The laws of what commands make.
 use Rattle.std.proofs.Common.{◌≡◌, ◌≢◌, ℕ, Bool, true, false, cond, not, ◌&&◌, ◌||◌, is_some, Option, Some, None, refl, sym, ap, ◌∙◌, subst, true≢false, if◌then◌else◌, Ordering}
+use Rattle.std.proofs.lemmas.Bool.{and_right}
 use Rattle.std.specs.Prelude.{IsSome}
-use Rattle.registry_names.specs.Keys.{IsKey, Pair, Triple, pair_is}
+use Rattle.registry_names.specs.Keys.{IsKey, Pair, Triple, pair_is, triple_is}
 use Rattle.registry_names.specs.Maps.{TextMap, PairMap, TripleMap, at, put, keep}
 use Rattle.registry_names.specs.Tags.{latest}
 use Rattle.registry_names.specs.Texts.{Text, is}
@@ -12,20 +13,25 @@ use Rattle.registry_names.proofs.KeyFacts.{text_key, pair_key, triple_key, same_
 use Rattle.registry_names.proofs.MapFacts.{at-put, at-put_same, at-put_other, at-erase_same, at-erase_other, at-keep}
 use Rattle.registry_names.proofs.PutFacts.{put_there}
 use Rattle.registry_access.specs.Access.{Access}
+use Rattle.registry_access.specs.declared.caller.Caller.{Caller}
+use Rattle.registry_access.specs.declared.caller.Caller.TheVariants.{Operator, User, Anonymous}
 use Rattle.registry_access.specs.declared.grant.Grant.{Grant}
+use Rattle.registry_access.specs.declared.grant.Grant.TheVariants.{ReadWrite}
 use Rattle.registry_access.specs.declared.role.Role.{Role}
 use Rattle.registry_access.specs.declared.role.Role.TheVariants.{Owner}
+use Rattle.registry_names.specs.Names.{scope_of}
 use Rattle.registry_publish.specs.Form.{FormParts}
 use Rattle.registry_rules.specs.Actions.{version_of, ends_team}
 use Rattle.registry_rules.specs.Changes.{all_made, release_of}
-use Rattle.registry_rules.specs.Effects.{first_status, joining, membership, new_status}
-use Rattle.registry_rules.specs.Laws.{SetsRole, OrganisationsAreCreated, RolesAreSet, MembersAreRemoved, UsersAreAdded, TokensAreAdded, AddsVersion, SetsTags, SetsStatus, IsTagChange, IsApart, DestroysTeam, IsTeamMemberChange, TeamsAreCreated, NewTeamsAreEmpty, TeamsAreDestroyed, TeamMembersAreAdded, TeamMembersAreRemoved, PublishesAddVersions, PublishesSetTags, PublishesSetStatuses, SetTagsName, RemovedTagsAreGone, QueriesChangeNothing, PackagesStandApart}
-use Rattle.registry_rules.specs.Operations.{without_team, with_tag, without_tag}
-use Rattle.registry_rules.specs.State.{State, developers, is_in_team, stands}
+use Rattle.registry_rules.specs.Effects.{first_status, joining, membership, owning, new_status}
+use Rattle.registry_rules.specs.Laws.{GivesFirstRight, IsGrantChange, IsMaintainerChange, SetsAccess, GrantsAreGiven, GrantsAreRevoked, StatusesAreSet, MaintainersAreAdded, MaintainersAreRemoved, PublishesGiveFirstRights, SetsRole, OrganisationsAreCreated, RolesAreSet, MembersAreRemoved, UsersAreAdded, TokensAreAdded, AddsVersion, SetsTags, SetsStatus, IsTagChange, IsApart, DestroysTeam, IsTeamMemberChange, TeamsAreCreated, NewTeamsAreEmpty, TeamsAreDestroyed, TeamMembersAreAdded, TeamMembersAreRemoved, PublishesAddVersions, PublishesSetTags, PublishesSetStatuses, SetTagsName, RemovedTagsAreGone, QueriesChangeNothing, PackagesStandApart}
+use Rattle.registry_rules.specs.Operations.{without_team, with_grant, with_status, with_tag, without_tag}
+use Rattle.registry_rules.specs.State.{State, developers, is_in_team, has_grant, is_published, is_owned_by, stands}
 use Rattle.registry_rules.specs.declared.request.Action.{Action}
-use Rattle.registry_rules.specs.declared.request.Action.TheVariants.{UserAdd, TokenAdd, OrgCreate, OrgSet, OrgRemove, TeamCreate, TeamDestroy, TeamAdd, TeamRemove, Publish, TagSet, TagRemove}
-use Rattle.registry_rules.proofs.MadeFacts.{latest_put, role_put, tag_put}
-use Rattle.registry_rules.proofs.PublishedFacts.{statuses_after, status_of, after_publish, published_is}
+use Rattle.registry_rules.specs.declared.request.Action.TheVariants as asked
+use Rattle.registry_rules.specs.declared.request.Action.TheVariants.{UserAdd, TokenAdd, OrgCreate, OrgSet, OrgRemove, TeamCreate, TeamDestroy, TeamAdd, TeamRemove, Revoke, SetAccess, OwnerAdd, OwnerRemove, Publish, TagSet, TagRemove}
+use Rattle.registry_rules.proofs.MadeFacts.{grant_put, latest_put, role_put, status_put, tag_put}
+use Rattle.registry_rules.proofs.PublishedFacts.{statuses_after, granted_first, grants_after, maintained_first, maintainers_after, status_of, after_publish, published_is}
 
 -- keys that differ fail the test
 unlike : {K : Type 0} {cmp : K → K → Ordering} {same : K → K → Bool} → IsKey cmp same → (q k : K) → k ≢ q → same q k ≡ false
@@ -161,15 +167,59 @@ pub team_members_are_removed : TeamMembersAreRemoved
 team_members_are_removed S now who o t u =
     (at-erase_same triple_key S.access.team_members (o, (t, u)), record { team_members = λ k differ. at-erase_other triple_key S.access.team_members (o, (t, u)) k (unlike triple_key _ k differ); rest = refl })
 
+-- ---- rights to a package
+
+grant_given : (S : State) (o t p : Text) (grant : Grant) → let T = with_grant S o t p grant in (at T.access.grants (o, (t, p)) ≡ Some grant) × IsGrantChange S T o t p
+grant_given S o t p grant = (
+  at-put_same triple_key S.access.grants (o, (t, p)) grant,
+  record { grants = λ k differ. at-put_other triple_key S.access.grants (o, (t, p)) grant k (unlike triple_key _ k differ); rest = refl },
+)
+
+pub grants_are_given : GrantsAreGiven
+grants_are_given S now who o t p grant =
+    subst (λ T. (at T.access.grants (o, (t, p)) ≡ Some grant) × IsGrantChange S T o t p) (sym (grant_put S o t p grant (has_grant S o t p) (λ there. there))) (grant_given S o t p grant)
+
+pub grants_are_revoked : GrantsAreRevoked
+grants_are_revoked S now who o t p = (
+  at-erase_same triple_key S.access.grants (o, (t, p)),
+  record { grants = λ k differ. at-erase_other triple_key S.access.grants (o, (t, p)) k (unlike triple_key _ k differ); rest = refl },
+)
+
+access_set : (S : State) (p : Text) (status : Status) → SetsAccess S (with_status S p status) p status
+access_set S p status = record {
+  set = at-put_same text_key S.access.statuses p status;
+  statuses = λ q differ. at-put_other text_key S.access.statuses p status q (unlike text_key p q differ);
+  rest = refl;
+}
+
+pub statuses_are_set : StatusesAreSet
+statuses_are_set S now who p status = subst (λ T. SetsAccess S T p status) (sym (status_put S p status (is_published S p) (λ there. there))) (access_set S p status)
+
+maintainer_added : (S : State) (p u : Text) (already : Bool) → is_owned_by S p u ≡ already → let T = all_made S (owning p u already) in IsSome (at T.access.maintainers (p, u)) × IsMaintainerChange S T p u
+maintainer_added S p u true e = (e, record { maintainers = λ k differ. refl; rest = refl })
+maintainer_added S p u false e = (
+  put_there pair_key S.access.maintainers (p, u) tt,
+  record { maintainers = λ k differ. at-put_other pair_key S.access.maintainers (p, u) tt k (unlike pair_key _ k differ); rest = refl },
+)
+
+pub maintainers_are_added : MaintainersAreAdded
+maintainers_are_added S now who p u = maintainer_added S p u (is_owned_by S p u) refl
+
+pub maintainers_are_removed : MaintainersAreRemoved
+maintainers_are_removed S now who p u = (
+  at-erase_same pair_key S.access.maintainers (p, u),
+  record { maintainers = λ k differ. at-erase_other pair_key S.access.maintainers (p, u) k (unlike pair_key _ k differ); rest = refl },
+)
+
 -- ---- a publish
 
-module _ (S : State) (now : ℕ) (f : FormParts) where
+module _ (S : State) (now : ℕ) (who : Caller) (f : FormParts) where
   abbrev here : Bool
   here = stands S f.name latest || is f.tag latest
 
   -- what it leaves
   abbrev T : State
-  T = after_publish S f.name (version_of f) f.tag (release_of f now) (status_of S f) here
+  T = after_publish S who f.name (version_of f) f.tag (release_of f now) (status_of S f) here
 
   version_added : AddsVersion S T now f
   version_added = record {
@@ -230,24 +280,73 @@ module _ (m : TextMap Status) (p : Text) where
   other_status None q differ = refl
   other_status (Some s) q differ = at-put_other text_key m p s q differ
 
-status_set : (S : State) (now : ℕ) (f : FormParts) → SetsStatus S (T S now f) f
-status_set S now f = let m = S.access.statuses in let p = f.name in record {
+status_set : (S : State) (now : ℕ) (who : Caller) (f : FormParts) → SetsStatus S (T S now who f) f
+status_set S now who f = let m = S.access.statuses in let p = f.name in record {
   asked = λ status e. status_asked m p f.access (at m p) status e;
   later = λ e had. status_later m p f.access (at m p) refl e had;
   first_scoped = λ e none scoped. status_first m p f.access (at m p) e none ∙ ap (λ b. Some (if b then Restricted else Public)) scoped;
   first_unscoped = λ e none unscoped. status_first m p f.access (at m p) e none ∙ ap (λ o. Some (if is_some o then Restricted else Public)) unscoped;
   statuses = λ q differ. other_status m p (status_of S f) q (unlike text_key p q differ);
-  access = refl;
+}
+
+-- ---- its rights
+
+granted_later : {m : TripleMap Grant} (p : Text) (old : Option Status) → IsSome old → grants_after p old m ≡ m
+granted_later p (Some s) h = refl
+granted_later p None h = absurd (true≢false (sym h))
+
+maintained_later : {m : PairMap (Unit {0})} (who : Caller) (p : Text) (old : Option Status) → IsSome old → maintainers_after who p old m ≡ m
+maintained_later who p (Some s) h = refl
+maintained_later who p None h = absurd (true≢false (sym h))
+
+other_granted : (m : TripleMap Grant) (p : Text) (scope : Option Text) (o t q : Text) → (scope ≡ Some o → ◌≢◌ {A = Pair} (t, q) (developers, p)) → at (granted_first p scope m) (o, (t, q)) ≡ at m (o, (t, q))
+other_granted m p None o t q differ = refl
+other_granted m p (Some s) o t q differ =
+    at-put_other triple_key m (s, (developers, p)) ReadWrite (o, (t, q)) (unlike triple_key (s, (developers, p)) (o, (t, q))
+    (λ same. differ (ap (λ (k : Triple). Some k.0) (sym same)) (ap (λ (k : Triple). k.1) same)))
+
+other_granted_after : (m : TripleMap Grant) (p : Text) (old : Option Status) (o t q : Text) → (scope_of p ≡ Some o → ◌≢◌ {A = Pair} (t, q) (developers, p)) → at (grants_after p old m) (o, (t, q)) ≡ at m (o, (t, q))
+other_granted_after m p (Some s) o t q differ = refl
+other_granted_after m p None o t q differ = other_granted m p (scope_of p) o t q differ
+
+other_maintained : (m : PairMap (Unit {0})) (who : Caller) (p : Text) (scope : Option Text) (q u : Text) → (scope ≡ None → who ≡ User u → q ≢ p) → at (maintained_first who p scope m) (q, u) ≡ at m (q, u)
+other_maintained m who p (Some o) q u differ = refl
+other_maintained m Operator p None q u differ = refl
+other_maintained m Anonymous p None q u differ = refl
+other_maintained m (User w) p None q u differ =
+    at-put_other pair_key m (p, w) tt (q, u) (unlike pair_key (p, w) (q, u) (λ same. differ refl (ap (λ (k : Pair). User k.1) (sym same)) (ap (λ (k : Pair). k.0) same)))
+
+other_maintained_after : (m : PairMap (Unit {0})) (who : Caller) (p : Text) (old : Option Status) (q u : Text) → (scope_of p ≡ None → who ≡ User u → q ≢ p) → at (maintainers_after who p old m) (q, u) ≡ at m (q, u)
+other_maintained_after m who p (Some s) q u differ = refl
+other_maintained_after m who p None q u differ = other_maintained m who p (scope_of p) q u differ
+
+first_right_given : (S : State) (now : ℕ) (who : Caller) (f : FormParts) → GivesFirstRight S (T S now who f) who f
+first_right_given S now who f = let A = S.access in let p = f.name in record {
+  later = λ had i. record A {
+    statuses = statuses_after A.statuses p (status_of S f);
+    grants = granted_later {m = A.grants} p (at A.statuses p) had i;
+    maintainers = maintained_later {m = A.maintainers} who p (at A.statuses p) had i;
+  };
+  scoped = λ o none scoped. ap (λ x. at (grants_after p x A.grants) (o, (developers, p))) none ∙ ap (λ s. at (granted_first p s A.grants) (o, (developers, p))) scoped
+      ∙ at-put_same triple_key A.grants (o, (developers, p)) ReadWrite;
+  unscoped = λ u none unscoped is_user. ap (λ x. is_some (at (maintainers_after who p x A.maintainers) (p, u))) none ∙ ap (λ s. is_some (at (maintained_first who p s A.maintainers) (p, u))) unscoped
+      ∙ ap (λ w. is_some (at (maintained_first w p None A.maintainers) (p, u))) is_user ∙ put_there pair_key A.maintainers (p, u) tt;
+  grants = λ o t q differ. other_granted_after A.grants p (at A.statuses p) o t q differ;
+  maintainers = λ q u differ. other_maintained_after A.maintainers who p (at A.statuses p) q u differ;
+  rest = refl;
 }
 
 pub publishes_add_versions : PublishesAddVersions
-publishes_add_versions S now who f = subst (λ T. AddsVersion S T now f) (sym (published_is S f now)) (version_added S now f)
+publishes_add_versions S now who f = subst (λ T. AddsVersion S T now f) (sym (published_is S who f now)) (version_added S now who f)
 
 pub publishes_set_tags : PublishesSetTags
-publishes_set_tags S now who f = subst (λ T. SetsTags S T f) (sym (published_is S f now)) (tags_set S now f)
+publishes_set_tags S now who f = subst (λ T. SetsTags S T f) (sym (published_is S who f now)) (tags_set S now who f)
 
 pub publishes_set_statuses : PublishesSetStatuses
-publishes_set_statuses S now who f = subst (λ T. SetsStatus S T f) (sym (published_is S f now)) (status_set S now f)
+publishes_set_statuses S now who f = subst (λ T. SetsStatus S T f) (sym (published_is S who f now)) (status_set S now who f)
+
+pub publishes_give_first_rights : PublishesGiveFirstRights
+publishes_give_first_rights S now who f = subst (λ T. GivesFirstRight S T who f) (sym (published_is S who f now)) (first_right_given S now who f)
 
 -- ---- a tag
 
@@ -275,6 +374,11 @@ queries_change_nothing S now who (TeamCreate o t) e = absurd (true≢false e)
 queries_change_nothing S now who (TeamDestroy o t) e = absurd (true≢false e)
 queries_change_nothing S now who (TeamAdd o t u) e = absurd (true≢false e)
 queries_change_nothing S now who (TeamRemove o t u) e = absurd (true≢false e)
+queries_change_nothing S now who (asked.Grant o t p grant) e = absurd (true≢false e)
+queries_change_nothing S now who (Revoke o t p) e = absurd (true≢false e)
+queries_change_nothing S now who (SetAccess p status) e = absurd (true≢false e)
+queries_change_nothing S now who (OwnerAdd p u) e = absurd (true≢false e)
+queries_change_nothing S now who (OwnerRemove p u) e = absurd (true≢false e)
 queries_change_nothing S now who (Publish f) e = absurd (true≢false e)
 queries_change_nothing S now who (TagSet p t v) e = absurd (true≢false e)
 queries_change_nothing S now who (TagRemove p t) e = absurd (true≢false e)
@@ -307,19 +411,30 @@ apart_from_tag S T what p live spent access tags grants = record {
   grants = λ o t. ap (λ a. at a.grants (o, (t, p))) access ∙ grants o t;
 }
 
-apart_from_publish : (S : State) (now : ℕ) (f : FormParts) (p : Text) → is f.name p ≡ false → IsApart S (T S now f) (Publish f) p
-apart_from_publish S now f p other = record {
+apart_from_publish : (S : State) (now : ℕ) (who : Caller) (f : FormParts) (p : Text) → is f.name p ≡ false → IsApart S (T S now who f) (Publish f) p
+apart_from_publish S now who f p other = record {
   live = λ v. at-put_other pair_key S.live (f.name, version_of f) (release_of f now) (p, v) (elsewhere f.name p (version_of f) v other);
   spent = λ v. refl;
-  tags = λ t. at-put_other pair_key (before S now f (here S now f)) (f.name, f.tag) (version_of f) (p, t) (elsewhere f.name p f.tag t other) ∙ latest_elsewhere t (here S now f);
+  tags = λ t. at-put_other pair_key (before S now who f (here S now who f)) (f.name, f.tag) (version_of f) (p, t) (elsewhere f.name p f.tag t other) ∙ latest_elsewhere t (here S now who f);
   status = other_status S.access.statuses f.name (status_of S f) p other;
-  maintainers = λ u. refl;
-  grants = λ o t. refl;
+  maintainers = λ u. other_maintained_after S.access.maintainers who f.name (at S.access.statuses f.name) p u (λ unscoped is_user same. itself same);
+  grants = λ o t. other_granted_after S.access.grants f.name (at S.access.statuses f.name) o t p (λ scoped same. itself (ap (λ (k : Pair). k.1) same));
 }
   where
-    latest_elsewhere : (t : Text) (kept : Bool) → at (before S now f kept) (p, t) ≡ at S.tags (p, t)
+    itself : p ≡ f.name → ⊥
+    itself same = true≢false (sym (same_self text_key f.name) ∙ ap (is f.name) (sym same) ∙ other)
+
+    latest_elsewhere : (t : Text) (kept : Bool) → at (before S now who f kept) (p, t) ≡ at S.tags (p, t)
     latest_elsewhere t true = refl
     latest_elsewhere t false = at-put_other pair_key S.tags (f.name, latest) (version_of f) (p, t) (elsewhere f.name p latest t other)
+
+-- a key of another package in the grants is another key
+granted_elsewhere : (o t q r s p : Text) → is q p ≡ false → triple_is (o, (t, q)) (r, (s, p)) ≡ false
+granted_elsewhere o t q r s p other = and_right (is o r) (is t s && is q p) (and_right (is t s) (is q p) other)
+
+apart_from_owning : (S : State) (q u : Text) (already : Bool) (p : Text) → is q p ≡ false → IsApart S (all_made S (owning q u already)) (OwnerAdd q u) p
+apart_from_owning S q u true p other = same_of_itself S (OwnerAdd q u) p (λ o t. refl)
+apart_from_owning S q u false p other = apart_in_access S _ (OwnerAdd q u) p refl (λ w. at-put_other pair_key S.access.maintainers (q, u) tt (p, w) (elsewhere q p u w other)) (λ o t. refl)
 
 apart_from_role : (S : State) (o u : Text) (role : Role) (old : Option Role) → at S.access.roles (o, u) ≡ old → (p : Text) → IsApart S (all_made S (membership o u role old)) (OrgSet o u role) p
 apart_from_role S o u role (Some r) e p =
@@ -354,7 +469,18 @@ packages_stand_apart S now who (TeamCreate o t) p other = apart_in_access S _ (T
 packages_stand_apart S now who (TeamDestroy o t) p other = apart_from_destroying S o t p
 packages_stand_apart S now who (TeamAdd o t u) p other = apart_from_joining S o t u (is_in_team S o t u) p
 packages_stand_apart S now who (TeamRemove o t u) p other = apart_in_access S _ (TeamRemove o t u) p refl (λ w. refl) (λ o t. refl)
-packages_stand_apart S now who (Publish f) p other = subst (λ T. IsApart S T (Publish f) p) (sym (published_is S f now)) (apart_from_publish S now f p other)
+packages_stand_apart S now who (asked.Grant o t q grant) p other =
+    subst (λ T. IsApart S T (asked.Grant o t q grant) p) (sym (grant_put S o t q grant (has_grant S o t q) (λ there. there)))
+    (apart_in_access S _ (asked.Grant o t q grant) p refl (λ w. refl) (λ r s. at-put_other triple_key S.access.grants (o, (t, q)) grant (r, (s, p)) (granted_elsewhere o t q r s p other)))
+packages_stand_apart S now who (Revoke o t q) p other =
+    apart_in_access S _ (Revoke o t q) p refl (λ w. refl) (λ r s. at-erase_other triple_key S.access.grants (o, (t, q)) (r, (s, p)) (granted_elsewhere o t q r s p other))
+packages_stand_apart S now who (SetAccess q status) p other =
+    subst (λ T. IsApart S T (SetAccess q status) p) (sym (status_put S q status (is_published S q) (λ there. there)))
+    (apart_in_access S _ (SetAccess q status) p (at-put_other text_key S.access.statuses q status p other) (λ w. refl) (λ o t. refl))
+packages_stand_apart S now who (OwnerAdd q u) p other = apart_from_owning S q u (is_owned_by S q u) p other
+packages_stand_apart S now who (OwnerRemove q u) p other =
+    apart_in_access S _ (OwnerRemove q u) p refl (λ w. at-erase_other pair_key S.access.maintainers (q, u) (p, w) (elsewhere q p u w other)) (λ o t. refl)
+packages_stand_apart S now who (Publish f) p other = subst (λ T. IsApart S T (Publish f) p) (sym (published_is S who f now)) (apart_from_publish S now who f p other)
 packages_stand_apart S now who (TagSet q t v) p other =
     subst (λ T. IsApart S T (TagSet q t v) p) (sym (tag_put S q t (text_of_version v) (stands S q t) (λ there. there)))
     (apart_from_tag S (with_tag S q t (text_of_version v)) (TagSet q t v) p refl refl refl

@@ -6,10 +6,11 @@ use Rattle.registry_names.specs.Tags.{latest}
 use Rattle.registry_names.specs.Texts.{Text, is}
 use Rattle.registry_names.specs.declared.status.Status.{Status}
 use Rattle.registry_names.proofs.KeyFacts.{pair_key}
+use Rattle.registry_access.specs.declared.grant.Grant.{Grant}
 use Rattle.registry_access.specs.declared.role.Role.{Role}
-use Rattle.registry_rules.specs.Changes.{PutStatus, PutTag, made, all_made}
+use Rattle.registry_rules.specs.Changes.{PutGrant, PutStatus, PutTag, made, all_made}
 use Rattle.registry_rules.specs.Effects.{put_tags}
-use Rattle.registry_rules.specs.Operations.{with_member, with_role, with_status, with_tag}
+use Rattle.registry_rules.specs.Operations.{with_grant, with_member, with_role, with_status, with_tag}
 use Rattle.registry_rules.specs.State.{State, stands}
 use Rattle.registry_names.proofs.PutFacts.{still_there}
 
@@ -19,6 +20,10 @@ chosen false x y e = absurd (true≢false (sym e))
 
 pub role_put : (S : State) (o u : Text) (role : Role) → IsSome (at S.access.roles (o, u)) → with_role S o u role ≡ with_member S o u role
 role_put S o u role there = chosen (is_some (at S.access.roles (o, u))) (with_member S o u role) S there
+
+pub grant_put : (S : State) (o t p : Text) (grant : Grant) (stands : Bool) → (stands ≡ true → IsSome (at S.access.grants (o, (t, p)))) → made S (PutGrant o t p grant stands) ≡ with_grant S o t p grant
+grant_put S o t p grant true there = chosen (is_some (at S.access.grants (o, (t, p)))) (with_grant S o t p grant) S (there refl)
+grant_put S o t p grant false there = refl
 
 pub status_put : (S : State) (p : Text) (status : Status) (stands : Bool) → (stands ≡ true → IsSome (at S.access.statuses p)) → made S (PutStatus p status stands) ≡ with_status S p status
 status_put S p status true there = chosen (is_some (at S.access.statuses p)) (with_status S p status) S (there refl)

@@ -1,5 +1,6 @@
 -- What a test finds in the part of a map, and so who else is an owner.
-use Rattle.std.proofs.Common.{◌≡◌, ◌≢◌, Bool, true, false, cond, not, ◌&&◌, ◌||◌, List, [], ◌∷◌, Some, refl, sym, ap, ◌∙◌, true≢false, All}
+use Rattle.std.proofs.Common.{◌≡◌, ◌≢◌, Bool, true, false, cond, not, ◌&&◌, ◌||◌, List, [], ◌∷◌, Option, Some, None, is_some, refl, sym, ap, ◌∙◌, true≢false, All}
+use Rattle.std.specs.Prelude.{IsSome}
 use Rattle.std.specs.List.{list_any}
 use Rattle.std.proofs.lemmas.Bool.{and_parts, and_from}
 use Rattle.std.proofs.lemmas.List.Elements.{All-head, All-tail}
@@ -10,8 +11,8 @@ use Rattle.registry_names.proofs.PartFacts.{at-part, part_found}
 use Rattle.registry_access.specs.Levels.{is_owner}
 use Rattle.registry_access.specs.declared.role.Role.{Role}
 use Rattle.registry_access.specs.declared.role.Role.TheVariants.{Owner, Admin, Developer}
-use Rattle.registry_rules.specs.Laws.{OtherOwnersAreOwners}
-use Rattle.registry_rules.specs.State.{State, has_other_owner, is_last_owner}
+use Rattle.registry_rules.specs.Laws.{OtherOwnersAreOwners, OtherMaintainersAreMaintainers}
+use Rattle.registry_rules.specs.State.{State, has_other_owner, has_other_maintainer, is_last_owner}
 
 -- ---- lists
 
@@ -93,3 +94,24 @@ not_the_last S o u h e = other_owner S o u (by_test (has_other_owner S o u) (sym
     by_test : (b : Bool) → not b ≡ false → b ≡ true
     by_test true h = refl
     by_test false h = absurd (true≢false h)
+
+-- ---- maintainers
+
+-- there is another maintainer of the package
+abbrev OtherMaintainer : State → Text → Text → Type 0
+OtherMaintainer S p u = (w : Text) × (is u w ≡ false) × IsSome (at S.access.maintainers (p, w))
+
+pub other_maintainer : (S : State) (p u : Text) → has_other_maintainer S p u ≡ true → OtherMaintainer S p u
+other_maintainer S p u h =
+    let found = any_of S.access.maintainers p (λ (e : Text × Unit {0}). not (is e.0 u)) h in
+    (found.0.0, same_sym text_key u found.0.0 ∙ not_true _ found.2, ap is_some found.1)
+
+one_there : (o : Option (Unit {0})) → IsSome o → o ≡ Some tt
+one_there None h = absurd (true≢false (sym h))
+one_there (Some x) h = refl
+
+pub other_maintainers_are_maintainers : OtherMaintainersAreMaintainers
+other_maintainers_are_maintainers S p u = (
+  λ h. let other = other_maintainer S p u h in (other.0, differs u other.0 other.1, other.2),
+  λ other. of_any S.access.maintainers p (λ (e : Text × Unit {0}). not (is e.0 u)) other.0 tt (one_there _ other.2) (ap not (unlike other.0 u other.1)),
+)

@@ -1,44 +1,43 @@
 -- What stands refers to what is there, from nothing on, through each action that nothing refuses. Nothing is asked of how names are spelled.
-use Rattle.std.proofs.Common.{◌≡◌, ◌≢◌, ℕ, Bool, true, false, cond, not, ◌&&◌, is_none, is_some, Option, Some, None, option_map, refl, sym, ap, ◌∙◌, subst, true≢false}
+use Rattle.std.proofs.Common.{◌≡◌, ℕ, Bool, true, false, not, ◌&&◌, is_none, is_some, Option, Some, None, refl, sym, ap, ◌∙◌, subst, true≢false}
 use Rattle.std.proofs.lemmas.Bool.{and_parts, and_right}
 use Rattle.std.specs.Prelude.{IsSome}
-use Rattle.registry_names.specs.Maps.{TextMap, at, put, erase}
+use Rattle.registry_names.specs.Maps.{at, put, erase}
 use Rattle.registry_names.specs.Names.{scope_of}
 use Rattle.registry_names.specs.Texts.{Text, is}
 use Rattle.registry_names.specs.Versions.{text_of_version}
 use Rattle.registry_names.specs.declared.status.Status.{Status}
-use Rattle.registry_names.specs.declared.status.Status.TheVariants.{Restricted}
+use Rattle.registry_names.specs.declared.refusal.Refusal.TheVariants.{NotFound, LastOwner, KeepsDevelopers, AlwaysPublic}
+use Rattle.registry_names.specs.declared.refusal.Rule.TheVariants.{A2, A3, A6}
 use Rattle.registry_names.proofs.KeyFacts.{text_key, pair_key, triple_key}
 use Rattle.registry_names.proofs.MapFacts.{at-empty, at-put_same, at-put_other, at-erase_other}
-use Rattle.registry_names.proofs.PutFacts.{each_put, still_there}
-use Rattle.registry_names.specs.declared.refusal.Refusal.TheVariants.{NotFound, LastOwner, KeepsDevelopers}
-use Rattle.registry_names.specs.declared.refusal.Rule.TheVariants.{A2, A3}
-use Rattle.registry_access.specs.Access.{Access}
 use Rattle.registry_access.specs.Callers.{role_of}
-use Rattle.registry_access.specs.Levels.{is_owner, is_owner_or_admin}
-use Rattle.registry_access.specs.Positions.{has_organisation}
+use Rattle.registry_access.specs.Levels.{is_owner, is_owner_or_admin, reads, writes}
+use Rattle.registry_access.specs.Policy.{by_rule, may_publish, may_write}
+use Rattle.registry_access.specs.Positions.{has_organisation, level_at, position_in}
+use Rattle.registry_access.specs.declared.caller.Caller.{Caller}
+use Rattle.registry_access.specs.declared.grant.Grant as granted
 use Rattle.registry_access.specs.declared.role.Role.{Role}
 use Rattle.registry_access.specs.declared.role.Role.TheVariants.{Owner, Admin, Developer}
-use Rattle.registry_access.specs.Hiding.{UnscopedArePublic}
-use Rattle.registry_access.specs.declared.caller.Caller.{Caller}
-use Rattle.registry_access.specs.declared.caller.Caller.TheVariants as caller
 use Rattle.registry_publish.specs.Form.{FormParts}
-use Rattle.registry_rules.specs.Callers.{caller_of, is_known}
-use Rattle.registry_rules.specs.Changes.{all_made}
-use Rattle.registry_rules.specs.Effects.{joining, membership, publication, step_by}
-use Rattle.registry_rules.specs.Operations.{without_member, without_team}
+use Rattle.registry_rules.specs.Callers.{is_known}
+use Rattle.registry_rules.specs.Changes.{PutGrant, PutStatus, made, all_made}
+use Rattle.registry_rules.specs.Effects.{joining, membership, owning, publication, step_by}
+use Rattle.registry_rules.specs.Operations.{without_maintainer, without_member, without_team}
 use Rattle.registry_rules.specs.Kept.{IsSound}
-use Rattle.registry_rules.specs.Refusals.{policy_refusal, publish_refusal, refusal_by, state_refusal}
-use Rattle.registry_rules.specs.State.{State, nothing, developers, has_team, has_user, is_in_team, is_last_owner, is_member, stands}
-use Rattle.registry_rules.specs.declared.request.Credential.{Credential}
-use Rattle.registry_rules.specs.declared.request.Credential.TheVariants.{Operator, User, Token, Anonymous}
+use Rattle.registry_rules.specs.Permissions.{permission}
+use Rattle.registry_rules.specs.Refusals.{grant_refusal, is_restricted, publish_refusal, refusal_by, refuse, state_refusal, unless_allowed}
+use Rattle.registry_rules.specs.State.{State, nothing, developers, has_grant, has_other_maintainer, has_team, has_user, is_in_team, is_last_owner, is_member, is_owned_by, is_published, stands}
 use Rattle.registry_rules.specs.declared.request.Action.{Action}
-use Rattle.registry_rules.specs.declared.request.Action.TheVariants.{UserAdd, TokenAdd, OrgCreate, OrgSet, OrgRemove, TeamCreate, TeamDestroy, TeamAdd, TeamRemove, Publish, TagSet}
-use Rattle.registry_rules.proofs.AllowedFacts.{is_there, may_be_public, not_false, organisation_there, passed, policy_passed, state_passed, user_there}
+use Rattle.registry_rules.specs.declared.request.Action.TheVariants as asked
+use Rattle.registry_rules.specs.declared.request.Action.TheVariants.{UserAdd, TokenAdd, OrgCreate, OrgSet, OrgRemove, TeamCreate, TeamDestroy, TeamAdd, TeamRemove, Revoke, SetAccess, OwnerAdd, OwnerRemove, Publish, TagSet}
+use Rattle.registry_rules.proofs.AllowedFacts.{found_there, is_there, may_be_public, may_grant, not_false, passed, policy_passed, publisher_is_user, published_has_status, published_where_read, scope_there, state_passed, status_allowed, user_there}
+use Rattle.registry_rules.proofs.MadeFacts as made
 use Rattle.registry_rules.proofs.MadeFacts.{role_put, tag_put}
-use Rattle.registry_rules.proofs.OtherFacts.{not_the_last}
-use Rattle.registry_rules.proofs.PublishedFacts.{statuses_after, status_of, published_is}
-use Rattle.registry_rules.proofs.SoundFacts.{HasOwner, user_added, token_added, organisation_created, role_given, member_joined, member_removed, team_created, team_destroyed, team_joined, team_left}
+use Rattle.registry_rules.proofs.OtherFacts.{not_the_last, other_maintainer}
+use Rattle.registry_rules.proofs.PublishedFacts.{status_of, published_is}
+use Rattle.registry_rules.proofs.SoundFacts as change
+use Rattle.registry_rules.proofs.SoundFacts.{HasOwner, HasPublisher, user_added, token_added, organisation_created, role_given, member_joined, member_removed, team_created, team_destroyed, team_joined, team_left}
 
 -- ---- nothing
 
@@ -56,6 +55,7 @@ nothing_sound = record {
   grants = λ o t p h. absurd (none_there _ (at-empty triple_key (o, (t, p))) h);
   maintainers = λ p u h. absurd (none_there _ (at-empty pair_key (p, u)) h);
   unscoped = λ p u h. none_there _ (at-empty text_key p) (ap is_some h);
+  maintained = λ p h. absurd (none_there _ (at-empty text_key p) h);
 }
 
 -- ---- members
@@ -78,12 +78,12 @@ role_sound S o u role (Some r) e organisation user left sound =
     subst (λ (T : State). IsSound T.access) (sym (role_put S o u role (ap is_some e))) (role_given S.access o u role organisation user left sound)
 role_sound S o u role None e organisation user left sound = member_joined S.access o u role organisation user left sound
 
-set_sound : (S : State) (now : ℕ) (who : Caller) (o u : Text) (role : Role) → policy_refusal S.access who (OrgSet o u role) ≡ None → state_refusal S now (OrgSet o u role) ≡ None
+set_sound : (S : State) (now : ℕ) (who : Caller) (o u : Text) (role : Role) → unless_allowed (permission S.access who (OrgSet o u role)) ≡ None → state_refusal S now (OrgSet o u role) ≡ None
     → IsSound S.access → IsSound (all_made S (membership o u role (at S.access.roles (o, u)))).access
 set_sound S now who o u role policy may sound =
     let user = passed (not (has_user S u)) NotFound _ may in
     let owner = passed (not (is_owner (Some role)) && is_last_owner S o u) LastOwner None user.1 in
-    role_sound S o u role (at S.access.roles (o, u)) refl (organisation_there who (has_organisation S.access o) (is_owner (role_of S.access who o)) A2 policy) (not_false _ user.0)
+    role_sound S o u role (at S.access.roles (o, u)) refl (found_there who (has_organisation S.access o) (by_rule A2 (is_owner (role_of S.access who o))) policy) (not_false _ user.0)
     (owner_given S o u role owner.0) sound
 
 removed_sound : (S : State) (now : ℕ) (o u : Text) → state_refusal S now (OrgRemove o u) ≡ None → IsSound S.access → IsSound (without_member S o u).access
@@ -94,9 +94,9 @@ removed_sound S now o u may sound =
 
 -- ---- teams
 
-team_sound : (S : State) (now : ℕ) (who : Caller) (o t : Text) → policy_refusal S.access who (TeamCreate o t) ≡ None → IsSound S.access → IsSound (record S.access { teams = put S.access.teams (o, t) tt })
+team_sound : (S : State) (now : ℕ) (who : Caller) (o t : Text) → unless_allowed (permission S.access who (TeamCreate o t)) ≡ None → IsSound S.access → IsSound (record S.access { teams = put S.access.teams (o, t) tt })
 team_sound S now who o t policy sound =
-    team_created S.access o t (organisation_there who (has_organisation S.access o) (is_owner_or_admin (role_of S.access who o)) A3 policy) sound
+    team_created S.access o t (found_there who (has_organisation S.access o) (by_rule A3 (is_owner_or_admin (role_of S.access who o))) policy) sound
 
 joined_sound : (S : State) (o t u : Text) (inside : Bool) → (has_team S o t && is_member S o u) ≡ true → IsSound S.access → IsSound (all_made S (joining o t u inside)).access
 joined_sound S o t u true there sound = sound
@@ -108,39 +108,47 @@ destroyed_sound S now o t may sound =
     let other = passed (is t developers) KeepsDevelopers None team.1 in
     team_destroyed S.access o t other.0 sound
 
+-- ---- rights to a package
+
+grant_sound : (S : State) (o t p : Text) (grant : granted.Grant) → grant_refusal (has_team S o t) (is_published S p) o p ≡ None → IsSound S.access → IsSound (made S (PutGrant o t p grant (has_grant S o t p))).access
+grant_sound S o t p grant may sound =
+    let is = may_grant (has_team S o t) (is_published S p) o p may in
+    subst (λ (T : State). IsSound T.access) (sym (made.grant_put S o t p grant (has_grant S o t p) (λ there. there)))
+    (change.grant_put S.access o t p grant (record { team = is.0; status = is.1; scope = is.2 }) sound)
+
+status_sound : (S : State) (who : Caller) (p : Text) (status : Status) → unless_allowed (may_write who (position_in S.access who p)) ≡ None
+    → refuse (is_restricted (Some status) && is_none (scope_of p)) AlwaysPublic None ≡ None → IsSound S.access → IsSound (made S (PutStatus p status (is_published S p))).access
+status_sound S who p status policy may sound =
+    let shut = passed (is_restricted (Some status) && is_none (scope_of p)) AlwaysPublic None may in
+    let read = found_there who (reads (level_at (position_in S.access who p))) (by_rule A6 (writes (level_at (position_in S.access who p)))) policy in
+    subst (λ (T : State). IsSound T.access) (sym (made.status_put S p status (is_published S p) (λ there. there)))
+    (change.status_put S.access p status (published_where_read S.access who p read) (status_allowed p status shut.0) sound)
+
+owning_sound : (S : State) (p u : Text) (already : Bool) → IsSome (at S.access.statuses p) → IsSome (at S.access.users u) → IsSound S.access → IsSound (all_made S (owning p u already)).access
+owning_sound S p u true was there sound = sound
+owning_sound S p u false was there sound = change.maintainer_put S.access p u was there sound
+
+disowned_sound : (S : State) (p u : Text) → refuse (not (is_owned_by S p u)) NotFound (refuse (not (has_other_maintainer S p u)) LastOwner None) ≡ None → IsSound S.access → IsSound (without_maintainer S p u).access
+disowned_sound S p u may sound =
+    let owner = passed (not (is_owned_by S p u)) NotFound _ may in
+    let more = passed (not (has_other_maintainer S p u)) LastOwner None owner.1 in
+    let other = other_maintainer S p u (not_false _ more.0) in
+    change.maintainer_dropped S.access p u (other.0, ap is_some (at-erase_other pair_key S.access.maintainers (p, u) (p, other.0) (and_right (is p p) (is u other.0) other.1)) ∙ other.2) sound
+
 -- ---- a publish
 
-more_statuses_sound : (A : Access) (statuses : TextMap Status) → ((p : Text) → IsSome (at A.statuses p) → IsSome (at statuses p)) → UnscopedArePublic (record A { statuses = statuses })
-    → IsSound A → IsSound (record A { statuses = statuses })
-more_statuses_sound A statuses still unscoped sound = record {
-  tokens = sound.tokens;
-  roles = sound.roles;
-  owners = sound.owners;
-  first_teams = sound.first_teams;
-  teams = sound.teams;
-  team_members = sound.team_members;
-  grants = λ o t p h. let grant = sound.grants o t p h in record { team = grant.team; status = still p grant.status; scope = grant.scope };
-  maintainers = λ p u h. let has = sound.maintainers p u h in (still p has.0, has.1);
-  unscoped = unscoped;
+-- who publishes a new package may, and is known
+publisher_there : (S : State) (who : Caller) (p : Text) → is_known S who ≡ true → unless_allowed (may_publish who (is_some (scope_of p)) (position_in S.access who p)) ≡ None → IsSound S.access → HasPublisher S.access who p
+publisher_there S who p known policy sound = record {
+  team = λ o scoped. sound.first_teams o (scope_there S.access who p o scoped policy);
+  user = λ none unscoped. let user = publisher_is_user S.access who p unscoped none policy in (user.0, user.1, sym (ap (is_known S) user.1) ∙ known);
 }
 
-pub status_stays : (m : TextMap Status) (p : Text) (o : Option Status) (q : Text) → IsSome (at m q) → IsSome (at (statuses_after m p o) q)
-status_stays m p None q h = h
-status_stays m p (Some s) q h = still_there text_key m p s q h
-
-statuses_public : (A : Access) (p : Text) (o : Option Status) → (scope_of p ≡ None → o ≢ Some Restricted) → UnscopedArePublic A → UnscopedArePublic (record A { statuses = statuses_after A.statuses p o })
-statuses_public A p None may public = public
-statuses_public A p (Some status) may public = λ q u h.
-    each_put text_key A.statuses p status (λ q s. scope_of q ≡ None → s ≢ Restricted)
-    (λ q s e u f. public q u (e ∙ ap (λ (x : Status). Some x) f)) (λ u f. may u (ap (λ (x : Status). Some x) f)) q Restricted h u refl
-
-pub statuses_sound : (A : Access) (p : Text) (o : Option Status) → (scope_of p ≡ None → o ≢ Some Restricted) → IsSound A → IsSound (record A { statuses = statuses_after A.statuses p o })
-statuses_sound A p o may sound =
-    more_statuses_sound A (statuses_after A.statuses p o) (status_stays A.statuses p o) (statuses_public A p o may sound.unscoped) sound
-
-publish_sound : (S : State) (f : FormParts) (now : ℕ) → publish_refusal S f ≡ None → IsSound S.access → IsSound (all_made S (publication S now f)).access
-publish_sound S f now may sound =
-    subst (λ (T : State). IsSound T.access) (sym (published_is S f now)) (statuses_sound S.access f.name (status_of S f) (may_be_public S f may) sound)
+publish_sound : (S : State) (who : Caller) (f : FormParts) (now : ℕ) → is_known S who ≡ true → unless_allowed (permission S.access who (Publish f)) ≡ None → publish_refusal S f ≡ None
+    → IsSound S.access → IsSound (all_made S (publication S now who f)).access
+publish_sound S who f now known policy may sound =
+    subst (λ (T : State). IsSound T.access) (sym (published_is S who f now))
+    (change.published S.access who f.name (status_of S f) (published_has_status S f) (may_be_public S f may) (publisher_there S who f.name known policy sound) sound)
 
 -- ---- all actions
 
@@ -155,29 +163,15 @@ step_sound S now who (TeamCreate o t) known may sound = team_sound S now who o t
 step_sound S now who (TeamDestroy o t) known may sound = destroyed_sound S now o t (state_passed S now who (TeamDestroy o t) may) sound
 step_sound S now who (TeamAdd o t u) known may sound = joined_sound S o t u (is_in_team S o t u) (is_there _ (state_passed S now who (TeamAdd o t u) may)) sound
 step_sound S now who (TeamRemove o t u) known may sound = team_left S.access o t u sound
-step_sound S now who (Publish f) known may sound = publish_sound S f now (state_passed S now who (Publish f) may) sound
+step_sound S now who (asked.Grant o t p grant) known may sound = grant_sound S o t p grant (state_passed S now who (asked.Grant o t p grant) may) sound
+step_sound S now who (Revoke o t p) known may sound = change.grant_dropped S.access o t p sound
+step_sound S now who (SetAccess p status) known may sound =
+    status_sound S who p status (policy_passed S now who (SetAccess p status) may) (state_passed S now who (SetAccess p status) may) sound
+step_sound S now who (OwnerAdd p u) known may sound =
+    owning_sound S p u (is_owned_by S p u) (published_where_read S.access who p (found_there who (reads (level_at (position_in S.access who p))) _ (policy_passed S now who (OwnerAdd p u) may)))
+    (is_there _ (state_passed S now who (OwnerAdd p u) may)) sound
+step_sound S now who (OwnerRemove p u) known may sound = disowned_sound S p u (state_passed S now who (OwnerRemove p u) may) sound
+step_sound S now who (Publish f) known may sound =
+    publish_sound S who f now known (policy_passed S now who (Publish f) may) (state_passed S now who (Publish f) may) sound
 step_sound S now who (TagSet p t v) known may sound = subst (λ (T : State). IsSound T.access) (sym (tag_put S p t (text_of_version v) (stands S p t) (λ there. there))) sound
 step_sound S now who _ known may sound = sound
-
--- ---- callers
-
-known_user : (b : Bool) (u : Text) (who : Caller) → cond b (Some (caller.User u)) None ≡ Some who → (S : State) → has_user S u ≡ b → is_known S who ≡ true
-known_user true u who e S there = ap (is_known S) same ∙ there
-  where
-    same : who ≡ caller.User u
-    same = cc
-known_user false u who e S there = cc
-
-token_known : (S : State) (o : Option Text) (who : Caller) → ((u : Text) → o ≡ Some u → IsSome (at S.access.users u)) → option_map caller.User o ≡ Some who → is_known S who ≡ true
-token_known S None who there e = cc
-token_known S (Some u) who there e = ap (is_known S) same ∙ there u refl
-  where
-    same : who ≡ caller.User u
-    same = cc
-
--- whom a credential names is known, where tokens are users'
-pub caller_known : (S : State) (c : Credential) (who : Caller) → IsSound S.access → caller_of S c ≡ Some who → is_known S who ≡ true
-caller_known S Operator who sound e = let same : who ≡ caller.Operator = cc in ap (is_known S) same
-caller_known S (User u) who sound e = known_user (has_user S u) u who e S refl
-caller_known S (Token digest) who sound e = token_known S (at S.access.tokens digest) who (sound.tokens digest) e
-caller_known S Anonymous who sound e = let same : who ≡ caller.Anonymous = cc in ap (is_known S) same

@@ -4,7 +4,7 @@ use Rattle.registry_names.specs.Texts.{Text, is}
 use Rattle.registry_names.specs.Versions.{text_of_version}
 use Rattle.registry_publish.specs.Form.{FormParts}
 use Rattle.registry_rules.specs.declared.request.Action.{Action}
-use Rattle.registry_rules.specs.declared.request.Action.TheVariants.{UserAdd, TokenAdd, OrgCreate, OrgSet, OrgRemove, TeamCreate, TeamDestroy, TeamAdd, TeamRemove, Publish, TagSet, TagRemove}
+use Rattle.registry_rules.specs.declared.request.Action.TheVariants.{UserAdd, TokenAdd, OrgCreate, OrgSet, OrgRemove, TeamCreate, TeamDestroy, TeamAdd, TeamRemove, Grant, Revoke, SetAccess, OwnerAdd, OwnerRemove, Publish, TagSet, TagRemove}
 
 -- whether it may change the registry
 abbrev pub is_command : Action → Bool
@@ -17,6 +17,11 @@ is_command (TeamCreate o t) = true
 is_command (TeamDestroy o t) = true
 is_command (TeamAdd o t u) = true
 is_command (TeamRemove o t u) = true
+is_command (Grant o t p grant) = true
+is_command (Revoke o t p) = true
+is_command (SetAccess p status) = true
+is_command (OwnerAdd p u) = true
+is_command (OwnerRemove p u) = true
 is_command (Publish f) = true
 is_command (TagSet p t v) = true
 is_command (TagRemove p t) = true
@@ -28,6 +33,11 @@ version_of f = text_of_version f.version
 
 -- whether it is a command about this package
 abbrev pub names : Action → Text → Bool
+names (Grant o t q grant) p = is q p
+names (Revoke o t q) p = is q p
+names (SetAccess q status) p = is q p
+names (OwnerAdd q u) p = is q p
+names (OwnerRemove q u) p = is q p
 names (Publish f) p = is f.name p
 names (TagSet q t v) p = is q p
 names (TagRemove q t) p = is q p

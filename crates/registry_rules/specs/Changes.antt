@@ -3,10 +3,11 @@ use Rattle.std.specs.Prelude.{ℕ, Bool, List, [], ◌∷◌, if◌then◌else�
 use Rattle.registry_names.specs.Texts.{Text}
 use Rattle.registry_names.specs.Versions.{text_of_version}
 use Rattle.registry_names.specs.declared.status.Status.{Status}
+use Rattle.registry_access.specs.declared.grant.Grant.{Grant}
 use Rattle.registry_access.specs.declared.role.Role.{Role}
 use Rattle.registry_publish.specs.Form.{FormParts}
 use Rattle.registry_rules.specs.Actions.{version_of}
-use Rattle.registry_rules.specs.Operations.{with_user, with_token, with_organisation, with_member, with_role, without_member, with_team, without_team, with_team_member, without_team_member, with_status, restated, with_version, with_tag, moved, without_tag}
+use Rattle.registry_rules.specs.Operations.{with_user, with_token, with_organisation, with_member, with_role, without_member, with_team, without_team, with_team_member, without_team_member, with_grant, regranted, without_grant, with_maintainer, without_maintainer, with_status, restated, with_version, with_tag, moved, without_tag}
 use Rattle.registry_rules.specs.State.{State, Release}
 use Rattle.registry_rules.specs.declared.change.Change as declared
 use Rattle.registry_rules.specs.declared.change.Change.TheVariants as change
@@ -24,6 +25,12 @@ pub data Change : Type 0 where
   PutTeamMember : (organisation team user : Text) → Change
   DropTeamMember : (organisation team user : Text) → Change
   DropTeam : (organisation team : Text) → Change
+  -- a team of an organisation, a package, what the team is granted on it, and whether it is granted something already
+  PutGrant : (organisation team name : Text) (grant : Grant) (stands : Bool) → Change
+  DropGrant : (organisation team name : Text) → Change
+  -- a package, and its maintainer
+  PutOwner : (name user : Text) → Change
+  DropOwner : (name user : Text) → Change
   -- a package, its status, and whether it has one already
   PutStatus : (name : Text) (status : Status) (stands : Bool) → Change
   -- the form that is published, and when, in seconds
@@ -47,6 +54,10 @@ made S (AddTeam o t) = with_team S o t
 made S (PutTeamMember o t u) = with_team_member S o t u
 made S (DropTeamMember o t u) = without_team_member S o t u
 made S (DropTeam o t) = without_team S o t
+made S (PutGrant o t p grant stands) = if stands then regranted S o t p grant else with_grant S o t p grant
+made S (DropGrant o t p) = without_grant S o t p
+made S (PutOwner p u) = with_maintainer S p u
+made S (DropOwner p u) = without_maintainer S p u
 made S (PutStatus p status stands) = if stands then restated S p status else with_status S p status
 made S (AddVersion f now) = with_version S f.name (version_of f) (release_of f now)
 made S (PutTag p t v stands) = if stands then moved S p t v else with_tag S p t v
@@ -68,6 +79,10 @@ change_of (change.AddTeam o t) = AddTeam o.now t.now
 change_of (change.PutTeamMember o t u) = PutTeamMember o.now t.now u.now
 change_of (change.DropTeamMember o t u) = DropTeamMember o.now t.now u.now
 change_of (change.DropTeam o t) = DropTeam o.now t.now
+change_of (change.PutGrant o t p grant stands) = PutGrant o.now t.now p.now grant stands
+change_of (change.DropGrant o t p) = DropGrant o.now t.now p.now
+change_of (change.PutOwner p u) = PutOwner p.now u.now
+change_of (change.DropOwner p u) = DropOwner p.now u.now
 change_of (change.PutStatus p status stands) = PutStatus p.now status stands
 change_of (change.AddVersion f now) = AddVersion f.now now.now
 change_of (change.PutTag p t v stands) = PutTag p.now t.now (text_of_version v.now) stands

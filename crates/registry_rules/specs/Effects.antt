@@ -1,5 +1,6 @@
 -- What each command changes where nothing refuses it: one equation a command. A query changes nothing.
 use Rattle.std.specs.Prelude.{ℕ, Bool, List, [], ◌∷◌, ◌++◌, ◌||◌, true, false, is_some, Option, Some, None, if◌then◌else◌}
+use Rattle.std.specs.Option.{option_to_list}
 use Rattle.registry_names.specs.Tags.{latest}
 use Rattle.registry_names.specs.Texts.{Text, is}
 use Rattle.registry_names.specs.Maps.{at}
@@ -8,15 +9,17 @@ use Rattle.registry_names.specs.declared.status.Status.{Status}
 use Rattle.registry_names.specs.declared.status.Status.TheVariants.{Public, Restricted}
 use Rattle.registry_names.specs.Names.{scope_of}
 use Rattle.registry_access.specs.declared.caller.Caller.{Caller}
+use Rattle.registry_access.specs.declared.caller.Caller.TheVariants.{Operator, User, Anonymous}
+use Rattle.registry_access.specs.declared.grant.Grant.TheVariants.{ReadWrite}
 use Rattle.registry_access.specs.declared.role.Role.{Role}
 use Rattle.registry_access.specs.declared.role.Role.TheVariants.{Owner}
 use Rattle.registry_publish.specs.Form.{FormParts}
 use Rattle.registry_rules.specs.Actions.{version_of}
 use Rattle.registry_rules.specs.Callers.{caller_of}
-use Rattle.registry_rules.specs.Changes.{Change, AddUser, AddToken, AddOrg, PutMember, DropMember, AddTeam, PutTeamMember, DropTeamMember, DropTeam, PutStatus, AddVersion, PutTag, DropTag, all_made}
-use Rattle.registry_rules.specs.State.{State, developers, is_in_team, stands}
+use Rattle.registry_rules.specs.Changes.{Change, AddUser, AddToken, AddOrg, PutMember, DropMember, AddTeam, PutTeamMember, DropTeamMember, DropTeam, PutGrant, DropGrant, PutOwner, DropOwner, PutStatus, AddVersion, PutTag, DropTag, all_made}
+use Rattle.registry_rules.specs.State.{State, developers, is_in_team, has_grant, is_published, is_owned_by, stands}
 use Rattle.registry_rules.specs.declared.request.Action.{Action}
-use Rattle.registry_rules.specs.declared.request.Action.TheVariants.{UserAdd, TokenAdd, OrgCreate, OrgSet, OrgRemove, TeamCreate, TeamDestroy, TeamAdd, TeamRemove, Publish, TagSet, TagRemove}
+use Rattle.registry_rules.specs.declared.request.Action.TheVariants.{UserAdd, TokenAdd, OrgCreate, OrgSet, OrgRemove, TeamCreate, TeamDestroy, TeamAdd, TeamRemove, Grant, Revoke, SetAccess, OwnerAdd, OwnerRemove, Publish, TagSet, TagRemove}
 use Rattle.registry_rules.specs.declared.request.Request.{Request}
 
 -- ---- organisations
@@ -53,13 +56,31 @@ abbrev pub put_status : Text → Option Status → Option Status → List Change
 put_status p None old = []
 put_status p (Some status) old = PutStatus p status (is_some old) ∷ []
 
+-- The right to a new package: the first team of its scope reads and writes it; without a scope its publisher maintains it
+abbrev pub right_to : Caller → Text → Option Text → Option Change
+right_to who p (Some o) = Some (PutGrant o developers p ReadWrite false)
+right_to (User u) p None = Some (PutOwner p u)
+right_to Operator p None = None
+right_to Anonymous p None = None
+
+-- it is given with the first publication
+abbrev pub first_right : Caller → Text → Option Status → Option Change
+first_right who p (Some old) = None
+first_right who p None = right_to who p (scope_of p)
+
 -- The form's tag names the version, and so does `latest` where none stands
 abbrev pub put_tags : State → Text → Text → Text → List Change
 put_tags S p t v = (if stands S p latest || is t latest then [] else PutTag p latest v false ∷ []) ++ PutTag p t v (stands S p t) ∷ []
 
-abbrev pub publication : State → ℕ → FormParts → List Change
-publication S now f = put_status f.name (new_status f.access (at S.access.statuses f.name) f.name) (at S.access.statuses f.name)
-    ++ AddVersion f now ∷ put_tags S f.name f.tag (version_of f)
+abbrev pub publication : State → ℕ → Caller → FormParts → List Change
+publication S now who f = put_status f.name (new_status f.access (at S.access.statuses f.name) f.name) (at S.access.statuses f.name)
+    ++ option_to_list (first_right who f.name (at S.access.statuses f.name)) ++ AddVersion f now ∷ put_tags S f.name f.tag (version_of f)
+
+-- ---- rights to a package
+
+-- who is a maintainer already stays one
+abbrev pub owning : Text → Text → Bool → List Change
+owning p u already = if already then [] else PutOwner p u ∷ []
 
 -- ---- all commands
 
@@ -73,7 +94,12 @@ effects S now who (TeamCreate o t) = AddTeam o t ∷ []
 effects S now who (TeamDestroy o t) = DropTeam o t ∷ []
 effects S now who (TeamAdd o t u) = joining o t u (is_in_team S o t u)
 effects S now who (TeamRemove o t u) = DropTeamMember o t u ∷ []
-effects S now who (Publish f) = publication S now f
+effects S now who (Grant o t p grant) = PutGrant o t p grant (has_grant S o t p) ∷ []
+effects S now who (Revoke o t p) = DropGrant o t p ∷ []
+effects S now who (SetAccess p status) = PutStatus p status (is_published S p) ∷ []
+effects S now who (OwnerAdd p u) = owning p u (is_owned_by S p u)
+effects S now who (OwnerRemove p u) = DropOwner p u ∷ []
+effects S now who (Publish f) = publication S now who f
 effects S now who (TagSet p t v) = PutTag p t (text_of_version v) (stands S p t) ∷ []
 effects S now who (TagRemove p t) = DropTag p t ∷ []
 effects S now who _ = []

@@ -7,23 +7,29 @@ use Rattle.registry_names.specs.Texts.{Text}
 use Rattle.registry_access.specs.Agreement.{SameOrganisation}
 use Rattle.registry_access.specs.Positions.{has_organisation}
 use Rattle.registry_access.specs.RowMaps.{state_of}
+use Rattle.registry_access.specs.RowsFor as access
+use Rattle.registry_access.specs.declared.standing.Standing.{Standing}
 use Rattle.registry_access.specs.declared.caller.Caller.{Caller}
 use Rattle.registry_access.specs.declared.role.Role.{Role}
 use Rattle.registry_access.specs.declared.rows.AccessRows.{AccessRows}
 use Rattle.registry_publish.specs.Form.{FormParts}
 use Rattle.registry_rules.specs.Actions.{version_of}
 use Rattle.registry_rules.specs.Callers.{caller_of}
-use Rattle.registry_rules.specs.State.{State, has_user, has_team, is_member, is_in_team, has_other_owner, has_token, is_live, is_spent, has_live, stands, asked_version, lives}
+use Rattle.registry_rules.specs.State.{State, has_user, has_team, is_member, is_in_team, has_grant, is_published, is_owned_by, has_other_maintainer, has_other_owner, has_token, is_live, is_spent, has_live, stands, asked_version, lives}
 use Rattle.registry_rules.specs.declared.facts.About.{About}
 use Rattle.registry_rules.specs.declared.facts.About.TheVariants as about
 use Rattle.registry_rules.specs.declared.facts.Facts.{Facts}
 use Rattle.registry_rules.specs.declared.facts.PublishFacts.{PublishFacts}
 use Rattle.registry_rules.specs.declared.request.Action.{Action}
-use Rattle.registry_rules.specs.declared.request.Action.TheVariants.{UserAdd, TokenAdd, OrgCreate, OrgSet, OrgRemove, TeamCreate, TeamDestroy, TeamAdd, TeamRemove, Publish, TagSet, TagRemove, Packument, VersionDoc, Archive, Tags, Members, Teams, TeamMembers}
+use Rattle.registry_rules.specs.declared.request.Action.TheVariants.{UserAdd, TokenAdd, OrgCreate, OrgSet, OrgRemove, TeamCreate, TeamDestroy, TeamAdd, TeamRemove, Grant, Revoke, SetAccess, OwnerAdd, OwnerRemove, Publish, TagSet, TagRemove, Packument, VersionDoc, Archive, Tags, Members, Teams, TeamMembers, TeamPackages}
 use Rattle.registry_rules.specs.declared.request.Request.{Request}
 
-pub record ArePublishFacts (facts : PublishFacts) (S : State) (f : FormParts) : Type 0 where
-  pub status : facts.status ≡ at S.access.statuses f.name
+-- the standing says of the caller and the package what the registry holds
+abbrev pub TellsOf : Standing → State → Caller → Text → Type 0
+TellsOf standing S who p = access.StandsFor standing S.access who p
+
+pub record ArePublishFacts (facts : PublishFacts) (S : State) (who : Caller) (f : FormParts) : Type 0 where
+  pub standing : TellsOf facts.standing S who f.name
   pub version_lives : facts.version_lives ≡ is_live S f.name (version_of f)
   pub version_spent : facts.version_spent ≡ is_spent S f.name (version_of f)
   pub tag_stands : facts.tag_stands ≡ stands S f.name f.tag
@@ -55,6 +61,27 @@ pub record AreTeamRemoveFacts (rows : AccessRows) (there inside : Bool) (S : Sta
   pub team_exists : there ≡ has_team S o t
   pub is_in_team : inside ≡ is_in_team S o t u
 
+pub record AreGrantFacts (rows : AccessRows) (there published stood : Bool) (S : State) (who : Caller) (o t p : Text) : Type 0 where
+  pub rows_say : SayOf rows S who o
+  pub team_exists : there ≡ has_team S o t
+  pub is_published : published ≡ is_published S p
+  pub stands : stood ≡ has_grant S o t p
+
+pub record AreOwnerAddFacts (standing : Standing) (exists already : Bool) (S : State) (who : Caller) (p u : Text) : Type 0 where
+  pub standing_tells : TellsOf standing S who p
+  pub user_exists : exists ≡ has_user S u
+  pub is_owner : already ≡ is_owned_by S p u
+
+pub record AreOwnerRemoveFacts (standing : Standing) (owner other : Bool) (S : State) (who : Caller) (p u : Text) : Type 0 where
+  pub standing_tells : TellsOf standing S who p
+  pub is_owner : owner ≡ is_owned_by S p u
+  pub other_owner : other ≡ has_other_maintainer S p u
+
+pub record AreTagSetFacts (standing : Standing) (lives stood : Bool) (S : State) (who : Caller) (p t v : Text) : Type 0 where
+  pub standing_tells : TellsOf standing S who p
+  pub version_lives : lives ≡ is_live S p v
+  pub tag_stands : stood ≡ stands S p t
+
 -- What is told of a caller's action is so. What is told of another kind of action stands for no state
 abbrev pub StandsAbout : About → State → Caller → Action → Type 0
 StandsAbout (about.UserAdd exists) S who (UserAdd u) = exists ≡ has_user S u
@@ -66,16 +93,22 @@ StandsAbout (about.TeamCreate rows exists) S who (TeamCreate o t) = SayOf rows S
 StandsAbout (about.TeamDestroy rows exists) S who (TeamDestroy o t) = SayOf rows S who o × (exists ≡ has_team S o t)
 StandsAbout (about.TeamAdd rows team_exists member already) S who (TeamAdd o t u) = AreTeamAddFacts rows team_exists member already S who o t u
 StandsAbout (about.TeamRemove rows team_exists inside) S who (TeamRemove o t u) = AreTeamRemoveFacts rows team_exists inside S who o t u
-StandsAbout (about.Publish facts) S who (Publish f) = ArePublishFacts facts S f
-StandsAbout (about.TagSet version_lives tag_stands) S who (TagSet p t v) = (version_lives ≡ is_live S p (text_of_version v)) × (tag_stands ≡ stands S p t)
-StandsAbout (about.TagRemove tag_stands) S who (TagRemove p t) = tag_stands ≡ stands S p t
-StandsAbout (about.Version found) S who (VersionDoc p asked) = found ≡ lives S p (asked_version S p asked)
-StandsAbout (about.Version found) S who (Archive p v) = found ≡ is_live S p (text_of_version v)
-StandsAbout (about.Package found) S who (Packument p) = found ≡ has_live S p
-StandsAbout (about.Package found) S who (Tags p) = found ≡ has_live S p
+StandsAbout (about.Grant rows team_exists published stood) S who (Grant o t p grant) = AreGrantFacts rows team_exists published stood S who o t p
+StandsAbout (about.Revoke rows stood) S who (Revoke o t p) = SayOf rows S who o × (stood ≡ has_grant S o t p)
+StandsAbout (about.SetAccess standing) S who (SetAccess p status) = TellsOf standing S who p
+StandsAbout (about.OwnerAdd standing user_exists owner) S who (OwnerAdd p u) = AreOwnerAddFacts standing user_exists owner S who p u
+StandsAbout (about.OwnerRemove standing owner other_owner) S who (OwnerRemove p u) = AreOwnerRemoveFacts standing owner other_owner S who p u
+StandsAbout (about.Publish facts) S who (Publish f) = ArePublishFacts facts S who f
+StandsAbout (about.TagSet standing version_lives tag_stands) S who (TagSet p t v) = AreTagSetFacts standing version_lives tag_stands S who p t (text_of_version v)
+StandsAbout (about.TagRemove standing tag_stands) S who (TagRemove p t) = TellsOf standing S who p × (tag_stands ≡ stands S p t)
+StandsAbout (about.Version standing found) S who (VersionDoc p asked) = TellsOf standing S who p × (found ≡ lives S p (asked_version S p asked))
+StandsAbout (about.Version standing found) S who (Archive p v) = TellsOf standing S who p × (found ≡ is_live S p (text_of_version v))
+StandsAbout (about.Package standing found) S who (Packument p) = TellsOf standing S who p × (found ≡ has_live S p)
+StandsAbout (about.Package standing found) S who (Tags p) = TellsOf standing S who p × (found ≡ has_live S p)
 StandsAbout (about.Organisation rows) S who (Members o) = SayOf rows S who o
 StandsAbout (about.Organisation rows) S who (Teams o) = SayOf rows S who o
 StandsAbout (about.Team rows exists) S who (TeamMembers o t) = SayOf rows S who o × (exists ≡ has_team S o t)
+StandsAbout (about.Team rows exists) S who (TeamPackages o t) = SayOf rows S who o × (exists ≡ has_team S o t)
 StandsAbout _ S who _ = ⊥
 
 -- The facts are what the registry holds for the request. Of an action of nobody nothing has to be told

@@ -1,5 +1,5 @@
 -- What holds of all that the registry comes to hold, from nothing on: of each entry of each map, and of its key.
-use Rattle.std.specs.Prelude.{◌≡◌, ◌≤◌, false, length, Some, IsSome, IsTrue}
+use Rattle.std.specs.Prelude.{◌≡◌, ◌≤◌, false, length, Some, None, IsSome, IsTrue}
 use Rattle.registry_names.specs.Idents.{is_ident}
 use Rattle.registry_names.specs.Maps.{at}
 use Rattle.registry_names.specs.Messages.{is_message}
@@ -72,7 +72,9 @@ pub record IsSound (A : Access) : Type 0 where
   pub grants : (o t p : Text) → IsSome (at A.grants (o, (t, p))) → IsGrant A o t p
   -- a maintainer is a user, and his package was published
   pub maintainers : (p u : Text) → IsSome (at A.maintainers (p, u)) → IsSome (at A.statuses p) × IsSome (at A.users u)
+  -- a package without a scope is public, and has a maintainer
   pub unscoped : UnscopedArePublic A
+  pub maintained : (p : Text) → IsSome (at A.statuses p) → scope_of p ≡ None → (u : Text) × IsSome (at A.maintainers (p, u))
 
 -- ---- all of it
 

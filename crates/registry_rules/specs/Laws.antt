@@ -9,15 +9,18 @@ use Rattle.registry_names.specs.declared.status.Status.{Status}
 use Rattle.registry_names.specs.declared.status.Status.TheVariants.{Public, Restricted}
 use Rattle.registry_names.specs.Names.{scope_of}
 use Rattle.registry_access.specs.declared.caller.Caller.{Caller}
+use Rattle.registry_access.specs.declared.caller.Caller.TheVariants.{User}
+use Rattle.registry_access.specs.declared.grant.Grant as granted
+use Rattle.registry_access.specs.declared.grant.Grant.TheVariants.{ReadWrite}
 use Rattle.registry_access.specs.declared.role.Role.{Role}
 use Rattle.registry_access.specs.declared.role.Role.TheVariants.{Owner}
 use Rattle.registry_publish.specs.Form.{FormParts}
 use Rattle.registry_rules.specs.Actions.{is_command, version_of, names, ends_team}
 use Rattle.registry_rules.specs.Effects.{step_by}
 use Rattle.registry_rules.specs.Kept.{IsSound}
-use Rattle.registry_rules.specs.State.{State, developers, has_other_owner}
+use Rattle.registry_rules.specs.State.{State, developers, has_other_owner, has_other_maintainer}
 use Rattle.registry_rules.specs.declared.request.Action.{Action}
-use Rattle.registry_rules.specs.declared.request.Action.TheVariants.{UserAdd, TokenAdd, OrgCreate, OrgSet, OrgRemove, TeamCreate, TeamDestroy, TeamAdd, TeamRemove, Publish, TagSet, TagRemove}
+use Rattle.registry_rules.specs.declared.request.Action.TheVariants.{UserAdd, TokenAdd, OrgCreate, OrgSet, OrgRemove, TeamCreate, TeamDestroy, TeamAdd, TeamRemove, Grant, Revoke, SetAccess, OwnerAdd, OwnerRemove, Publish, TagSet, TagRemove}
 
 -- ---- users and tokens
 
@@ -135,6 +138,47 @@ abbrev pub TeamMembersAreRemoved : Type 0
 TeamMembersAreRemoved = (S : State) (now : ℕ) (who : Caller) (o t u : Text) → let T = step_by S now who (TeamRemove o t u) in
     (at T.access.team_members (o, (t, u)) ≡ None) × IsTeamMemberChange S T o t u
 
+-- ---- rights to a package
+
+-- what teams are granted alone has changed, and of it this team's grant on this package
+pub record IsGrantChange (S T : State) (o t p : Text) : Type 0 where
+  pub grants : (k : Triple) → k ≢ (o, (t, p)) → at T.access.grants k ≡ at S.access.grants k
+  pub rest : T ≡ record S { access = record S.access { grants = T.access.grants } }
+
+-- maintainers alone have changed, and of them this one of this package
+pub record IsMaintainerChange (S T : State) (p u : Text) : Type 0 where
+  pub maintainers : (k : Pair) → k ≢ (p, u) → at T.access.maintainers k ≡ at S.access.maintainers k
+  pub rest : T ≡ record S { access = record S.access { maintainers = T.access.maintainers } }
+
+abbrev pub GrantsAreGiven : Type 0
+GrantsAreGiven = (S : State) (now : ℕ) (who : Caller) (o t p : Text) (grant : granted.Grant) → let T = step_by S now who (Grant o t p grant) in
+    (at T.access.grants (o, (t, p)) ≡ Some grant) × IsGrantChange S T o t p
+
+abbrev pub GrantsAreRevoked : Type 0
+GrantsAreRevoked = (S : State) (now : ℕ) (who : Caller) (o t p : Text) → let T = step_by S now who (Revoke o t p) in
+    (at T.access.grants (o, (t, p)) ≡ None) × IsGrantChange S T o t p
+
+-- the package has this status, and no other has another
+pub record SetsAccess (S T : State) (p : Text) (status : Status) : Type 0 where
+  pub set : at T.access.statuses p ≡ Some status
+  pub statuses : (q : Text) → q ≢ p → at T.access.statuses q ≡ at S.access.statuses q
+  pub rest : T ≡ record S { access = record S.access { statuses = T.access.statuses } }
+
+abbrev pub StatusesAreSet : Type 0
+StatusesAreSet = (S : State) (now : ℕ) (who : Caller) (p : Text) (status : Status) → SetsAccess S (step_by S now who (SetAccess p status)) p status
+
+abbrev pub MaintainersAreAdded : Type 0
+MaintainersAreAdded = (S : State) (now : ℕ) (who : Caller) (p u : Text) → let T = step_by S now who (OwnerAdd p u) in
+    IsSome (at T.access.maintainers (p, u)) × IsMaintainerChange S T p u
+
+abbrev pub MaintainersAreRemoved : Type 0
+MaintainersAreRemoved = (S : State) (now : ℕ) (who : Caller) (p u : Text) → let T = step_by S now who (OwnerRemove p u) in
+    (at T.access.maintainers (p, u) ≡ None) × IsMaintainerChange S T p u
+
+-- another maintainer is another user who is a maintainer
+abbrev pub OtherMaintainersAreMaintainers : Type 0
+OtherMaintainersAreMaintainers = (S : State) (p u : Text) → (has_other_maintainer S p u ≡ true) ↔ ((w : Text) × (w ≢ u) × IsSome (at S.access.maintainers (p, w)))
+
 -- ---- a publish
 
 -- its version lives, with its manifest, its archive and its moment, and no other version changes
@@ -150,14 +194,25 @@ pub record SetsTags (S T : State) (f : FormParts) : Type 0 where
   pub latest_stays : IsSome (at S.tags (f.name, latest)) → f.tag ≢ latest → at T.tags (f.name, latest) ≡ at S.tags (f.name, latest)
   pub tags : (k : Pair) → k ≢ (f.name, f.tag) → k ≢ (f.name, latest) → at T.tags k ≡ at S.tags k
 
--- Its package has the status that it asks for; else the one that it had; else, with a scope, it is restricted, and without one public. Nobody else is let in or shut out
+-- Its package has the status that it asks for; else the one that it had; else, with a scope, it is restricted, and without one public
 pub record SetsStatus (S T : State) (f : FormParts) : Type 0 where
   pub asked : (status : Status) → f.access ≡ Some status → at T.access.statuses f.name ≡ Some status
   pub later : f.access ≡ None → IsSome (at S.access.statuses f.name) → at T.access.statuses f.name ≡ at S.access.statuses f.name
   pub first_scoped : f.access ≡ None → at S.access.statuses f.name ≡ None → IsSome (scope_of f.name) → at T.access.statuses f.name ≡ Some Restricted
   pub first_unscoped : f.access ≡ None → at S.access.statuses f.name ≡ None → scope_of f.name ≡ None → at T.access.statuses f.name ≡ Some Public
   pub statuses : (p : Text) → p ≢ f.name → at T.access.statuses p ≡ at S.access.statuses p
-  pub access : T.access ≡ record S.access { statuses = T.access.statuses }
+
+-- The first team of a new package's scope reads and writes it, and without a scope its publisher maintains it. Else nobody is let in or shut out
+pub record GivesFirstRight (S T : State) (who : Caller) (f : FormParts) : Type 0 where
+  pub later : IsSome (at S.access.statuses f.name) → T.access ≡ record S.access { statuses = T.access.statuses }
+  pub scoped : (o : Text) → at S.access.statuses f.name ≡ None → scope_of f.name ≡ Some o → at T.access.grants (o, (developers, f.name)) ≡ Some ReadWrite
+  pub unscoped : (u : Text) → at S.access.statuses f.name ≡ None → scope_of f.name ≡ None → who ≡ User u → IsSome (at T.access.maintainers (f.name, u))
+  pub grants : (o t p : Text) → (scope_of f.name ≡ Some o → ◌≢◌ {A = Pair} (t, p) (developers, f.name)) → at T.access.grants (o, (t, p)) ≡ at S.access.grants (o, (t, p))
+  pub maintainers : (p u : Text) → (scope_of f.name ≡ None → who ≡ User u → p ≢ f.name) → at T.access.maintainers (p, u) ≡ at S.access.maintainers (p, u)
+  pub rest : T.access ≡ record S.access { statuses = T.access.statuses; grants = T.access.grants; maintainers = T.access.maintainers }
+
+abbrev pub PublishesGiveFirstRights : Type 0
+PublishesGiveFirstRights = (S : State) (now : ℕ) (who : Caller) (f : FormParts) → GivesFirstRight S (step_by S now who (Publish f)) who f
 
 abbrev pub PublishesAddVersions : Type 0
 PublishesAddVersions = (S : State) (now : ℕ) (who : Caller) (f : FormParts) → AddsVersion S (step_by S now who (Publish f)) now f

@@ -6,6 +6,7 @@ pub mod Facts
 pub mod Kept
 pub mod Laws
 pub mod Operations
+pub mod Permissions
 pub mod Refusals
 pub mod Requests
 pub mod State

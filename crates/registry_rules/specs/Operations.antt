@@ -3,6 +3,7 @@ use Rattle.std.specs.Prelude.{not, ◌&&◌, is_some, if◌then◌else◌}
 use Rattle.registry_names.specs.Texts.{Text, is}
 use Rattle.registry_names.specs.Maps.{at, put, erase, keep}
 use Rattle.registry_names.specs.declared.status.Status.{Status}
+use Rattle.registry_access.specs.declared.grant.Grant.{Grant}
 use Rattle.registry_access.specs.declared.role.Role.{Role}
 use Rattle.registry_rules.specs.State.{State, Release}
 
@@ -56,6 +57,26 @@ without_team S o t = record S {
     grants = keep S.access.grants (λ k. not (is o k.0 && is t k.1.0));
   };
 }
+
+-- the team is granted this on the package
+abbrev pub with_grant : State → Text → Text → Text → Grant → State
+with_grant S o t p grant = record S { access = record S.access { grants = put S.access.grants (o, (t, p)) grant } }
+
+-- a team that is granted something on the package is granted this
+abbrev pub regranted : State → Text → Text → Text → Grant → State
+regranted S o t p grant = if is_some (at S.access.grants (o, (t, p))) then with_grant S o t p grant else S
+
+-- the team is granted nothing on the package
+abbrev pub without_grant : State → Text → Text → Text → State
+without_grant S o t p = record S { access = record S.access { grants = erase S.access.grants (o, (t, p)) } }
+
+-- the user is a maintainer of the package
+abbrev pub with_maintainer : State → Text → Text → State
+with_maintainer S p u = record S { access = record S.access { maintainers = put S.access.maintainers (p, u) tt } }
+
+-- the user is no maintainer of the package
+abbrev pub without_maintainer : State → Text → Text → State
+without_maintainer S p u = record S { access = record S.access { maintainers = erase S.access.maintainers (p, u) } }
 
 -- the package has this status
 abbrev pub with_status : State → Text → Status → State

@@ -1,27 +1,26 @@
 -- Why a request is turned away, on what the registry holds: the first reason that holds, if one does.
-use Rattle.std.specs.Prelude.{ℕ, Bool, true, false, not, ◌&&◌, is_none, Option, Some, None, Result, Ok, Err, if◌then◌else◌}
+use Rattle.std.specs.Prelude.{ℕ, Bool, true, false, not, ◌&&◌, ◌||◌, is_none, Option, Some, None, Result, Ok, Err, if◌then◌else◌}
 use Rattle.std.specs.Option.{option_or}
 use Rattle.registry_names.specs.Tags.{latest}
 use Rattle.registry_names.specs.Texts.{Text, is}
 use Rattle.registry_names.specs.Maps.{at}
 use Rattle.registry_names.specs.Versions.{text_of_version}
 use Rattle.registry_names.specs.declared.refusal.Refusal.{Refusal}
-use Rattle.registry_names.specs.declared.refusal.Refusal.TheVariants.{NoCaller, NotFound, LastOwner, KeepsDevelopers, Exists, Published, Spent, KeepsLatest, AlwaysPublic}
+use Rattle.registry_names.specs.declared.refusal.Refusal.TheVariants.{NoCaller, NotFound, LastOwner, KeepsDevelopers, Exists, Published, Spent, KeepsLatest, OtherScope, AlwaysPublic}
 use Rattle.registry_names.specs.declared.status.Status.{Status}
 use Rattle.registry_names.specs.declared.status.Status.TheVariants.{Public, Restricted}
 use Rattle.registry_names.specs.Names.{scope_of}
-use Rattle.registry_access.specs.Access.{Access}
-use Rattle.registry_access.specs.Callers.{role_of}
 use Rattle.registry_access.specs.Levels.{is_owner}
-use Rattle.registry_access.specs.Policy.{Verdict, may_operate, may_manage_members, may_manage_teams, may_see_organisation}
+use Rattle.registry_access.specs.Policy.{Verdict}
 use Rattle.registry_access.specs.Positions.{has_organisation}
 use Rattle.registry_access.specs.declared.caller.Caller.{Caller}
 use Rattle.registry_publish.specs.Form.{FormParts}
 use Rattle.registry_rules.specs.Actions.{version_of}
 use Rattle.registry_rules.specs.Callers.{caller_of}
-use Rattle.registry_rules.specs.State.{State, developers, has_user, has_token, is_member, has_team, is_in_team, is_last_owner, is_live, is_spent, has_live, stands, asked_version, lives}
+use Rattle.registry_rules.specs.Permissions.{permission}
+use Rattle.registry_rules.specs.State.{State, developers, has_user, has_token, is_member, has_team, is_in_team, has_grant, is_published, is_owned_by, has_other_maintainer, is_last_owner, is_live, is_spent, has_live, stands, asked_version, lives}
 use Rattle.registry_rules.specs.declared.request.Action.{Action}
-use Rattle.registry_rules.specs.declared.request.Action.TheVariants.{UserAdd, TokenAdd, OrgCreate, OrgSet, OrgRemove, TeamCreate, TeamDestroy, TeamAdd, TeamRemove, Publish, TagSet, TagRemove, Packument, VersionDoc, Archive, Tags, Members, Teams, TeamMembers}
+use Rattle.registry_rules.specs.declared.request.Action.TheVariants.{UserAdd, TokenAdd, OrgCreate, OrgSet, OrgRemove, TeamCreate, TeamDestroy, TeamAdd, TeamRemove, Grant, Revoke, SetAccess, OwnerAdd, OwnerRemove, Publish, TagSet, TagRemove, Packument, VersionDoc, Archive, Tags, Members, Teams, TeamMembers, TeamPackages}
 use Rattle.registry_rules.specs.declared.request.Request.{Request}
 
 abbrev pub refuse : Bool → Refusal → Option Refusal → Option Refusal
@@ -40,28 +39,10 @@ unless_there found = refuse (not found) NotFound None
 abbrev pub unless_new : Bool → Option Refusal
 unless_new found = refuse found Exists None
 
--- ---- what the policy says
-
 -- why a verdict turns a caller away, if it does
 abbrev pub unless_allowed : Verdict → Option Refusal
 unless_allowed (Ok rule) = None
 unless_allowed (Err r) = Some r
-
--- Why the policy turns a caller's action away, if it does. Of an action that isn't named here it says nothing
-abbrev pub policy_refusal : Access → Caller → Action → Option Refusal
-policy_refusal A who (UserAdd u) = unless_allowed (may_operate who)
-policy_refusal A who (TokenAdd u digest) = unless_allowed (may_operate who)
-policy_refusal A who (OrgCreate o u) = unless_allowed (may_operate who)
-policy_refusal A who (OrgSet o u role) = unless_allowed (may_manage_members who (has_organisation A o) (role_of A who o))
-policy_refusal A who (OrgRemove o u) = unless_allowed (may_manage_members who (has_organisation A o) (role_of A who o))
-policy_refusal A who (TeamCreate o t) = unless_allowed (may_manage_teams who (has_organisation A o) (role_of A who o))
-policy_refusal A who (TeamDestroy o t) = unless_allowed (may_manage_teams who (has_organisation A o) (role_of A who o))
-policy_refusal A who (TeamAdd o t u) = unless_allowed (may_manage_teams who (has_organisation A o) (role_of A who o))
-policy_refusal A who (TeamRemove o t u) = unless_allowed (may_manage_teams who (has_organisation A o) (role_of A who o))
-policy_refusal A who (Teams o) = unless_allowed (may_see_organisation who (has_organisation A o) (role_of A who o))
-policy_refusal A who (TeamMembers o t) = unless_allowed (may_see_organisation who (has_organisation A o) (role_of A who o))
-policy_refusal A who (Members o) = unless_allowed (may_see_organisation who (has_organisation A o) (role_of A who o))
-policy_refusal A who _ = None
 
 -- ---- what stands in the way of an action
 
@@ -75,7 +56,16 @@ publish_refusal S f = refuse (is_live S f.name (version_of f)) Published
 abbrev pub tag_refusal : Bool → Text → Option Refusal
 tag_refusal there t = refuse (not there) NotFound (refuse (is t latest) KeepsLatest None)
 
--- At this moment. What is there already isn't added, and what isn't there isn't found. An organisation keeps an owner and its first team, and members alone are in its teams. A tag is set to a live version alone, and only such a one has a document and an archive; a package without a live version has no packument and no tags
+-- the scope is this organisation's
+abbrev pub is_scope : Text → Option Text → Bool
+is_scope o None = false
+is_scope o (Some s) = is s o
+
+-- A team is granted something on a package of its organisation's scope that was published. Of a package of another scope it isn't told whether it was
+abbrev pub grant_refusal : Bool → Bool → Text → Text → Option Refusal
+grant_refusal team published o p = refuse (not team || (is_scope o (scope_of p) && not published)) NotFound (refuse (not (is_scope o (scope_of p))) OtherScope None)
+
+-- At this moment. What is there already isn't added, and what isn't there isn't found. An organisation keeps an owner and its first team, and a package its last maintainer; members alone are in teams. A tag is set to a live version alone, and only such a one has a document and an archive; a package without a live version has no packument and no tags
 abbrev pub state_refusal : State → ℕ → Action → Option Refusal
 state_refusal S now (UserAdd u) = unless_new (has_user S u)
 state_refusal S now (TokenAdd u digest) = refuse (not (has_user S u)) NotFound (unless_new (has_token S digest))
@@ -86,6 +76,11 @@ state_refusal S now (TeamCreate o t) = unless_new (has_team S o t)
 state_refusal S now (TeamDestroy o t) = refuse (not (has_team S o t)) NotFound (refuse (is t developers) KeepsDevelopers None)
 state_refusal S now (TeamAdd o t u) = unless_there (has_team S o t && is_member S o u)
 state_refusal S now (TeamRemove o t u) = unless_there (has_team S o t && is_in_team S o t u)
+state_refusal S now (Grant o t p grant) = grant_refusal (has_team S o t) (is_published S p) o p
+state_refusal S now (Revoke o t p) = unless_there (has_grant S o t p)
+state_refusal S now (SetAccess p status) = refuse (is_restricted (Some status) && is_none (scope_of p)) AlwaysPublic None
+state_refusal S now (OwnerAdd p u) = unless_there (has_user S u)
+state_refusal S now (OwnerRemove p u) = refuse (not (is_owned_by S p u)) NotFound (refuse (not (has_other_maintainer S p u)) LastOwner None)
 state_refusal S now (Publish f) = publish_refusal S f
 state_refusal S now (TagSet p t v) = unless_there (is_live S p (text_of_version v))
 state_refusal S now (TagRemove p t) = tag_refusal (stands S p t) t
@@ -96,12 +91,13 @@ state_refusal S now (Tags p) = unless_there (has_live S p)
 state_refusal S now (Members o) = None
 state_refusal S now (Teams o) = None
 state_refusal S now (TeamMembers o t) = unless_there (has_team S o t)
+state_refusal S now (TeamPackages o t) = unless_there (has_team S o t)
 
 -- ---- requests
 
 -- why an action of this caller is turned away: by the policy first, and then by what stands in its way
 abbrev pub refusal_by : State → ℕ → Caller → Action → Option Refusal
-refusal_by S now who what = option_or (policy_refusal S.access who what) (state_refusal S now what)
+refusal_by S now who what = option_or (unless_allowed (permission S.access who what)) (state_refusal S now what)
 
 -- one of nobody is turned away first of all
 abbrev pub refusal_for : State → ℕ → Option Caller → Action → Option Refusal

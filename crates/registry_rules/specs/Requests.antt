@@ -9,7 +9,7 @@ use Rattle.registry_publish.specs.Form.{FormParts, IsManifestText}
 use Rattle.registry_publish.specs.Integrity.{integrity_text}
 use Rattle.registry_publish.specs.Needs.{needs_of}
 use Rattle.registry_rules.specs.declared.request.Action.{Action}
-use Rattle.registry_rules.specs.declared.request.Action.TheVariants.{UserAdd, TokenAdd, OrgCreate, OrgSet, OrgRemove, TeamCreate, TeamDestroy, TeamAdd, TeamRemove, Publish, TagSet, TagRemove, Packument, VersionDoc, Archive, Tags, Members, Teams, TeamMembers}
+use Rattle.registry_rules.specs.declared.request.Action.TheVariants.{UserAdd, TokenAdd, OrgCreate, OrgSet, OrgRemove, TeamCreate, TeamDestroy, TeamAdd, TeamRemove, Grant, Revoke, SetAccess, OwnerAdd, OwnerRemove, Publish, TagSet, TagRemove, Packument, VersionDoc, Archive, Tags, Members, Teams, TeamMembers, TeamPackages}
 use Rattle.registry_rules.specs.declared.request.Asked.{Asked}
 use Rattle.registry_rules.specs.declared.request.Asked.TheVariants.{Exact, Latest}
 use Rattle.registry_rules.specs.declared.request.Request.{Request}
@@ -36,6 +36,11 @@ IsActionInForm (TeamCreate o t) = IsTrue (is_ident o) × IsTrue (is_ident t)
 IsActionInForm (TeamDestroy o t) = IsTrue (is_ident o) × IsTrue (is_ident t)
 IsActionInForm (TeamAdd o t u) = IsTrue (is_ident o) × IsTrue (is_ident t) × IsTrue (is_ident u)
 IsActionInForm (TeamRemove o t u) = IsTrue (is_ident o) × IsTrue (is_ident t) × IsTrue (is_ident u)
+IsActionInForm (Grant o t p grant) = IsTrue (is_ident o) × IsTrue (is_ident t) × IsName p
+IsActionInForm (Revoke o t p) = IsTrue (is_ident o) × IsTrue (is_ident t) × IsName p
+IsActionInForm (SetAccess p status) = IsName p
+IsActionInForm (OwnerAdd p u) = IsName p × IsTrue (is_ident u)
+IsActionInForm (OwnerRemove p u) = IsName p × IsTrue (is_ident u)
 IsActionInForm (Publish f) = ArePartsInForm f
 IsActionInForm (TagSet p t v) = IsName p × IsTrue (is_tag t) × IsVersionOf (text_of_version v) v
 IsActionInForm (TagRemove p t) = IsName p × IsTrue (is_tag t)
@@ -46,6 +51,7 @@ IsActionInForm (Tags p) = IsName p
 IsActionInForm (Members o) = IsTrue (is_ident o)
 IsActionInForm (Teams o) = IsTrue (is_ident o)
 IsActionInForm (TeamMembers o t) = IsTrue (is_ident o) × IsTrue (is_ident t)
+IsActionInForm (TeamPackages o t) = IsTrue (is_ident o) × IsTrue (is_ident t)
 
 -- it is asked at a moment, and its texts are in form
 pub record IsInForm (r : Request) : Type 0 where

@@ -67,6 +67,22 @@ has_team S o t = is_some (at S.access.teams (o, t))
 abbrev pub is_in_team : State → Text → Text → Text → Bool
 is_in_team S o t u = is_some (at S.access.team_members (o, (t, u)))
 
+-- the team is granted something on the package
+abbrev pub has_grant : State → Text → Text → Text → Bool
+has_grant S o t p = is_some (at S.access.grants (o, (t, p)))
+
+-- the package was published, now or once
+abbrev pub is_published : State → Text → Bool
+is_published S p = is_some (at S.access.statuses p)
+
+-- the user is a maintainer of the package
+abbrev pub is_owned_by : State → Text → Text → Bool
+is_owned_by S p u = is_some (at S.access.maintainers (p, u))
+
+-- another user than this is a maintainer of the package
+abbrev pub has_other_maintainer : State → Text → Text → Bool
+has_other_maintainer S p u = list_any (λ (e : Text × Unit {0}). not (is e.0 u)) (of S.access.maintainers p)
+
 -- another member of the organisation than the user is an owner
 abbrev pub has_other_owner : State → Text → Text → Bool
 has_other_owner S o u = list_any (λ (e : Text × Role). not (is e.0 u) && is_owner (Some e.1)) (of S.access.roles o)

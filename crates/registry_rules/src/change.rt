@@ -1,6 +1,6 @@
 //! What a decision changes.
 
-use registry_access::Role;
+use registry_access::{Grant, Role};
 use registry_names::{Ident, Moment, Name, Status, Ver};
 use registry_publish::{PublishForm, TokenDigest};
 
@@ -8,7 +8,7 @@ use registry_publish::{PublishForm, TokenDigest};
 pub type Changes<'a> = Vec<Change<'a>>;
 
 /// One change to what the registry holds. It says all that it does, and borrows what it says of
-/// the request.
+/// the request, or of the caller.
 #[derive(Clone, Copy)]
 pub enum Change<'a> {
     /// There is this user.
@@ -77,6 +77,42 @@ pub enum Change<'a> {
         organisation: &'a str,
         /// The team.
         team: &'a str,
+    },
+    /// The team of the organisation is granted this on the package, and nothing else on it.
+    PutGrant {
+        /// The organisation.
+        organisation: &'a str,
+        /// The team.
+        team: &'a str,
+        /// The package.
+        package: &'a Name,
+        /// What the team is granted.
+        grant: Grant,
+        /// Whether it is granted something on it already.
+        stands: bool,
+    },
+    /// The team is granted nothing on the package.
+    DropGrant {
+        /// The organisation.
+        organisation: &'a str,
+        /// The team.
+        team: &'a str,
+        /// The package.
+        package: &'a Name,
+    },
+    /// The user is a maintainer of the package.
+    PutOwner {
+        /// The package.
+        package: &'a Name,
+        /// The user.
+        user: &'a Ident,
+    },
+    /// The user is no maintainer of the package.
+    DropOwner {
+        /// The package.
+        package: &'a Name,
+        /// The user.
+        user: &'a Ident,
     },
     /// The package has this status.
     PutStatus {

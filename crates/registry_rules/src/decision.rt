@@ -12,15 +12,16 @@ ghost use Rattle.registry_access.specs.declared.caller.Caller.{Caller};
 
 use crate::change::{Change, Changes};
 use crate::facts::{About, Facts};
+use crate::grants::{grant_refusal, owner_remove_refusal, owning, status_refusal};
 use crate::organisations::{creation, membership, org_remove_refusal, org_set_refusal};
-use crate::policy::policy_refusal;
+use crate::policy::permission;
 use crate::publish::{publish_changes, publish_refusal};
 use crate::request::{Action, Request};
 use crate::tags::tag_remove_refusal;
 use crate::teams::{team_destroy_refusal, team_joined};
 use crate::users::{added_to_refusal, unless_new};
 use registry_access::Caller;
-use registry_names::{Fault, Refusal, Stop};
+use registry_names::{Fault, Refusal, Rule, Stop};
 use std::alloc::{AllocError, Global};
 
 /// Whether a request may be asked, or why it is turned away. It takes no memory.
@@ -41,7 +42,11 @@ pub fn may_ask(facts: &Facts, request: &Request) -> Result<(), Refusal>
 ///
 /// `Memory` comes where no memory is left for the changes of a request that isn't turned away, and
 /// no other fault comes.
-pub fn decide<'a>(alloc: Global, facts: &Facts, request: &'a Request) -> Result<Changes<'a>, Stop>
+pub fn decide<'a>(
+    alloc: Global,
+    facts: &'a Facts,
+    request: &'a Request,
+) -> Result<Changes<'a>, Stop>
     ensures makes { IfOk result (λ changes. (S : State) → StandsFor facts.now S request.now
         → (refusal S request.now ≡ None)
         × (map change_of changes.items ≡ effects_of S request.now)) }
@@ -52,8 +57,10 @@ pub fn decide<'a>(alloc: Global, facts: &Facts, request: &'a Request) -> Result<
     ensures fault { IfErr result (λ stop. (fault : Fault) → stop ≡ Stop.Fault fault
         → fault ≡ Fault.Memory) }
 {
-    may_ask(facts, request).map_err(Stop::Refused)?;
-    Ok(changes(alloc, &facts.about, request)?)
+    match may_ask(facts, request) {
+        Ok(()) => Ok(changes_for(alloc, &facts.caller, &facts.about, request)?),
+        Err(refusal) => Err(Stop::Refused(refusal)),
+    }
 }
 
 fn permitted(refusal: Option<Refusal>) -> Result<(), Refusal>
@@ -70,7 +77,13 @@ fn refusal_by(caller: &Caller, about: &About, action: &Action) -> Option<Refusal
     ensures { (S : State) (now : ℕ) → StandsAbout about.now S caller.now action.now
         → result ≡ spec.refusal_by S now caller.now action.now }
 {
-    policy_refusal(caller, about, action).or(state_refusal(about, action))
+    unless_allowed(permission(caller, about, action)).or(state_refusal(about, action))
+}
+
+fn unless_allowed(verdict: Result<Rule, Refusal>) -> Option<Refusal>
+    ensures { result ≡ spec.unless_allowed verdict }
+{
+    verdict.err()
 }
 
 // Why what an action asks for can't be had, whoever asks.
@@ -132,16 +145,45 @@ fn state_refusal(about: &About, action: &Action) -> Option<Refusal>
             Action::TeamRemove { .. },
         ) => { unless_there(*team_exists && *is_in_team) }
         (About::Organisation { .. }, Action::Members { .. } | Action::Teams { .. }) => None,
-        (About::Team { exists, .. }, Action::TeamMembers { .. }) => unless_there(*exists),
+        (About::Team { exists, .. }, Action::TeamMembers { .. } | Action::TeamPackages { .. }) => {
+            unless_there(*exists)
+        }
+        (
+            About::Grant {
+                team_exists,
+                is_published,
+                ..
+            },
+            Action::Grant {
+                organisation,
+                name,
+                ..
+            },
+        ) => grant_refusal(*team_exists, *is_published, organisation, name),
+        (About::Revoke { stands, .. }, Action::Revoke { .. }) => unless_there(*stands),
+        (About::SetAccess { .. }, Action::SetAccess { name, status }) => {
+            status_refusal(Some(*status), name)
+        }
+        (About::OwnerAdd { user_exists, .. }, Action::OwnerAdd { .. }) => {
+            unless_there(*user_exists)
+        }
+        (
+            About::OwnerRemove {
+                is_owner,
+                other_owner,
+                ..
+            },
+            Action::OwnerRemove { .. },
+        ) => { owner_remove_refusal(*is_owner, *other_owner) }
         (About::Publish(facts), Action::Publish { form }) => publish_refusal(facts, form),
         (About::TagSet { version_lives, .. }, Action::TagSet { .. }) => unless_there(
             *version_lives,
         ),
-        (About::TagRemove { tag_stands }, Action::TagRemove { tag, .. }) => {
+        (About::TagRemove { tag_stands, .. }, Action::TagRemove { tag, .. }) => {
             tag_remove_refusal(*tag_stands, tag)
         }
-        (About::Version { lives }, Action::VersionDoc { .. } | Action::Archive { .. })
-        | (About::Package { lives }, Action::Packument { .. } | Action::Tags { .. }) => {
+        (About::Version { lives, .. }, Action::VersionDoc { .. } | Action::Archive { .. })
+        | (About::Package { lives, .. }, Action::Packument { .. } | Action::Tags { .. }) => {
             unless_there(*lives)
         }
         _ => Some(Refusal::NotFound),
@@ -154,15 +196,35 @@ fn unless_there(found: bool) -> Option<Refusal>
     if found { None } else { Some(Refusal::NotFound) }
 }
 
-// What a request that isn't turned away changes.
-fn changes<'a>(
+// What a request that isn't turned away changes. One of nobody is turned away.
+fn changes_for<'a>(
     alloc: Global,
+    caller: &'a Option<Caller>,
     about: &About,
     request: &'a Request,
 ) -> Result<Changes<'a>, AllocError>
-    ensures command { IfOk result (λ changes. (S : State) (who : Caller)
+    ensures command { IfOk result (λ changes. (S : State) (who : Caller) → caller.now ≡ Some who
         → StandsAbout about.now S who request.now.what
         → map change_of changes.items ≡ effects S request.now.at who request.now.what) }
+    ensures query { is_command request.now.what ≡ false
+        → IfOk result (λ changes. changes.items ≡ []) }
+{
+    match caller {
+        Some(caller) => changes(alloc, caller, about, request),
+        None => Ok(Vec::new(alloc)),
+    }
+}
+
+// What a request that isn't turned away changes.
+fn changes<'a>(
+    alloc: Global,
+    caller: &'a Caller,
+    about: &About,
+    request: &'a Request,
+) -> Result<Changes<'a>, AllocError>
+    ensures command { IfOk result (λ changes. (S : State)
+        → StandsAbout about.now S caller.now request.now.what
+        → map change_of changes.items ≡ effects S request.now.at caller.now request.now.what) }
     ensures query { is_command request.now.what ≡ false
         → IfOk result (λ changes. changes.items ≡ []) }
 {
@@ -225,8 +287,62 @@ fn changes<'a>(
                 },
             ]?)
         }
+        (
+            About::Grant { stands, .. },
+            Action::Grant {
+                organisation,
+                team,
+                name,
+                grant,
+            },
+        ) => {
+            let change = Change::PutGrant {
+                organisation: organisation.text(),
+                team: team.text(),
+                package: name,
+                grant: *grant,
+                stands: *stands,
+            };
+            Ok(vec![in alloc; change]?)
+        }
+        (
+            About::Revoke { .. },
+            Action::Revoke {
+                organisation,
+                team,
+                name,
+            },
+        ) => {
+            let (organisation, team) = (organisation.text(), team.text());
+            Ok(vec![in alloc;
+                Change::DropGrant {
+                    organisation,
+                    team,
+                    package: name
+                },
+            ]?)
+        }
+        (About::SetAccess { standing }, Action::SetAccess { name, status }) => {
+            let change = Change::PutStatus {
+                package: name,
+                status: *status,
+                stands: standing.status.is_some(),
+            };
+            Ok(vec![in alloc; change]?)
+        }
+        (About::OwnerAdd { is_owner, .. }, Action::OwnerAdd { name, user }) => {
+            owning(alloc, name, user, *is_owner)
+        }
+        (About::OwnerRemove { .. }, Action::OwnerRemove { name, user }) => {
+            Ok(vec![in alloc;
+                Change::DropOwner {
+                    package: name,
+                    user
+                },
+            ]?)
+        }
         (About::Publish(facts), Action::Publish { form }) => {
-            publish_changes(alloc, facts, form, &request.at)
+            publish_changes(alloc, caller, facts, form, &request.at)
         }
         (About::TagSet { tag_stands, .. }, Action::TagSet { name, tag, version }) => {
             let change = Change::PutTag {

@@ -1,7 +1,6 @@
 //! The facts that a decision rests on.
 
-use registry_access::{AccessRows, Caller, Role};
-use registry_names::Status;
+use registry_access::{AccessRows, Caller, Role, Standing};
 
 /// What the registry holds of a request: who asks, and what stands of what he asks.
 #[derive(Drop)]
@@ -13,8 +12,8 @@ pub struct Facts {
 }
 
 /// What the registry holds of what an action is about: of each kind of action what decides it, and
-/// no more. Rows are those that the policy asks for: of the organisation, and of the caller's
-/// membership in it.
+/// no more. Rows and standings are what the policy asks for: rows of the organisation, and of the
+/// caller's membership in it; the standing of the caller to the package.
 #[derive(Drop)]
 pub enum About {
     /// Of a user who is to be added.
@@ -90,6 +89,47 @@ pub enum About {
         /// Whether the user is in the team.
         is_in_team: bool,
     },
+    /// Of a grant that is to be given.
+    Grant {
+        /// The organisation, and the caller in it.
+        rows: AccessRows,
+        /// Whether the team is there.
+        team_exists: bool,
+        /// Whether the package was ever published.
+        is_published: bool,
+        /// Whether the team is granted something on it already.
+        stands: bool,
+    },
+    /// Of a grant that is to be taken.
+    Revoke {
+        /// The organisation, and the caller in it.
+        rows: AccessRows,
+        /// Whether the team is granted something on the package.
+        stands: bool,
+    },
+    /// Of a status that is to be set.
+    SetAccess {
+        /// The caller and the package.
+        standing: Standing,
+    },
+    /// Of a user who is to be a maintainer.
+    OwnerAdd {
+        /// The caller and the package.
+        standing: Standing,
+        /// Whether the user is there.
+        user_exists: bool,
+        /// Whether he is a maintainer already.
+        is_owner: bool,
+    },
+    /// Of a maintainer who is to be none.
+    OwnerRemove {
+        /// The caller and the package.
+        standing: Standing,
+        /// Whether the user is a maintainer.
+        is_owner: bool,
+        /// Whether another user is.
+        other_owner: bool,
+    },
     /// Of a query about a team.
     Team {
         /// The organisation, and the caller in it.
@@ -108,6 +148,8 @@ pub enum About {
     Publish(PublishFacts),
     /// Of a tag that is to name a version.
     TagSet {
+        /// The caller and the package.
+        standing: Standing,
         /// Whether the version lives.
         version_lives: bool,
         /// Whether the tag stands.
@@ -115,26 +157,32 @@ pub enum About {
     },
     /// Of a tag that is to go.
     TagRemove {
+        /// The caller and the package.
+        standing: Standing,
         /// Whether the tag stands.
         tag_stands: bool,
     },
     /// Of a query about one version.
     Version {
+        /// The caller and the package.
+        standing: Standing,
         /// Whether it lives.
         lives: bool,
     },
     /// Of a query about a package.
     Package {
+        /// The caller and the package.
+        standing: Standing,
         /// Whether a version of it lives.
         lives: bool,
     },
 }
 
 /// What decides a publish.
-#[derive(Clone, Copy, Debug, PartialEq, Eq)]
+#[derive(Drop)]
 pub struct PublishFacts {
-    /// Who may read the package. None where it was never published.
-    pub status: Option<Status>,
+    /// The caller and the package.
+    pub standing: Standing,
     /// Whether the version that is published lives already.
     pub version_lives: bool,
     /// Whether the version was withdrawn.

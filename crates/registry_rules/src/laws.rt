@@ -3,7 +3,7 @@
 
 ghost use Rattle.std.specs.Prelude.{◌≡◌, None};
 ghost use Rattle.registry_rules.specs.Kept.{IsKept};
-ghost use Rattle.registry_rules.specs.Laws.{NewTeamsAreEmpty, TeamMembersAreAdded, TeamMembersAreRemoved, TeamsAreCreated, TeamsAreDestroyed, MembersAreRemoved, OrganisationsAreCreated, OtherOwnersAreOwners, RolesAreSet, PackagesStandApart, PublishesAddVersions, PublishesSetStatuses, PublishesSetTags, QueriesChangeNothing, RemovedTagsAreGone, SetTagsName, TokensAreAdded, UsersAreAdded};
+ghost use Rattle.registry_rules.specs.Laws.{GrantsAreGiven, GrantsAreRevoked, MaintainersAreAdded, MaintainersAreRemoved, OtherMaintainersAreMaintainers, PublishesGiveFirstRights, StatusesAreSet, NewTeamsAreEmpty, TeamMembersAreAdded, TeamMembersAreRemoved, TeamsAreCreated, TeamsAreDestroyed, MembersAreRemoved, OrganisationsAreCreated, OtherOwnersAreOwners, RolesAreSet, PackagesStandApart, PublishesAddVersions, PublishesSetStatuses, PublishesSetTags, QueriesChangeNothing, RemovedTagsAreGone, SetTagsName, TokensAreAdded, UsersAreAdded};
 ghost use Rattle.registry_rules.specs.Refusals.{refusal};
 ghost use Rattle.registry_rules.specs.Requests.{ArePartsInForm, IsActionInForm, IsAskedInForm, IsInForm};
 ghost use Rattle.registry_rules.specs.State.{State, nothing};
@@ -45,12 +45,30 @@ pub fn other_owners_are_owners()
 {}
 
 /// A publish makes its version live, with its manifest, its archive and its moment; its tag names
-/// the version, and so does `latest` where none stood; and its package has a status. No other
-/// version, tag or status changes, and nothing else.
+/// the version, and so does `latest` where none stood; and its package has a status. The first team
+/// of a new package's scope reads and writes it, and without a scope its publisher maintains it. No
+/// other version, tag, status, grant or maintainer changes, and nothing else.
 pub fn publishes_add_versions()
     ensures versions { PublishesAddVersions }
     ensures tags { PublishesSetTags }
     ensures statuses { PublishesSetStatuses }
+    ensures rights { PublishesGiveFirstRights }
+{}
+
+/// What a team is granted on a package it is granted, in place of what it was before, and what is
+/// revoked is gone. A package has the status that it is given. Who is made a maintainer is one, and
+/// who is removed is none. Nothing else changes.
+pub fn rights_come_and_go()
+    ensures granted { GrantsAreGiven }
+    ensures revoked { GrantsAreRevoked }
+    ensures status { StatusesAreSet }
+    ensures added { MaintainersAreAdded }
+    ensures removed { MaintainersAreRemoved }
+{}
+
+/// Another maintainer of a package than a user is another user who is a maintainer of it.
+pub fn other_maintainers_are_maintainers()
+    ensures { OtherMaintainersAreMaintainers }
 {}
 
 /// A tag that is set names the version, and one that is removed is gone. Nothing else changes.
@@ -114,7 +132,8 @@ fn action_is_in_form(what: &Action)
         }
         Action::TeamCreate { organisation, team }
         | Action::TeamDestroy { organisation, team }
-        | Action::TeamMembers { organisation, team } => {
+        | Action::TeamMembers { organisation, team }
+        | Action::TeamPackages { organisation, team } => {
             organisation.text();
             team.text();
         }
@@ -130,6 +149,25 @@ fn action_is_in_form(what: &Action)
         } => {
             organisation.text();
             team.text();
+            user.text();
+        }
+        Action::Grant {
+            organisation,
+            team,
+            name,
+            ..
+        }
+        | Action::Revoke {
+            organisation,
+            team,
+            name,
+        } => {
+            organisation.text();
+            team.text();
+            name.text();
+        }
+        Action::OwnerAdd { name, user } | Action::OwnerRemove { name, user } => {
+            name.text();
             user.text();
         }
         Action::Publish { form } => parts_are_in_form(form),
@@ -150,7 +188,7 @@ fn action_is_in_form(what: &Action)
             name.text();
             version.text();
         }
-        Action::Packument { name } | Action::Tags { name } => {
+        Action::SetAccess { name, .. } | Action::Packument { name } | Action::Tags { name } => {
             name.text();
         }
     }

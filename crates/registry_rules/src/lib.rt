@@ -9,6 +9,7 @@
 mod change;
 mod decision;
 mod facts;
+mod grants;
 pub mod laws;
 mod organisations;
 mod policy;

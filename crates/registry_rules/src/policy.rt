@@ -1,65 +1,100 @@
 //! What the policy says of an action.
 
-ghost use Rattle.std.specs.Prelude.{◌≡◌};
+ghost use Rattle.std.specs.Prelude.{◌≡◌, is_some};
+ghost use Rattle.registry_names.specs.Names.{scope_of};
 ghost use Rattle.registry_access.specs.Access.{Access};
 ghost use Rattle.registry_access.specs.Agreement.{SameOrganisation};
 ghost use Rattle.registry_access.specs.Callers.{role_of};
 ghost use Rattle.registry_access.specs.Policy as policy;
-ghost use Rattle.registry_access.specs.Positions.{has_organisation};
+ghost use Rattle.registry_access.specs.Positions.{has_organisation, position_in};
 ghost use Rattle.registry_access.specs.RowMaps.{state_of};
+ghost use Rattle.registry_access.specs.RowsFor.{StandsFor};
 ghost use Rattle.registry_rules.specs.Facts.{StandsAbout};
-ghost use Rattle.registry_rules.specs.Refusals as spec;
+ghost use Rattle.registry_rules.specs.Permissions as spec;
 ghost use Rattle.registry_rules.specs.State.{State};
 
 use crate::facts::About;
 use crate::request::Action;
-use registry_access::{AccessRows, Ask, Caller, allowed, may_operate};
-use registry_names::{Ident, Refusal, Rule};
+use registry_access::{AccessRows, Ask, Caller, Standing, allowed, allowed_by, may_operate};
+use registry_names::{Ident, Name, Refusal, Rule};
 
-/// Why the policy turns a caller's action away, if it does.
-pub(crate) fn policy_refusal(caller: &Caller, about: &About, action: &Action) -> Option<Refusal>
+/// The rule that allows a caller what he asks for, or why the policy turns him away.
+pub(crate) fn permission(caller: &Caller, about: &About, action: &Action) -> Result<Rule, Refusal>
     ensures { (S : State) → StandsAbout about.now S caller.now action.now
-        → result ≡ spec.policy_refusal S.access caller.now action.now }
+        → result ≡ spec.permission S.access caller.now action.now }
 {
     match (about, action) {
         (_, Action::UserAdd { .. } | Action::TokenAdd { .. } | Action::OrgCreate { .. }) => {
-            unless_allowed(may_operate(caller))
+            may_operate(caller)
         }
         (About::OrgSet { rows, .. }, Action::OrgSet { organisation, .. }) => {
-            unless_allowed(may_manage_members(rows, caller, organisation))
+            may_manage_members(rows, caller, organisation)
         }
         (About::OrgRemove { rows, .. }, Action::OrgRemove { organisation, .. }) => {
-            unless_allowed(may_manage_members(rows, caller, organisation))
+            may_manage_members(rows, caller, organisation)
         }
         (About::TeamCreate { rows, .. }, Action::TeamCreate { organisation, .. }) => {
-            unless_allowed(may_manage_teams(rows, caller, organisation))
+            may_manage_teams(rows, caller, organisation)
         }
         (About::TeamDestroy { rows, .. }, Action::TeamDestroy { organisation, .. }) => {
-            unless_allowed(may_manage_teams(rows, caller, organisation))
+            may_manage_teams(rows, caller, organisation)
         }
         (About::TeamAdd { rows, .. }, Action::TeamAdd { organisation, .. }) => {
-            unless_allowed(may_manage_teams(rows, caller, organisation))
+            may_manage_teams(rows, caller, organisation)
         }
         (About::TeamRemove { rows, .. }, Action::TeamRemove { organisation, .. }) => {
-            unless_allowed(may_manage_teams(rows, caller, organisation))
+            may_manage_teams(rows, caller, organisation)
+        }
+        (About::Grant { rows, .. }, Action::Grant { organisation, .. }) => {
+            may_manage_teams(rows, caller, organisation)
+        }
+        (About::Revoke { rows, .. }, Action::Revoke { organisation, .. }) => {
+            may_manage_teams(rows, caller, organisation)
         }
         (About::Organisation { rows }, Action::Members { organisation }) => {
-            unless_allowed(may_see_organisation(rows, caller, organisation))
+            may_see_organisation(rows, caller, organisation)
         }
         (About::Organisation { rows }, Action::Teams { organisation }) => {
-            unless_allowed(may_see_organisation(rows, caller, organisation))
+            may_see_organisation(rows, caller, organisation)
         }
         (About::Team { rows, .. }, Action::TeamMembers { organisation, .. }) => {
-            unless_allowed(may_see_organisation(rows, caller, organisation))
+            may_see_organisation(rows, caller, organisation)
         }
-        _ => None,
+        (About::Team { rows, .. }, Action::TeamPackages { organisation, .. }) => {
+            may_see_organisation(rows, caller, organisation)
+        }
+        (About::SetAccess { standing }, Action::SetAccess { name, .. }) => {
+            may_write(standing, caller, name)
+        }
+        (About::OwnerAdd { standing, .. }, Action::OwnerAdd { name, .. }) => {
+            may_manage_maintainers(standing, caller, name)
+        }
+        (About::OwnerRemove { standing, .. }, Action::OwnerRemove { name, .. }) => {
+            may_manage_maintainers(standing, caller, name)
+        }
+        (About::Publish(facts), Action::Publish { form }) => {
+            may_publish(&facts.standing, caller, form.name())
+        }
+        (About::TagSet { standing, .. }, Action::TagSet { name, .. }) => {
+            may_write(standing, caller, name)
+        }
+        (About::TagRemove { standing, .. }, Action::TagRemove { name, .. }) => {
+            may_write(standing, caller, name)
+        }
+        (About::Version { standing, .. }, Action::VersionDoc { name, .. }) => {
+            may_read(standing, caller, name)
+        }
+        (About::Version { standing, .. }, Action::Archive { name, .. }) => {
+            may_read(standing, caller, name)
+        }
+        (About::Package { standing, .. }, Action::Packument { name }) => {
+            may_read(standing, caller, name)
+        }
+        (About::Package { standing, .. }, Action::Tags { name }) => {
+            may_read(standing, caller, name)
+        }
+        _ => Err(Refusal::NotFound),
     }
-}
-
-fn unless_allowed(verdict: Result<Rule, Refusal>) -> Option<Refusal>
-    ensures { result ≡ spec.unless_allowed verdict }
-{
-    verdict.err()
 }
 
 fn may_manage_members(
@@ -96,4 +131,37 @@ fn may_see_organisation(
         (role_of A caller.now organisation.now) }
 {
     allowed(rows, caller, &Ask::OrgRead(organisation))
+}
+
+fn may_write(standing: &Standing, caller: &Caller, name: &Name) -> Result<Rule, Refusal>
+    ensures { (A : Access) → StandsFor standing.now A caller.now name.now
+        → result ≡ policy.may_write caller.now (position_in A caller.now name.now) }
+{
+    allowed_by(standing, caller, &Ask::Write(name))
+}
+
+fn may_manage_maintainers(
+    standing: &Standing,
+    caller: &Caller,
+    name: &Name,
+) -> Result<Rule, Refusal>
+    ensures { (A : Access) → StandsFor standing.now A caller.now name.now
+        → result ≡ policy.may_manage_maintainers caller.now (position_in A caller.now name.now) }
+{
+    allowed_by(standing, caller, &Ask::Owners(name))
+}
+
+fn may_read(standing: &Standing, caller: &Caller, name: &Name) -> Result<Rule, Refusal>
+    ensures { (A : Access) → StandsFor standing.now A caller.now name.now
+        → result ≡ policy.may_read (position_in A caller.now name.now) }
+{
+    allowed_by(standing, caller, &Ask::Read(name))
+}
+
+fn may_publish(standing: &Standing, caller: &Caller, name: &Name) -> Result<Rule, Refusal>
+    ensures { (A : Access) → StandsFor standing.now A caller.now name.now
+        → result ≡ policy.may_publish caller.now (is_some (scope_of name.now))
+        (position_in A caller.now name.now) }
+{
+    allowed_by(standing, caller, &Ask::Publish(name))
 }

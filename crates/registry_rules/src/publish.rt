@@ -8,10 +8,13 @@ ghost use Rattle.registry_rules.specs.Effects.{publication};
 ghost use Rattle.registry_rules.specs.Facts.{ArePublishFacts};
 ghost use Rattle.registry_rules.specs.Refusals as spec;
 ghost use Rattle.registry_rules.specs.State.{State};
+ghost use Rattle.registry_access.specs.declared.caller.Caller.{Caller};
 
 use crate::change::{Change, Changes};
 use crate::facts::PublishFacts;
+use crate::grants::{first_right, status_refusal};
 use crate::tags::is_latest;
+use registry_access::Caller;
 use registry_names::{LATEST, Moment, Name, Refusal, Status};
 use registry_publish::PublishForm;
 use std::alloc::{AllocError, Global};
@@ -19,7 +22,7 @@ use std::alloc::{AllocError, Global};
 /// Why the publish is turned away, if it is: a live version is never published again, and neither
 /// is one that was withdrawn; a package without a scope is never restricted.
 pub(crate) fn publish_refusal(facts: &PublishFacts, form: &PublishForm) -> Option<Refusal>
-    ensures { (S : State) → ArePublishFacts facts.now S form.now
+    ensures { (S : State) (who : Caller) → ArePublishFacts facts.now S who form.now
         → result ≡ spec.publish_refusal S form.now }
 {
     if facts.version_lives {
@@ -28,31 +31,33 @@ pub(crate) fn publish_refusal(facts: &PublishFacts, form: &PublishForm) -> Optio
     if facts.version_spent {
         return Some(Refusal::Spent);
     }
-    if form.access() == Some(Status::Restricted) && !has_scope(form.name()) {
-        return Some(Refusal::AlwaysPublic);
-    }
-    None
+    status_refusal(form.access(), form.name())
 }
 
 /// What a publish that isn't turned away changes. Its tag names the version, and so does `latest`
 /// where none stands.
 pub(crate) fn publish_changes<'a>(
     alloc: Global,
+    caller: &'a Caller,
     facts: &PublishFacts,
     form: &'a PublishForm,
     now: &'a Moment,
 ) -> Result<Changes<'a>, AllocError>
-    ensures { IfOk result (λ changes. (S : State) → ArePublishFacts facts.now S form.now
-        → map change_of changes.items ≡ publication S now.now form.now) }
+    ensures { IfOk result (λ changes. (S : State) → ArePublishFacts facts.now S caller.now form.now
+        → map change_of changes.items ≡ publication S now.now caller.now form.now) }
 {
     let (package, version) = (form.name(), form.version());
-    let mut changes = Vec::with_capacity(alloc, 4)?;
-    if let Some(status) = new_status(facts.status, form) {
+    let old = facts.standing.status;
+    let mut changes = Vec::with_capacity(alloc, 5)?;
+    if let Some(status) = new_status(old, form) {
         changes.push(Change::PutStatus {
             package,
             status,
-            stands: facts.status.is_some(),
+            stands: old.is_some(),
         })?;
+    }
+    if let Some(right) = first_right(caller, package, old) {
+        changes.push(right)?;
     }
     changes.push(Change::AddVersion { form, at: now })?;
     if !facts.latest_stands && !is_latest(form.tag()) {

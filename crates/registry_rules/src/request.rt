@@ -1,7 +1,7 @@
 //! What can be asked of the registry.
 
-use registry_access::Role;
-use registry_names::{Ident, Moment, Name, TagText, Ver};
+use registry_access::{Grant, Role};
+use registry_names::{Ident, Moment, Name, Status, TagText, Ver};
 use registry_publish::{PublishForm, TokenDigest};
 
 /// One thing that is asked of the registry.
@@ -112,6 +112,50 @@ pub enum Action {
         /// The member's name.
         user: Ident,
     },
+    /// An owner's or admin's command to grant a team something on a package of the scope, in place
+    /// of what it was granted on it before.
+    Grant {
+        /// The organisation's name.
+        organisation: Ident,
+        /// The team's name.
+        team: Ident,
+        /// The package's name.
+        name: Name,
+        /// What the team is granted.
+        grant: Grant,
+    },
+    /// An owner's or admin's command to take from a team what it is granted on a package.
+    Revoke {
+        /// The organisation's name.
+        organisation: Ident,
+        /// The team's name.
+        team: Ident,
+        /// The package's name.
+        name: Name,
+    },
+    /// The command to say who may read a package. One without a scope is public.
+    SetAccess {
+        /// The package's name.
+        name: Name,
+        /// Who is to read it.
+        status: Status,
+    },
+    /// A maintainer's command to make a user a maintainer of a package, whether he is one already
+    /// or not.
+    OwnerAdd {
+        /// The package's name.
+        name: Name,
+        /// The user's name.
+        user: Ident,
+    },
+    /// A maintainer's command to let another, or himself, be a maintainer no more. The last one
+    /// stays.
+    OwnerRemove {
+        /// The package's name.
+        name: Name,
+        /// The maintainer's name.
+        user: Ident,
+    },
     /// The command to publish a version of a package, for the first time or not.
     Publish {
         /// The version, with all that is published of it.
@@ -170,6 +214,14 @@ pub enum Action {
     },
     /// A member's query for those who are in a team.
     TeamMembers {
+        /// The organisation's name.
+        organisation: Ident,
+        /// The team's name.
+        team: Ident,
+    },
+    /// A member's query for the packages that a team is granted something on, of those that he
+    /// reads.
+    TeamPackages {
         /// The organisation's name.
         organisation: Ident,
         /// The team's name.

@@ -1,45 +1,45 @@
-//! A case: what is held, what is asked, and what both calls tell of it.
+//! A case about a package: who asks, what is held, what is asked, and what both calls tell of it.
 
-use crate::outcome::same;
 use crate::publish::case::changed;
-use registry_access::Caller;
-use registry_names::{Moment, Name, Refusal, Status, Stop, TagText, Ver};
+use crate::rules::shown::are_shown;
+use registry_access::{Caller, Grant, Role, Standing};
+use registry_names::{Ident, Moment, Name, Refusal, Status, Stop, TagText, Ver};
 use registry_publish::PublishForm;
 use registry_rules::{
-    About, Action, Change, Changes, Credential, Facts, PublishFacts, Request, decide, may_ask,
+    About, Action, Asked, Credential, Facts, PublishFacts, Request, decide, may_ask,
 };
-use std::alloc::Global;
-use std::test::Fail;
+use std::alloc::{AllocError, Global};
 
 const BODY: &str =
     r#"{"name":"NAME","versions":{"1.0.0":{"name":"NAME","version":"1.0.0"}},"dist-tags":TAGS,"access":ACCESS,"_attachments":{"kit.tgz":{"data":"YWJj"}}}"#;
 
 /// When it is asked.
-const NOW: i64 = 1_700_000_000;
+const NOW: i64 = 100;
 
-/// What a case shows, what is held, what is asked, and what is told.
-pub type Case = (&'static str, Held, Ask, Told);
+/// What a case shows, who asks, what is held, what is asked, and what is told.
+pub type Case = (&'static str, By, Held, Ask, Told);
 
-/// The changes, or the refusal.
-pub type Told = Result<&'static [Want<'static>], Refusal>;
+/// The changes as texts, or the refusal.
+pub type Told = Result<&'static [&'static str], Refusal>;
 
-/// A change of the package that is asked about, and of its version 1.0.0.
-#[derive(Clone, Copy, Debug, PartialEq)]
-pub enum Want<'a> {
-    /// It has its first status.
-    NewStatus(Status),
-    /// It has another status than before.
-    OtherStatus(Status),
-    /// The version lives.
-    Version,
-    /// A tag that didn't stand names the version.
-    NewTag(&'a str),
-    /// A tag that stood names the version.
-    MovedTag(&'a str),
-    /// The tag is gone.
-    NoTag(&'a str),
-    /// A change of this other package, version, user or organisation, which no case wants.
-    Other(&'a str),
+/// Who asks, and what he is to the package.
+pub enum By {
+    /// The operator.
+    Operator,
+    /// A user, a member of no organisation.
+    Stranger(&'static str),
+    /// A user, a developer of `lab`, who is granted nothing.
+    Developer(&'static str),
+    /// A user, a developer of `lab`, who is granted this in one of his teams.
+    Granted(&'static str, Grant),
+    /// A user, an owner of `lab`.
+    Owner(&'static str),
+    /// A user who is a maintainer of the package.
+    Maintainer(&'static str),
+    /// Somebody without a credential.
+    Anonymous,
+    /// Somebody whose credential names nobody.
+    Nobody,
 }
 
 /// What is held of the package.
@@ -58,145 +58,147 @@ pub enum Ask {
     Publish(&'static str, &'static str),
     /// The publish of 1.0.0 of this package under the tag `next`.
     PublishUnderNext(&'static str),
-    /// The tag is to name the version.
-    TagSet(&'static str, &'static str),
-    /// The tag is to go.
-    TagRemove(&'static str),
-    /// The packument.
-    Packument,
-    /// The archive of the version.
-    Archive(&'static str),
-    /// The tags.
-    Tags,
+    /// Of this package, the tag is to name the version.
+    TagSet(&'static str, &'static str, &'static str),
+    /// Of this package, the tag is to go.
+    TagRemove(&'static str, &'static str),
+    /// This package is to have this status.
+    SetAccess(&'static str, Status),
+    /// Eve is to be a maintainer of this package. Whether there is such a user, and whether she is
+    /// one already.
+    OwnerAdd(&'static str, bool, bool),
+    /// Eve is to be no maintainer of this package. Whether she is one, and whether another is.
+    OwnerRemove(&'static str, bool, bool),
+    /// The packument of this package.
+    Packument(&'static str),
+    /// The document of this version of this package.
+    VersionDoc(&'static str, &'static str),
+    /// The document of the version that `latest` names.
+    LatestDoc(&'static str),
+    /// The archive of this version of this package.
+    Archive(&'static str, &'static str),
+    /// The tags of this package.
+    Tags(&'static str),
 }
 
-/// Whether the calls tell each case.
-pub fn all_told(alloc: Global, cases: &'static [Case]) -> Result<(), Fail> {
-    for (shows, held, ask, told) in cases {
-        let facts = Facts {
-            caller: Some(Caller::Anonymous),
-            about: about(held, ask),
-        };
-        both_tell(alloc, shows, &facts, ask, *told)?;
+/// Whether the calls tell each case, and else what the first shows of which they don't.
+pub fn all_told(alloc: Global, cases: &'static [Case]) -> Result<(), &'static str> {
+    for (shows, by, held, ask, told) in cases {
+        if is_told(alloc, by, held, ask, told) != Ok(true) {
+            return Err(shows);
+        }
     }
     Ok(())
 }
 
-// Whether both calls tell this.
-fn both_tell(alloc: Global, shows: &str, facts: &Facts, ask: &Ask, told: Told) -> Result<(), Fail> {
-    let request = request(alloc, ask)?;
-    same(shows, may_ask(facts, &request), told.map(|_| ()))?;
-    let changes = decide(alloc, facts, &request);
-    same(shows, seen(alloc, changes, ask), wanted(alloc, told))
+fn is_told(alloc: Global, by: &By, held: &Held, ask: &Ask, told: &Told) -> Result<bool, Stop> {
+    let facts = Facts {
+        caller: by.caller(alloc)?,
+        about: about(alloc, by, held, ask)?,
+    };
+    Ok(tells(alloc, &facts, action(alloc, ask)?, told)?)
 }
 
-fn wanted(alloc: Global, told: Told) -> Result<Vec<Want<'static>>, Stop> {
-    Ok(Vec::from_slice(alloc, told.map_err(Stop::Refused)?)?)
-}
-
-// The changes that are decided, as those of the package that is asked about.
-fn seen<'a>(
-    alloc: Global,
-    decided: Result<Changes<'a>, Stop>,
-    ask: &Ask,
-) -> Result<Vec<Want<'a>>, Stop> {
-    let mut wants = Vec::new(alloc);
-    for change in decided? {
-        wants.push(seen_of(change, package(ask)))?;
-    }
-    Ok(wants)
-}
-
-fn seen_of<'a>(change: Change<'a>, package: &str) -> Want<'a> {
-    match change {
-        Change::PutStatus {
-            package: of,
-            status,
-            stands,
-        } => where_meant(of.text(), package, status_put(status, stands)),
-        Change::AddVersion { form, at } => {
-            let meant = where_meant(form.version().text(), "1.0.0", version_at(at));
-            where_meant(form.name().text(), package, meant)
-        }
-        Change::PutTag {
-            package: of,
-            tag,
-            version,
-            stands,
-        } => {
-            let meant = where_meant(version.text(), "1.0.0", tag_put(tag, stands));
-            where_meant(of.text(), package, meant)
-        }
-        Change::DropTag { package: of, tag } => where_meant(of.text(), package, Want::NoTag(tag)),
-        Change::AddUser { user } | Change::AddToken { user, .. } => Want::Other(user.text()),
-        Change::AddOrg { organisation }
-        | Change::PutMember { organisation, .. }
-        | Change::DropMember { organisation, .. }
-        | Change::AddTeam { organisation, .. }
-        | Change::PutTeamMember { organisation, .. }
-        | Change::DropTeamMember { organisation, .. }
-        | Change::DropTeam { organisation, .. } => Want::Other(organisation),
-    }
-}
-
-// The change, where it is of the package or version that is meant.
-fn where_meant<'a>(of: &'a str, meant: &str, change: Want<'a>) -> Want<'a> {
-    if of == meant { change } else { Want::Other(of) }
-}
-
-fn status_put(status: Status, stands: bool) -> Want<'static> {
-    if stands {
-        Want::OtherStatus(status)
-    } else {
-        Want::NewStatus(status)
-    }
-}
-
-fn version_at(at: &Moment) -> Want<'static> {
-    if at.seconds() == NOW {
-        Want::Version
-    } else {
-        Want::Other("at another moment")
-    }
-}
-
-fn tag_put(tag: &str, stands: bool) -> Want<'_> {
-    if stands {
-        Want::MovedTag(tag)
-    } else {
-        Want::NewTag(tag)
-    }
-}
-
-/// Whether each of these is turned away where nobody asks it.
-pub fn all_turned_away(alloc: Global, asks: &'static [(&'static str, Ask)]) -> Result<(), Fail> {
-    for (shows, ask) in asks {
-        let facts = Facts {
-            caller: None,
-            about: about(&Held::Nothing, ask),
-        };
-        both_tell(alloc, shows, &facts, ask, Err(Refusal::NoCaller))?;
-    }
-    Ok(())
-}
-
-fn request(alloc: Global, ask: &Ask) -> Result<Request, Stop> {
-    Ok(Request {
+/// Whether both calls tell this of an action.
+pub fn tells(alloc: Global, facts: &Facts, what: Action, told: &Told) -> Result<bool, AllocError> {
+    let request = Request {
         at: Moment::clamped(NOW),
         who: Credential::Anonymous,
-        what: action(alloc, ask)?,
-    })
+        what,
+    };
+    let may = may_ask(facts, &request);
+    match (decide(alloc, facts, &request), told) {
+        (Ok(changes), Ok(wanted)) => Ok(may.is_ok() && are_shown(alloc, &changes, wanted)?),
+        (Err(stop), Err(wanted)) => Ok(may == Err(*wanted) && stop == Stop::Refused(*wanted)),
+        _ => Ok(false),
+    }
+}
+
+/// A user.
+pub fn user(alloc: Global, name: &str) -> Result<Option<Caller>, Stop> {
+    Ok(Some(Caller::User(Ident::parse(alloc, name)?)))
+}
+
+impl By {
+    fn caller(&self, alloc: Global) -> Result<Option<Caller>, Stop> {
+        match self {
+            By::Operator => Ok(Some(Caller::Operator)),
+            By::Anonymous => Ok(Some(Caller::Anonymous)),
+            By::Nobody => Ok(None),
+            By::Stranger(name)
+            | By::Developer(name)
+            | By::Granted(name, _)
+            | By::Owner(name)
+            | By::Maintainer(name) => user(alloc, name),
+        }
+    }
+
+    fn role(&self) -> Option<Role> {
+        match self {
+            By::Developer(_) | By::Granted(..) => Some(Role::Developer),
+            By::Owner(_) => Some(Role::Owner),
+            _ => None,
+        }
+    }
+
+    fn grants(&self, alloc: Global) -> Result<Vec<Grant>, AllocError> {
+        match self {
+            By::Granted(_, grant) => Vec::from_slice(alloc, &[*grant]),
+            _ => Ok(Vec::new(alloc)),
+        }
+    }
+
+    fn standing(&self, alloc: Global, held: &Held, package: &str) -> Result<Standing, AllocError> {
+        let of_lab = package.starts_with("@lab/");
+        Ok(Standing {
+            org: of_lab,
+            role: if of_lab { self.role() } else { None },
+            status: held.status(),
+            maintainer: matches!(self, By::Maintainer(_)),
+            grants: self.grants(alloc)?,
+        })
+    }
 }
 
 fn action(alloc: Global, ask: &Ask) -> Result<Action, Stop> {
-    match ask {
+    match *ask {
         Ask::Publish(name, access) => publish(alloc, name, access, "{}"),
         Ask::PublishUnderNext(name) => publish(alloc, name, "null", r#"{"next":"1.0.0"}"#),
-        Ask::TagSet(tag, version) => tag_set(alloc, tag, version),
-        Ask::TagRemove(tag) => tag_remove(alloc, tag),
-        Ask::Packument => Ok(Action::Packument { name: kit(alloc)? }),
-        Ask::Archive(version) => archive(alloc, version),
-        Ask::Tags => Ok(Action::Tags { name: kit(alloc)? }),
+        Ask::TagSet(name, tag, version) => tag_set(alloc, name, tag, version),
+        Ask::TagRemove(name, tag) => tag_remove(alloc, name, tag),
+        Ask::SetAccess(name, status) => Ok(Action::SetAccess {
+            name: Name::parse(alloc, name)?,
+            status,
+        }),
+        Ask::OwnerAdd(name, ..) => Ok(Action::OwnerAdd {
+            name: Name::parse(alloc, name)?,
+            user: Ident::parse(alloc, "eve")?,
+        }),
+        Ask::OwnerRemove(name, ..) => Ok(Action::OwnerRemove {
+            name: Name::parse(alloc, name)?,
+            user: Ident::parse(alloc, "eve")?,
+        }),
+        _ => query(alloc, ask),
+    }
+}
+
+fn query(alloc: Global, ask: &Ask) -> Result<Action, Stop> {
+    let name = Name::parse(alloc, ask.package())?;
+    match *ask {
+        Ask::VersionDoc(_, version) => Ok(Action::VersionDoc {
+            name,
+            version: Asked::Exact(Ver::parse(alloc, version)?),
+        }),
+        Ask::LatestDoc(_) => Ok(Action::VersionDoc {
+            name,
+            version: Asked::Latest,
+        }),
+        Ask::Archive(_, version) => Ok(Action::Archive {
+            name,
+            version: Ver::parse(alloc, version)?,
+        }),
+        Ask::Tags(_) => Ok(Action::Tags { name }),
+        _ => Ok(Action::Packument { name }),
     }
 }
 
@@ -212,60 +214,88 @@ fn publish(
     Ok(Action::Publish { form })
 }
 
-fn tag_set(alloc: Global, tag: &str, version: &str) -> Result<Action, Stop> {
-    let name = kit(alloc)?;
+fn tag_set(alloc: Global, name: &str, tag: &str, version: &str) -> Result<Action, Stop> {
+    let name = Name::parse(alloc, name)?;
     let tag = TagText::shape(alloc, tag)?;
     let version = Ver::parse(alloc, version)?;
     Ok(Action::TagSet { name, tag, version })
 }
 
-fn tag_remove(alloc: Global, tag: &str) -> Result<Action, Stop> {
-    let name = kit(alloc)?;
+fn tag_remove(alloc: Global, name: &str, tag: &str) -> Result<Action, Stop> {
+    let name = Name::parse(alloc, name)?;
     let tag = TagText::shape(alloc, tag)?;
     Ok(Action::TagRemove { name, tag })
 }
 
-fn archive(alloc: Global, version: &str) -> Result<Action, Stop> {
-    let name = kit(alloc)?;
-    let version = Ver::parse(alloc, version)?;
-    Ok(Action::Archive { name, version })
-}
-
-fn kit(alloc: Global) -> Result<Name, Stop> {
-    Name::parse(alloc, "kit")
-}
-
-// The package that is asked about.
-fn package(ask: &Ask) -> &'static str {
-    match ask {
-        Ask::Publish(name, _) | Ask::PublishUnderNext(name) => name,
-        _ => "kit",
+impl Ask {
+    // The package that is asked about.
+    fn package(&self) -> &'static str {
+        match *self {
+            Ask::Publish(name, _)
+            | Ask::PublishUnderNext(name)
+            | Ask::TagSet(name, ..)
+            | Ask::TagRemove(name, _)
+            | Ask::SetAccess(name, _)
+            | Ask::OwnerAdd(name, ..)
+            | Ask::OwnerRemove(name, ..)
+            | Ask::Packument(name)
+            | Ask::VersionDoc(name, _)
+            | Ask::LatestDoc(name)
+            | Ask::Archive(name, _)
+            | Ask::Tags(name) => name,
+        }
     }
 }
 
-fn about(held: &Held, ask: &Ask) -> About {
-    match ask {
-        Ask::Publish(..) => about_publish(held, "latest"),
-        Ask::PublishUnderNext(_) => about_publish(held, "next"),
-        Ask::TagSet(tag, version) => About::TagSet {
+fn about(alloc: Global, by: &By, held: &Held, ask: &Ask) -> Result<About, AllocError> {
+    let standing = by.standing(alloc, held, ask.package())?;
+    Ok(match *ask {
+        Ask::Publish(..) => about_publish(standing, held, "latest"),
+        Ask::PublishUnderNext(_) => about_publish(standing, held, "next"),
+        Ask::TagSet(_, tag, version) => About::TagSet {
+            standing,
             version_lives: held.has_version(version),
             tag_stands: held.has_tag(tag),
         },
-        Ask::TagRemove(tag) => About::TagRemove {
+        Ask::TagRemove(_, tag) => About::TagRemove {
+            standing,
             tag_stands: held.has_tag(tag),
         },
-        Ask::Archive(version) => About::Version {
+        Ask::SetAccess(..) => About::SetAccess { standing },
+        Ask::OwnerAdd(_, user_exists, is_owner) => About::OwnerAdd {
+            standing,
+            user_exists,
+            is_owner,
+        },
+        Ask::OwnerRemove(_, is_owner, other_owner) => About::OwnerRemove {
+            standing,
+            is_owner,
+            other_owner,
+        },
+        _ => about_query(standing, held, ask),
+    })
+}
+
+fn about_query(standing: Standing, held: &Held, ask: &Ask) -> About {
+    match *ask {
+        Ask::VersionDoc(_, version) | Ask::Archive(_, version) => About::Version {
+            standing,
             lives: held.has_version(version),
         },
-        Ask::Packument | Ask::Tags => About::Package {
+        Ask::LatestDoc(_) => About::Version {
+            standing,
+            lives: held.has_tag("latest"),
+        },
+        _ => About::Package {
+            standing,
             lives: matches!(held, Held::Version(..)),
         },
     }
 }
 
-fn about_publish(held: &Held, tag: &str) -> About {
+fn about_publish(standing: Standing, held: &Held, tag: &str) -> About {
     About::Publish(PublishFacts {
-        status: held.status(),
+        standing,
         version_lives: held.has_version("1.0.0"),
         version_spent: matches!(held, Held::Withdrawn),
         tag_stands: held.has_tag(tag),

@@ -1,0 +1,37 @@
+-- What the policy says to a caller who asks for an action: the rule that allows it, or why he is turned away. One equation an action
+use Rattle.std.specs.Prelude.{is_some}
+use Rattle.registry_names.specs.Names.{scope_of}
+use Rattle.registry_access.specs.Access.{Access}
+use Rattle.registry_access.specs.Callers.{role_of}
+use Rattle.registry_access.specs.Policy.{Verdict, may_operate, may_manage_members, may_manage_teams, may_see_organisation, may_publish, may_write, may_manage_maintainers, may_read}
+use Rattle.registry_access.specs.Positions.{has_organisation, position_in}
+use Rattle.registry_access.specs.declared.caller.Caller.{Caller}
+use Rattle.registry_rules.specs.declared.request.Action.{Action}
+use Rattle.registry_rules.specs.declared.request.Action.TheVariants.{UserAdd, TokenAdd, OrgCreate, OrgSet, OrgRemove, TeamCreate, TeamDestroy, TeamAdd, TeamRemove, Grant, Revoke, SetAccess, OwnerAdd, OwnerRemove, Publish, TagSet, TagRemove, Packument, VersionDoc, Archive, Tags, Members, Teams, TeamMembers, TeamPackages}
+
+abbrev pub permission : Access → Caller → Action → Verdict
+permission A who (UserAdd u) = may_operate who
+permission A who (TokenAdd u digest) = may_operate who
+permission A who (OrgCreate o u) = may_operate who
+permission A who (OrgSet o u role) = may_manage_members who (has_organisation A o) (role_of A who o)
+permission A who (OrgRemove o u) = may_manage_members who (has_organisation A o) (role_of A who o)
+permission A who (TeamCreate o t) = may_manage_teams who (has_organisation A o) (role_of A who o)
+permission A who (TeamDestroy o t) = may_manage_teams who (has_organisation A o) (role_of A who o)
+permission A who (TeamAdd o t u) = may_manage_teams who (has_organisation A o) (role_of A who o)
+permission A who (TeamRemove o t u) = may_manage_teams who (has_organisation A o) (role_of A who o)
+permission A who (Grant o t p grant) = may_manage_teams who (has_organisation A o) (role_of A who o)
+permission A who (Revoke o t p) = may_manage_teams who (has_organisation A o) (role_of A who o)
+permission A who (SetAccess p status) = may_write who (position_in A who p)
+permission A who (OwnerAdd p u) = may_manage_maintainers who (position_in A who p)
+permission A who (OwnerRemove p u) = may_manage_maintainers who (position_in A who p)
+permission A who (Publish f) = may_publish who (is_some (scope_of f.name)) (position_in A who f.name)
+permission A who (TagSet p t v) = may_write who (position_in A who p)
+permission A who (TagRemove p t) = may_write who (position_in A who p)
+permission A who (Packument p) = may_read (position_in A who p)
+permission A who (VersionDoc p asked) = may_read (position_in A who p)
+permission A who (Archive p v) = may_read (position_in A who p)
+permission A who (Tags p) = may_read (position_in A who p)
+permission A who (Members o) = may_see_organisation who (has_organisation A o) (role_of A who o)
+permission A who (Teams o) = may_see_organisation who (has_organisation A o) (role_of A who o)
+permission A who (TeamMembers o t) = may_see_organisation who (has_organisation A o) (role_of A who o)
+permission A who (TeamPackages o t) = may_see_organisation who (has_organisation A o) (role_of A who o)
