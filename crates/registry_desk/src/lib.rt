@@ -6,6 +6,8 @@
 
 mod answer;
 mod facts;
+mod grants;
+mod maintainers;
 mod organisations;
 mod packages;
 mod people;

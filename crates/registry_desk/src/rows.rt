@@ -1,21 +1,24 @@
 //! The rows that answer an action which nothing refuses. Nothing is changed.
 
 ghost use Rattle.std.specs.Prelude.{◌≡◌, option_map};
+ghost use Rattle.registry_access.specs.declared.caller.Caller.{Caller};
 ghost use Rattle.registry_history.specs.Answers.{asked_release};
 ghost use Rattle.registry_rows.specs.Frames.{Stays};
 ghost use Rattle.registry_tables.specs.Contents.{registry_of};
 ghost use Rattle.registry_tables.specs.Effects.{InForm, Knows, Tells};
 ghost use Rattle.registry_tables.specs.Spelled.{document, document_entry};
+ghost use Rattle.registry_tables.specs.Teams.{AreTeamsSound};
 ghost use Rattle.registry_desk.specs.Found.{AreRowsOf};
 ghost use Rattle.registry_rules.specs.declared.request.Action.TheVariants as asked;
 ghost use Rattle.registry_rules.specs.declared.request.Asked.TheVariants as which;
 
+use registry_access::Caller;
 use registry_names::{Blob, DistTag, Fault, Ident, LATEST, Name, Text, Ver};
-use registry_packument::{Member, VersionRow};
+use registry_packument::{Granted, Member, VersionRow};
 use registry_rules::{Action, Asked};
 use registry_tables::{
-    DocumentRow, load_archive, load_document, load_members, load_tag, load_tags, load_team_users,
-    load_teams, load_versions,
+    DocumentRow, load_archive, load_document, load_members, load_tag, load_tags,
+    load_team_packages, load_team_users, load_teams, load_versions,
 };
 use sqlite::{Alter, Transaction};
 use std::alloc::Global;
@@ -42,18 +45,21 @@ pub(crate) enum Rows {
     Members(Vec<Member>),
     /// The teams of an organisation, or who is in a team, in byte order.
     Names(Vec<Text>),
+    /// What a team is granted, in byte order of the packages: of those alone that the caller reads.
+    Grants(Vec<Granted>),
 }
 
-/// Loads what answers an action.
+/// Loads what answers a caller's action.
 pub(crate) fn rows_for<S: Alter>(
     alloc: Global,
     tx: &mut Transaction<'_, S>,
+    caller: &Caller,
     what: &Action,
 ) -> Result<Rows, Fault>
     requires in_form { InForm S.Store tx.old }
     ensures stays { Stays S.Store tx.old tx.new }
     ensures knows { Knows S.Store tx.old tx.new result
-        (λ rows c. AreRowsOf rows (registry_of c) what.now) }
+        (λ rows c. AreTeamsSound c → AreRowsOf rows (registry_of c) caller.now what.now) }
 {
     match what {
         Action::UserAdd { .. }
@@ -65,6 +71,11 @@ pub(crate) fn rows_for<S: Alter>(
         | Action::TeamDestroy { .. }
         | Action::TeamAdd { .. }
         | Action::TeamRemove { .. }
+        | Action::Grant { .. }
+        | Action::Revoke { .. }
+        | Action::SetAccess { .. }
+        | Action::OwnerAdd { .. }
+        | Action::OwnerRemove { .. }
         | Action::Publish { .. }
         | Action::TagSet { .. }
         | Action::TagRemove { .. } => Ok(Rows::Nothing),
@@ -77,6 +88,9 @@ pub(crate) fn rows_for<S: Alter>(
         Action::TeamMembers { organisation, team } => {
             team_member_rows(alloc, tx, organisation, team)
         }
+        Action::TeamPackages { organisation, team } => {
+            grant_rows(alloc, tx, caller, organisation, team)
+        }
     }
 }
 
@@ -88,7 +102,7 @@ fn packument_rows<S: Alter>(
     requires in_form { InForm S.Store tx.old }
     ensures stays { Stays S.Store tx.old tx.new }
     ensures tells { Tells S.Store tx.old tx.new result
-        (λ rows c. AreRowsOf rows (registry_of c) (asked.Packument name.now)) }
+        (λ rows c. (who : Caller) → AreRowsOf rows (registry_of c) who (asked.Packument name.now)) }
 {
     let versions = load_versions(alloc, tx, name)?;
     let tags = load_tags(alloc, tx, name)?;
@@ -103,7 +117,8 @@ fn document_row<S: Alter>(
     requires in_form { InForm S.Store tx.old }
     ensures stays { Stays S.Store tx.old tx.new }
     ensures tells { Tells S.Store tx.old tx.new result
-        (λ rows c. AreRowsOf rows (registry_of c) (asked.VersionDoc name.now version.now)) }
+        (λ rows c. (who : Caller)
+        → AreRowsOf rows (registry_of c) who (asked.VersionDoc name.now version.now)) }
 {
     Ok(Rows::Document(load_asked(tx, name, version)?))
 }
@@ -152,7 +167,8 @@ fn archive_row<S: Alter>(
     requires in_form { InForm S.Store tx.old }
     ensures stays { Stays S.Store tx.old tx.new }
     ensures tells { Tells S.Store tx.old tx.new result
-        (λ rows c. AreRowsOf rows (registry_of c) (asked.Archive name.now version.now)) }
+        (λ rows c. (who : Caller)
+        → AreRowsOf rows (registry_of c) who (asked.Archive name.now version.now)) }
 {
     let archive = load_archive(tx, name, version.text())?;
     Ok(Rows::Archive(archive))
@@ -166,7 +182,7 @@ fn tag_rows<S: Alter>(
     requires in_form { InForm S.Store tx.old }
     ensures stays { Stays S.Store tx.old tx.new }
     ensures tells { Tells S.Store tx.old tx.new result
-        (λ rows c. AreRowsOf rows (registry_of c) (asked.Tags name.now)) }
+        (λ rows c. (who : Caller) → AreRowsOf rows (registry_of c) who (asked.Tags name.now)) }
 {
     Ok(Rows::Tags(load_tags(alloc, tx, name)?))
 }
@@ -179,7 +195,8 @@ fn member_rows<S: Alter>(
     requires in_form { InForm S.Store tx.old }
     ensures stays { Stays S.Store tx.old tx.new }
     ensures tells { Tells S.Store tx.old tx.new result
-        (λ rows c. AreRowsOf rows (registry_of c) (asked.Members organisation.now)) }
+        (λ rows c. (who : Caller)
+        → AreRowsOf rows (registry_of c) who (asked.Members organisation.now)) }
 {
     Ok(Rows::Members(load_members(alloc, tx, organisation.text())?))
 }
@@ -192,7 +209,8 @@ fn team_rows<S: Alter>(
     requires in_form { InForm S.Store tx.old }
     ensures stays { Stays S.Store tx.old tx.new }
     ensures tells { Tells S.Store tx.old tx.new result
-        (λ rows c. AreRowsOf rows (registry_of c) (asked.Teams organisation.now)) }
+        (λ rows c. (who : Caller)
+        → AreRowsOf rows (registry_of c) who (asked.Teams organisation.now)) }
 {
     Ok(Rows::Names(load_teams(alloc, tx, organisation.text())?))
 }
@@ -206,8 +224,25 @@ fn team_member_rows<S: Alter>(
     requires in_form { InForm S.Store tx.old }
     ensures stays { Stays S.Store tx.old tx.new }
     ensures tells { Tells S.Store tx.old tx.new result
-        (λ rows c. AreRowsOf rows (registry_of c) (asked.TeamMembers organisation.now team.now)) }
+        (λ rows c. (who : Caller)
+        → AreRowsOf rows (registry_of c) who (asked.TeamMembers organisation.now team.now)) }
 {
     let users = load_team_users(alloc, tx, organisation.text(), team.text())?;
     Ok(Rows::Names(users))
+}
+
+fn grant_rows<S: Alter>(
+    alloc: Global,
+    tx: &mut Transaction<'_, S>,
+    caller: &Caller,
+    organisation: &Ident,
+    team: &Ident,
+) -> Result<Rows, Fault>
+    requires in_form { InForm S.Store tx.old }
+    ensures stays { Stays S.Store tx.old tx.new }
+    ensures tells { Tells S.Store tx.old tx.new result (λ rows c. AreTeamsSound c → AreRowsOf rows
+        (registry_of c) caller.now (asked.TeamPackages organisation.now team.now)) }
+{
+    let granted = load_team_packages(alloc, tx, caller, organisation.text(), team.text())?;
+    Ok(Rows::Grants(granted))
 }

@@ -136,8 +136,10 @@ pub(crate) fn seen_team<S: Alter>(
 ) -> Result<About, Fault>
     requires in_form { InForm S.Store tx.old }
     ensures stays { Stays S.Store tx.old tx.new }
-    ensures tells { Tells S.Store tx.old tx.new result (λ about c. StandsAbout about
+    ensures members { Tells S.Store tx.old tx.new result (λ about c. StandsAbout about
         (registry_of c) caller.now (asked.TeamMembers organisation.now team.now)) }
+    ensures packages { Tells S.Store tx.old tx.new result (λ about c. StandsAbout about
+        (registry_of c) caller.now (asked.TeamPackages organisation.now team.now)) }
 {
     Ok(About::Team {
         rows: load_access(alloc, tx, caller, organisation.text())?,
