@@ -71,10 +71,7 @@ pub(crate) fn old_tag<S: Alter>(
 }
 
 /// Of a query about a package.
-pub(crate) fn package<S: Alter>(
-    tx: &mut Transaction<'_, S>,
-    name: &Name,
-) -> Result<About, Fault>
+pub(crate) fn package<S: Alter>(tx: &mut Transaction<'_, S>, name: &Name) -> Result<About, Fault>
     requires in_form { InForm S.Store tx.old }
     ensures stays { Stays S.Store tx.old tx.new }
     ensures packument { Tells S.Store tx.old tx.new result (λ about c. (who : Caller)
