@@ -15,10 +15,7 @@ use sqlite::{Alter, Transaction};
 use std::alloc::Global;
 
 /// Of a user who is to be added.
-pub(crate) fn new_user<S: Alter>(
-    tx: &mut Transaction<'_, S>,
-    user: &Ident,
-) -> Result<About, Fault>
+pub(crate) fn new_user<S: Alter>(tx: &mut Transaction<'_, S>, user: &Ident) -> Result<About, Fault>
     requires in_form { InForm S.Store tx.old }
     ensures stays { Stays S.Store tx.old tx.new }
     ensures tells { Tells S.Store tx.old tx.new result (λ about c. (who : Caller)

@@ -4,7 +4,7 @@ use Rattle.registry_rules.specs.declared.reply.Reply.TheVariants.{Doc}
 use Rattle.registry_rules.specs.declared.request.Action.{Action}
 use Rattle.registry_history.specs.Answers.{reply}
 use Rattle.registry_desk.specs.Found.{AreRowsOf}
-use Rattle.registry_desk.specs.declared.found.Rows.{Rows}
+use Rattle.registry_desk.specs.declared.rows.Rows.{Rows}
 use Rattle.registry_desk.proofs.reply.reply.Goals as goal
 
 pub returns-in_ok-packument-in-Packument-Packument : goal.returns-in_ok-packument-in-Packument-Packument
