@@ -88,8 +88,7 @@ pub(crate) fn facts<S: Alter>(
         Action::Members { organisation } | Action::Teams { organisation } => {
             seen_organisation(alloc, tx, caller, organisation)
         }
-        Action::TeamMembers { organisation, team } | Action::TeamPackages { organisation, team } => {
-            seen_team(alloc, tx, caller, organisation, team)
-        }
+        Action::TeamMembers { organisation, team } | Action::TeamPackages { organisation, team } =>
+            { seen_team(alloc, tx, caller, organisation, team) }
     }
 }

@@ -1,4 +1,4 @@
-use Rattle.std.proofs.Common.{◌≡◌, ◌∙◌, arith, ap, ap₂, refl, sym, subst, Some, Err, map}
+use Rattle.std.proofs.Common.{◌≡◌, ◌∙◌, arith, ap, ap₂, refl, sym, subst, Option, Some, Err, map}
 use Rattle.std.proofs.lemmas.Result.{IfOk-weaker}
 use Rattle.sqlite.specs.Effect.{Database}
 use Rattle.sqlite.specs.State.{HasCleanDisk}
@@ -10,9 +10,10 @@ use Rattle.registry_rules.specs.Changes.{change_of}
 use Rattle.registry_rules.specs.Facts.{StandsAbout, StandsFor}
 use Rattle.registry_rules.specs.declared.reply.Reply.TheVariants.{Refused}
 use Rattle.registry_tables.specs.Changes.{all_stored}
-use Rattle.registry_tables.specs.Contents.{contents, registry_of}
+use Rattle.registry_tables.specs.Contents.{Contents, contents, registry_of}
 use Rattle.registry_tables.specs.Effects.{shown, stored_in}
-use Rattle.registry_history.specs.Answers.{reply}
+use Rattle.registry_tables.specs.Teams.{AreTeamsSound}
+use Rattle.registry_history.specs.Answers.{reply_to}
 use Rattle.registry_desk.proofs.AnswerFacts.{refused, unrefused}
 use Rattle.registry_desk.proofs.SettlingFacts.{accepted_settles, refused_settles}
 use Rattle.registry_desk.proofs.answer.answered_to.Goals as goal
@@ -25,23 +26,25 @@ accepted-requires g c = record {
 }
 
 pub returns-in-Ok-clause-answers : goal.returns-in-Ok-clause-answers
-returns-in-Ok-clause-answers g c known clean =
+returns-in-Ok-clause-answers g c known sound clean =
     let was = stored_in g.S.Store c.args.tx.now in
     let S = registry_of was in
     let were : HasCleanDisk (shown g.S.Store c.facts.new.tx) = omega (arith, c.accepted.ensures.stays.survives.clean, clean) in
     let told = c.in_ok-about.ensures.tells were in
-    let stands : StandsFor (record { caller = Some c.args.caller; about = c.in_ok-about.about }) S c.args.request.now = record { caller = known; about = λ who e. let same : c.args.caller ≡ who = cc in subst (λ (w : Caller). StandsAbout c.in_ok-about.about S w c.args.request.now.what) same told.1 } in
+    let stands : StandsFor (record { caller = Some c.args.caller; about = c.in_ok-about.about }) S c.args.request.now = record { caller = known; about = λ who e. let same : c.args.caller ≡ who = cc in subst (λ (w : Caller). StandsAbout c.in_ok-about.about S w c.args.request.now.what) same (told.1 sound) } in
+    let same_rows : stored_in g.S.Store c.facts.new.tx ≡ was = ap (λ (d : Database). contents d.trees) told.0.same in
     IfOk-weaker c.accepted.result _ _
-    (λ _ is. is ∙ ap (λ (d : Database). reply (registry_of (contents d.trees)) c.args.request.now.what) told.0.same ∙ sym (unrefused S c.args.request.now (c.in-Ok.ensures.makes S stands).0))
-    (c.accepted.ensures.answers clean)
+    (λ _ is. is ∙ ap (λ (d : Contents). reply_to (registry_of d) (Some c.args.caller) c.args.request.now.what) same_rows
+    ∙ ap (λ (who : Option Caller). reply_to S who c.args.request.now.what) known ∙ sym (unrefused S c.args.request.now (c.in-Ok.ensures.makes S stands).0))
+    (c.accepted.ensures.answers (subst AreTeamsSound (sym same_rows) sound) clean)
 
 pub returns-in-Ok-clause-settles : goal.returns-in-Ok-clause-settles
-returns-in-Ok-clause-settles g c known clean =
+returns-in-Ok-clause-settles g c known sound clean =
     let was = stored_in g.S.Store c.args.tx.now in
     let S = registry_of was in
     let were : HasCleanDisk (shown g.S.Store c.facts.new.tx) = omega (arith, c.accepted.ensures.stays.survives.clean, clean) in
     let told = c.in_ok-about.ensures.tells were in
-    let stands : StandsFor (record { caller = Some c.args.caller; about = c.in_ok-about.about }) S c.args.request.now = record { caller = known; about = λ who e. let same : c.args.caller ≡ who = cc in subst (λ (w : Caller). StandsAbout c.in_ok-about.about S w c.args.request.now.what) same told.1 } in
+    let stands : StandsFor (record { caller = Some c.args.caller; about = c.in_ok-about.about }) S c.args.request.now = record { caller = known; about = λ who e. let same : c.args.caller ≡ who = cc in subst (λ (w : Caller). StandsAbout c.in_ok-about.about S w c.args.request.now.what) same (told.1 sound) } in
     let decided = c.in-Ok.ensures.makes S stands in
     on_answer c.accepted.result
     (λ left. record {
@@ -52,24 +55,32 @@ returns-in-Ok-clause-settles g c known clean =
     (c.accepted.ensures.makes clean)
 
 pub returns-in-Err-Refused-clause-answers : goal.returns-in-Err-Refused-clause-answers
-returns-in-Err-Refused-clause-answers g c known clean =
+returns-in-Err-Refused-clause-answers g c known sound clean =
     let S = registry_of (stored_in g.S.Store c.args.tx.now) in
     let found = (c.in_ok-about.ensures.tells clean).1 in
-    let stands : StandsFor (record { caller = Some c.args.caller; about = c.in_ok-about.about }) S c.args.request.now = record { caller = known; about = λ who e. let same : c.args.caller ≡ who = cc in subst (λ (w : Caller). StandsAbout c.in_ok-about.about S w c.args.request.now.what) same found } in
+    let stands : StandsFor (record { caller = Some c.args.caller; about = c.in_ok-about.about }) S c.args.request.now = record { caller = known; about = λ who e. let same : c.args.caller ≡ who = cc in subst (λ (w : Caller). StandsAbout c.in_ok-about.about S w c.args.request.now.what) same (found sound) } in
     ap (λ (why : Refusal). Refused why) c.in-Err-Refused.refusal-is
     ∙ sym (refused S c.args.request.now c.in-Err-Refused.refusal
     ((c.decide.ensures.refused S stands c.in-Err-Refused.refusal).1 (c.in-Err-Refused.is ∙ ap (λ (stop : Stop). Err stop) c.in-Err-Refused.field-0-is)))
 
 pub returns-in-Err-Refused-clause-settles : goal.returns-in-Err-Refused-clause-settles
-returns-in-Err-Refused-clause-settles g c known clean =
+returns-in-Err-Refused-clause-settles g c known sound clean =
     let was = stored_in g.S.Store c.args.tx.now in
     let S = registry_of was in
     let reads = (c.in_ok-about.ensures.tells clean).0 in
     let found = (c.in_ok-about.ensures.tells clean).1 in
-    let stands : StandsFor (record { caller = Some c.args.caller; about = c.in_ok-about.about }) S c.args.request.now = record { caller = known; about = λ who e. let same : c.args.caller ≡ who = cc in subst (λ (w : Caller). StandsAbout c.in_ok-about.about S w c.args.request.now.what) same found } in
+    let stands : StandsFor (record { caller = Some c.args.caller; about = c.in_ok-about.about }) S c.args.request.now = record { caller = known; about = λ who e. let same : c.args.caller ≡ who = cc in subst (λ (w : Caller). StandsAbout c.in_ok-about.about S w c.args.request.now.what) same (found sound) } in
     let refused_so = (c.decide.ensures.refused S stands c.in-Err-Refused.refusal).1 (c.in-Err-Refused.is ∙ ap (λ (stop : Stop). Err stop) c.in-Err-Refused.field-0-is) in
     record {
       holds = ap (λ (d : Database). contents d.trees) reads.same ∙ sym (refused_settles was c.args.request.now c.in-Err-Refused.refusal refused_so);
       ready = reads.ready;
       mode = reads.mode ∙ c.requires.begun (omega (arith, c.facts.ensures.stays.survives.clean, clean));
     }
+
+pub returns-in-Ok-clause-goes_on : goal.returns-in-Ok-clause-goes_on
+returns-in-Ok-clause-goes_on g c clean = on_answer c.accepted.result (λ left. record { holds = refl; ready = left.ready; mode = left.mode }) (c.accepted.ensures.makes clean)
+
+pub returns-in-Err-Refused-clause-goes_on : goal.returns-in-Err-Refused-clause-goes_on
+returns-in-Err-Refused-clause-goes_on g c clean =
+    let reads = (c.in_ok-about.ensures.tells clean).0 in
+    record { holds = refl; ready = reads.ready; mode = reads.mode ∙ c.requires.begun (omega (arith, c.facts.ensures.stays.survives.clean, clean)) }
