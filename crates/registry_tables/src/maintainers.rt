@@ -69,7 +69,9 @@ fn load_maintainers<S: Alter>(
 fn maintained_by_another(maintainers: &[Text], user: &str) -> bool
     ensures { result ≡ list_any (λ m. not (is m user.now)) maintainers.now }
 {
-    maintainers.iter().any(|maintainer| !is_user(maintainer, user))
+    maintainers
+        .iter()
+        .any(|maintainer| !is_user(maintainer, user))
 }
 
 #[tactic(auto, unfolding(registry_names::specs::Texts::is))]

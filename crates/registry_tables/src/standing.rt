@@ -1,16 +1,15 @@
 //! How a caller stands to a package.
 
-ghost use Rattle.std.specs.Prelude.{◌≡◌, is_some};
+ghost use Rattle.std.specs.Prelude.{◌≡◌};
 ghost use Rattle.registry_access.specs.Callers as callers;
 ghost use Rattle.registry_access.specs.Positions as positions;
 ghost use Rattle.registry_access.specs.RowsFor.{StandsFor};
-ghost use Rattle.registry_access.specs.Standings.{is_listed};
-ghost use Rattle.registry_access.specs.declared.grant.Grant.{Grant as Right};
+ghost use Rattle.registry_access.specs.declared.caller.Caller.TheVariants as caller;
 ghost use Rattle.registry_names.specs.Names.{scope_of};
 ghost use Rattle.registry_rows.specs.Frames.{Stays};
 ghost use Rattle.registry_tables.specs.Contents.{access_of};
 ghost use Rattle.registry_tables.specs.Effects.{InForm, Knows, Tells};
-ghost use Rattle.registry_tables.specs.Teams.{AreTeamsSound};
+ghost use Rattle.registry_tables.specs.Teams.{AreHis, AreTeamsSound};
 
 use crate::grants::load_grants;
 use crate::maintainers::is_maintainer;
@@ -18,7 +17,7 @@ use crate::members::load_role;
 use crate::organisations::has_organisation;
 use crate::statuses::load_status;
 use registry_access::{Caller, Grant, Role, Standing};
-use registry_names::{Fault, Name};
+use registry_names::{Fault, Ident, Name};
 use sqlite::{Alter, Transaction};
 use std::alloc::Global;
 
@@ -109,14 +108,33 @@ fn load_granted<S: Alter>(
 ) -> Result<Vec<Grant>, Fault>
     requires in_form { InForm S.Store tx.old }
     ensures stays { Stays S.Store tx.old tx.new }
-    ensures knows { Knows S.Store tx.old tx.new result (λ grants c. AreTeamsSound c
-        → is_member ≡ is_some (positions.scope_role (access_of c) caller.now (scope_of name.now))
-        → (g : Right) → is_listed grants.items g ≡ callers.granted (access_of c) caller.now name.now g) }
+    ensures knows { Knows S.Store tx.old tx.new result (λ grants c.
+        AreHis c caller.now name.now is_member grants.items) }
 {
-    match (caller, name.scope()) {
-        (Caller::User(user), Some(organisation)) if is_member => {
-            load_grants(alloc, tx, organisation, user.text(), name)
-        }
-        _ => Ok(Vec::new(alloc)),
+    match caller {
+        Caller::User(user) => load_user_grants(alloc, tx, user, name, is_member),
+        Caller::Operator | Caller::Anonymous => Ok(Vec::new(alloc)),
+    }
+}
+
+// The same of a user.
+fn load_user_grants<S: Alter>(
+    alloc: Global,
+    tx: &mut Transaction<'_, S>,
+    user: &Ident,
+    name: &Name,
+    is_member: bool,
+) -> Result<Vec<Grant>, Fault>
+    requires in_form { InForm S.Store tx.old }
+    ensures stays { Stays S.Store tx.old tx.new }
+    ensures knows { Knows S.Store tx.old tx.new result (λ grants c.
+        AreHis c (caller.User user.now) name.now is_member grants.items) }
+{
+    if !is_member {
+        return Ok(Vec::new(alloc));
+    }
+    match name.scope() {
+        Some(organisation) => load_grants(alloc, tx, organisation, user.text(), name),
+        None => Ok(Vec::new(alloc)),
     }
 }

@@ -42,19 +42,25 @@ returns-clause-tells g c clean =
     )
 
 pub load_scope_role-requires : goal.load_scope_role-requires
-load_scope_role-requires g c = record { in_form = λ clean _.
-    let at_status : HasCleanDisk (shown g.S.Store c.load_status.new.tx) = omega (arith, c.has_scope.ensures.stays.survives.clean, clean) in
-    (c.in_ok-org.ensures.knows clean).0.ready (c.in_ok-status.ensures.tells at_status).0.ready }
+load_scope_role-requires g c = record {
+  in_form = λ clean _.
+      let at_status : HasCleanDisk (shown g.S.Store c.load_status.new.tx) = omega (arith, c.has_scope.ensures.stays.survives.clean, clean) in
+      (c.in_ok-org.ensures.knows clean).0.ready (c.in_ok-status.ensures.tells at_status).0.ready;
+}
 
 pub maintains-requires : goal.maintains-requires
-maintains-requires g c = record { in_form = λ clean _.
-    let at_org : HasCleanDisk (shown g.S.Store c.has_scope.new.tx) = omega (arith, c.load_scope_role.ensures.stays.survives.clean, clean) in
-    let at_status : HasCleanDisk (shown g.S.Store c.load_status.new.tx) = omega (arith, c.has_scope.ensures.stays.survives.clean, at_org) in
-    (c.in_ok-role.ensures.knows clean).0.ready ((c.in_ok-org.ensures.knows at_org).0.ready (c.in_ok-status.ensures.tells at_status).0.ready) }
+maintains-requires g c = record {
+  in_form = λ clean _.
+      let at_org : HasCleanDisk (shown g.S.Store c.has_scope.new.tx) = omega (arith, c.load_scope_role.ensures.stays.survives.clean, clean) in
+      let at_status : HasCleanDisk (shown g.S.Store c.load_status.new.tx) = omega (arith, c.has_scope.ensures.stays.survives.clean, at_org) in
+      (c.in_ok-role.ensures.knows clean).0.ready ((c.in_ok-org.ensures.knows at_org).0.ready (c.in_ok-status.ensures.tells at_status).0.ready);
+}
 
 pub load_granted-requires : goal.load_granted-requires
-load_granted-requires g c = record { in_form = λ clean _.
-    let at_role : HasCleanDisk (shown g.S.Store c.load_scope_role.new.tx) = omega (arith, c.maintains.ensures.stays.survives.clean, clean) in
-    let at_org : HasCleanDisk (shown g.S.Store c.has_scope.new.tx) = omega (arith, c.load_scope_role.ensures.stays.survives.clean, at_role) in
-    let at_status : HasCleanDisk (shown g.S.Store c.load_status.new.tx) = omega (arith, c.has_scope.ensures.stays.survives.clean, at_org) in
-    (c.in_ok-maintainer.ensures.knows clean).0.ready ((c.in_ok-role.ensures.knows at_role).0.ready ((c.in_ok-org.ensures.knows at_org).0.ready (c.in_ok-status.ensures.tells at_status).0.ready)) }
+load_granted-requires g c = record {
+  in_form = λ clean _.
+      let at_role : HasCleanDisk (shown g.S.Store c.load_scope_role.new.tx) = omega (arith, c.maintains.ensures.stays.survives.clean, clean) in
+      let at_org : HasCleanDisk (shown g.S.Store c.has_scope.new.tx) = omega (arith, c.load_scope_role.ensures.stays.survives.clean, at_role) in
+      let at_status : HasCleanDisk (shown g.S.Store c.load_status.new.tx) = omega (arith, c.has_scope.ensures.stays.survives.clean, at_org) in
+      (c.in_ok-maintainer.ensures.knows clean).0.ready ((c.in_ok-role.ensures.knows at_role).0.ready ((c.in_ok-org.ensures.knows at_org).0.ready (c.in_ok-status.ensures.tells at_status).0.ready));
+}
