@@ -11,7 +11,7 @@ use Rattle.registry_access.specs.declared.grant.Grant.{Grant}
 use Rattle.registry_publish.specs.Form.{FormParts}
 use Rattle.registry_rules.specs.Actions.{is_command, version_of}
 use Rattle.registry_rules.specs.Callers.{caller_of}
-use Rattle.registry_rules.specs.State.{State, Release, has_grant, has_other_owner, has_team, has_user, is_in_team, is_live, is_member, is_published, is_spent, stands}
+use Rattle.registry_rules.specs.State.{State, Release, has_grant, has_other_maintainer, has_other_owner, has_team, has_user, is_in_team, is_live, is_member, is_owned_by, is_published, is_spent, stands}
 use Rattle.registry_rules.specs.declared.request.Action.{Action}
 use Rattle.registry_rules.specs.declared.request.Action.TheVariants.{Packument, VersionDoc, Archive, Tags, Members, Teams, TeamMembers, TeamPackages}
 use Rattle.registry_rules.specs.declared.request.Request.{Request}
@@ -20,6 +20,8 @@ use Rattle.registry_tables.specs.Spelled.{document, document_entry, member_entry
 use Rattle.registry_tables.specs.Teams.{granted_entry}
 use Rattle.registry_history.specs.Answers.{asked_release}
 use Rattle.registry_desk.specs.declared.grants.Grantable.{Grantable}
+use Rattle.registry_desk.specs.declared.maintainers.Leaver.{Leaver}
+use Rattle.registry_desk.specs.declared.maintainers.Newcomer.{Newcomer}
 use Rattle.registry_desk.specs.declared.organisations.Candidate.{Candidate}
 use Rattle.registry_desk.specs.declared.packages.Taken.{Taken}
 use Rattle.registry_desk.specs.declared.teams.Place.{Place}
@@ -71,3 +73,13 @@ pub record AreTaken (taken : Taken) (S : State) (f : FormParts) : Type 0 where
   pub version_spent : taken.version_spent ≡ is_spent S f.name (version_of f)
   pub tag_stands : taken.tag_stands ≡ stands S f.name f.tag
   pub latest_stands : taken.latest_stands ≡ stands S f.name latest
+
+-- the user is there or not, and a maintainer already or not
+pub record IsNewcomer (newcomer : Newcomer) (S : State) (p u : Text) : Type 0 where
+  pub user_exists : newcomer.user_exists ≡ has_user S u
+  pub is_owner : newcomer.is_owner ≡ is_owned_by S p u
+
+-- the user is a maintainer or not, and another is or none
+pub record IsLeaver (leaver : Leaver) (S : State) (p u : Text) : Type 0 where
+  pub is_owner : leaver.is_owner ≡ is_owned_by S p u
+  pub other_owner : leaver.other_owner ≡ has_other_maintainer S p u

@@ -160,10 +160,9 @@ pub(crate) fn seen_document<S: Alter>(
         → StandsAbout about (registry_of c) caller.now
         (asked.VersionDoc name.now version.now)) }
 {
-    Ok(About::Version {
-        standing: load_standing(alloc, tx, caller, name)?,
-        lives: asked_lives(tx, name, version)?,
-    })
+    let standing = load_standing(alloc, tx, caller, name)?;
+    let lives = asked_lives(tx, name, version)?;
+    Ok(About::Version { standing, lives })
 }
 
 // Whether the version that is asked for lives.

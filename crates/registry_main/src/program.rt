@@ -14,8 +14,9 @@ const USAGE: &str = "usage: registry < BODY\n";
 
 /// Runs the program on the words after its name, and answers its exit status.
 ///
-/// Without words it reads a publish body from the input, publishes it to an empty registry in
-/// memory at moment 0, and prints the packument and a newline on the output: status 0. Otherwise
+/// Without words it reads a publish body from the input, which the user `first` publishes to an
+/// empty registry in memory at moment 0 (the organisation of the package's scope, if it has one,
+/// is his), and prints the packument as he sees it and a newline on the output: status 0. Otherwise
 /// nothing is printed on the output, and on the errors stands one line: `refused: ` and the
 /// refusal, status 1; how the program is called, where there are words, status 2; or `fault: `
 /// and what failed, status 3.

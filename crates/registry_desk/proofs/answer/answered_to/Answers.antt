@@ -5,7 +5,7 @@ use Rattle.sqlite.specs.State.{HasCleanDisk}
 use Rattle.registry_names.specs.declared.refusal.Refusal.{Refusal}
 use Rattle.registry_names.specs.declared.stop.Stop.{Stop}
 use Rattle.registry_access.specs.declared.caller.Caller.{Caller}
-use Rattle.registry_rows.proofs.QuietFacts.{on_answer}
+use Rattle.registry_rows.proofs.QuietFacts.{on_answer, stays_then}
 use Rattle.registry_rules.specs.Changes.{change_of}
 use Rattle.registry_rules.specs.Facts.{StandsAbout, StandsFor}
 use Rattle.registry_rules.specs.declared.reply.Reply.TheVariants.{Refused}
@@ -84,3 +84,11 @@ pub returns-in-Err-Refused-clause-goes_on : goal.returns-in-Err-Refused-clause-g
 returns-in-Err-Refused-clause-goes_on g c clean =
     let reads = (c.in_ok-about.ensures.tells clean).0 in
     record { holds = refl; ready = reads.ready; mode = reads.mode ∙ c.requires.begun (omega (arith, c.facts.ensures.stays.survives.clean, clean)) }
+
+pub returns-in-Ok-clause-stays : goal.returns-in-Ok-clause-stays
+returns-in-Ok-clause-stays g c = stays_then g.S.Store c.args.tx.now c.facts.new.tx c.accepted.new.tx c.facts.ensures.stays c.accepted.ensures.stays
+
+pub returns-in-Ok-clause-served : goal.returns-in-Ok-clause-served
+returns-in-Ok-clause-served g c clean =
+    let were : HasCleanDisk (shown g.S.Store c.facts.new.tx) = omega (arith, c.accepted.ensures.stays.survives.clean, clean) in
+    on_answer c.accepted.result (λ _. (c.in_ok-about.ensures.tells were).0.was_open) (c.accepted.ensures.makes clean)
