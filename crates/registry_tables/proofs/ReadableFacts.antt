@@ -1,11 +1,9 @@
 -- Grants on packages that a caller reads, one after another.
-use Rattle.std.proofs.Common.{◌≡◌, true, false, List, [], ◌∷◌, ◌++◌, map, length, arith, refl, sym, ap, ◌∙◌, append_assoc, append-nil, if◌then◌else◌}
+use Rattle.std.proofs.Common.{◌≡◌, true, false, List, [], ◌∷◌, ◌++◌, map, length, arith, refl, sym, ap, ◌∙◌, append_assoc, if◌then◌else◌}
 use Rattle.std.proofs.lemmas.List.{map-append}
-use Rattle.registry_names.specs.Texts.{Text}
 use Rattle.registry_access.specs.Levels.{reads}
 use Rattle.registry_access.specs.Positions.{level_in}
 use Rattle.registry_access.specs.declared.caller.Caller.{Caller}
-use Rattle.registry_access.specs.declared.grant.Grant.{Grant}
 use Rattle.registry_packument.specs.declared.list.Granted.{Granted}
 use Rattle.registry_tables.specs.Contents.{Contents, access_of}
 use Rattle.registry_tables.specs.Teams.{granted_entry, readable}
