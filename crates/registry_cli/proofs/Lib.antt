@@ -1,3 +1,4 @@
+pub mod ActionFacts
 pub mod MomentFacts
 pub mod RowFacts
 pub mod WholeFacts
