@@ -21,6 +21,7 @@ use Rattle.registry_access.specs.declared.grant.Grant.{Grant}
 use Rattle.registry_publish.specs.Tokens.{digest_of}
 use Rattle.registry_rules.specs.declared.request.Asked.{Asked}
 use Rattle.registry_rules.specs.declared.request.Asked.TheVariants.{Exact, Latest}
+use Rattle.registry_cli.specs.Lines.{word_at}
 use Rattle.registry_cli.specs.Spellings as spelled
 
 -- what may be answered where a value of this type is to be read
@@ -73,7 +74,7 @@ reads_message t (Err stop) = IsMemoryOr BadBody (is_message t ≡ false) stop
 abbrev pub reads_asked : Text → Reading Asked
 reads_asked t (Ok Latest) = bytes_eq t (codes "latest") ≡ true
 reads_asked t (Ok (Exact v)) = (bytes_eq t (codes "latest") ≡ false) × IsVersionOf t v
-reads_asked t (Err stop) = IsMemoryOr BadVersion (¬ IsVersion t) stop
+reads_asked t (Err stop) = (bytes_eq t (codes "latest") ≡ false) × IsMemoryOr BadVersion (¬ IsVersion t) stop
 
 -- ---- words in their order
 
@@ -82,25 +83,19 @@ abbrev pub gives : {A : Type 0} → A → Reading A
 gives a result = result ≡ Ok a
 
 -- the first, and where it gives a value what follows from it; what stops first is answered
-abbrev pub then : {A B : Type 0} → Reading A → (A → Reading B) → Reading B
-then {A} first next (Ok b) = (a : A) × first (Ok a) × next a (Ok b)
-then {A} first next (Err stop) = first (Err stop) ⊎ ((a : A) × first (Ok a) × next a (Err stop))
-
--- the word behind so many, and the empty text where there is none
-abbrev pub word_at : List Text → ℕ → Text
-word_at words i = unwrap_or (slice_get words i) []
+abbrev pub read_then : {A B : Type 0} → Reading A → (A → Reading B) → Reading B
+read_then {A} first next (Ok b) = (a : A) × first (Ok a) × next a (Ok b)
+read_then {A} first next (Err stop) = first (Err stop) ⊎ ((a : A) × first (Ok a) × next a (Err stop))
 
 -- the words behind a subcommand's name
 abbrev pub one : {A : Type 0} → (Text → Reading A) → List Text → Reading A
 one a words = a (word_at words 1)
 
-abbrev pub two : {A B : Type 0} → (Text → Reading A) → (Text → Reading B) → List Text → Reading (A × B)
-two a b words = then (a (word_at words 1)) (λ x. then (b (word_at words 2)) (λ y. gives (x, y)))
+pub two : {A B : Type 0} → (Text → Reading A) → (Text → Reading B) → List Text → Reading (A × B)
+two a b words = read_then (a (word_at words 1)) (λ x. read_then (b (word_at words 2)) (λ y. gives (x, y)))
 
-abbrev pub three : {A B C : Type 0} → (Text → Reading A) → (Text → Reading B) → (Text → Reading C) → List Text → Reading (A × B × C)
-three a b c words =
-    then (a (word_at words 1)) (λ x. then (b (word_at words 2)) (λ y. then (c (word_at words 3)) (λ z. gives (x, y, z))))
+pub three : {A B C : Type 0} → (Text → Reading A) → (Text → Reading B) → (Text → Reading C) → List Text → Reading (A × B × C)
+three a b c words = read_then (two a b words) (λ p. read_then (c (word_at words 3)) (λ z. gives (p.0, p.1, z)))
 
-abbrev pub four : {A B C D : Type 0} → (Text → Reading A) → (Text → Reading B) → (Text → Reading C) → (Text → Reading D) → List Text → Reading (A × B × C × D)
-four a b c d words = then (a (word_at words 1)) (λ x. then (b (word_at words 2)) (λ y. then (c (word_at words 3)) (λ z.
-    then (d (word_at words 4)) (λ u. gives (x, y, z, u)))))
+pub four : {A B C D : Type 0} → (Text → Reading A) → (Text → Reading B) → (Text → Reading C) → (Text → Reading D) → List Text → Reading (A × B × C × D)
+four a b c d words = read_then (three a b c words) (λ p. read_then (d (word_at words 4)) (λ u. gives (p.0, p.1, p.2, u)))

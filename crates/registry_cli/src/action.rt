@@ -1,9 +1,8 @@
 //! The action that a line asks for.
 
-ghost use Rattle.std.specs.Prelude.{◌≡◌, ◌≢◌, [], codes, is_some, true};
+ghost use Rattle.std.specs.Prelude.{◌≡◌, [], is_some, false, true};
 ghost use Rattle.registry_cli.specs.Asked as spec;
-ghost use Rattle.registry_cli.specs.Lines.{IsWhole};
-ghost use Rattle.registry_cli.specs.Parts.{word_at};
+ghost use Rattle.registry_cli.specs.Lines.{IsWhole, asks_to_serve, word_at};
 ghost use Rattle.registry_cli.specs.declared.action.Verb.TheVariants as verbs;
 
 use crate::meaning::{Line, Who};
@@ -50,7 +49,7 @@ pub(crate) enum Verb {
 /// gives its refusal. `Memory` comes where no memory is left.
 pub fn action_of(alloc: Global, line: &Line, body: &[u8]) -> Result<(Credential, Action), Stop>
     requires whole { IsWhole line.now.what }
-    requires asks { word_at line.now.what 0 ≢ codes "serve" }
+    requires asks { asks_to_serve line.now.what ≡ false }
     ensures { spec.reads_line line.now body.now result }
 {
     let who = credential(alloc, &line.who)?;

@@ -2,7 +2,7 @@ use Rattle.std.proofs.Common.{◌≡◌, List, is_some, subst, sym, true}
 use Rattle.clap.specs.Walk.{Text}
 use Rattle.registry_cli.proofs.ActionFacts.{verb_is}
 use Rattle.registry_cli.specs.Asked.{verb_of}
-use Rattle.registry_cli.specs.Parts.{word_at}
+use Rattle.registry_cli.specs.Lines.{word_at}
 use Rattle.registry_cli.proofs.action.action_of.Goals as goal
 
 pub action-requires : goal.action-requires
