@@ -1,6 +1,7 @@
 //! Lines of words, what they mean, and what is said of wrong ones. The words are those of
 //! `docs/WORDS.md`.
 
+mod asked;
 mod help;
 mod wrong;
 
