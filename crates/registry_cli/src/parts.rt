@@ -54,9 +54,9 @@ pub(crate) fn three<A: Part + Drop, B: Part + Drop, C: Part + Drop>(
 ) -> Result<(A, B, C), Stop>
     ensures { spec.three A.reads B.reads C.reads words.now result }
 {
-    let (first, second) = two(alloc, words)?;
+    let front = two(alloc, words)?;
     let third = C::read(alloc, word_at(words, 3))?;
-    Ok((first, second, third))
+    Ok((front.0, front.1, third))
 }
 
 /// The four words behind a subcommand's name.
@@ -67,7 +67,7 @@ pub(crate) fn four<A: Part + Drop, B: Part + Drop, C: Part + Drop, D: Part + Dro
 ) -> Result<(A, B, C, D), Stop>
     ensures { spec.four A.reads B.reads C.reads D.reads words.now result }
 {
-    let (first, second, third) = three(alloc, words)?;
+    let front = three(alloc, words)?;
     let fourth = D::read(alloc, word_at(words, 4))?;
-    Ok((first, second, third, fourth))
+    Ok((front.0, front.1, front.2, fourth))
 }
