@@ -95,7 +95,10 @@ unfoldable pub two : {A B : Type 0} → (Text → Reading A) → (Text → Readi
 two a b words = read_then (a (word_at words 1)) (λ x. read_then (b (word_at words 2)) (λ y. gives (x, y)))
 
 unfoldable pub three : {A B C : Type 0} → (Text → Reading A) → (Text → Reading B) → (Text → Reading C) → List Text → Reading (A × B × C)
-three a b c words = read_then (two a b words) (λ p. read_then (c (word_at words 3)) (λ z. gives (p.0, p.1, z)))
+three a b c words =
+    read_then (a (word_at words 1)) (λ x. read_then (b (word_at words 2)) (λ y. read_then (c (word_at words 3)) (λ z. gives (x, y, z))))
 
 unfoldable pub four : {A B C D : Type 0} → (Text → Reading A) → (Text → Reading B) → (Text → Reading C) → (Text → Reading D) → List Text → Reading (A × B × C × D)
-four a b c d words = read_then (three a b c words) (λ p. read_then (d (word_at words 4)) (λ u. gives (p.0, p.1, p.2, u)))
+four a b c d words =
+    read_then (a (word_at words 1)) (λ x. read_then (b (word_at words 2)) (λ y. read_then (c (word_at words 3)) (λ z.
+    read_then (d (word_at words 4)) (λ u. gives (x, y, z, u)))))

@@ -41,9 +41,9 @@ pub(crate) fn two<A: Part + Drop, B: Part + Drop>(
 ) -> Result<(A, B), Stop>
     ensures { spec.two A.reads B.reads words.now result }
 {
-    let first = A::read(alloc, word_at(words, 1))?;
-    let second = B::read(alloc, word_at(words, 2))?;
-    Ok((first, second))
+    let left = A::read(alloc, word_at(words, 1))?;
+    let right = B::read(alloc, word_at(words, 2))?;
+    Ok((left, right))
 }
 
 /// The three words behind a subcommand's name.
@@ -54,9 +54,10 @@ pub(crate) fn three<A: Part + Drop, B: Part + Drop, C: Part + Drop>(
 ) -> Result<(A, B, C), Stop>
     ensures { spec.three A.reads B.reads C.reads words.now result }
 {
-    let front = two(alloc, words)?;
+    let first = A::read(alloc, word_at(words, 1))?;
+    let second = B::read(alloc, word_at(words, 2))?;
     let third = C::read(alloc, word_at(words, 3))?;
-    Ok((front.0, front.1, third))
+    Ok((first, second, third))
 }
 
 /// The four words behind a subcommand's name.
@@ -67,7 +68,9 @@ pub(crate) fn four<A: Part + Drop, B: Part + Drop, C: Part + Drop, D: Part + Dro
 ) -> Result<(A, B, C, D), Stop>
     ensures { spec.four A.reads B.reads C.reads D.reads words.now result }
 {
-    let front = three(alloc, words)?;
+    let first = A::read(alloc, word_at(words, 1))?;
+    let second = B::read(alloc, word_at(words, 2))?;
+    let third = C::read(alloc, word_at(words, 3))?;
     let fourth = D::read(alloc, word_at(words, 4))?;
-    Ok((front.0, front.1, front.2, fourth))
+    Ok((first, second, third, fourth))
 }

@@ -178,44 +178,106 @@ fn asks(alloc: Global, case: &Case) -> Result<(), Fail> {
 
 /// One line of each subcommand but `publish`, whose texts are in form.
 static IN_FORM: [Case; 27] = [
-    case(&["--operator", "user-add", "ann"], "the operator: UserAdd ann"),
+    case(
+        &["--operator", "user-add", "ann"],
+        "the operator: UserAdd ann",
+    ),
     case(
         &["--operator", "token-add", "ann", "npm_ann_000000001"],
         "the operator: TokenAdd ann Some(179)",
     ),
-    case(&["--operator", "org-create", "lab", "ann"], "the operator: OrgCreate lab ann"),
-    case(&["--as", "ann", "org-set", "lab", "bob"], "ann: OrgSet lab bob Developer"),
-    case(&["--as", "ann", "org-set", "lab", "bob", "admin"], "ann: OrgSet lab bob Admin"),
-    case(&["--as", "ann", "org-rm", "lab", "bob"], "ann: OrgRemove lab bob"),
-    case(&["--as", "ann", "team-create", "lab", "ops"], "ann: TeamCreate lab ops"),
-    case(&["--as", "ann", "team-destroy", "lab", "ops"], "ann: TeamDestroy lab ops"),
-    case(&["--as", "ann", "team-add", "lab", "ops", "bob"], "ann: TeamAdd lab ops bob"),
-    case(&["--as", "ann", "team-rm", "lab", "ops", "bob"], "ann: TeamRemove lab ops bob"),
     case(
-        &["--as", "ann", "grant", "lab", "ops", "@lab/kit", "read-write"],
+        &["--operator", "org-create", "lab", "ann"],
+        "the operator: OrgCreate lab ann",
+    ),
+    case(
+        &["--as", "ann", "org-set", "lab", "bob"],
+        "ann: OrgSet lab bob Developer",
+    ),
+    case(
+        &["--as", "ann", "org-set", "lab", "bob", "admin"],
+        "ann: OrgSet lab bob Admin",
+    ),
+    case(
+        &["--as", "ann", "org-rm", "lab", "bob"],
+        "ann: OrgRemove lab bob",
+    ),
+    case(
+        &["--as", "ann", "team-create", "lab", "ops"],
+        "ann: TeamCreate lab ops",
+    ),
+    case(
+        &["--as", "ann", "team-destroy", "lab", "ops"],
+        "ann: TeamDestroy lab ops",
+    ),
+    case(
+        &["--as", "ann", "team-add", "lab", "ops", "bob"],
+        "ann: TeamAdd lab ops bob",
+    ),
+    case(
+        &["--as", "ann", "team-rm", "lab", "ops", "bob"],
+        "ann: TeamRemove lab ops bob",
+    ),
+    case(
+        &[
+            "--as",
+            "ann",
+            "grant",
+            "lab",
+            "ops",
+            "@lab/kit",
+            "read-write",
+        ],
         "ann: Grant lab ops @lab/kit ReadWrite",
     ),
-    case(&["--as", "ann", "revoke", "lab", "ops", "@lab/kit"], "ann: Revoke lab ops @lab/kit"),
+    case(
+        &["--as", "ann", "revoke", "lab", "ops", "@lab/kit"],
+        "ann: Revoke lab ops @lab/kit",
+    ),
     case(
         &["--as", "ann", "access", "@lab/kit", "restricted"],
         "ann: SetAccess @lab/kit Restricted",
     ),
-    case(&["--as", "bob", "owner-add", "tool", "eve"], "bob: OwnerAdd tool eve"),
-    case(&["--as", "bob", "owner-rm", "tool", "eve"], "bob: OwnerRemove tool eve"),
+    case(
+        &["--as", "bob", "owner-add", "tool", "eve"],
+        "bob: OwnerAdd tool eve",
+    ),
+    case(
+        &["--as", "bob", "owner-rm", "tool", "eve"],
+        "bob: OwnerRemove tool eve",
+    ),
     case(
         &["--as", "bob", "tag-set", "@lab/kit", "next", "1.1.0"],
         "bob: TagSet @lab/kit next 1.1.0",
     ),
-    case(&["--as", "bob", "tag-rm", "@lab/kit", "next"], "bob: TagRemove @lab/kit next"),
+    case(
+        &["--as", "bob", "tag-rm", "@lab/kit", "next"],
+        "bob: TagRemove @lab/kit next",
+    ),
     case(&["packument", "@lab/kit"], "nobody: Packument @lab/kit"),
-    case(&["version-doc", "@lab/kit", "1.0.0"], "nobody: VersionDoc @lab/kit 1.0.0"),
-    case(&["version-doc", "@lab/kit", "latest"], "nobody: VersionDoc @lab/kit Latest"),
-    case(&["archive", "@lab/kit", "1.0.0"], "nobody: Archive @lab/kit 1.0.0"),
+    case(
+        &["version-doc", "@lab/kit", "1.0.0"],
+        "nobody: VersionDoc @lab/kit 1.0.0",
+    ),
+    case(
+        &["version-doc", "@lab/kit", "latest"],
+        "nobody: VersionDoc @lab/kit Latest",
+    ),
+    case(
+        &["archive", "@lab/kit", "1.0.0"],
+        "nobody: Archive @lab/kit 1.0.0",
+    ),
     case(&["tags", "@lab/kit"], "nobody: Tags @lab/kit"),
     case(&["--as", "bob", "members", "lab"], "bob: Members lab"),
     case(&["--as", "bob", "teams", "lab"], "bob: Teams lab"),
-    case(&["--as", "bob", "team-members", "lab", "ops"], "bob: TeamMembers lab ops"),
-    case(&["--as", "bob", "team-packages", "lab", "ops"], "bob: TeamPackages lab ops"),
+    case(
+        &["--as", "bob", "team-members", "lab", "ops"],
+        "bob: TeamMembers lab ops",
+    ),
+    case(
+        &["--as", "bob", "team-packages", "lab", "ops"],
+        "bob: TeamPackages lab ops",
+    ),
     case(&["serve"], "serve"),
 ];
 
