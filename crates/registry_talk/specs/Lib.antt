@@ -1,0 +1,4 @@
+pub mod Actions
+pub mod Callers
+pub mod Parts
+pub mod Requests

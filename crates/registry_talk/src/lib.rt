@@ -1,0 +1,14 @@
+//! What a request of HTTP asks of the registry, and what an outcome of the registry is in HTTP.
+//!
+//! [`request_of`] forms the request that a whole request of HTTP spells, or answers the first
+//! refusal of its form: of its route, the values of its path from left to right, its body, and then
+//! its authorization.
+#![tactic(auto)]
+
+mod action;
+mod caller;
+mod part;
+mod parts;
+mod request;
+
+pub use crate::request::request_of;
