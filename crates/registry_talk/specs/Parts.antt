@@ -57,11 +57,11 @@ abbrev pub then : {A B : Type 0} → Reading A → (A → Reading B) → Reading
 then {A} first next (Ok b) = (a : A) × first (Ok a) × next a (Ok b)
 then {A} first next (Err stop) = first (Err stop) ⊎ ((a : A) × first (Ok a) × next a (Err stop))
 
-abbrev pub one : {A : Type 0} → (Text → Reading A) → Values → Reading A
+unfoldable pub one : {A : Type 0} → (Text → Reading A) → Values → Reading A
 one a v = a v.first
 
-abbrev pub two : {A B : Type 0} → (Text → Reading A) → (Text → Reading B) → Values → Reading (A × B)
+unfoldable pub two : {A B : Type 0} → (Text → Reading A) → (Text → Reading B) → Values → Reading (A × B)
 two a b v = then (a v.first) (λ x. then (b v.second) (λ y. gives (x, y)))
 
-abbrev pub three : {A B C : Type 0} → (Text → Reading A) → (Text → Reading B) → (Text → Reading C) → Values → Reading (A × B × C)
+unfoldable pub three : {A B C : Type 0} → (Text → Reading A) → (Text → Reading B) → (Text → Reading C) → Values → Reading (A × B × C)
 three a b c v = then (a v.first) (λ x. then (b v.second) (λ y. then (c v.third) (λ z. gives (x, y, z))))

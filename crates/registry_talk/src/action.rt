@@ -5,12 +5,10 @@ ghost use Rattle.registry_routes.specs.Readings.{values_view};
 ghost use Rattle.registry_routes.specs.declared.endpoint.Endpoint.TheVariants as endpoint;
 ghost use Rattle.registry_talk.specs.Actions as spec;
 
+use crate::body;
 use crate::parts::{one, three, two};
 use registry_names::{Name, Refusal, Stop};
-use registry_publish::PublishForm;
-use registry_routes::{
-    Endpoint, Values, grant_of_body, role_of_body, status_of_body, version_of_body, version_of_file,
-};
+use registry_routes::{Endpoint, Values};
 use registry_rules::Action;
 use std::alloc::Global;
 
@@ -65,20 +63,8 @@ fn publish(alloc: Global, values: Values<'_>, body: &[u8]) -> Result<Action, Sto
     ensures { spec.reads_action endpoint.Publish (values_view values.entry) body.now result }
 {
     let name = one(alloc, values)?;
-    let form = form_of(alloc, &name, body)?;
+    let form = body::form(alloc, &name, body)?;
     Ok(Action::Publish { form })
-}
-
-// The form that a body has, where it is of this package.
-fn form_of(alloc: Global, name: &Name, body: &[u8]) -> Result<PublishForm, Stop>
-    ensures { spec.reads_form name.now body.now result }
-{
-    let form = PublishForm::read(alloc, body)?;
-    if form.name().text() == name.text() {
-        Ok(form)
-    } else {
-        Err(Stop::Refused(Refusal::BadBody))
-    }
 }
 
 fn version_doc(alloc: Global, values: Values<'_>) -> Result<Action, Stop>
@@ -92,7 +78,7 @@ fn archive(alloc: Global, values: Values<'_>) -> Result<Action, Stop>
     ensures { spec.reads_action endpoint.Archive (values_view values.entry) [] result }
 {
     let name: Name = one(alloc, values)?;
-    let version = version_of_file(alloc, &name, values.second)?;
+    let version = body::file_version(alloc, &name, values.second)?;
     Ok(Action::Archive { name, version })
 }
 
@@ -107,7 +93,7 @@ fn tag_set(alloc: Global, values: Values<'_>, body: &[u8]) -> Result<Action, Sto
     ensures { spec.reads_action endpoint.TagSet (values_view values.entry) body.now result }
 {
     let (name, tag) = two(alloc, values)?;
-    let version = version_of_body(alloc, body)?;
+    let version = body::version(alloc, body)?;
     Ok(Action::TagSet { name, tag, version })
 }
 
@@ -122,7 +108,7 @@ fn set_access(alloc: Global, values: Values<'_>, body: &[u8]) -> Result<Action, 
     ensures { spec.reads_action endpoint.SetAccess (values_view values.entry) body.now result }
 {
     let name = one(alloc, values)?;
-    let status = status_of_body(alloc, body)?;
+    let status = body::status(alloc, body)?;
     Ok(Action::SetAccess { name, status })
 }
 
@@ -151,7 +137,7 @@ fn org_set(alloc: Global, values: Values<'_>, body: &[u8]) -> Result<Action, Sto
     ensures { spec.reads_action endpoint.OrgSet (values_view values.entry) body.now result }
 {
     let (organisation, user) = two(alloc, values)?;
-    let role = role_of_body(alloc, body)?;
+    let role = body::role(alloc, body)?;
     Ok(Action::OrgSet { organisation, user, role })
 }
 
@@ -215,7 +201,7 @@ fn grant(alloc: Global, values: Values<'_>, body: &[u8]) -> Result<Action, Stop>
     ensures { spec.reads_action endpoint.Grant (values_view values.entry) body.now result }
 {
     let (organisation, team, name) = three(alloc, values)?;
-    let grant = grant_of_body(alloc, body)?;
+    let grant = body::grant(alloc, body)?;
     Ok(Action::Grant { organisation, team, name, grant })
 }
 

@@ -6,9 +6,14 @@
 #![tactic(auto)]
 
 mod action;
+mod answer;
+mod body;
 mod caller;
 mod part;
 mod parts;
 mod request;
+mod turning;
 
+pub use crate::answer::{Answer, Body};
 pub use crate::request::request_of;
+pub use crate::turning::{Desk, End, REQUEST_LIMIT, Turned, turn, turn_away, turn_starved};

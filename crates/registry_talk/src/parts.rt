@@ -9,6 +9,7 @@ use registry_routes::Values;
 use std::alloc::Global;
 
 /// The first value.
+#[tactic(auto, unfolding(crate::specs::Parts::one))]
 pub(crate) fn one<A: Part>(alloc: Global, values: Values<'_>) -> Result<A, Stop>
     ensures { spec.one A.reads (values_view values.entry) result }
 {
@@ -16,6 +17,7 @@ pub(crate) fn one<A: Part>(alloc: Global, values: Values<'_>) -> Result<A, Stop>
 }
 
 /// The first two values.
+#[tactic(auto, unfolding(crate::specs::Parts::two))]
 pub(crate) fn two<A: Part + Drop, B: Part + Drop>(
     alloc: Global,
     values: Values<'_>,
@@ -28,6 +30,7 @@ pub(crate) fn two<A: Part + Drop, B: Part + Drop>(
 }
 
 /// The three values.
+#[tactic(auto, unfolding(crate::specs::Parts::three))]
 pub(crate) fn three<A: Part + Drop, B: Part + Drop, C: Part + Drop>(
     alloc: Global,
     values: Values<'_>,

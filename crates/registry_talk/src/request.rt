@@ -1,5 +1,6 @@
 //! The request of the registry that a request of HTTP spells.
 
+ghost use Rattle.std.specs.Prelude.{◌≡◌};
 ghost use Rattle.registry_talk.specs.Requests as spec;
 
 use crate::action::action;
