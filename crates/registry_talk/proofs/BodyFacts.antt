@@ -7,5 +7,5 @@ use Rattle.registry_talk.specs.Bodies.{reads_form}
 
 pub other_form : (name body : List ℕ) (form : FormParts) (b : Bool) → IsFormOf body form → (IsTrue b ↔ (form.name ≡ name)) → b ≡ false → reads_form name body (Err (Refused BadBody))
 unfolding reads_form
-other_form name body form true is same no = cc
-other_form name body form false is same no = inr (refl, form, is, λ e. absurd (same.1 e))
+other_form name body form true is same other = cc
+other_form name body form false is same other = inr (refl, (form, is, λ e. absurd (same.1 e)))

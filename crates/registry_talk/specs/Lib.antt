@@ -2,6 +2,8 @@ pub mod Actions
 pub mod Answers
 pub mod Bodies
 pub mod Callers
+pub mod Courses
 pub mod Parts
 pub mod Requests
+pub mod Servings
 pub mod Turns

@@ -138,7 +138,11 @@ fn org_set(alloc: Global, values: Values<'_>, body: &[u8]) -> Result<Action, Sto
 {
     let (organisation, user) = two(alloc, values)?;
     let role = body::role(alloc, body)?;
-    Ok(Action::OrgSet { organisation, user, role })
+    Ok(Action::OrgSet {
+        organisation,
+        user,
+        role,
+    })
 }
 
 fn org_remove(alloc: Global, values: Values<'_>) -> Result<Action, Stop>
@@ -180,14 +184,22 @@ fn team_add(alloc: Global, values: Values<'_>) -> Result<Action, Stop>
     ensures { spec.reads_action endpoint.TeamAdd (values_view values.entry) [] result }
 {
     let (organisation, team, user) = three(alloc, values)?;
-    Ok(Action::TeamAdd { organisation, team, user })
+    Ok(Action::TeamAdd {
+        organisation,
+        team,
+        user,
+    })
 }
 
 fn team_remove(alloc: Global, values: Values<'_>) -> Result<Action, Stop>
     ensures { spec.reads_action endpoint.TeamRemove (values_view values.entry) [] result }
 {
     let (organisation, team, user) = three(alloc, values)?;
-    Ok(Action::TeamRemove { organisation, team, user })
+    Ok(Action::TeamRemove {
+        organisation,
+        team,
+        user,
+    })
 }
 
 fn team_packages(alloc: Global, values: Values<'_>) -> Result<Action, Stop>
@@ -202,12 +214,21 @@ fn grant(alloc: Global, values: Values<'_>, body: &[u8]) -> Result<Action, Stop>
 {
     let (organisation, team, name) = three(alloc, values)?;
     let grant = body::grant(alloc, body)?;
-    Ok(Action::Grant { organisation, team, name, grant })
+    Ok(Action::Grant {
+        organisation,
+        team,
+        name,
+        grant,
+    })
 }
 
 fn revoke(alloc: Global, values: Values<'_>) -> Result<Action, Stop>
     ensures { spec.reads_action endpoint.Revoke (values_view values.entry) [] result }
 {
     let (organisation, team, name) = three(alloc, values)?;
-    Ok(Action::Revoke { organisation, team, name })
+    Ok(Action::Revoke {
+        organisation,
+        team,
+        name,
+    })
 }

@@ -12,8 +12,10 @@ mod caller;
 mod part;
 mod parts;
 mod request;
+mod serving;
 mod turning;
 
 pub use crate::answer::{Answer, Body};
 pub use crate::request::request_of;
+pub use crate::serving::{Clock, Served, serve};
 pub use crate::turning::{Desk, End, REQUEST_LIMIT, Turned, turn, turn_away, turn_starved};
