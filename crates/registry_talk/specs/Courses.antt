@@ -1,5 +1,5 @@
 -- The turns of one connection, one after the other: what they take, what they write, and how it ends.
-use Rattle.std.specs.Prelude.{◌≡◌, ◌≤◌, ◌+◌, ◌==◌, ◌++◌, ◌∷◌, ◌⊎◌, [], ℕ, Bool, true, false, List, All, length, Option, Some, None, if◌then◌else◌}
+use Rattle.std.specs.Prelude.{◌≡◌, ◌≤◌, ◌+◌, ◌==◌, ◌++◌, ◌∷◌, ◌⊎◌, [], ℕ, Bool, true, false, List, length, Option, Some, None, if◌then◌else◌}
 use Rattle.std.specs.Io.KnownBytes.{IsAtEnd}
 use Rattle.registry_names.specs.Ends.{Reads, Writes, WritesFront}
 use Rattle.registry_names.specs.declared.stop.Fault.TheVariants.{Memory}
@@ -16,9 +16,10 @@ use Rattle.registry_talk.specs.declared.turning.Turned.{Turned}
 
 -- ---- lists of turns, the newest first
 
--- a turn after which the connection goes on
-abbrev pub GoesOn : Turn → Type 0
-GoesOn t = t.ended ≡ None
+-- the connection goes on after each of them
+abbrev pub GoOn : List Turn → Type 0
+GoOn [] = Unit {0}
+GoOn (t ∷ ts) = (t.ended ≡ None) × GoOn ts
 
 -- what is written of the turns, in their order
 abbrev pub written : List Turn → List ℕ
@@ -80,16 +81,20 @@ AtEndOf s = s.silent ≡ false → IsAtEnd s.left
 -- the turns in a row ended the connection, with the newest of them
 abbrev pub EndedBy : List Turn → End → Type 0
 EndedBy [] e = ⊥
-EndedBy (t ∷ ts) e = (t.ended ≡ Some e) × All GoesOn ts
+EndedBy (t ∷ ts) e = (t.ended ≡ Some e) × GoOn ts
 
 -- how a connection ended that all was written of
 abbrev pub EndsAs : {D : Type 0} → Side D → List Turn → End → Type 0
-EndsAs s ts Closed = EndedBy ts Closed ⊎ (All GoesOn ts × EndsWith s.held ending.Closed × AtEndOf s)
+EndsAs s ts Closed = EndedBy ts Closed ⊎ (GoOn ts × EndsWith s.held ending.Closed × AtEndOf s)
 EndsAs s ts Limit = EndedBy ts Limit
 EndsAs s ts BadInput = EndedBy ts BadInput
-EndsAs s ts ReadFault = All GoesOn ts × IsUnfinished s.held
+EndsAs s ts ReadFault = GoOn ts × IsUnfinished s.held
 EndsAs s ts WriteFault = ⊥
 EndsAs s ts (Faulted fault) = EndedBy ts (Faulted fault)
+
+-- why no turn is taken: nothing is left behind the last one, or a read failed
+abbrev pub EndsUnasked : {D : Type 0} → Side D → End → Type 0
+EndsUnasked s e = ((e ≡ Closed) × EndsWith s.held ending.Closed × AtEndOf s) ⊎ ((e ≡ ReadFault) × IsUnfinished s.held)
 
 module _ {D : Type 0} (answers : Answers D) where
   -- the turns at a desk, each on what the older ones left, and the desk that they leave
@@ -113,10 +118,6 @@ module _ {D : Type 0} (answers : Answers D) where
     pub took : TakenOf (old.held ++ got) new.held (AtEndOf new) (taken_for cause)
     pub turns : Turns answers old.desk cause last t new.desk
     pub asked : Gave old.readings new.readings (moment_of cause)
-
-  -- why no turn is taken: nothing is left behind the last one, or a read failed
-  abbrev pub EndsUnasked : Side D → End → Type 0
-  EndsUnasked s e = ((e ≡ Closed) × EndsWith s.held ending.Closed × AtEndOf s) ⊎ ((e ≡ ReadFault) × IsUnfinished s.held)
 
   -- no turn
   pub record Rests (old new : Side D) (e : End) : Type 0 where
@@ -142,7 +143,7 @@ module _ {D : Type 0} (answers : Answers D) where
     pub newest : Turn
     pub older : List Turn
     pub course : Course old new (newest ∷ older)
-    pub go_on : All GoesOn older
+    pub go_on : GoOn older
     pub wrote : WritesFront out out2 mute (written (newest ∷ older))
     pub ends : s.end ≡ WriteFault
     pub count : s.requests ≡ requests older

