@@ -1,5 +1,7 @@
 -- Turns of a connection, one after another.
 use Rattle.std.proofs.Common.{◌≡◌, ◌≢◌, ◌≤◌, ◌<◌, ◌+◌, ◌==◌, ◌++◌, ◌∷◌, ◌⊎◌, ◌∙◌, [], ℕ, Bool, true, false, List, length, Option, Some, None, Ok, Err, refl, sym, ap, subst, inl, inr, append_assoc, append-nil, arith, length-append, is_some, if◌then◌else◌}
+use Rattle.std.specs.Int.{from_bool}
+use Rattle.std.proofs.lemmas.Bool.{eqb-false}
 use Rattle.registry_names.specs.Ends.{Reads, Writes, WritesFront}
 use Rattle.registry_names.specs.declared.refusal.Refusal.{Refusal}
 use Rattle.registry_names.proofs.EndFacts.{Reads-append, Reads-nothing, Writes-append, Writes-nothing, WritesFront-append}
@@ -85,14 +87,25 @@ gave-nothing (Some rs) = λ few. (rs, refl, refl)
 
 -- ---- whether a turn counts
 
-counts-as : (b : Bool) (c : Cause) (k : ℕ) → k ≡ (if b then 1 else 0) → b ≡ is_request c → k ≡ count_of c
-counts-as b c k one same = one ∙ ap (λ (b : Bool). if b then 1 else 0) same
+number_of : (b : Bool) → from_bool b ≡ (if b then 1 else 0)
+number_of true = refl
+number_of false = refl
 
-counts-more : (n k size older : ℕ) (turned : Turned) (c : Cause) → n ≡ size → older ≡ size → k ≡ (if turned.is_request then 1 else 0) → turned.is_request ≡ is_request c → n + k ≡ older + count_of c
+counts-as : (b : Bool) (c : Cause) (k : ℕ) → k ≡ from_bool b → b ≡ is_request c → k ≡ count_of c
+counts-as b c k one same = one ∙ ap from_bool same ∙ number_of (is_request c)
+
+counts-more : (n k size older : ℕ) (turned : Turned) (c : Cause) → n ≡ size → older ≡ size → k ≡ from_bool turned.is_request → turned.is_request ≡ is_request c → n + k ≡ older + count_of c
 counts-more n k size older turned c e f one same = let one = counts-as turned.is_request c k one same in omega (arith, e, f, one)
 
-one-more : (k : ℕ) (turned : Turned) (c : Cause) → is_request c ≡ true → k ≡ (if turned.is_request then 1 else 0) → turned.is_request ≡ is_request c → k ≡ 1
+one-more : (k : ℕ) (turned : Turned) (c : Cause) → is_request c ≡ true → k ≡ from_bool turned.is_request → turned.is_request ≡ is_request c → k ≡ 1
 one-more k turned c is one same = counts-as turned.is_request c k one same ∙ count-one c is
+
+below : (n k : ℕ) → n < 1000 → k ≡ 1 → n + 1 ≢ 1000 → n + k < 1000
+below n k few one other = omega (arith, few, one, other)
+
+-- a connection that goes on had fewer turns than it may have
+pub within : (n k : ℕ) → n < 1000 → k ≡ 1 → (n + 1 == 1000) ≡ false → n + k < 1000
+within n k few one other = below n k few one (eqb-false (n + 1) 1000 other)
 
 -- ---- the end of what came
 
@@ -175,7 +188,7 @@ module _ {D : Type 0} (answers : Answers D) where
     took = (
       mid.held ++ goes.got,
       subst (λ (came : List ℕ). Took came ts (mid.held ++ goes.got) ⊥) (append_assoc old.held c.got goes.got)
-        (took-more (old.held ++ c.got) goes.got ts mid.held (took-open old.desk ts mid.desk (old.held ++ c.got) mid.held _ c.follow on c.took)),
+          (took-more (old.held ++ c.got) goes.got ts mid.held (took-open old.desk ts mid.desk (old.held ++ c.got) mid.held _ c.follow on c.took)),
       goes.took,
     );
     follow = (mid.desk, c.follow, subst (λ (b : Bool). IsTurn answers mid.desk b (turn_of mid new last turned goes) new.desk) is_last goes.turns.is_turn);
@@ -235,7 +248,7 @@ module _ {D : Type 0} (answers : Answers D) where
   -- one more turn, of which all is written, and by which the connection ends
   pub end-on : (old mid new : Side D) (out out2 out3 : Option (List ℕ)) (mute mute2 : Bool) (n k : ℕ) (last : Bool) (turned : Turned) (e : End) → Going old mid out out2 mute n
       → (mid.silent ≡ true → new.silent ≡ true) → (mute ≡ true → mute2 ≡ true) → last ≡ (n + 1 == 1000) → GoesTo answers mid new last turned → Writes out2 out3 mute2 (bytes_of turned)
-      → k ≡ (if turned.is_request then 1 else 0) → turned.end ≡ Some e → IsServed answers old new out out3 mute2 (served (n + k) e)
+      → k ≡ from_bool turned.is_request → turned.end ≡ Some e → IsServed answers old new out out3 mute2 (served (n + k) e)
   end-on old mid new out out2 out3 mute mute2 n k last turned e going stays still is_last goes wrote one ended =
       let ts = going.turns in
       let t = turn_of mid new last turned goes in
@@ -268,13 +281,12 @@ module _ {D : Type 0} (answers : Answers D) where
   -- one more turn, of which all is written, and the connection goes on
   pub go-on : (old mid new : Side D) (out out2 out3 : Option (List ℕ)) (mute mute2 : Bool) (n k : ℕ) (last : Bool) (turned : Turned) → Going old mid out out2 mute n
       → (mid.silent ≡ true → new.silent ≡ true) → (mute ≡ true → mute2 ≡ true) → last ≡ (n + 1 == 1000) → GoesTo answers mid new last turned → Writes out2 out3 mute2 (bytes_of turned)
-      → k ≡ (if turned.is_request then 1 else 0) → turned.end ≡ None → Going old new out out3 mute2 (n + k) × (k ≡ 1) × (last ≡ false)
+      → k ≡ from_bool turned.is_request → turned.end ≡ None → Going old new out out3 mute2 (n + k) × (k ≡ 1) × (last ≡ false)
   go-on old mid new out out2 out3 mute mute2 n k last turned going stays still is_last goes wrote one ended =
       let ts = going.turns in
       let t = turn_of mid new last turned goes in
       let place = is_last ∙ ap (λ (n : ℕ). n + 1 == 1000) going.count in
-      let single = one-more k turned goes.cause (on-request goes.cause mid.desk last goes.turns.outcome turned.end new.desk goes.turns.is_turn ended) one goes.turns.counts in
-      (
+      let single = one-more k turned goes.cause (on-request goes.cause mid.desk last goes.turns.outcome turned.end new.desk goes.turns.is_turn ended) one goes.turns.counts in (
         record {
           turns = t ∷ ts;
           course = course-on old mid new ts last turned going.course going.go_on stays place goes;
@@ -285,3 +297,8 @@ module _ {D : Type 0} (answers : Answers D) where
         single,
         on-not_last goes.cause mid.desk last goes.turns.outcome turned.end new.desk goes.turns.is_turn ended,
       )
+
+  -- a turn never ends a connection as a failed read does
+  pub ended-unread : (mid new : Side D) (last : Bool) (turned : Turned) (e : End) → GoesTo answers mid new last turned → turned.end ≡ Some e → ¬ (e ≡ ReadFault)
+  ended-unread mid new last turned e goes ended same =
+      not-read_fault goes.cause mid.desk last goes.turns.outcome turned.end new.desk goes.turns.is_turn (ended ∙ ap (λ (e : End). Some e) same)

@@ -36,11 +36,21 @@ impl Body {
 }
 
 /// An answer in HTTP, which holds its body.
-#[derive(Drop)]
 pub struct Answer {
     pub status: StatusCode,
     pub kind: ContentKind,
     pub body: Body,
+}
+
+// Written out, so that to drop an answer is one call and not one for each part.
+impl Drop for Answer {
+    fn drop(self) {
+        let Answer {
+            status: _,
+            kind: _,
+            body: _,
+        } = self;
+    }
 }
 
 impl Answer {

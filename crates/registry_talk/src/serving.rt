@@ -1,12 +1,11 @@
 //! One connection, request after request.
 
-ghost use Rattle.std.specs.Prelude.{◌≡◌, ◌≢◌, ◌≤◌, ◌*◌, ◌∷◌, [], ℕ, List, Option, true, Err, MatchResult, OnOk, OnErr};
-ghost use Rattle.registry_names.specs.Ends.{RisesBetween, Writes, WritesFront, failures_after};
+ghost use Rattle.std.specs.Prelude.{◌≡◌, ◌≤◌, ◌*◌, ◌∷◌, [], ℕ, List, Option, true, MatchResult, OnOk, OnErr};
+ghost use Rattle.registry_names.specs.Ends.{Writes, WritesFront, failures_after};
 ghost use Rattle.registry_wire.specs.Inboxes.{interruption_limit};
 ghost use Rattle.registry_wire.specs.Reading.{CountsInterrupted};
-ghost use Rattle.registry_talk.specs.Courses.{Gave, GoesTo, IsServed, Rests, side};
+ghost use Rattle.registry_talk.specs.Courses.{Gave, GoesTo, IsServed, ReadsFail, Rests, side};
 ghost use Rattle.registry_talk.specs.Servings.{bytes_of, written_failures};
-ghost use Rattle.registry_talk.specs.declared.turning.End.TheVariants as ends;
 
 use crate::turning::{Desk, End, REQUEST_LIMIT, Turned, turn, turn_away, turn_starved};
 use registry_names::{ByteIn, ByteOut, Fault, Moment, WriteFailed};
@@ -51,12 +50,9 @@ pub fn serve<D: Desk, R: ByteIn, W: ByteOut, C: Clock>(
         (W.bytes writer.old) (W.bytes writer.new) (W.is_silent writer.new) result }
     ensures few { result.requests ≤ 1000 }
 
-    // Only interrupted reads are tried again, and only a failed one is a fault, as a failed write.
-    ensures retried { result.end ≢ ends.ReadFault
-        → CountsInterrupted inbox.old.interruptions inbox.new.interruptions
-        (R.failures inbox.old.reader) (R.failures inbox.new.reader) }
-    ensures stopped { result.end ≡ ends.ReadFault
-        → RisesBetween 1 (2 * interruption_limit)
+    // A read fault comes where a read failed, and a write fault where a write did.
+    ensures counted { ReadsFail result.end (2 * interruption_limit)
+        inbox.old.interruptions inbox.new.interruptions
         (R.failures inbox.old.reader) (R.failures inbox.new.reader) }
     ensures written { W.failures writer.new ≡ written_failures result.end (W.failures writer.old) }
 {
@@ -67,11 +63,14 @@ pub fn serve<D: Desk, R: ByteIn, W: ByteOut, C: Clock>(
             Ok(turned) => turned,
             Err(end) => return Served { requests, end },
         };
-        if send(&turned, writer).is_err() {
-            return Served {
-                requests,
-                end: End::WriteFault,
-            };
+        match send(&turned, writer) {
+            Ok(()) => {}
+            Err(_) => {
+                return Served {
+                    requests,
+                    end: End::WriteFault,
+                };
+            }
         }
         requests += u32::from(turned.is_request);
         match turned.end {
@@ -102,12 +101,12 @@ fn next_turn<D: Desk, R: ByteIn, C: Clock>(
         (R.is_silent inbox.old.reader) (C.readings clock.old))
         (side desk.new inbox.new.held (R.bytes inbox.new.reader)
         (R.is_silent inbox.new.reader) (C.readings clock.new))) }
-    ensures retried { result ≢ Err ends.ReadFault
-        → CountsInterrupted inbox.old.interruptions inbox.new.interruptions
-        (R.failures inbox.old.reader) (R.failures inbox.new.reader) }
-    ensures stopped { result ≡ Err ends.ReadFault
-        → RisesBetween 1 interruption_limit
-        (R.failures inbox.old.reader) (R.failures inbox.new.reader) }
+    ensures counted { MatchResult result
+        (λ _. CountsInterrupted inbox.old.interruptions inbox.new.interruptions
+        (R.failures inbox.old.reader) (R.failures inbox.new.reader))
+        (λ end. ReadsFail end interruption_limit
+        inbox.old.interruptions inbox.new.interruptions
+        (R.failures inbox.old.reader) (R.failures inbox.new.reader)) }
     ensures silent { R.is_silent inbox.old.reader ≡ true → R.is_silent inbox.new.reader ≡ true }
 {
     match inbox.read_request(alloc) {

@@ -45,12 +45,22 @@ pub enum End {
 }
 
 /// What a turn answers, and how the connection ends after it, if it does.
-#[derive(Drop)]
 pub struct Turned {
     pub answer: Answer,
     pub end: Option<End>,
     /// Whether a whole request was answered, and not what is none.
     pub is_request: bool,
+}
+
+// Written out, so that to drop a turn is one call and not one for each part.
+impl Drop for Turned {
+    fn drop(self) {
+        let Turned {
+            answer: _,
+            end: _,
+            is_request: _,
+        } = self;
+    }
 }
 
 fn answered<D: Desk>(
