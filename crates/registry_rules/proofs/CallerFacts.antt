@@ -1,5 +1,5 @@
 -- What is answered to a caller whom the registry knows.
-use Rattle.std.proofs.Common.{◌≡◌, ℕ, Bool, true, false, List, is_some, Option, Some, None, option_map, refl, sym, ap, ◌∙◌, subst, true≢false, if◌then◌else◌}
+use Rattle.std.proofs.Common.{◌≡◌, ℕ, Bool, true, false, List, Option, Some, None, option_map, refl, sym, ap, ◌∙◌, subst, true≢false, if◌then◌else◌}
 use Rattle.std.specs.Prelude.{is_ok, Result, Err}
 use Rattle.registry_names.specs.declared.stop.Stop.{Stop}
 use Rattle.registry_names.specs.declared.stop.Stop.TheVariants.{Refused}
@@ -48,8 +48,9 @@ token_known : (S : State) (digest : Text) (who : Caller) → IsSound S.access �
 token_known S digest who sound (Some u) there e = named S (User u) who e (sound.tokens digest u there)
 token_known S digest who sound None there e = cc
 
-pub caller_known : (S : State) → IsSound S.access → (shown : Credential) (who : Caller) → caller_of S shown ≡ Some who → is_known S who ≡ true
-caller_known S sound credential.Operator who e = named S Operator who e refl
-caller_known S sound (credential.User u) who e = user_known S u who (has_user S u) refl e
-caller_known S sound (credential.Token digest) who e = token_known S digest who sound (at S.access.tokens digest) refl e
-caller_known S sound credential.Anonymous who e = named S Anonymous who e refl
+-- where tokens are users'
+pub caller_known : (S : State) (shown : Credential) (who : Caller) → IsSound S.access → caller_of S shown ≡ Some who → is_known S who ≡ true
+caller_known S credential.Operator who sound e = named S Operator who e refl
+caller_known S (credential.User u) who sound e = user_known S u who (has_user S u) refl e
+caller_known S (credential.Token digest) who sound e = token_known S digest who sound (at S.access.tokens digest) refl e
+caller_known S credential.Anonymous who sound e = named S Anonymous who e refl

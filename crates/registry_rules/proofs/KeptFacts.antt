@@ -1,31 +1,21 @@
 -- A request in form that nothing refuses keeps what holds of all that the registry holds.
-use Rattle.std.proofs.Common.{◌≡◌, ◌≢◌, ℕ, ◌≤◌, Bool, true, false, cond, ◌||◌, not, ◌&&◌, is_none, is_some, Option, Some, None, refl, sym, ap, ◌∙◌, subst, true≢false}
-use Rattle.std.proofs.lemmas.Bool.{and_parts, and_right}
+use Rattle.std.proofs.Common.{◌≡◌, ℕ, ◌≤◌, length, Bool, true, false, cond, ◌||◌, ◌&&◌, is_some, Option, Some, None, refl, sym, ap, ◌∙◌, subst, true≢false}
+use Rattle.std.proofs.lemmas.Bool.{and_right}
 use Rattle.std.specs.Prelude.{IsSome, IsTrue}
+use Rattle.registry_names.specs.Idents.{is_ident}
 use Rattle.registry_names.specs.Keys.{Pair, pair_is}
-use Rattle.registry_names.specs.Maps.{TextMap, at, put, erase}
+use Rattle.registry_names.specs.Maps.{at, put}
 use Rattle.registry_names.specs.Moments.{last_second}
 use Rattle.registry_names.specs.Names.{IsName}
 use Rattle.registry_names.specs.Tags.{is_tag, latest}
 use Rattle.registry_names.specs.Texts.{Text, is}
 use Rattle.registry_names.specs.Versions.{text_of_version}
 use Rattle.registry_names.specs.declared.status.Status.{Status}
-use Rattle.registry_names.specs.declared.status.Status.TheVariants.{Restricted}
-use Rattle.registry_names.proofs.KeyFacts.{text_key, pair_key, triple_key, same_true}
-use Rattle.registry_names.proofs.MapFacts.{at-empty, at-put, at-put_same, at-put_other, at-erase_other}
+use Rattle.registry_names.proofs.KeyFacts.{text_key, pair_key, same_true}
+use Rattle.registry_names.proofs.MapFacts.{at-empty, at-put, at-erase, at-erase_other}
 use Rattle.registry_access.specs.Access.{Access}
-use Rattle.registry_access.specs.Hiding.{UnscopedArePublic}
-use Rattle.registry_names.specs.Names.{scope_of}
-use Rattle.registry_names.specs.declared.refusal.Refusal.TheVariants.{NotFound, LastOwner, KeepsDevelopers, AlwaysPublic}
-use Rattle.registry_names.specs.declared.refusal.Rule.TheVariants.{A2, A3, A6}
-use Rattle.registry_access.specs.Callers.{role_of}
-use Rattle.registry_access.specs.Levels.{is_owner, is_owner_or_admin, reads, writes}
-use Rattle.registry_access.specs.Policy.{by_rule, may_publish, may_write}
-use Rattle.registry_access.specs.Positions.{has_organisation, level_at, position_in}
 use Rattle.registry_access.specs.declared.grant.Grant as granted
 use Rattle.registry_access.specs.declared.role.Role.{Role}
-use Rattle.registry_rules.specs.Permissions.{permission}
-use Rattle.registry_access.specs.declared.role.Role.TheVariants.{Owner, Admin, Developer}
 use Rattle.registry_access.specs.declared.caller.Caller.{Caller}
 use Rattle.registry_publish.specs.Form.{FormParts}
 use Rattle.registry_rules.specs.Actions.{version_of}
@@ -33,10 +23,10 @@ use Rattle.registry_rules.specs.Callers.{caller_of, is_known}
 use Rattle.registry_rules.specs.Changes.{PutGrant, PutStatus, made, all_made, release_of}
 use Rattle.registry_rules.specs.Effects.{effects_for, joining, membership, owning, publication, step, step_by}
 use Rattle.registry_rules.specs.Kept.{IsReleaseOf, IsWithdrawalOf, IsTagOf, IsSpelled, IsSound, IsKept}
-use Rattle.registry_rules.specs.Operations.{without_maintainer, without_member, without_team, with_tag, without_tag}
-use Rattle.registry_rules.specs.Refusals.{grant_refusal, is_restricted, refuse, unless_allowed, publish_refusal, refusal, refusal_for, state_refusal}
+use Rattle.registry_rules.specs.Operations.{with_tag, without_tag}
+use Rattle.registry_rules.specs.Refusals.{publish_refusal, refusal, refusal_by, refusal_for}
 use Rattle.registry_rules.specs.Requests.{ArePartsInForm, IsInForm, IsActionInForm}
-use Rattle.registry_rules.specs.State.{State, Release, Withdrawal, nothing, developers, has_user, is_member, has_team, is_in_team, has_grant, is_published, is_owned_by, has_other_maintainer, is_last_owner, is_live, stands}
+use Rattle.registry_rules.specs.State.{State, Release, Withdrawal, nothing, developers, is_in_team, has_grant, is_published, is_owned_by, is_live, stands}
 use Rattle.registry_rules.specs.declared.request.Action.{Action}
 use Rattle.registry_rules.specs.declared.request.Action.TheVariants as asked
 use Rattle.registry_rules.specs.declared.request.Action.TheVariants.{UserAdd, TokenAdd, OrgCreate, OrgSet, OrgRemove, TeamCreate, TeamDestroy, TeamAdd, TeamRemove, Revoke, SetAccess, OwnerAdd, OwnerRemove, Publish, TagSet, TagRemove}
@@ -44,10 +34,9 @@ use Rattle.registry_rules.specs.declared.request.Request.{Request}
 use Rattle.registry_rules.proofs.AllowedFacts.{IsAllowed, allowed_publish, is_there, isnt_kept, state_passed}
 use Rattle.registry_rules.proofs.MadeFacts.{latest_put, role_put, tag_put}
 use Rattle.registry_rules.proofs.MadeFacts as made
-use Rattle.registry_rules.proofs.OtherFacts.{not_the_last, other_maintainer}
 use Rattle.registry_rules.proofs.CallerFacts.{caller_known}
 use Rattle.registry_rules.proofs.SoundFacts.{created, destroyed, was_left}
-use Rattle.registry_rules.proofs.SoundSteps.{caller_known, none_there, nothing_sound, step_sound}
+use Rattle.registry_rules.proofs.SoundSteps.{none_there, nothing_sound, step_sound}
 use Rattle.registry_rules.proofs.PublishedFacts.{statuses_after, status_of, after_publish, published_is}
 use Rattle.registry_names.proofs.PutFacts.{each_put, each_left, some_before, put_there, still_there}
 

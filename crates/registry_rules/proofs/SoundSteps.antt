@@ -1,5 +1,5 @@
 -- What stands refers to what is there, from nothing on, through each action that nothing refuses. Nothing is asked of how names are spelled.
-use Rattle.std.proofs.Common.{◌≡◌, ℕ, Bool, true, false, cond, not, ◌&&◌, is_none, is_some, Option, Some, None, option_map, refl, sym, ap, ◌∙◌, subst, true≢false}
+use Rattle.std.proofs.Common.{◌≡◌, ℕ, Bool, true, false, not, ◌&&◌, is_none, is_some, Option, Some, None, refl, sym, ap, ◌∙◌, subst, true≢false}
 use Rattle.std.proofs.lemmas.Bool.{and_parts, and_right}
 use Rattle.std.specs.Prelude.{IsSome}
 use Rattle.registry_names.specs.Maps.{at, put, erase}
@@ -16,12 +16,11 @@ use Rattle.registry_access.specs.Levels.{is_owner, is_owner_or_admin, reads, wri
 use Rattle.registry_access.specs.Policy.{by_rule, may_publish, may_write}
 use Rattle.registry_access.specs.Positions.{has_organisation, level_at, position_in}
 use Rattle.registry_access.specs.declared.caller.Caller.{Caller}
-use Rattle.registry_access.specs.declared.caller.Caller.TheVariants as caller
 use Rattle.registry_access.specs.declared.grant.Grant as granted
 use Rattle.registry_access.specs.declared.role.Role.{Role}
 use Rattle.registry_access.specs.declared.role.Role.TheVariants.{Owner, Admin, Developer}
 use Rattle.registry_publish.specs.Form.{FormParts}
-use Rattle.registry_rules.specs.Callers.{caller_of, is_known}
+use Rattle.registry_rules.specs.Callers.{is_known}
 use Rattle.registry_rules.specs.Changes.{PutGrant, PutStatus, made, all_made}
 use Rattle.registry_rules.specs.Effects.{joining, membership, owning, publication, step_by}
 use Rattle.registry_rules.specs.Operations.{without_maintainer, without_member, without_team}
@@ -29,8 +28,6 @@ use Rattle.registry_rules.specs.Kept.{IsSound}
 use Rattle.registry_rules.specs.Permissions.{permission}
 use Rattle.registry_rules.specs.Refusals.{grant_refusal, is_restricted, publish_refusal, refusal_by, refuse, state_refusal, unless_allowed}
 use Rattle.registry_rules.specs.State.{State, nothing, developers, has_grant, has_other_maintainer, has_team, has_user, is_in_team, is_last_owner, is_member, is_owned_by, is_published, stands}
-use Rattle.registry_rules.specs.declared.request.Credential.{Credential}
-use Rattle.registry_rules.specs.declared.request.Credential.TheVariants.{Operator, User, Token, Anonymous}
 use Rattle.registry_rules.specs.declared.request.Action.{Action}
 use Rattle.registry_rules.specs.declared.request.Action.TheVariants as asked
 use Rattle.registry_rules.specs.declared.request.Action.TheVariants.{UserAdd, TokenAdd, OrgCreate, OrgSet, OrgRemove, TeamCreate, TeamDestroy, TeamAdd, TeamRemove, Revoke, SetAccess, OwnerAdd, OwnerRemove, Publish, TagSet}
@@ -178,26 +175,3 @@ step_sound S now who (Publish f) known may sound =
     publish_sound S who f now known (policy_passed S now who (Publish f) may) (state_passed S now who (Publish f) may) sound
 step_sound S now who (TagSet p t v) known may sound = subst (λ (T : State). IsSound T.access) (sym (tag_put S p t (text_of_version v) (stands S p t) (λ there. there))) sound
 step_sound S now who _ known may sound = sound
-
--- ---- callers
-
-known_user : (b : Bool) (u : Text) (who : Caller) → cond b (Some (caller.User u)) None ≡ Some who → (S : State) → has_user S u ≡ b → is_known S who ≡ true
-known_user true u who e S there = ap (is_known S) same ∙ there
-  where
-    same : who ≡ caller.User u
-    same = cc
-known_user false u who e S there = cc
-
-token_known : (S : State) (o : Option Text) (who : Caller) → ((u : Text) → o ≡ Some u → IsSome (at S.access.users u)) → option_map caller.User o ≡ Some who → is_known S who ≡ true
-token_known S None who there e = cc
-token_known S (Some u) who there e = ap (is_known S) same ∙ there u refl
-  where
-    same : who ≡ caller.User u
-    same = cc
-
--- whom a credential names is known, where tokens are users'
-pub caller_known : (S : State) (c : Credential) (who : Caller) → IsSound S.access → caller_of S c ≡ Some who → is_known S who ≡ true
-caller_known S Operator who sound e = let same : who ≡ caller.Operator = cc in ap (is_known S) same
-caller_known S (User u) who sound e = known_user (has_user S u) u who e S refl
-caller_known S (Token digest) who sound e = token_known S (at S.access.tokens digest) who (sound.tokens digest) e
-caller_known S Anonymous who sound e = let same : who ≡ caller.Anonymous = cc in ap (is_known S) same
