@@ -1,3 +1,5 @@
+pub mod ActionFacts
 pub mod MomentFacts
+pub mod PartFacts
 pub mod RowFacts
 pub mod WholeFacts

@@ -12,7 +12,7 @@ use Rattle.registry_cli.specs.Lines.{IsWhole, is_called, told, value_in, words_o
 use Rattle.registry_cli.specs.Subcommands.{registry}
 
 -- what is found has what all have
-found_has : {X : Type 0} (q p : X → Bool) (xs : List X) (x : X) → list_all q xs ≡ true → find p xs ≡ Some x → q x ≡ true
+pub found_has : {X : Type 0} (q p : X → Bool) (xs : List X) (x : X) → list_all q xs ≡ true → find p xs ≡ Some x → q x ≡ true
 found_has q p [] x all found = cc
 found_has q p (y ∷ ys) x all found = go (p y) (λ later. found_has q p ys x (both _ _ all).1 later) found
   where

@@ -1,4 +1,6 @@
+pub mod Asked
 pub mod Lines
+pub mod Parts
 pub mod Prints
 pub mod Spellings
 pub mod Subcommands

@@ -1,5 +1,5 @@
 -- What a line of words means.
-use Rattle.std.specs.Prelude.{◌≡◌, ℕ, Bool, true, false, List, [], ◌∷◌, length, map, find, Option, None, Some, codes, option_and_then, option_map, unwrap_or, is_some, ◌&&◌, if◌then◌else◌}
+use Rattle.std.specs.Prelude.{◌≡◌, ℕ, Bool, true, false, List, [], ◌∷◌, length, map, find, Option, None, Some, codes, option_and_then, option_map, unwrap_or, slice_get, is_some, ◌&&◌, if◌then◌else◌}
 use Rattle.std.specs.Str.{bytes_eq}
 use Rattle.std.specs.Str.Parse.{signed_digits_value}
 use Rattle.clap.specs.ValueTests.{accepts}
@@ -51,6 +51,18 @@ words_of name = unwrap_or (option_map (λ s. map (λ w. w.id) s.1) (find (λ s. 
 
 abbrev pub is_called : Text → Bool
 is_called name = is_some (find (λ s. bytes_eq s.0 name) subcommands)
+
+-- the word behind so many, and the empty text where there is none
+abbrev pub word_at : List Text → ℕ → Text
+word_at what i = unwrap_or (slice_get what i) []
+
+-- the subcommand asks to serve, and so for no action
+abbrev pub asks_to_serve : List Text → Bool
+asks_to_serve what = bytes_eq (word_at what 0) (codes "serve")
+
+-- the file that a publish names
+abbrev pub file_of : List Text → Option Text
+file_of what = if bytes_eq (word_at what 0) (codes "publish") then Some (word_at what 1) else None
 
 -- the name of a subcommand, and as many words as it has
 abbrev pub IsWhole : List Text → Type 0

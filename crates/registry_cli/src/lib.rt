@@ -1,9 +1,12 @@
-//! The program's words and what it prints: what a line of words means, how roles, levels and
-//! statuses are spelled, and what is printed of an answer.
+//! The program's words and what it prints: what a line of words means and asks for, how roles,
+//! levels and statuses are spelled, and what is printed of an answer.
 #![tactic(auto)]
 
+mod action;
 mod command;
 mod meaning;
+mod part;
+mod parts;
 mod printed;
 mod reading;
 pub mod spelling;
@@ -11,6 +14,7 @@ mod subcommand;
 mod usage;
 mod words;
 
+pub use crate::action::action_of;
 pub use crate::meaning::{Line, Who};
 pub use crate::printed::{Printed, render};
 pub use crate::reading::line;

@@ -1,5 +1,9 @@
 //! What a line of words means.
 
+ghost use Rattle.std.specs.Prelude.{◌≡◌, option_map};
+ghost use Rattle.registry_cli.specs.Lines as spec;
+
+use crate::parts::{is_same, word_at};
 use crate::words::Words;
 use registry_names::{Moment, Text};
 
@@ -26,4 +30,26 @@ pub struct Line {
     /// The subcommand's name and its words in their order, with what stands for those that were
     /// left out. Of `serve` these are the port and the number of connections.
     pub what: Words,
+}
+
+impl Line {
+    /// Whether the line asks to serve, and so for no action.
+    pub fn asks_to_serve(&self) -> bool
+        ensures { result ≡ spec.asks_to_serve self.now.what }
+    {
+        is_same(word_at(self.what.as_slice(), 0), "serve")
+    }
+
+    /// The path of the file that the line names, of which an action is read. None for every other
+    /// subcommand than `publish`.
+    pub fn file(&self) -> Option<&str>
+        ensures { option_map (λ path. path.now) result ≡ spec.file_of self.now.what }
+    {
+        let words = self.what.as_slice();
+        if is_same(word_at(words, 0), "publish") {
+            Some(word_at(words, 1))
+        } else {
+            None
+        }
+    }
 }

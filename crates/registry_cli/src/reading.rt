@@ -1,7 +1,6 @@
 //! Reading words.
 
 ghost use Rattle.std.specs.Prelude.{◌≡◌, [], ◌∷◌, true, false, map, option_and_then, option_map, IfErr, IfOk};
-ghost use Rattle.std.specs.Str.{bytes_eq};
 ghost use Rattle.clap.specs.Faults.{fault_of};
 ghost use Rattle.clap.specs.Matches.{found_of};
 ghost use Rattle.clap.specs.Simple.{subcommand_rows_of};
@@ -14,6 +13,7 @@ ghost use Rattle.registry_cli.specs.Usages.{IsMemoryOrBoth, said_of_both};
 
 use crate::command::registry;
 use crate::meaning::{Line, Who};
+use crate::parts::is_same;
 use crate::subcommand::{Word, called};
 use crate::usage::Usage;
 use crate::words::Words;
@@ -83,12 +83,6 @@ fn value<'a>(matches: &ArgMatches<'a>, id: &str) -> &'a str
         Some(text) => text,
         None => "",
     }
-}
-
-fn is_same(text: &str, other: &str) -> bool
-    ensures { result ≡ bytes_eq text.now other.now }
-{
-    text == other
 }
 
 fn is_operator(matches: &ArgMatches<'_>) -> bool

@@ -1,15 +1,20 @@
-//! Why the program ends without a packument.
+//! Why the program ends without an answer.
 
-use registry_names::{Fault, ReadStop, Refusal, Stop};
+use registry_cli::Usage;
+use registry_names::{Fault, ReadStop, Refusal, Stop, Text};
 use std::alloc::AllocError;
 
 /// Why nothing is printed on standard output.
-#[derive(Clone, Copy)]
+#[derive(Drop)]
 pub enum Ending {
-    /// The body is turned away.
+    /// What is asked is turned away.
     Refused(Refusal),
-    /// The words are none that the program takes.
-    Usage,
+    /// The words are none that the program takes, or ask for help: what is said of them.
+    Words(Text),
+    /// The words are no texts.
+    NoTexts,
+    /// The words ask to serve, which can't be asked yet.
+    CantServe,
     /// The machine failed.
     Fault(Failure),
 }
@@ -19,8 +24,10 @@ pub enum Ending {
 pub enum Failure {
     /// The registry.
     Registry(Fault),
-    /// Standard input.
+    /// Standard input, or the machine's clock.
     Read,
+    /// A file that the words name.
+    File,
     /// Standard output.
     Write,
 }
@@ -34,6 +41,15 @@ impl From<Fault> for Ending {
 impl From<AllocError> for Ending {
     fn from(error: AllocError) -> Ending {
         Ending::from(Fault::from(error))
+    }
+}
+
+impl From<Usage> for Ending {
+    fn from(usage: Usage) -> Ending {
+        match usage {
+            Usage::Words(said) => Ending::Words(said),
+            Usage::Memory => Ending::from(Fault::Memory),
+        }
     }
 }
 

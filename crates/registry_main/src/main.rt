@@ -1,12 +1,15 @@
 //! The registry as a program: without words it publishes the body on standard input to an empty
-//! registry in memory, and prints the packument of the package on standard output.
+//! registry in memory, and prints the packument of the package on standard output; with words it
+//! answers what they ask for.
 #![tactic(auto)]
 
 mod ending;
+mod moment;
 mod program;
 mod publication;
 #[cfg(test)]
 mod tests;
+mod words;
 
 use ending::Ending;
 use registry_names::{Fault, FromRead, Text, ToWrite};
@@ -20,7 +23,7 @@ fn main(rt: HostRuntime) -> ExitCode {
     let mut input = FromRead::new(rt.stdin());
     let mut output = ToWrite::new(rt.stdout());
     let mut errors = ToWrite::new(rt.stderr());
-    let status = match words(&rt) {
+    let status = match given(&rt) {
         Ok(words) => program::program(
             &rt,
             rt.alloc(),
@@ -29,19 +32,19 @@ fn main(rt: HostRuntime) -> ExitCode {
             &mut output,
             &mut errors,
         ),
-        Err(ending) => program::report(&mut errors, ending),
+        Err(ending) => program::report(&mut errors, &ending),
     };
     ExitCode::from(status)
 }
 
 // The words after the program's name.
-fn words<R: Env + AllocGlobal>(rt: &R) -> Result<Vec<Text>, Ending> {
+fn given<R: Env + AllocGlobal>(rt: &R) -> Result<Vec<Text>, Ending> {
     let given = match env::args(rt) {
         Ok(given) => given,
         Err(error) if error.kind() == ErrorKind::OutOfMemory => return Err(Ending::from(
             Fault::Memory,
         )),
-        Err(_) => return Err(Ending::Usage),
+        Err(_) => return Err(Ending::NoTexts),
     };
     let mut words = Vec::new(rt.alloc());
     for word in given.skip(1) {

@@ -1,5 +1,7 @@
 //! The program over ends in memory, and over ends that fail.
 
+mod lines;
+
 use crate::program::program;
 use registry_names::{FromRead, Text, ToWrite};
 use std::alloc::{AllocError, Global};
@@ -39,7 +41,7 @@ struct Case {
     errors: &'static str,
 }
 
-static CASES: [Case; 8] = [
+static CASES: [Case; 7] = [
     Case {
         shows: "a body is published, and its packument printed",
         words: &[],
@@ -91,16 +93,6 @@ static CASES: [Case; 8] = [
         errors: "refused: TooLarge\n",
     },
     Case {
-        shows: "there are no words to be given",
-        words: &["nonsense"],
-        text: BODY,
-        times: 1,
-        failing: Failing::None,
-        status: 2,
-        output: "",
-        errors: "usage: registry < BODY\n",
-    },
-    Case {
         shows: "an input that breaks is a fault",
         words: &[],
         text: BODY,
@@ -140,7 +132,7 @@ fn words(alloc: Global, texts: &[&str]) -> Result<Vec<Text>, AllocError> {
 }
 
 // Whether the program leaves what the case says, with these words.
-fn leaves_it<R>(rt: &R, alloc: Global, words: &[Text], case: &Case) -> Result<(), Fail> {
+fn leaves_it(rt: &HostRuntime, alloc: Global, words: &[Text], case: &Case) -> Result<(), Fail> {
     let text = case.text.repeat(alloc, case.times)?;
     let input = Input::new(text.as_bytes(), case.failing);
     let mut output = Output::new(alloc, case.failing);

@@ -30,10 +30,6 @@ before_reads a b c one two = record {
 pub form_after : (a b : Shown) → (HasCleanDisk b → HasCleanDisk a) → (HasCleanDisk b → IsAsBefore a b) → Ready schema a → Ready schema b
 form_after a b clean it form now on = let same = it now in same.ready (form (clean now) (same.committed.was_open on))
 
--- a query, and then a call that may need none, each as long as the disk is clean
-pub reads_on : (a b c : Shown) → (HasCleanDisk c → HasCleanDisk b) → (HasCleanDisk b → Reads schema a b) → (HasCleanDisk c → IsAsBefore b c) → HasCleanDisk c → Reads schema a c
-reads_on a b c back one two clean = reads_as_before a b c (one (back clean)) (two clean)
-
 -- two calls that changed nothing
 pub before_then : (a b c : Shown) → IsAsBefore a b → IsAsBefore b c → IsAsBefore a c
 before_then a b c one two = record {

@@ -1,6 +1,7 @@
 //! Lines of words, what they mean, and what is said of wrong ones. The words are those of
 //! `docs/WORDS.md`.
 
+mod asked;
 mod help;
 mod wrong;
 
@@ -96,7 +97,7 @@ fn is_meant(alloc: Global, case: &Case) -> Result<(), Fail> {
 }
 
 /// Lines that have no options and leave no word out, one of each subcommand: they mean themselves.
-static WHOLE: [&'static [&'static str]; 27] = [
+static WHOLE: [&'static [&'static str]; 25] = [
     &["user-add", "ann"],
     &["token-add", "ann", "npm_ann_000000001"],
     &["org-create", "lab", "ann"],
@@ -114,8 +115,6 @@ static WHOLE: [&'static [&'static str]; 27] = [
     &["publish", "body.json"],
     &["tag-set", "@lab/kit", "next", "1.1.0"],
     &["tag-rm", "@lab/kit", "next"],
-    &["deprecate", "@lab/kit", "1.x", "use 2.x"],
-    &["withdraw", "@lab/kit", "1.0.0"],
     &["packument", "@lab/kit"],
     &["version-doc", "@lab/kit", "latest"],
     &["archive", "@lab/kit", "1.0.0"],
@@ -243,18 +242,18 @@ static LINES: [Case; 18] = [
         what: &["serve", "8080", "1000000"],
     },
     Case {
-        words: &["deprecate", "kit", "<2.0.0", ""],
+        words: &["archive", "kit", ""],
         db: "registry.db",
         who: "nobody",
         at: None,
-        what: &["deprecate", "kit", "<2.0.0", ""],
+        what: &["archive", "kit", ""],
     },
     Case {
-        words: &["deprecate", "kit", "1.x", "--", "-- old --"],
+        words: &["version-doc", "kit", "--", "-- old --"],
         db: "registry.db",
         who: "nobody",
         at: None,
-        what: &["deprecate", "kit", "1.x", "-- old --"],
+        what: &["version-doc", "kit", "-- old --"],
     },
     Case {
         words: &["token-add", "--", "ann", "-npm_ann_000000001"],

@@ -1,4 +1,4 @@
-use Rattle.std.proofs.Common.{◌≡◌, ◌∙◌, List, [], Bool, false, sym, subst, rules}
+use Rattle.std.proofs.Common.{◌≡◌, List, [], Bool, false, sym, subst, rules}
 use Rattle.std.proofs.lemmas.Result.{IfOk-weaker}
 use Rattle.registry_access.specs.declared.caller.Caller.TheVariants.{User}
 use Rattle.registry_access.specs.declared.grant.Grant.{Grant}

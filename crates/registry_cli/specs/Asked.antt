@@ -1,0 +1,98 @@
+-- What a line asks for.
+use Rattle.std.specs.Prelude.{ℕ, List, Option, Some, None, MatchResult, codes, if◌then◌else◌}
+use Rattle.std.specs.Str.{bytes_eq}
+use Rattle.registry_names.specs.Texts.{Text}
+use Rattle.registry_publish.specs.Form.{FormParts, IsFormOf, StopsForm}
+use Rattle.registry_rules.specs.declared.request.Action.{Action}
+use Rattle.registry_rules.specs.declared.request.Action.TheVariants as action
+use Rattle.registry_rules.specs.declared.request.Credential.{Credential}
+use Rattle.registry_rules.specs.declared.request.Credential.TheVariants as credential
+use Rattle.registry_cli.specs.Lines.{word_at}
+use Rattle.registry_cli.specs.Parts.{Reading, four, gives, one, read_then, reads_asked, reads_ident, reads_level, reads_name, reads_role, reads_status, reads_tag, reads_token, reads_version, three, two}
+use Rattle.registry_cli.specs.declared.action.Verb.{Verb}
+use Rattle.registry_cli.specs.declared.action.Verb.TheVariants.{UserAdd, TokenAdd, OrgCreate, OrgSet, OrgRemove, TeamCreate, TeamDestroy, TeamAdd, TeamRemove, Grant, Revoke, SetAccess, OwnerAdd, OwnerRemove, Publish, TagSet, TagRemove, Packument, VersionDoc, Archive, Tags, Members, Teams, TeamMembers, TeamPackages}
+use Rattle.registry_cli.specs.declared.meaning.Line.{Line}
+use Rattle.registry_cli.specs.declared.meaning.Who.{Who}
+use Rattle.registry_cli.specs.declared.meaning.Who.TheVariants as who
+
+-- ---- who asks
+
+abbrev pub reads_who : Who → Reading Credential
+reads_who who.Operator = gives credential.Operator
+reads_who (who.User name) = read_then (reads_ident name) (λ user. gives (credential.User user))
+reads_who who.Anonymous = gives credential.Anonymous
+
+-- ---- what the subcommands ask for
+
+abbrev pub verb_of : Text → Option Verb
+verb_of name =
+    if bytes_eq name (codes "user-add") then Some UserAdd else (
+    if bytes_eq name (codes "token-add") then Some TokenAdd else (
+    if bytes_eq name (codes "org-create") then Some OrgCreate else (
+    if bytes_eq name (codes "org-set") then Some OrgSet else (
+    if bytes_eq name (codes "org-rm") then Some OrgRemove else (
+    if bytes_eq name (codes "team-create") then Some TeamCreate else (
+    if bytes_eq name (codes "team-destroy") then Some TeamDestroy else (
+    if bytes_eq name (codes "team-add") then Some TeamAdd else (
+    if bytes_eq name (codes "team-rm") then Some TeamRemove else (
+    if bytes_eq name (codes "grant") then Some Grant else (
+    if bytes_eq name (codes "revoke") then Some Revoke else (
+    if bytes_eq name (codes "access") then Some SetAccess else (
+    if bytes_eq name (codes "owner-add") then Some OwnerAdd else (
+    if bytes_eq name (codes "owner-rm") then Some OwnerRemove else (
+    if bytes_eq name (codes "publish") then Some Publish else (
+    if bytes_eq name (codes "tag-set") then Some TagSet else (
+    if bytes_eq name (codes "tag-rm") then Some TagRemove else (
+    if bytes_eq name (codes "packument") then Some Packument else (
+    if bytes_eq name (codes "version-doc") then Some VersionDoc else (
+    if bytes_eq name (codes "archive") then Some Archive else (
+    if bytes_eq name (codes "tags") then Some Tags else (
+    if bytes_eq name (codes "members") then Some Members else (
+    if bytes_eq name (codes "teams") then Some Teams else (
+    if bytes_eq name (codes "team-members") then Some TeamMembers else (
+    if bytes_eq name (codes "team-packages") then Some TeamPackages else (
+    None)))))))))))))))))))))))))
+
+abbrev pub reads_form : List ℕ → Reading FormParts
+reads_form body result = MatchResult result (IsFormOf body) (StopsForm body)
+
+-- the words behind the subcommand's name, in their order, and what they ask for
+abbrev pub asked : Verb → List Text → List ℕ → Reading Action
+asked UserAdd words body = read_then (one reads_ident words) (λ p. gives (action.UserAdd p))
+asked TokenAdd words body = read_then (two reads_ident reads_token words) (λ p. gives (action.TokenAdd p.0 p.1))
+asked OrgCreate words body = read_then (two reads_ident reads_ident words) (λ p. gives (action.OrgCreate p.0 p.1))
+asked OrgSet words body = read_then (three reads_ident reads_ident reads_role words) (λ p. gives (action.OrgSet p.0 p.1 p.2))
+asked OrgRemove words body = read_then (two reads_ident reads_ident words) (λ p. gives (action.OrgRemove p.0 p.1))
+asked TeamCreate words body = read_then (two reads_ident reads_ident words) (λ p. gives (action.TeamCreate p.0 p.1))
+asked TeamDestroy words body = read_then (two reads_ident reads_ident words) (λ p. gives (action.TeamDestroy p.0 p.1))
+asked TeamAdd words body = read_then (three reads_ident reads_ident reads_ident words) (λ p. gives (action.TeamAdd p.0 p.1 p.2))
+asked TeamRemove words body = read_then (three reads_ident reads_ident reads_ident words) (λ p. gives (action.TeamRemove p.0 p.1 p.2))
+asked Grant words body = read_then (four reads_ident reads_ident reads_name reads_level words) (λ p. gives (action.Grant p.0 p.1 p.2 p.3))
+asked Revoke words body = read_then (three reads_ident reads_ident reads_name words) (λ p. gives (action.Revoke p.0 p.1 p.2))
+asked SetAccess words body = read_then (two reads_name reads_status words) (λ p. gives (action.SetAccess p.0 p.1))
+asked OwnerAdd words body = read_then (two reads_name reads_ident words) (λ p. gives (action.OwnerAdd p.0 p.1))
+asked OwnerRemove words body = read_then (two reads_name reads_ident words) (λ p. gives (action.OwnerRemove p.0 p.1))
+asked Publish words body = read_then (reads_form body) (λ form. gives (action.Publish form))
+asked TagSet words body = read_then (three reads_name reads_tag reads_version words) (λ p. gives (action.TagSet p.0 p.1 p.2))
+asked TagRemove words body = read_then (two reads_name reads_tag words) (λ p. gives (action.TagRemove p.0 p.1))
+asked Packument words body = read_then (one reads_name words) (λ p. gives (action.Packument p))
+asked VersionDoc words body = read_then (two reads_name reads_asked words) (λ p. gives (action.VersionDoc p.0 p.1))
+asked Archive words body = read_then (two reads_name reads_version words) (λ p. gives (action.Archive p.0 p.1))
+asked Tags words body = read_then (one reads_name words) (λ p. gives (action.Tags p))
+asked Members words body = read_then (one reads_ident words) (λ p. gives (action.Members p))
+asked Teams words body = read_then (one reads_ident words) (λ p. gives (action.Teams p))
+asked TeamMembers words body = read_then (two reads_ident reads_ident words) (λ p. gives (action.TeamMembers p.0 p.1))
+asked TeamPackages words body = read_then (two reads_ident reads_ident words) (λ p. gives (action.TeamPackages p.0 p.1))
+
+abbrev pub reads_verb : Option Verb → List Text → List ℕ → Reading Action
+reads_verb (Some verb) words body = asked verb words body
+reads_verb None words body = λ result. ⊥
+
+abbrev pub reads_action : List Text → List ℕ → Reading Action
+reads_action words body = reads_verb (verb_of (word_at words 0)) words body
+
+-- ---- the line
+
+-- the user's name first, then the words from left to right
+abbrev pub reads_line : Line → List ℕ → Reading (Credential × Action)
+reads_line line body = read_then (reads_who line.who) (λ who. read_then (reads_action line.what body) (λ what. gives (who, what)))

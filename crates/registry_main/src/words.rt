@@ -1,0 +1,101 @@
+//! What the program does where it is given words.
+
+ghost use Rattle.std.specs.Prelude.{◌≡◌, false};
+ghost use Rattle.registry_cli.specs.Lines.{IsWhole, asks_to_serve};
+
+use crate::ending::{Ending, Failure};
+use crate::moment::moment;
+use crate::program::MOST_READ;
+use registry_cli::{Line, Printed, action_of, line, render};
+use registry_desk::Registry;
+use registry_names::{ByteOut, Fault, FromRead, Moment, ReadStop, Text, read_whole, write_whole};
+use registry_rules::{Reply, Request};
+use std::alloc::Global;
+use std::fs;
+use std::io::ErrorKind;
+
+/// Answers what the words ask for, prints the answer, and gives the exit status: 0, or 1 where
+/// it is turned away.
+///
+/// The moment is read first, where the words say none, then the file that they name, and then the
+/// texts in their order.
+pub fn answer_words<O: ByteOut, E: ByteOut>(
+    rt: &HostRuntime,
+    alloc: Global,
+    words: &[Text],
+    output: &mut O,
+    errors: &mut E,
+) -> Result<u8, Ending> {
+    let line = line(alloc, words)?;
+    if line.asks_to_serve() {
+        return Err(Ending::CantServe);
+    }
+    let request = request(rt, alloc, &line)?;
+    let reply = reply(alloc, &request)?;
+    print(&render(alloc, &reply)?, output, errors)
+}
+
+// What a line asks for, and when.
+fn request(rt: &HostRuntime, alloc: Global, line: &Line) -> Result<Request, Ending>
+    requires whole { IsWhole line.now.what }
+    requires asks { asks_to_serve line.now.what ≡ false }
+{
+    let at = asked_at(rt, line)?;
+    let body = body(rt, alloc, line)?;
+    let (who, what) = action_of(alloc, line, &body)?;
+    Ok(Request { at, who, what })
+}
+
+// When a line asks: at the moment that it says, or now.
+fn asked_at(rt: &HostRuntime, line: &Line) -> Result<Moment, Ending> {
+    match line.at {
+        Some(at) => Ok(at),
+        None => match moment(rt) {
+            Some(now) => Ok(now),
+            None => Err(Ending::Fault(Failure::Read)),
+        },
+    }
+}
+
+// The bytes of the file that a line names. Without a file there are none.
+fn body(rt: &HostRuntime, alloc: Global, line: &Line) -> Result<Vec<u8>, Ending> {
+    match line.file() {
+        Some(path) => file_bytes(rt, alloc, path),
+        None => Ok(Vec::new(alloc)),
+    }
+}
+
+// The bytes of a file, at most one more than a body may have.
+fn file_bytes(rt: &HostRuntime, alloc: Global, path: &str) -> Result<Vec<u8>, Ending> {
+    let file = match fs::open(rt, path) {
+        Ok(file) => file,
+        Err(error) if error.kind() == ErrorKind::OutOfMemory => {
+            return Err(Ending::from(Fault::Memory));
+        }
+        Err(_) => return Err(Ending::Fault(Failure::File)),
+    };
+    match read_whole(alloc, &mut FromRead::new(file), MOST_READ) {
+        Ok(bytes) => Ok(bytes),
+        Err(ReadStop::Read) => Err(Ending::Fault(Failure::File)),
+        Err(ReadStop::Memory) => Err(Ending::from(Fault::Memory)),
+    }
+}
+
+// The reply of an empty registry in memory.
+fn reply(alloc: Global, request: &Request) -> Result<Reply, Ending> {
+    let mut registry = Registry::in_memory(alloc)?;
+    Ok(registry.apply(alloc, request)?)
+}
+
+// Prints an answer, and gives its exit status.
+fn print<O: ByteOut, E: ByteOut>(
+    printed: &Printed,
+    output: &mut O,
+    errors: &mut E,
+) -> Result<u8, Ending> {
+    if write_whole(output, printed.out.as_slice()).is_err() {
+        return Err(Ending::Fault(Failure::Write));
+    }
+    let _ = write_whole(errors, printed.err.as_str().as_bytes());
+    Ok(printed.status)
+}
