@@ -4,13 +4,16 @@
 //! the word `full` it prints how long publishes, packuments and the reading of bodies take.
 #![tactic(auto)]
 
+mod comparisons;
 mod failure;
 mod figures;
 mod measurement;
+mod people;
 mod release;
 mod requests;
 mod rounds;
 mod stage;
+mod turns;
 
 use failure::Failure;
 use std::env;

@@ -1,9 +1,9 @@
 //! Ten rounds of a publish and a packument.
 
 use crate::failure::Failure;
+use crate::people;
 use crate::release::{Archive, Release};
 use crate::requests::{packument, publish};
-use registry_desk::Registry;
 use registry_names::{Fault, Stop};
 use registry_rules::{Reply, Request};
 use std::alloc::{AllocError, Global};
@@ -22,13 +22,13 @@ pub fn print_rounds<R: Print>(rt: &R, alloc: Global) -> Result<(), Failure> {
 }
 
 fn outcomes(alloc: Global) -> Result<Vec<Result<Reply, Fault>>, Failure> {
-    let requests = requests(alloc)?;
-    let (_registry, outcomes) = Registry::run_in_memory(alloc, &requests)?;
-    Ok(outcomes)
+    let mut registry = people::registry(alloc)?;
+    Ok(registry.run(alloc, &requests(alloc)?)?)
 }
 
 fn release(version: u32) -> Release {
     Release {
+        organisation: None,
         package: 0,
         version,
     }
