@@ -6,6 +6,7 @@ use crate::measurement::{Measurement, start};
 use crate::people;
 use crate::release::{ARCHIVE, Archive, Release};
 use crate::stage::{Ask, Stage, print_stages};
+use crate::visits::print_visits;
 use registry_names::Stop;
 use registry_publish::PublishForm;
 use std::alloc::Global;
@@ -106,7 +107,8 @@ pub fn print_figures<R: Print + Clock>(rt: &R, alloc: Global) -> Result<(), Fail
     print_reading(rt, alloc, "reading a body of 4 MiB", 1_048_000, 10)?;
     print_asking(rt, alloc, &CROWD)?;
     print_asking(rt, alloc, &GROWTH)?;
-    print_comparisons(rt, alloc)
+    print_comparisons(rt, alloc)?;
+    print_visits(rt, alloc)
 }
 
 // How long the requests of these stages take on a new registry.

@@ -8,12 +8,14 @@ mod comparisons;
 mod failure;
 mod figures;
 mod measurement;
+mod organisations;
 mod people;
 mod release;
 mod requests;
 mod rounds;
 mod stage;
 mod turns;
+mod visits;
 
 use failure::Failure;
 use std::env;

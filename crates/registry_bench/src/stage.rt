@@ -79,12 +79,11 @@ pub fn ask_stages<S: Alter>(
 impl Stage {
     /// Its requests in turns: a share of the publishes in each, and all queries in each.
     pub fn turns(self, alloc: Global) -> Result<Turns, Stop> {
+        let what = String::from_str(alloc, self.what)?;
         let requests = self.requests(alloc)?;
         match self.ask {
-            Ask::Publish(_) => Ok(Turns::shared(self.what, requests)),
-            Ask::Packument | Ask::Archive => {
-                Ok(Turns::repeated(self.what, requests, Wanted::Answered))
-            }
+            Ask::Publish(_) => Ok(Turns::shared(what, requests)),
+            Ask::Packument | Ask::Archive => Ok(Turns::repeated(what, requests, Wanted::Answered)),
         }
     }
 

@@ -15,7 +15,7 @@ const TURNS: usize = 11;
 /// Requests of one kind, in turns.
 #[derive(Drop)]
 pub struct Turns {
-    what: &'static str,
+    what: String,
     requests: Vec<Request>,
     share: Share,
     wanted: Wanted,
@@ -33,7 +33,7 @@ enum Share {
 impl Turns {
     /// Requests that can be asked once, none of which is to be turned away: the first turn asks
     /// the first of them. Those that don't come out even aren't asked.
-    pub fn shared(what: &'static str, requests: Vec<Request>) -> Turns {
+    pub fn shared(what: String, requests: Vec<Request>) -> Turns {
         Turns {
             what,
             requests,
@@ -43,7 +43,7 @@ impl Turns {
     }
 
     /// Requests that are asked in each turn, and are to be answered so.
-    pub fn repeated(what: &'static str, requests: Vec<Request>, wanted: Wanted) -> Turns {
+    pub fn repeated(what: String, requests: Vec<Request>, wanted: Wanted) -> Turns {
         Turns {
             what,
             requests,
@@ -78,7 +78,7 @@ impl Turns {
     }
 
     fn print<R: Print>(&self, rt: &R, spread: Spread) -> Result<(), Failure> {
-        let (what, length) = (self.what, self.of(0).len());
+        let (what, length) = (self.what.as_str(), self.of(0).len());
         println!(rt; "{what}: {spread} ({TURNS} turns of {length})").or(Err(Failure::Print))
     }
 }
