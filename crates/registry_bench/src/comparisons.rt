@@ -14,18 +14,18 @@ struct Pair {
     smaller: Stage,
 }
 
-/// A package of a thousand versions, packages of ten, and packages of one.
+/// A package of a thousand versions, packages of ten behind it, and packages of one before it.
 static VERSIONS: [Stage; 3] = [
     Stage {
         what: "publish of 1000 versions of a package",
         ask: Ask::Publish(Archive::Long),
-        packages: (1_000, 1_001),
+        packages: (8_000, 8_001),
         versions: (1_000, 2_000),
     },
     Stage {
         what: "publish of 10 versions of each of 110 packages",
         ask: Ask::Publish(Archive::Long),
-        packages: (1_001, 1_111),
+        packages: (8_001, 8_111),
         versions: (1_000, 1_010),
     },
     Stage {
@@ -43,7 +43,7 @@ static OF_VERSIONS: [Pair; 3] = [
         larger: Stage {
             what: "archive of 1 kB from a package of 1000 versions",
             ask: Ask::Archive,
-            packages: (1_000, 1_001),
+            packages: (8_000, 8_001),
             versions: (1_000, 2_000),
         },
         smaller: Stage {
@@ -57,13 +57,13 @@ static OF_VERSIONS: [Pair; 3] = [
         larger: Stage {
             what: "packument of 1000 versions",
             ask: Ask::Packument,
-            packages: (1_000, 1_001),
+            packages: (8_000, 8_001),
             versions: (0, 20),
         },
         smaller: Stage {
             what: "packument of 10 versions",
             ask: Ask::Packument,
-            packages: (1_001, 1_111),
+            packages: (8_001, 8_111),
             versions: (0, 10),
         },
     },
@@ -71,13 +71,13 @@ static OF_VERSIONS: [Pair; 3] = [
         larger: Stage {
             what: "publish to a package of 1000 versions",
             ask: Ask::Publish(Archive::Shared),
-            packages: (1_000, 1_001),
+            packages: (8_000, 8_001),
             versions: (2_000, 2_220),
         },
         smaller: Stage {
             what: "publish to a package of 10 versions",
             ask: Ask::Publish(Archive::Shared),
-            packages: (1_001, 1_111),
+            packages: (8_001, 8_111),
             versions: (2_000, 2_002),
         },
     },
