@@ -36,8 +36,8 @@ static VERSIONS: [Stage; 3] = [
     },
 ];
 
-/// Publishes to a large package and to small ones, each version the last of its package, and
-/// archives and packuments of a large package and of small ones.
+/// Archives and packuments of a large package and of small ones, and publishes to it and to those
+/// that stand next to it, each version the last of its package.
 static OF_VERSIONS: [Pair; 3] = [
     Pair {
         larger: Stage {
@@ -77,8 +77,8 @@ static OF_VERSIONS: [Pair; 3] = [
         smaller: Stage {
             what: "publish to a package of 10 versions",
             ask: Ask::Publish(Archive::Shared),
-            packages: (8_001, 8_111),
-            versions: (2_000, 2_002),
+            packages: (8_001, 8_021),
+            versions: (2_000, 2_011),
         },
     },
 ];
