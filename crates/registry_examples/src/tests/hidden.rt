@@ -1,8 +1,9 @@
-//! All that strangers can ask about a hidden package and about a name that was never published,
-//! and that both are answered in the same way.
+//! All that can be asked about a hidden package and about a name that was never published. A
+//! stranger is answered the same to both, a member isn't.
 
 use crate::beginnings::LAB_KIT;
 use crate::example::{Ask, Who};
+use crate::tests::outcome::same;
 use crate::tests::{Outcome, action_of, all_at_once, are_the_same, credential_of, requests_of};
 use registry_access::Grant;
 use registry_names::{Moment, Status, Stop};
@@ -18,6 +19,14 @@ fn a_hidden_package_is_like_none(rt: HostRuntime) -> Result<(), Fail> {
         are_the_same(shows, &none, &hidden)?;
     }
     Ok(())
+}
+
+#[test]
+fn a_member_is_told_of_it(rt: HostRuntime) -> Result<(), Fail> {
+    let hidden = outcomes_about(rt.alloc(), Who::User("bob"), "@lab/kit")?;
+    let none = outcomes_about(rt.alloc(), Who::User("bob"), "@lab/none")?;
+    let told_alike = are_the_same("a member", &none, &hidden).is_ok();
+    same("a member", told_alike, false)
 }
 
 static STRANGERS: [(&str, Who); 5] = [
