@@ -13,11 +13,12 @@ use std::alloc::{AllocError, Global};
 use std::fmt;
 use std::ops::Range;
 
-/// How many packages there are. The first half of them is restricted, the others are public.
-pub const PACKAGES: u32 = 2_000;
+/// The packages: the number of the first and that behind the last. All have five digits, so that
+/// their names stand in the order of the numbers.
+const PACKAGES: (u32, u32) = (10_000, 12_000);
 
-/// How many of them are restricted.
-pub const RESTRICTED: u32 = 1_000;
+/// The number behind the last of those that are restricted. The others are public.
+const RESTRICTED_END: u32 = 11_000;
 
 /// A user who is in no organisation.
 pub const STRANGER: &str = "stranger";
@@ -89,7 +90,8 @@ impl Side {
         for organisation in self.organisations() {
             self.add_organisation(alloc, &mut registry, organisation)?;
         }
-        for package in 0..PACKAGES {
+        let (first, end) = PACKAGES;
+        for package in first..end {
             self.add_package(alloc, &mut registry, package)?;
         }
         Ok(registry)
@@ -198,7 +200,7 @@ fn set_status<S: Alter>(
     organisation: u32,
     release: Release,
 ) -> Result<(), Failure> {
-    let status = if release.package < RESTRICTED {
+    let status = if release.package < RESTRICTED_END {
         Status::Restricted
     } else {
         Status::Public

@@ -1,7 +1,7 @@
 //! How long requests about the packages of organisations take, by who asks.
 
 use crate::failure::Failure;
-use crate::organisations::{LAST, OWNER, PACKAGES, RESTRICTED, STRANGER, Side, member};
+use crate::organisations::{LAST, OWNER, STRANGER, Side, member};
 use crate::people::user;
 use crate::release::{Archive, Release};
 use crate::requests::{Wanted, packument_action, publish_action, request};
@@ -39,25 +39,25 @@ static VISITS: [Visit; 4] = [
     Visit {
         what: "a stranger's refused packument",
         who: Who::Stranger,
-        packages: (0, RESTRICTED),
+        packages: (10_000, 11_000),
         wanted: Wanted::NotFound,
     },
     Visit {
         what: "the operator's packument",
         who: Who::Operator,
-        packages: (RESTRICTED, PACKAGES),
+        packages: (11_000, 12_000),
         wanted: Wanted::Answered,
     },
     Visit {
         what: "an owner's packument",
         who: Who::Member(OWNER),
-        packages: (0, RESTRICTED),
+        packages: (10_000, 11_000),
         wanted: Wanted::Answered,
     },
     Visit {
         what: "a member's packument",
         who: Who::Member(DEVELOPER),
-        packages: (0, RESTRICTED),
+        packages: (10_000, 11_000),
         wanted: Wanted::Answered,
     },
 ];
@@ -119,7 +119,7 @@ fn print_publishes<R: Print + Clock, S: Alter>(
 
 fn publishes(alloc: Global, what: &str, side: Side, version: u32) -> Result<Turns, Stop> {
     let mut requests = Vec::new(alloc);
-    for package in 5_000..5_220 {
+    for package in 15_000..15_220 {
         requests.push(publish_last(alloc, package, version)?)?;
     }
     let what = format!(in alloc; "a member's publish of a {what}")?;
