@@ -1,4 +1,0 @@
-pub mod AnswerFacts
-pub mod BodyFacts
-pub mod CountFacts
-pub mod CourseFacts
