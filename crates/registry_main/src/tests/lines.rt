@@ -167,9 +167,8 @@ fn files_are_read(rt: HostRuntime) -> Result<(), Fail> {
         let mut words = words(alloc, &["--operator", "publish"])?;
         words.push(Text::from_str(alloc, path.as_str())?)?;
         let row: Row = ("a file is read", &["--operator", "publish"], 1, "", errors);
-        let left = leaves_it(&rt, alloc, &words, &case(&row, Failing::None));
+        leaves_it(&rt, alloc, &words, &case(&row, Failing::None))?;
         fs::remove_file(&rt, path.as_str())?;
-        left?;
     }
     Ok(())
 }
