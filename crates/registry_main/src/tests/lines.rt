@@ -2,6 +2,7 @@
 
 use super::{BODY, Case, Failing, leaves_it, words};
 use registry_names::Text;
+use std::alloc::Global;
 use std::test::Fail;
 use std::{env, fs, process};
 
@@ -46,7 +47,7 @@ static ROWS: [Row; 12] = [
     ),
     (
         "without a moment the clock is read",
-        &["--operator", "user-add", "ann"],
+        &["--operator", "user-add", "bob"],
         0,
         "{\"ok\":true}\n",
         "",
@@ -60,7 +61,7 @@ static ROWS: [Row; 12] = [
     ),
     (
         "a user who isn't known is nobody",
-        &["--as", "ann", "tags", "kit"],
+        &["--as", "eve", "tags", "kit"],
         1,
         "",
         "refused: NoCaller\n",
@@ -121,7 +122,7 @@ static ROWS: [Row; 12] = [
 static ROWS_OF_NO_OUTPUT: [Row; 2] = [
     (
         "an answer has no place",
-        &["--operator", "user-add", "ann"],
+        &["--operator", "user-add", "cid"],
         3,
         "",
         "fault: Write\n",
@@ -135,10 +136,26 @@ static ROWS_OF_NO_OUTPUT: [Row; 2] = [
     ),
 ];
 
-fn leave_it(rt: &HostRuntime, rows: &[Row], failing: Failing) -> Result<(), Fail> {
+// The path of a file that no other process has.
+fn path(rt: &HostRuntime, end: &str) -> Result<String, Fail> {
+    let folder = env::temp_dir(rt)?;
+    let id = process::id(rt.process());
+    Ok(format!(in rt.alloc(); "{}/registry-{id}{end}", folder.as_str())?)
+}
+
+// The words behind those that name the registry's file.
+fn line(alloc: Global, db: &str, given: &[&str]) -> Result<Vec<Text>, Fail> {
+    let mut line = words(alloc, &["--db", db])?;
+    for word in given {
+        line.push(Text::from_str(alloc, word)?)?;
+    }
+    Ok(line)
+}
+
+fn leave_it(rt: &HostRuntime, db: &str, rows: &[Row], failing: Failing) -> Result<(), Fail> {
     for row in rows {
         let case = case(row, failing);
-        let words = words(rt.alloc(), case.words)?;
+        let words = line(rt.alloc(), db, case.words)?;
         leaves_it(rt, rt.alloc(), &words, &case)?;
     }
     Ok(())
@@ -146,8 +163,9 @@ fn leave_it(rt: &HostRuntime, rows: &[Row], failing: Failing) -> Result<(), Fail
 
 #[test]
 fn lines_leave_what_they_should(rt: HostRuntime) -> Result<(), Fail> {
-    leave_it(&rt, &ROWS, Failing::None)?;
-    leave_it(&rt, &ROWS_OF_NO_OUTPUT, Failing::Output)
+    let db = path(&rt, "-lines.db")?;
+    leave_it(&rt, db.as_str(), &ROWS, Failing::None)?;
+    leave_it(&rt, db.as_str(), &ROWS_OF_NO_OUTPUT, Failing::Output)
 }
 
 static FILES: [(&'static str, &'static str); 3] = [
@@ -160,15 +178,17 @@ static FILES: [(&'static str, &'static str); 3] = [
 #[test]
 fn files_are_read(rt: HostRuntime) -> Result<(), Fail> {
     let alloc = rt.alloc();
-    let folder = env::temp_dir(&rt)?;
-    let path = format!(in alloc; "{}/{}.json", folder.as_str(), process::id(rt.process()))?;
+    let db = path(&rt, "-files.db")?;
+    let file = path(&rt, "-files.json")?;
     for (text, errors) in &FILES {
-        fs::write(&rt, path.as_str(), *text)?;
-        let mut words = words(alloc, &["--operator", "publish"])?;
-        words.push(Text::from_str(alloc, path.as_str())?)?;
+        fs::write(&rt, file.as_str(), *text)?;
         let row: Row = ("a file is read", &["--operator", "publish"], 1, "", errors);
+        let words = line(
+            alloc,
+            db.as_str(),
+            &["--operator", "publish", file.as_str()],
+        )?;
         leaves_it(&rt, alloc, &words, &case(&row, Failing::None))?;
-        fs::remove_file(&rt, path.as_str())?;
     }
-    Ok(())
+    Ok(fs::remove_file(&rt, file.as_str())?)
 }
