@@ -38,6 +38,7 @@ enum Failing {
 }
 
 /// How the program is called, and what it leaves.
+#[derive(Clone, Copy)]
 struct Case {
     shows: &'static str,
     words: &'static [&'static str],
