@@ -2,3 +2,4 @@ pub mod AnswerFacts
 pub mod BodyFacts
 pub mod CountFacts
 pub mod CourseFacts
+pub mod HistoryFacts

@@ -3,6 +3,7 @@ pub mod Answers
 pub mod Bodies
 pub mod Callers
 pub mod Courses
+pub mod Histories
 pub mod Parts
 pub mod Requests
 pub mod Servings
