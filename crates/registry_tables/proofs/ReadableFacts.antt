@@ -1,5 +1,5 @@
 -- Grants on packages that a caller reads, one after another.
-use Rattle.std.proofs.Common.{◌≡◌, true, false, List, [], ◌∷◌, ◌++◌, map, length, arith, refl, sym, ap, ◌∙◌, append_assoc, if◌then◌else◌}
+use Rattle.std.proofs.Common.{◌≡◌, true, List, [], ◌∷◌, ◌++◌, map, sym, ap, ◌∙◌, append_assoc, if◌then◌else◌}
 use Rattle.std.proofs.lemmas.List.{map-append}
 use Rattle.registry_access.specs.Levels.{reads}
 use Rattle.registry_access.specs.Positions.{level_in}
@@ -16,11 +16,3 @@ module _ (c : Contents) (who : Caller) (done : List Granted) (g : Granted) (rest
       ∙ append_assoc (map granted_entry done) (granted_entry g ∷ []) (readable c who (map granted_entry rest))
       ∙ sym (ap (λ b. map granted_entry done ++ (if b then granted_entry g ∷ readable c who (map granted_entry rest) else readable c who (map granted_entry rest))) t)
       ∙ so_far
-
-  -- and another is left
-  pub next_left : reads (level_in (access_of c) who g.name) ≡ false → map granted_entry done ++ readable c who (map granted_entry rest) ≡ readable c who (map granted_entry all)
-  next_left t = sym (ap (λ b. map granted_entry done ++ (if b then granted_entry g ∷ readable c who (map granted_entry rest) else readable c who (map granted_entry rest))) t) ∙ so_far
-
-pub nothing_left : {X : Type 0} (xs : List X) → length xs ≡ 0 → xs ≡ []
-nothing_left [] h = refl
-nothing_left (x ∷ xs) h = absurd (omega arith)
