@@ -46,7 +46,8 @@ impl<S: Alter> FrontDesk<S> {
     pub fn into_registry(self) -> Registry<S>
         ensures { result ≡ self }
     {
-        self.registry
+        let FrontDesk { registry } = self;
+        registry
     }
 }
 

@@ -106,8 +106,8 @@ module _ {D : Type 0} (answers : Answers D) where
   on-line M w on change keeps h = record {
     desk = h.desk;
     lines = λ k. either-line (IsLine (turns_of k w.log)) (k == on) (change (w.lines k)) (w.lines k)
-      (λ e. subst (λ (j : ℕ). IsLine (turns_of j w.log) (change (w.lines j))) (sym (is-same k on e)) (keeps (h.lines on)))
-      (λ _. h.lines k);
+        (λ e. subst (λ (j : ℕ). IsLine (turns_of j w.log) (change (w.lines j))) (sym (is-same k on e)) (keeps (h.lines on)))
+        (λ _. h.lines k);
     once = h.once;
     asked = h.asked;
   }
@@ -117,14 +117,14 @@ module _ {D : Type 0} (answers : Answers D) where
   on-turn M w on t rest N go took turn h = record {
     desk = (w.desk, h.desk, turn);
     lines = λ k. either IsLine (k == on) (t ∷ turns_of k w.log) (turns_of k w.log) (with_turn t rest (w.lines k)) (w.lines k)
-      (λ e. subst (λ (j : ℕ). IsLine (t ∷ turns_of j w.log) (with_turn t rest (w.lines j))) (sym (is-same k on e)) (line-turns (turns_of on w.log) (w.lines on) t rest go (h.asked on) took (h.lines on)))
-      (λ _. h.lines k);
+        (λ e. subst (λ (j : ℕ). IsLine (t ∷ turns_of j w.log) (with_turn t rest (w.lines j))) (sym (is-same k on e)) (line-turns (turns_of on w.log) (w.lines on) t rest go (h.asked on) took (h.lines on)))
+        (λ _. h.lines k);
     once = λ k. either-turns EndsOnce (k == on) (t ∷ turns_of k w.log) (turns_of k w.log)
-      (λ e. subst (λ (j : ℕ). GoOn (turns_of j w.log)) (sym (is-same k on e)) go)
-      (λ _. h.once k);
+        (λ e. subst (λ (j : ℕ). GoOn (turns_of j w.log)) (sym (is-same k on e)) go)
+        (λ _. h.once k);
     asked = λ k. either-turns OpensAsked (k == on) (t ∷ turns_of k w.log) (turns_of k w.log)
-      (λ _. (on-request answers t.cause w.desk _ t.outcome t.ended N turn, h.asked k))
-      (λ _. h.asked k);
+        (λ _. (on-request answers t.cause w.desk _ t.outcome t.ended N turn, h.asked k))
+        (λ _. h.asked k);
   }
 
   holds : (M : D) (w : World D) → Reached answers M w → Holds M w

@@ -3,3 +3,4 @@ pub mod BodyFacts
 pub mod CountFacts
 pub mod CourseFacts
 pub mod HistoryFacts
+pub mod LawFacts
