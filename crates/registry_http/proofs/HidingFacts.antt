@@ -62,8 +62,8 @@ not-found S r p is (who, known, hidden) =
 -- what was never published is read by nobody
 unheard-hidden : (S : State) (r : Request) (p : Text) → IsUnheardOf S r.who p → IsHidden S r.who p
 unheard-hidden S r p (who, known, new) =
-    let at = position_in S.access who p in
-    (who, known, ap (λ (o : Option Status). reads (level_by o (is_owner_or_admin at.role || at.maintainer) at.grant)) new)
+    let stands = position_in S.access who p in
+    (who, known, ap (λ (o : Option Status). reads (level_by o (is_owner_or_admin stands.role || stands.maintainer) stands.grant)) new)
 
 pub hidden-unheard_of : HiddenAreUnheardOf
 hidden-unheard_of S T r p closes is hidden new =
