@@ -3,6 +3,7 @@
 use crate::failure::Failure;
 use crate::measurement::{Measurement, start};
 use crate::release::{ARCHIVE, Archive, Release};
+use crate::requests::{ask, publisher};
 use crate::stage::{Ask, Stage, print_stages};
 use registry_desk::Registry;
 use registry_names::Stop;
@@ -221,6 +222,7 @@ pub fn print_figures<R: Print + Clock>(rt: &R, alloc: Global) -> Result<(), Fail
 // How long the requests of these stages take on a new registry.
 fn print_asking<R: Print + Clock>(rt: &R, alloc: Global, stages: &[Stage]) -> Result<(), Failure> {
     let mut registry = Registry::in_memory(alloc)?;
+    ask(alloc, &mut registry, &publisher(alloc)?)?;
     print_stages(rt, alloc, &mut registry, stages)
 }
 

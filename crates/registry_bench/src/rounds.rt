@@ -2,7 +2,7 @@
 
 use crate::failure::Failure;
 use crate::release::{Archive, Release};
-use crate::requests::{packument, publish};
+use crate::requests::{packument, publish, publisher};
 use registry_desk::Registry;
 use registry_names::{Fault, Stop};
 use registry_rules::{Reply, Request};
@@ -36,6 +36,7 @@ fn release(version: u32) -> Release {
 
 fn requests(alloc: Global) -> Result<Vec<Request>, Stop> {
     let mut requests = Vec::new(alloc);
+    requests.push(publisher(alloc)?)?;
     for version in 0..ROUNDS {
         requests.push(publish(alloc, release(version), Archive::Shared)?)?;
         requests.push(packument(alloc, release(version))?)?;
@@ -43,9 +44,12 @@ fn requests(alloc: Global) -> Result<Vec<Request>, Stop> {
     Ok(requests)
 }
 
-// Whether the outcomes are those of the rounds.
+// Whether the outcomes are those of the rounds, behind the addition of the user who publishes.
 fn are_rounds(alloc: Global, outcomes: &[Result<Reply, Fault>]) -> Result<bool, AllocError> {
-    for (version, round) in (0..ROUNDS).zip(outcomes.chunks(2)) {
+    let [Ok(Reply::Done), rounds @ ..] = outcomes else {
+        return Ok(false);
+    };
+    for (version, round) in (0..ROUNDS).zip(rounds.chunks(2)) {
         if !is_round(alloc, round, release(version))? {
             return Ok(false);
         }

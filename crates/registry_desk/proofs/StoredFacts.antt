@@ -10,9 +10,9 @@ use Rattle.registry_tables.specs.Contents.{Contents, contents}
 use Rattle.registry_tables.specs.Effects.{registry_in, stored}
 use Rattle.registry_tables.specs.Archives.{HoldsArchives}
 use Rattle.registry_tables.specs.Needs.{HoldsNeeds}
-use Rattle.registry_desk.specs.Promises.{Answered, IsSure, Keeps, KeepsForm, Moves, RanTo, Served, Stays, StaysRun, Stepped, Stored, SurvivesOne, SurvivesRun, WasOpen}
+use Rattle.registry_desk.specs.Promises.{Answered, HoldsSound, IsSure, Keeps, KeepsForm, KeepsSound, Moves, RanTo, Served, Stays, StaysRun, Stepped, Stored, SurvivesOne, SurvivesRun, WasOpen}
 use Rattle.registry_desk.specs.Resting.{SettlesOne, end_stored, ends_replied, next_stored, settled_by}
-use Rattle.registry_history.specs.Runs.{Outcome, Answers, next}
+use Rattle.registry_history.specs.Runs.{Outcome, Answers, IsAnswer, next}
 use Rattle.registry_history.proofs.RunFacts.{ran_none, ran_push}
 
 -- ---- one request more
@@ -50,6 +50,11 @@ on_reply : (P : Type 0) (o : Outcome) → OnOk o P → IsTrue (is_ok o) → P
 on_reply P (Ok reply) holds replied = holds
 on_reply P (Err fault) holds replied = absurd (true≢false (sym replied))
 
+-- a fault is an answer to all
+answer_of : (T : State) (r : Request) (o : Outcome) (P : Type 0) → OnOk o P → (P → IsAnswer T r o) → IsAnswer T r o
+answer_of T r (Ok reply) P on answered = answered on
+answer_of T r (Err fault) P on answered = tt
+
 -- ---- all that holds of a request, and of a run
 
 pub record HasAnswered (old new : Shown) (r : Request) (o : Outcome) : Type 0 where
@@ -58,6 +63,7 @@ pub record HasAnswered (old new : Shown) (r : Request) (o : Outcome) : Type 0 wh
   pub opened : WasOpen old new
   pub step : Stepped old new r o
   pub moves : Moves old new r o
+  pub sound : KeepsSound old new
   pub form : KeepsForm old new
   pub needs : Keeps old new HoldsNeeds
   pub archives : Keeps old new HoldsArchives
@@ -67,6 +73,7 @@ pub record HasAnswered (old new : Shown) (r : Request) (o : Outcome) : Type 0 wh
 pub record HasRun (old new : Shown) (rs : List Request) (os : List Outcome) : Type 0 where
   pub ran : RanTo old new rs os
   pub stored : Stored old new rs os
+  pub sound : KeepsSound old new
   pub form : KeepsForm old new
   pub needs : Keeps old new HoldsNeeds
   pub archives : Keeps old new HoldsArchives
@@ -75,11 +82,12 @@ pub record HasRun (old new : Shown) (rs : List Request) (os : List Outcome) : Ty
 
 pub has_run_none : (s : Shown) → HasRun s s [] []
 has_run_none s = record {
-  ran = λ clean. ran_none (registry_in s) s.is_open;
-  stored = λ clean on. refl;
+  ran = λ sound clean. ran_none (registry_in s) s.is_open;
+  stored = λ sound clean on. refl;
+  sound = λ sound clean on. sound;
   form = λ clean on kept. kept;
-  needs = λ clean on holds. holds;
-  archives = λ clean on holds. holds;
+  needs = λ sound clean on holds. holds;
+  archives = λ sound clean on holds. holds;
   survives = record { clean = omega arith; shield = λ h. h; counts = omega arith; limit = refl; closes = λ _ on. inl on; crash = λ _ db left. inl left };
   stays = λ clean replied. absurd (true≢false (sym replied));
 }
@@ -88,17 +96,21 @@ pub has_run_more : (old mid new : Shown) (rs : List Request) (os : List Outcome)
     → HasRun old mid rs os → HasAnswered mid new r o → HasRun old new (rs ++ r ∷ []) (os ++ o ∷ [])
 has_run_more old mid new rs os r o run made =
     let before : HasCleanDisk new → HasCleanDisk mid = λ clean. omega (arith, made.survives.clean, clean) in
-    let left : (db : Trees) → HasCleanDisk new → IsTrue mid.is_open × (contents db ≡ settled_by r (stored mid)) → SettlesOne (rs ++ r ∷ []) (os ++ o ∷ []) (stored old) (contents db) =
-    λ db clean is. settled_now (registry_in old) (stored old) (contents db) rs os r o (run.ran (before clean)).answers (is.1 ∙ ap (settled_by r) (run.stored (before clean) is.0)) in
+    let still : HoldsSound old → HasCleanDisk new → IsTrue mid.is_open → HoldsSound mid = λ sound clean on. run.sound sound (before clean) on in
+    let left : (db : Trees) → HasCleanDisk new → IsTrue mid.is_open × (HoldsSound mid → contents db ≡ settled_by r (stored mid)) → HoldsSound old → SettlesOne (rs ++ r ∷ []) (os ++ o ∷ []) (stored old) (contents db) =
+    λ db clean is sound. settled_now (registry_in old) (stored old) (contents db) rs os r o (run.ran sound (before clean)).answers
+    (is.1 (still sound clean is.0) ∙ ap (settled_by r) (run.stored sound (before clean) is.0)) in
     record {
-      ran = λ clean. ran_push (registry_in old) (registry_in mid) (registry_in new) mid.is_open new.is_open rs os r o (run.ran (before clean)) (made.answer clean) (made.served clean) (made.opened clean)
-          (made.moves clean);
-      stored = λ clean on. made.step clean on ∙ ap (next_stored r o) (run.stored (before clean) (made.opened clean on))
-          ∙ sym (end_stored_push (registry_in old) (stored old) rs os r o (run.ran (before clean)).answers);
+      ran = λ sound clean. ran_push (registry_in old) (registry_in mid) (registry_in new) mid.is_open new.is_open rs os r o (run.ran sound (before clean))
+          (answer_of (registry_in mid) r o (IsTrue mid.is_open) (made.served clean) (λ on. made.answer (still sound clean on) clean)) (made.served clean) (made.opened clean)
+          (λ on. made.moves (still sound clean (made.opened clean on)) clean on);
+      stored = λ sound clean on. made.step (still sound clean (made.opened clean on)) clean on ∙ ap (next_stored r o) (run.stored sound (before clean) (made.opened clean on))
+          ∙ sym (end_stored_push (registry_in old) (stored old) rs os r o (run.ran sound (before clean)).answers);
+      sound = λ sound clean on. made.sound (still sound clean (made.opened clean on)) clean on;
       form = λ clean on kept. made.form clean on (run.form (before clean) (made.opened clean on) kept);
-      needs = λ clean on holds. made.needs clean on (run.needs (before clean) (made.opened clean on) holds);
-      archives = λ clean on holds. made.archives clean on (run.archives (before clean) (made.opened clean on) holds);
-      survives = survives_then old mid new _ _ (λ db. SettlesOne (rs ++ r ∷ []) (os ++ o ∷ []) (stored old) (contents db))
-          (λ clean db settles. settled_before (registry_in old) (stored old) (contents db) rs os r o (run.ran (before clean)).answers settles) (λ clean db is. left db clean is) run.survives made.survives;
+      needs = λ sound clean on holds. made.needs (still sound clean (made.opened clean on)) clean on (run.needs sound (before clean) (made.opened clean on) holds);
+      archives = λ sound clean on holds. made.archives (still sound clean (made.opened clean on)) clean on (run.archives sound (before clean) (made.opened clean on) holds);
+      survives = survives_then old mid new _ _ (λ db. HoldsSound old → SettlesOne (rs ++ r ∷ []) (os ++ o ∷ []) (stored old) (contents db))
+          (λ clean db settles sound. settled_before (registry_in old) (stored old) (contents db) rs os r o (run.ran sound (before clean)).answers (settles sound)) (λ clean db is. left db clean is) run.survives made.survives;
       stays = λ clean replied. on_reply (IsSure new) o (made.stays clean) (subst IsTrue (last_replied os o) replied);
     }

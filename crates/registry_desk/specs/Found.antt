@@ -1,46 +1,51 @@
 -- When what was loaded for an action is what the registry holds of it.
-use Rattle.std.specs.Prelude.{◌≡◌, true, Some, map, option_map}
+use Rattle.std.specs.Prelude.{◌≡◌, true, Some, map, filter, option_map}
 use Rattle.registry_names.specs.Maps.{at, keys, of, pairs_of, parts, seen}
 use Rattle.registry_names.specs.Texts.{Text}
 use Rattle.registry_names.specs.Versions.{text_of_version}
+use Rattle.registry_names.specs.Tags.{latest}
+use Rattle.registry_access.specs.Levels.{reads}
+use Rattle.registry_access.specs.Positions.{level_in}
 use Rattle.registry_access.specs.declared.caller.Caller.{Caller}
-use Rattle.registry_rules.specs.Actions.{is_command}
+use Rattle.registry_access.specs.declared.grant.Grant.{Grant}
+use Rattle.registry_publish.specs.Form.{FormParts}
+use Rattle.registry_rules.specs.Actions.{is_command, version_of}
 use Rattle.registry_rules.specs.Callers.{caller_of}
-use Rattle.registry_rules.specs.Facts.{StandsAbout}
-use Rattle.registry_rules.specs.State.{State, Release, has_other_owner, has_team, has_user, is_in_team, is_member}
+use Rattle.registry_rules.specs.State.{State, Release, has_grant, has_other_maintainer, has_other_owner, has_team, has_user, is_in_team, is_live, is_member, is_owned_by, is_published, is_spent, stands}
 use Rattle.registry_rules.specs.declared.request.Action.{Action}
-use Rattle.registry_rules.specs.declared.request.Action.TheVariants.{Packument, VersionDoc, Archive, Tags, Members, Teams, TeamMembers}
+use Rattle.registry_rules.specs.declared.request.Action.TheVariants.{Packument, VersionDoc, Archive, Tags, Members, Teams, TeamMembers, TeamPackages}
 use Rattle.registry_rules.specs.declared.request.Request.{Request}
 use Rattle.registry_tables.specs.Contents.{Contents, registry_of}
 use Rattle.registry_tables.specs.Spelled.{document, document_entry, member_entry, row_entry, tag_entry}
+use Rattle.registry_tables.specs.Teams.{granted_entry}
 use Rattle.registry_history.specs.Answers.{asked_release}
-use Rattle.registry_desk.specs.declared.found.Candidate.{Candidate}
-use Rattle.registry_desk.specs.declared.found.Found.{Found}
-use Rattle.registry_desk.specs.declared.found.Place.{Place}
-use Rattle.registry_desk.specs.declared.found.Rows.{Rows}
-use Rattle.registry_desk.specs.declared.found.Rows.TheVariants as rows
+use Rattle.registry_desk.specs.declared.grants.Grantable.{Grantable}
+use Rattle.registry_desk.specs.declared.maintainers.Leaver.{Leaver}
+use Rattle.registry_desk.specs.declared.maintainers.Newcomer.{Newcomer}
+use Rattle.registry_desk.specs.declared.organisations.Candidate.{Candidate}
+use Rattle.registry_desk.specs.declared.packages.Taken.{Taken}
+use Rattle.registry_desk.specs.declared.teams.Place.{Place}
+use Rattle.registry_desk.specs.declared.rows.Rows.{Rows}
+use Rattle.registry_desk.specs.declared.rows.Rows.TheVariants as rows
 
--- The rows are those that answer the action. A command is answered by none
-abbrev pub AreRowsOf : Rows → State → Action → Type 0
-AreRowsOf (rows.Packument versions tags) S (Packument p) =
+-- The rows are those that answer the caller's action. A command is answered by none
+abbrev pub AreRowsOf : Rows → State → Caller → Action → Type 0
+AreRowsOf (rows.Packument versions tags) S who (Packument p) =
     (map row_entry versions.items ≡ map (seen document) (of S.live p)) × (map tag_entry tags.items ≡ of S.tags p)
-AreRowsOf (rows.Document found) S (VersionDoc p asked) = option_map document_entry found ≡ option_map document (asked_release S p asked)
-AreRowsOf (rows.Archive archive) S (Archive p v) = archive ≡ option_map (λ (r : Release). r.archive) (at S.live (p, text_of_version v))
-AreRowsOf (rows.Tags tags) S (Tags p) = map tag_entry tags.items ≡ of S.tags p
-AreRowsOf (rows.Members members) S (Members o) = map member_entry members.items ≡ of S.access.roles o
-AreRowsOf (rows.Names names) S (Teams o) = names.items ≡ keys (of S.access.teams o)
-AreRowsOf (rows.Names names) S (TeamMembers o t) = names.items ≡ keys (parts (pairs_of S.access.team_members o) t)
-AreRowsOf rows.Nothing S what = is_command what ≡ true
-AreRowsOf _ S _ = ⊥
+AreRowsOf (rows.Document found) S who (VersionDoc p asked) = option_map document_entry found ≡ option_map document (asked_release S p asked)
+AreRowsOf (rows.Archive archive) S who (Archive p v) = archive ≡ option_map (λ (r : Release). r.archive) (at S.live (p, text_of_version v))
+AreRowsOf (rows.Tags tags) S who (Tags p) = map tag_entry tags.items ≡ of S.tags p
+AreRowsOf (rows.Members members) S who (Members o) = map member_entry members.items ≡ of S.access.roles o
+AreRowsOf (rows.Names names) S who (Teams o) = names.items ≡ keys (of S.access.teams o)
+AreRowsOf (rows.Names names) S who (TeamMembers o t) = names.items ≡ keys (parts (pairs_of S.access.team_members o) t)
+AreRowsOf (rows.Grants granted) S who (TeamPackages o t) =
+    map granted_entry granted.items ≡ filter (λ (e : Text × Grant). reads (level_in S.access who e.0)) (parts (pairs_of S.access.grants o) t)
+AreRowsOf rows.Nothing S who what = is_command what ≡ true
+AreRowsOf _ S who _ = ⊥
 
 -- this is the caller of the request, by what is stored
 abbrev pub IsCallerIn : Contents → Request → Caller → Type 0
 IsCallerIn c r who = Some who ≡ caller_of (registry_of c) r.who
-
--- what decides the caller's action, and what answers it
-pub record IsFoundFor (found : Found) (S : State) (who : Caller) (what : Action) : Type 0 where
-  pub about : StandsAbout found.about S who what
-  pub rows : AreRowsOf found.rows S what
 
 -- ---- parts of what decides
 
@@ -55,3 +60,26 @@ pub record IsPlace (place : Place) (S : State) (o t u : Text) : Type 0 where
   pub team_exists : place.team_exists ≡ has_team S o t
   pub is_member : place.is_member ≡ is_member S o u
   pub is_in_team : place.is_in_team ≡ is_in_team S o t u
+
+-- the team is there or not, the package was published or never, and the team is granted something on it or nothing
+pub record IsGrantable (grantable : Grantable) (S : State) (o t p : Text) : Type 0 where
+  pub team_exists : grantable.team_exists ≡ has_team S o t
+  pub is_published : grantable.is_published ≡ is_published S p
+  pub stands : grantable.stands ≡ has_grant S o t p
+
+-- the version lives or not, was withdrawn or not, and its tag and `latest` stand or not
+pub record AreTaken (taken : Taken) (S : State) (f : FormParts) : Type 0 where
+  pub version_lives : taken.version_lives ≡ is_live S f.name (version_of f)
+  pub version_spent : taken.version_spent ≡ is_spent S f.name (version_of f)
+  pub tag_stands : taken.tag_stands ≡ stands S f.name f.tag
+  pub latest_stands : taken.latest_stands ≡ stands S f.name latest
+
+-- the user is there or not, and a maintainer already or not
+pub record IsNewcomer (newcomer : Newcomer) (S : State) (p u : Text) : Type 0 where
+  pub user_exists : newcomer.user_exists ≡ has_user S u
+  pub is_owner : newcomer.is_owner ≡ is_owned_by S p u
+
+-- the user is a maintainer or not, and another is or none
+pub record IsLeaver (leaver : Leaver) (S : State) (p u : Text) : Type 0 where
+  pub is_owner : leaver.is_owner ≡ is_owned_by S p u
+  pub other_owner : leaver.other_owner ≡ has_other_maintainer S p u

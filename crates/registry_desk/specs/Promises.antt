@@ -1,11 +1,12 @@
 -- What is promised of a request, and of a run, as long as the disk returns what was written to it. `old` and `new` are what the connection shows at the entry and at the exit.
+-- What decides a request is read from rows that refer to others. So it is promised where those are there (`IsSound`): of a new registry that is so, and every request keeps it.
 use Rattle.std.specs.Prelude.{◌≡◌, List, OnOk, IsTrue}
 use Rattle.sqlite_trees.specs.Tree.{Trees}
 use Rattle.sqlite.specs.State.{State as Shown, HasCleanDisk, Survives}
-use Rattle.registry_rules.specs.Kept.{IsKept}
+use Rattle.registry_rules.specs.Kept.{IsKept, IsSound}
 use Rattle.registry_rules.specs.State.{nothing}
 use Rattle.registry_rules.specs.declared.request.Request.{Request}
-use Rattle.registry_tables.specs.Contents.{Contents, contents, registry_of}
+use Rattle.registry_tables.specs.Contents.{Contents, contents}
 use Rattle.registry_tables.specs.Effects.{registry_in, stored}
 use Rattle.registry_history.specs.Headline.{Headline}
 use Rattle.registry_history.specs.History.{Entry, Legal, after}
@@ -25,24 +26,32 @@ Stays new o = HasCleanDisk new → OnOk o (IsSure new)
 abbrev pub StaysRun : Shown → List Outcome → Type 0
 StaysRun new os = HasCleanDisk new → IsTrue (ends_replied os) → IsSure new
 
+-- what stands refers to what is there
+abbrev pub HoldsSound : Shown → Type 0
+HoldsSound s = IsSound (registry_in s).access
+
 module _ (old new : Shown) where
   -- it was open where it is open
   abbrev pub WasOpen : Type 0
   WasOpen = HasCleanDisk new → IsTrue new.is_open → IsTrue old.is_open
 
+  -- what stands goes on to refer to what is there
+  abbrev pub KeepsSound : Type 0
+  KeepsSound = HoldsSound old → HasCleanDisk new → IsTrue new.is_open → HoldsSound new
+
   -- where this held of all that was stored, it still does
   abbrev pub Keeps : (Contents → Type 0) → Type 0
-  Keeps P = HasCleanDisk new → IsTrue new.is_open → P (stored old) → P (stored new)
+  Keeps P = HoldsSound old → HasCleanDisk new → IsTrue new.is_open → P (stored old) → P (stored new)
 
   -- what the registry holds stays in form
   abbrev pub KeepsForm : Type 0
-  KeepsForm = Keeps (λ c. IsKept (registry_of c))
+  KeepsForm = HasCleanDisk new → IsTrue new.is_open → IsKept (registry_in old) → IsKept (registry_in new)
 
   -- ---- one request
 
   -- a reply is the machine's
   abbrev pub Answered : Request → Outcome → Type 0
-  Answered r o = HasCleanDisk new → IsAnswer (registry_in old) r o
+  Answered r o = HoldsSound old → HasCleanDisk new → IsAnswer (registry_in old) r o
 
   -- a reply comes from an open registry alone
   abbrev pub Served : Outcome → Type 0
@@ -50,11 +59,11 @@ module _ (old new : Shown) where
 
   -- what is stored is changed as the outcome says
   abbrev pub Stepped : Request → Outcome → Type 0
-  Stepped r o = HasCleanDisk new → IsTrue new.is_open → stored new ≡ next_stored r o (stored old)
+  Stepped r o = HoldsSound old → HasCleanDisk new → IsTrue new.is_open → stored new ≡ next_stored r o (stored old)
 
   -- the registry's state goes on as the outcome says
   abbrev pub Moves : Request → Outcome → Type 0
-  Moves r o = HasCleanDisk new → IsTrue new.is_open → registry_in new ≡ next (registry_in old) r o
+  Moves r o = HoldsSound old → HasCleanDisk new → IsTrue new.is_open → registry_in new ≡ next (registry_in old) r o
 
   -- a legal history of what is held goes on with the request where it was accepted
   abbrev pub GrowsHistory : Request → Outcome → Type 0
@@ -63,17 +72,17 @@ module _ (old new : Shown) where
 
   -- a crash leaves what it could have left before, or what an open registry makes of the request
   abbrev pub SurvivesOne : Request → Type 0
-  SurvivesOne r = Survives old new (λ db. IsTrue old.is_open × (contents db ≡ settled_by r (stored old)))
+  SurvivesOne r = Survives old new (λ db. IsTrue old.is_open × (HoldsSound old → contents db ≡ settled_by r (stored old)))
 
   -- ---- a run
 
   -- each outcome is the machine's answer on what the earlier ones left, or a fault
   abbrev pub RanTo : List Request → List Outcome → Type 0
-  RanTo rs os = HasCleanDisk new → Ran (registry_in old) rs os new.is_open (registry_in new)
+  RanTo rs os = HoldsSound old → HasCleanDisk new → Ran (registry_in old) rs os new.is_open (registry_in new)
 
   -- what is stored is changed as the outcomes say
   abbrev pub Stored : List Request → List Outcome → Type 0
-  Stored rs os = HasCleanDisk new → IsTrue new.is_open → stored new ≡ end_stored rs os (stored old)
+  Stored rs os = HoldsSound old → HasCleanDisk new → IsTrue new.is_open → stored new ≡ end_stored rs os (stored old)
 
   -- of a registry of which nothing was asked yet
   abbrev pub HasHeadline : List Request → List Outcome → Type 0
@@ -86,4 +95,4 @@ module _ (old new : Shown) where
 
   -- a crash leaves what it could have left before, or what one of the requests settles on what the earlier ones left
   abbrev pub SurvivesRun : List Request → List Outcome → Type 0
-  SurvivesRun rs os = Survives old new (λ db. SettlesOne rs os (stored old) (contents db))
+  SurvivesRun rs os = Survives old new (λ db. HoldsSound old → SettlesOne rs os (stored old) (contents db))

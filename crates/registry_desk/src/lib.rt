@@ -5,8 +5,15 @@
 #![tactic(auto)]
 
 mod answer;
-mod found;
+mod facts;
+mod grants;
+mod maintainers;
+mod organisations;
+mod packages;
+mod people;
 mod registry;
 mod reply;
+mod rows;
+mod teams;
 
 pub use crate::registry::Registry;

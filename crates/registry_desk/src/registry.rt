@@ -4,13 +4,14 @@ ghost use Rattle.std.specs.Prelude.{◌≡◌, IfErr, IfOk, IsTrue, List, OnErr,
 ghost use Rattle.sqlite.specs.Held.{state};
 ghost use Rattle.sqlite.specs.State.{HasCleanDisk, Survives};
 ghost use Rattle.sqlite.specs.Steps.{IsEmpty, over_memory};
+ghost use Rattle.registry_rules.specs.Kept.{IsSound};
 ghost use Rattle.registry_tables.specs.Archives.{HoldsArchives};
 ghost use Rattle.registry_tables.specs.Contents.{contents};
 ghost use Rattle.registry_tables.specs.Effects.{registry_in, stored};
 ghost use Rattle.registry_tables.specs.Fresh.{fresh};
 ghost use Rattle.registry_tables.specs.Needs.{HoldsNeeds};
 ghost use Rattle.registry_history.specs.Headline.{Headline};
-ghost use Rattle.registry_desk.specs.Promises.{Answered, GrowsHistory, HasHeadline, Keeps, KeepsForm, Moves, RanTo, Served, Stays, StaysRun, Stepped, Stored, SurvivesOne, SurvivesRun, WasOpen, WritesHistory};
+ghost use Rattle.registry_desk.specs.Promises.{Answered, GrowsHistory, HasHeadline, Keeps, KeepsForm, KeepsSound, Moves, RanTo, Served, Stays, StaysRun, Stepped, Stored, SurvivesOne, SurvivesRun, WasOpen, WritesHistory};
 ghost use Rattle.registry_desk.specs.Resting.{Rests};
 
 use crate::answer::answered_inside;
@@ -57,6 +58,7 @@ impl Registry<MemStore> {
         ensures fresh { IfOk result (λ r. stored (state over_memory r) ≡ fresh) }
         ensures needs { IfOk result (λ r. HoldsNeeds (stored (state over_memory r))) }
         ensures archives { IfOk result (λ r. HoldsArchives (stored (state over_memory r))) }
+        ensures sound { IfOk result (λ r. IsSound (registry_in (state over_memory r)).access) }
         ensures served { IfOk result (λ r. IsTrue (state over_memory r).is_open) }
     {
         let Ok(mut conn) = Connection::open_in_memory(alloc) else {
@@ -87,7 +89,8 @@ impl<S: Alter> Registry<S> {
     /// has changed.
     ///
     /// What is said here holds as long as the disk returns what was written to it, which memory
-    /// always does. A crash leaves what it could have left before, or, once the commit was
+    /// always does; and of a registry where what stands refers to what is there, as in a new one:
+    /// every request keeps that. A crash leaves what it could have left before, or, once the commit was
     /// reached, what the request makes; after a reply that alone.
     pub fn apply(&mut self, alloc: Global, request: &Request) -> Result<Reply, Fault>
         ensures answer { Answered (state S.Store self.old) (state S.Store self.new)
@@ -100,6 +103,7 @@ impl<S: Alter> Registry<S> {
             request.now result }
         ensures history { GrowsHistory (state S.Store self.old) (state S.Store self.new)
             request.now result }
+        ensures sound { KeepsSound (state S.Store self.old) (state S.Store self.new) }
         ensures form { KeepsForm (state S.Store self.old) (state S.Store self.new) }
         ensures needs { Keeps (state S.Store self.old) (state S.Store self.new) HoldsNeeds }
         ensures archives { Keeps (state S.Store self.old) (state S.Store self.new) HoldsArchives }
@@ -129,6 +133,7 @@ impl<S: Alter> Registry<S> {
             (state S.Store self.new) requests.now outcomes.items) }
         ensures stored { IfOk result (λ outcomes. Stored (state S.Store self.old)
             (state S.Store self.new) requests.now outcomes.items) }
+        ensures sound { KeepsSound (state S.Store self.old) (state S.Store self.new) }
         ensures form { KeepsForm (state S.Store self.old) (state S.Store self.new) }
         ensures needs { Keeps (state S.Store self.old) (state S.Store self.new) HoldsNeeds }
         ensures archives { Keeps (state S.Store self.old) (state S.Store self.new) HoldsArchives }

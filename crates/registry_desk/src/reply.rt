@@ -1,27 +1,33 @@
 //! The reply to a request that isn't turned away.
 
-ghost use Rattle.std.specs.Prelude.{◌≡◌, ℕ, List as Sequence, Some, IfOk, map};
-ghost use Rattle.registry_names.specs.Maps.{of, seen};
+ghost use Rattle.std.specs.Prelude.{◌≡◌, ℕ, List as Sequence, Some, IfOk, filter, map};
+ghost use Rattle.registry_names.specs.Maps.{of, pairs_of, parts, seen};
 ghost use Rattle.registry_packument.specs.Documents.{document_text};
+ghost use Rattle.registry_access.specs.Levels.{reads};
+ghost use Rattle.registry_access.specs.Positions.{level_in};
+ghost use Rattle.registry_access.specs.declared.caller.Caller.{Caller};
+ghost use Rattle.registry_access.specs.declared.grant.Grant.{Grant as Right};
 ghost use Rattle.registry_rules.specs.State.{State};
 ghost use Rattle.registry_tables.specs.Spelled.{document, member_entry, row_entry, tag_entry};
+ghost use Rattle.registry_tables.specs.Teams.{granted_entry};
 ghost use Rattle.registry_history.specs.Answers as answers;
-ghost use Rattle.registry_history.specs.Answers.{members_in, packument_in, tags_in};
+ghost use Rattle.registry_history.specs.Answers.{members_in, packument_in, tags_in, team_packages_in};
 ghost use Rattle.registry_desk.specs.Found.{AreRowsOf};
 
-use crate::found::Rows;
+use crate::rows::Rows;
 use registry_names::{DistTag, Fault, Name, Text};
 use registry_packument::{
-    List, Member, PackHead, VersionRow, VersionRows, list_text, packument_text, version_text,
+    Granted, List, Member, PackHead, VersionRow, VersionRows, list_text, packument_text,
+    version_text,
 };
 use registry_rules::{Action, Reply};
 use registry_tables::DocumentRow;
 use std::alloc::Global;
 
-/// The reply to an action, of the rows that answer it.
+/// The reply to a caller's action, of the rows that answer it.
 pub(crate) fn reply(alloc: Global, what: &Action, rows: Rows) -> Result<Reply, Fault>
-    ensures { IfOk result (λ told. (S : State) → AreRowsOf rows S what.now
-        → told ≡ answers.reply S what.now) }
+    ensures { IfOk result (λ told. (S : State) (who : Caller) → AreRowsOf rows S who what.now
+        → told ≡ answers.reply S who what.now) }
 {
     match (what, rows) {
         (Action::Publish { .. }, _) => Ok(Reply::Created),
@@ -35,6 +41,11 @@ pub(crate) fn reply(alloc: Global, what: &Action, rows: Rows) -> Result<Reply, F
             | Action::TeamDestroy { .. }
             | Action::TeamAdd { .. }
             | Action::TeamRemove { .. }
+            | Action::Grant { .. }
+            | Action::Revoke { .. }
+            | Action::SetAccess { .. }
+            | Action::OwnerAdd { .. }
+            | Action::OwnerRemove { .. }
             | Action::TagSet { .. }
             | Action::TagRemove { .. },
             _,
@@ -52,6 +63,9 @@ pub(crate) fn reply(alloc: Global, what: &Action, rows: Rows) -> Result<Reply, F
         }
         (Action::Teams { .. } | Action::TeamMembers { .. }, Rows::Names(names)) => {
             Ok(Reply::Doc(list_text(alloc, &List::Names(names))?))
+        }
+        (Action::TeamPackages { .. }, Rows::Grants(granted)) => {
+            Ok(Reply::Doc(grants_of(alloc, granted)?))
         }
         _ => Err(Fault::Database),
     }
@@ -100,4 +114,15 @@ fn members_of(alloc: Global, members: Vec<Member>) -> Result<Text, Fault>
         → text ≡ members_in S o) }
 {
     Ok(list_text(alloc, &List::Members(members))?)
+}
+
+// The text of what a team is granted, on packages that the caller reads.
+fn grants_of(alloc: Global, granted: Vec<Granted>) -> Result<Text, Fault>
+    ensures { IfOk result (λ text. (S : State) (who : Caller) (o t : Sequence ℕ)
+        → map granted_entry granted.items
+        ≡ filter (λ (e : Sequence ℕ × Right). reads (level_in S.access who e.0))
+        (parts (pairs_of S.access.grants o) t)
+        → text ≡ team_packages_in S who o t) }
+{
+    Ok(list_text(alloc, &List::Grants(granted))?)
 }

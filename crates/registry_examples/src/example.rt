@@ -1,13 +1,15 @@
 //! The form of an example.
 
-use registry_access::Role;
-use registry_names::Refusal;
+use registry_access::{Grant, Role};
+use registry_names::{Refusal, Status};
 
 /// Requests to an empty registry, and what is answered.
 #[derive(Clone, Copy)]
 pub struct Example {
     /// What it shows.
     pub shows: &'static str,
+    /// The requests that come first, which many examples share.
+    pub before: &'static [Step],
     /// The requests, in their order.
     pub steps: &'static [Step],
 }
@@ -59,12 +61,24 @@ pub enum Ask {
     TeamAdd(&'static str, &'static str, &'static str),
     /// To take a user out of a team: organisation, team and user.
     TeamRemove(&'static str, &'static str, &'static str),
+    /// To grant a team something on a package: organisation, team and package.
+    Grant(&'static str, &'static str, &'static str, Grant),
+    /// To take from a team what it is granted on a package: organisation, team and package.
+    Revoke(&'static str, &'static str, &'static str),
+    /// To say who may read a package.
+    SetAccess(&'static str, Status),
+    /// To make a user a maintainer of a package: package, and user.
+    OwnerAdd(&'static str, &'static str),
+    /// To let a user be a maintainer no more: package, and user.
+    OwnerRemove(&'static str, &'static str),
     /// The members of an organisation.
     Members(&'static str),
     /// The teams of an organisation.
     Teams(&'static str),
     /// The members of a team: organisation and team.
     TeamMembers(&'static str, &'static str),
+    /// What a team is granted: organisation and team.
+    TeamPackages(&'static str, &'static str),
     /// The publication of a body as it stands.
     Body(&'static str),
     /// The publication of a version whose manifest has its name and its version alone, with the

@@ -6,12 +6,15 @@
 //! need a database as well.
 #![tactic(auto)]
 
+mod beginnings;
 mod example;
 mod people;
+mod rights;
 mod table;
 #[cfg(test)]
 mod tests;
 
 pub use crate::example::{Ask, Example, Expected, Step, Who};
 pub use crate::people::{ORGANISATIONS, TEAMS, USERS};
+pub use crate::rights::{GRANTS, MAINTAINERS, STATUSES};
 pub use crate::table::{PUBLISHES, QUERIES, TAGS};

@@ -1,16 +1,15 @@
 //! The examples: of users, of organisations and of teams.
 
+use crate::beginnings::{BOBS_TOKEN, LAB, NOTHING};
 use crate::example::{Ask, Example, Expected, Step, Who};
 use registry_access::Role;
 use registry_names::{Refusal, Rule};
 
-/// A token of `bob`.
-const BOBS_TOKEN: &str = "npm_bob_000000001";
-
 /// Users and tokens are added, and say who asks.
-pub static USERS: [Example; 3] = [
+pub static USERS: [Example; 4] = [
     Example {
         shows: "a user and a token are added once, and a token is a user's",
+        before: NOTHING,
         steps: &[
             Step {
                 at: 0,
@@ -58,6 +57,7 @@ pub static USERS: [Example; 3] = [
     },
     Example {
         shows: "the operator alone adds users and tokens",
+        before: NOTHING,
         steps: &[
             Step {
                 at: 0,
@@ -117,6 +117,7 @@ pub static USERS: [Example; 3] = [
     },
     Example {
         shows: "an unknown user and an unknown token are nobody, and a known one asks as his user",
+        before: NOTHING,
         steps: &[
             Step {
                 at: 0,
@@ -174,12 +175,55 @@ pub static USERS: [Example; 3] = [
             },
         ],
     },
+    Example {
+        shows: "nobody is told apart first, and then what the policy denies",
+        before: LAB,
+        steps: &[
+            Step {
+                at: 0,
+                who: Who::User("zed"),
+                ask: Ask::Members("lab"),
+                expected: Expected::Refused(Refusal::NoCaller),
+            },
+            Step {
+                at: 0,
+                who: Who::Anonymous,
+                ask: Ask::Members("lab"),
+                expected: Expected::Refused(Refusal::NoCaller),
+            },
+            Step {
+                at: 0,
+                who: Who::Token("npm_zed_000000001"),
+                ask: Ask::Publish("tool", "1.0.0"),
+                expected: Expected::Refused(Refusal::NoCaller),
+            },
+            Step {
+                at: 0,
+                who: Who::User("bob"),
+                ask: Ask::OrgSet("lab", "eve", Role::Developer),
+                expected: Expected::Refused(Refusal::Denied(Rule::A2)),
+            },
+            Step {
+                at: 0,
+                who: Who::Operator,
+                ask: Ask::Publish("tool", "1.0.0"),
+                expected: Expected::Refused(Refusal::Denied(Rule::A5)),
+            },
+            Step {
+                at: 0,
+                who: Who::Operator,
+                ask: Ask::UserAdd("ann"),
+                expected: Expected::Refused(Refusal::Exists),
+            },
+        ],
+    },
 ];
 
 /// Organisations have members, who have roles.
 pub static ORGANISATIONS: [Example; 3] = [
     Example {
         shows: "an organisation has its owner, and members with their roles",
+        before: NOTHING,
         steps: &[
             Step {
                 at: 0,
@@ -287,6 +331,7 @@ pub static ORGANISATIONS: [Example; 3] = [
     },
     Example {
         shows: "an organisation keeps an owner",
+        before: NOTHING,
         steps: &[
             Step {
                 at: 0,
@@ -370,6 +415,7 @@ pub static ORGANISATIONS: [Example; 3] = [
     },
     Example {
         shows: "owners manage members, members see them, and nobody else learns anything",
+        before: NOTHING,
         steps: &[
             Step {
                 at: 0,
@@ -469,6 +515,7 @@ pub static ORGANISATIONS: [Example; 3] = [
 pub static TEAMS: [Example; 3] = [
     Example {
         shows: "a team that is made again starts empty, and who comes back is in its first team alone",
+        before: NOTHING,
         steps: &[
             Step {
                 at: 0,
@@ -600,6 +647,7 @@ pub static TEAMS: [Example; 3] = [
     },
     Example {
         shows: "teams and who is in them are there, or aren't found",
+        before: NOTHING,
         steps: &[
             Step {
                 at: 0,
@@ -695,6 +743,7 @@ pub static TEAMS: [Example; 3] = [
     },
     Example {
         shows: "owners and admins manage teams, and members see them",
+        before: NOTHING,
         steps: &[
             Step {
                 at: 0,

@@ -10,6 +10,7 @@ mod tables;
 
 use crate::example::{Ask, Example, Expected, Step, Who};
 use crate::people::{ORGANISATIONS, TEAMS, USERS};
+use crate::rights::{GRANTS, MAINTAINERS, STATUSES};
 use crate::table::{DOCUMENTS, PUBLISHES, QUERIES, TAGS};
 use body::{ABC, body_of};
 use outcome::{otherwise, same};
@@ -18,7 +19,7 @@ use registry_desk::Registry;
 use registry_names::{Fault, Ident, Moment, Name, Refusal, Stop, TagText, Ver};
 use registry_publish::PublishForm;
 use registry_rules::{Action, Asked, Credential, Reply, Request};
-use std::alloc::Global;
+use std::alloc::{AllocError, Global};
 use std::test::Fail;
 
 type Outcome = Result<Reply, Fault>;
@@ -36,6 +37,21 @@ fn organisations_have_members(rt: HostRuntime) -> Result<(), Fail> {
 #[test]
 fn teams_come_and_go(rt: HostRuntime) -> Result<(), Fail> {
     all_have_their_replies(rt.alloc(), &TEAMS)
+}
+
+#[test]
+fn teams_are_granted_rights(rt: HostRuntime) -> Result<(), Fail> {
+    all_have_their_replies(rt.alloc(), &GRANTS)
+}
+
+#[test]
+fn statuses_say_who_reads(rt: HostRuntime) -> Result<(), Fail> {
+    all_have_their_replies(rt.alloc(), &STATUSES)
+}
+
+#[test]
+fn packages_have_maintainers(rt: HostRuntime) -> Result<(), Fail> {
+    all_have_their_replies(rt.alloc(), &MAINTAINERS)
 }
 
 #[test]
@@ -60,9 +76,16 @@ fn tags_name_versions(rt: HostRuntime) -> Result<(), Fail> {
 
 fn all_have_their_replies(alloc: Global, examples: &[Example]) -> Result<(), Fail> {
     for example in examples {
-        have_their_replies(alloc, example.shows, example.steps)?;
+        have_their_replies(alloc, example.shows, &steps_of(alloc, example)?)?;
     }
     Ok(())
+}
+
+fn steps_of(alloc: Global, example: &Example) -> Result<Vec<Step>, AllocError> {
+    let mut steps = Vec::new(alloc);
+    steps.extend_from_slice(example.before)?;
+    steps.extend_from_slice(example.steps)?;
+    Ok(steps)
 }
 
 // Whether the requests have the replies of these steps, all at once and one by one.

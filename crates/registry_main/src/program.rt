@@ -15,11 +15,12 @@ const NO_TEXTS: &str = "error: invalid UTF-8 was detected in one or more argumen
 
 /// Runs the program on the words after its name, and answers its exit status.
 ///
-/// Without words it reads a publish body from the input, publishes it to an empty registry in
-/// memory at moment 0, and prints the packument and a newline on the output. With words it answers
-/// what they ask for (`docs/WORDS.md`). Then the status is 0. Otherwise nothing is printed on the
-/// output, and on the errors stands `refused: ` and the refusal, status 1; what is wrong with the
-/// words, or the help that they ask for, status 2; or `fault: ` and what failed, status 3.
+/// Without words it reads a publish body from the input, which the user `first` publishes to an
+/// empty registry in memory at moment 0 (the organisation of the package's scope, if it has one,
+/// is his), and prints the packument as he sees it and a newline on the output. With words it
+/// answers what they ask for (`docs/WORDS.md`). Then the status is 0. Otherwise nothing is printed
+/// on the output, and on the errors stands `refused: ` and the refusal, status 1; what is wrong
+/// with the words, or the help that they ask for, status 2; or `fault: ` and what failed, status 3.
 pub fn program<I: ByteIn, O: ByteOut, E: ByteOut>(
     rt: &HostRuntime,
     alloc: Global,

@@ -2,33 +2,59 @@
 
 use crate::ending::Ending;
 use registry_desk::Registry;
-use registry_names::{Fault, Moment, Name, Stop, Text};
+use registry_names::{Fault, Ident, Moment, Name, Stop, Text};
 use registry_publish::PublishForm;
 use registry_rules::{Action, Credential, Reply, Request};
 use std::alloc::Global;
 
-/// The packument of the one package of an empty registry to which the body is published.
+/// The user who publishes.
+const PUBLISHER: &str = "first";
+
+/// The packument of the one package of an empty registry to which the user `first` publishes the
+/// body. The organisation of the package's scope, if it has one, is his.
 pub fn packument_of(alloc: Global, body: &[u8]) -> Result<Text, Ending> {
-    let requests = publish_and_query(alloc, body)?;
+    let requests = requests_of(alloc, body)?;
     let (_registry, outcomes) = Registry::run_in_memory(alloc, &requests)?;
     document_in(outcomes)
 }
 
-// The publish of the body, and the query of its package's packument.
-fn publish_and_query(alloc: Global, body: &[u8]) -> Result<[Request; 2], Stop> {
+// What makes the registry ready for the body, its publish, and the query of its package's packument.
+fn requests_of(alloc: Global, body: &[u8]) -> Result<Vec<Request>, Stop> {
     let form = PublishForm::read(alloc, body)?;
     let name = Name::parse(alloc, form.name().text())?;
-    Ok([
-        request(Action::Publish { form }),
-        request(Action::Packument { name }),
-    ])
+    let mut requests = beginning(alloc, name.scope())?;
+    requests.push(by_publisher(alloc, Action::Publish { form })?)?;
+    requests.push(by_publisher(alloc, Action::Packument { name })?)?;
+    Ok(requests)
+}
+
+// The publisher is added, and the organisation of the scope, if there is one, created as his.
+fn beginning(alloc: Global, scope: Option<&str>) -> Result<Vec<Request>, Stop> {
+    let mut requests = Vec::new(alloc);
+    let user = Ident::parse(alloc, PUBLISHER)?;
+    requests.push(request(Credential::Operator, Action::UserAdd { user }))?;
+    if let Some(scope) = scope {
+        let organisation = Ident::parse(alloc, scope)?;
+        let owner = Ident::parse(alloc, PUBLISHER)?;
+        let create = Action::OrgCreate {
+            organisation,
+            owner,
+        };
+        requests.push(request(Credential::Operator, create))?;
+    }
+    Ok(requests)
+}
+
+fn by_publisher(alloc: Global, what: Action) -> Result<Request, Stop> {
+    let who = Credential::User(Ident::parse(alloc, PUBLISHER)?);
+    Ok(request(who, what))
 }
 
 // A request at moment 0.
-fn request(what: Action) -> Request {
+fn request(who: Credential, what: Action) -> Request {
     Request {
         at: Moment::clamped(0),
-        who: Credential::Anonymous,
+        who,
         what,
     }
 }

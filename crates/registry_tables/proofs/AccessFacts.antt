@@ -1,5 +1,5 @@
 -- What loaded rows say of an organisation and a caller.
-use Rattle.std.proofs.Common.{◌≡◌, ◌∙◌, List, [], ◌∷◌, true, false, cond, is_some, Option, Some, None, map, refl, sym, ap}
+use Rattle.std.proofs.Common.{◌≡◌, ◌∙◌, [], ◌∷◌, true, false, cond, is_some, Some, None, map, ap}
 use Rattle.registry_names.specs.Texts.{Text, text_cmp}
 use Rattle.registry_names.specs.Keys.{pair_cmp}
 use Rattle.registry_names.specs.Maps.{at, rows}
@@ -11,7 +11,6 @@ use Rattle.registry_access.specs.RowMaps.{state_of, organisation_entry, member_e
 use Rattle.registry_access.specs.declared.caller.Caller.TheVariants.{User}
 use Rattle.registry_access.specs.declared.role.Role.{Role}
 use Rattle.registry_access.specs.declared.rows.AccessRows.{AccessRows}
-use Rattle.registry_access.specs.declared.rows.MemberRow.{MemberRow}
 
 -- a row of the organisation says that it is there, and no row that it isn't
 pub organisation_is : (r : AccessRows) (o : Text) → r.organisations.items ≡ o ∷ [] → has_organisation (state_of r) o ≡ true

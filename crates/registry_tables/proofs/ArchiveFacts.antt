@@ -1,6 +1,6 @@
 -- What the statements on archives make and show.
-use Rattle.std.proofs.Common.{◌≡◌, ℕ, ℤ, ◌+◌, ◌<◌, List, [], ◌∷◌, length, drop, get_or, map, filter, Bool, true, false, cond, ◌&&◌, Option, Some, None, is_some, option_map, slice_get, Ok, refl, sym, ap, subst, ◌∙◌, codes}
-use Rattle.std.specs.Prelude.{unwrap_or, if◌then◌else◌}
+use Rattle.std.proofs.Common.{◌≡◌, ℕ, ℤ, ◌+◌, ◌<◌, List, [], ◌∷◌, length, drop, get_or, map, filter, Bool, true, false, cond, ◌&&◌, Some, None, is_some, option_map, slice_get, Ok, refl, sym, ap, ◌∙◌, codes}
+use Rattle.std.specs.Prelude.{unwrap_or}
 use Rattle.std.specs.List.{find}
 use Rattle.std.proofs.lemmas.List.{drop_more}
 use Rattle.std.proofs.lemmas.Iterator.Adapters.{option_map_id}
@@ -15,14 +15,14 @@ use Rattle.registry_names.specs.Maps.{at, put, entries, seen}
 use Rattle.registry_rows.specs.Columns.{blob_in, int_in}
 use Rattle.registry_rows.specs.Counting.{TakesNext}
 use Rattle.registry_rows.specs.Frames.{Wrote}
-use Rattle.registry_rows.specs.KeyKinds.{NumberMap, numbers}
+use Rattle.registry_rows.specs.KeyKinds.{numbers}
 use Rattle.registry_rows.specs.Ready.{Ready, Leaves, Reads, Queried}
 use Rattle.registry_rows.specs.Statements.{Means, MeansQuery, insert_values, select_where, by_column, by_texts}
 use Rattle.registry_rows.proofs.CountFacts.{insert_numbers}
 use Rattle.registry_rows.proofs.KeyedFacts.{by_number_given}
 use Rattle.registry_rows.proofs.LookUpFacts.{first_listed, select_finds, select_finds_by, select_has_by}
 use Rattle.registry_rows.proofs.StatementFacts.{insert_puts}
-use Rattle.registry_tables.specs.Archives.{is_archive, number_of, is_stored, next_archive, archive_number, with_archive}
+use Rattle.registry_tables.specs.Archives.{is_archive, number_of, next_archive, archive_number, with_archive}
 use Rattle.registry_tables.specs.Contents.{Archive, Contents, contents, archive_in}
 use Rattle.registry_tables.specs.Effects.{stored}
 use Rattle.registry_tables.specs.Schema as table

@@ -1,5 +1,5 @@
 -- Calls inside a transaction, one after another.
-use Rattle.std.proofs.Common.{◌∙◌}
+use Rattle.std.proofs.Common.{◌∙◌, refl}
 use Rattle.sqlite.specs.State.{State as Shown, HasCleanDisk}
 use Rattle.sqlite.proofs.InsideLemmas.{keeps_then}
 use Rattle.registry_rows.specs.Ready.{Ready, Reads}
@@ -29,3 +29,20 @@ before_reads a b c one two = record {
 -- the tables are in form after a call that changed nothing
 pub form_after : (a b : Shown) → (HasCleanDisk b → HasCleanDisk a) → (HasCleanDisk b → IsAsBefore a b) → Ready schema a → Ready schema b
 form_after a b clean it form now on = let same = it now in same.ready (form (clean now) (same.committed.was_open on))
+
+-- two calls that changed nothing
+pub before_then : (a b c : Shown) → IsAsBefore a b → IsAsBefore b c → IsAsBefore a c
+before_then a b c one two = record {
+  same = two.same ∙ one.same;
+  ready = λ form. two.ready (one.ready form);
+  mode = two.mode ∙ one.mode;
+  committed = keeps_then a b c one.committed two.committed;
+}
+
+-- nothing changes by itself
+pub as_it_was : (a : Shown) → IsAsBefore a a
+as_it_was a = record { same = refl; ready = λ form. form; mode = refl; committed = record { was_open = λ on. on; committed = λ _. refl } }
+
+-- a query changes nothing
+pub reads_nothing_new : (a b : Shown) → Reads schema a b → IsAsBefore a b
+reads_nothing_new a b one = record { same = one.same; ready = λ _. one.ready; mode = one.mode; committed = one.committed }

@@ -1,5 +1,5 @@
 -- What the statements on grants make and show.
-use Rattle.std.proofs.Common.{◌≡◌, ◌==◌, ℕ, List, [], ◌∷◌, pos, Option, Some, None, is_some, not, length, Ok, refl, subst, codes}
+use Rattle.std.proofs.Common.{◌≡◌, ◌==◌, ℕ, List, [], ◌∷◌, map, pos, Option, Some, None, is_some, not, length, Ok, refl, subst, ◌∙◌, codes}
 use Rattle.sqlite.specs.declared.types.Value.TheVariants.{Null, Int, Text as Stored}
 use Rattle.sqlite.specs.Command.TheVariants.{Insert, Update, Delete, Select}
 use Rattle.sqlite.specs.Source.TheVariants.{Values}
@@ -15,7 +15,8 @@ use Rattle.registry_access.specs.declared.grant.Grant.{Grant}
 use Rattle.registry_access.specs.declared.grant.Grant.TheVariants.{ReadOnly, ReadWrite}
 use Rattle.registry_rows.specs.Frames.{Wrote}
 use Rattle.registry_rows.specs.Ready.{Ready, Leaves, Reads, Queried}
-use Rattle.registry_rows.specs.Statements.{Means, MeansQuery, IsUncascaded, scan, by_texts, set_terms}
+use Rattle.registry_rows.specs.Statements.{Means, MeansQuery, IsUncascaded, scan, by_texts, in_order, set_terms}
+use Rattle.registry_rows.proofs.LookUpFacts.{select_lists_two, seen_as_is}
 use Rattle.registry_rows.proofs.StatementFacts.{insert_puts, update_revises, delete_erases}
 use Rattle.registry_tables.specs.Schema.{schema}
 use Rattle.registry_tables.specs.Schema as table
@@ -23,6 +24,7 @@ use Rattle.registry_tables.specs.Changes.{amended}
 use Rattle.registry_tables.specs.Contents.{contents}
 use Rattle.registry_tables.specs.Effects.{stored}
 use Rattle.registry_tables.specs.Spelled.{grant_number}
+use Rattle.registry_tables.specs.Teams.{granted_spelled, grants_of}
 use Rattle.registry_tables.proofs.FoundFacts.{there_found}
 use Rattle.registry_tables.proofs.MappedFacts.{grants_mapped}
 use Rattle.registry_tables.proofs.ReviseFacts.{revised}
@@ -94,3 +96,19 @@ find_means = ((refl, (refl, refl)), refl)
 pub grant_found : (o t p : Text) (old new : Shown) (rows : List Row) → Ready schema old → Queried find_text (Stored o ∷ Stored t ∷ Stored p ∷ []) old new rows → HasCleanDisk new
     → Reads schema old new × (not (length rows == 0) ≡ is_some (at (stored old).grants (o, (t, p))))
 grant_found o t p = there_found grants_mapped find_text (col 1 4 ∷ []) _ find_means (o, (t, p))
+
+abbrev list_text : List ℕ
+list_text = codes "SELECT package, level FROM grants WHERE org = ?1 AND team = ?2 ORDER BY package"
+
+abbrev list_columns : List Term
+list_columns = col 1 3 ∷ col 1 4 ∷ []
+
+list_means : MeansQuery schema list_text (Select (record { lets = []; body = scan 14 (by_texts 1 1 0) list_columns (in_order 0 3) }) (codes "package" ∷ codes "level" ∷ []))
+unfolding understood everything
+list_means = ((refl, (refl, refl)), refl)
+
+pub grants_listed : (o t : Text) (old new : Shown) (rows : List Row) → Ready schema old → Queried list_text (Stored o ∷ Stored t ∷ []) old new rows → HasCleanDisk new
+    → Reads schema old new × (map granted_spelled rows ≡ grants_of (stored old) o t)
+grants_listed o t old new rows form call clean =
+    let it = select_lists_two grants_mapped list_text list_columns _ list_means o t granted_spelled (λ (grant : Grant). grant) (λ id vs. refl) old new rows form call clean in
+    (it.0, it.1 ∙ seen_as_is (grants_of (stored old) o t))

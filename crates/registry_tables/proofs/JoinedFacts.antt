@@ -35,7 +35,7 @@ use Rattle.registry_parts.proofs.JoinFacts.{select_joins}
 use Rattle.registry_tables.specs.Schema.{schema}
 use Rattle.registry_tables.specs.Contents.{Contents, access_of}
 use Rattle.registry_tables.specs.Effects.{stored}
-use Rattle.registry_tables.specs.Teams.{AreGranted, GrantsInScope, grant_spelled, granted_in}
+use Rattle.registry_tables.specs.Teams.{AreGranted, AreTeamsSound, GrantsInScope, grant_spelled, granted_in}
 use Rattle.registry_tables.proofs.MappedFacts.{team_members_mapped, grants_mapped}
 
 -- the organisation, the user, the organisation again, the team and the package
@@ -144,3 +144,15 @@ module _ (c : Contents) (kept : GrantsInScope c) (u p : Text) (g : Grant) where
       let k = some_has (λ (k : Triple). is k.1.1 u && grants (at c.grants (k.0, (k.1.0, p))) g) (keys (entries c.team_members)) any in
       let scope = scope_is k.0 (and_parts _ _ k.2).1 in
       absurd (let e = sym none ∙ scope in cc))
+
+-- who has no role in the organisation of the scope is in none of its teams
+pub strangers_have_none : (c : Contents) → AreTeamsSound c → (o u p : Text) (g : Grant) → scope_of p ≡ Some o → is_some (at c.members (o, u)) ≡ false → team_granted (access_of c) u p g ≡ false
+strangers_have_none c sound o u p g scope none = false_from_ne_true _ (λ any.
+    let k = some_has (λ (k : Triple). is k.1.1 u && grants (at c.grants (k.0, (k.1.0, p))) g) (keys (entries c.team_members)) any in
+    let both = and_parts _ _ k.2 in
+    let same_org : k.0.0 ≡ o = some_same (sym (scope_is c sound.grants u p g k.0 both.1) ∙ scope) in
+    let same_user : k.0.1.1 ≡ u = is_true k.0.1.1 u both.0 in
+    let e = has_mapped (λ (e : Triple × Unit {0}). e.0) (entries c.team_members) k.0 k.1 in
+    let x = first_risen triple_key k.0 e.0.1 (entries c.team_members) (entries_rise c.team_members) (subst (λ (j : Triple). Has (entries c.team_members) (j, e.0.1)) (sym e.2) e.1) in
+    let member : IsSome (at c.members (k.0.0, k.0.1.1)) = sound.members k.0.0 k.0.1.0 k.0.1.1 (is_there (at-entries triple_key c.team_members k.0 ∙ x)) in
+    true≢false (sym member ∙ ap₂ (λ (a b : Text). is_some (at c.members (a, b))) same_org same_user ∙ none))

@@ -1,5 +1,5 @@
 -- The archives that are stored stay those of live versions, each once.
-use Rattle.std.proofs.Common.{◌≡◌, ◌⊎◌, inl, inr, ℕ, ℤ, Bool, true, false, ◌&&◌, cond, true≢false, List, [], ◌∷◌, Option, Some, None, is_some, option_map, refl, sym, ap, subst, ◌∙◌, Ordering}
+use Rattle.std.proofs.Common.{◌≡◌, ◌⊎◌, inl, inr, ℕ, ℤ, Bool, true, false, cond, true≢false, List, [], ◌∷◌, Option, Some, None, is_some, option_map, refl, sym, ap, subst, ◌∙◌}
 use Rattle.std.specs.Prelude.{option_and_then, unwrap_or, if◌then◌else◌}
 use Rattle.std.specs.List.{find}
 use Rattle.std.proofs.lemmas.Bool.{and_parts, and_from, cases_Bool}
@@ -22,7 +22,7 @@ use Rattle.registry_rows.proofs.CountFacts.{next_is_new}
 use Rattle.registry_rows.proofs.KeyedFacts.{number_key}
 use Rattle.registry_rows.proofs.ListingFacts.{first_risen}
 use Rattle.registry_rows.proofs.OrderFacts.{found_has}
-use Rattle.registry_tables.specs.Archives.{is_archive, number_of, is_stored, next_archive, archive_number, with_archive, HeldAreStored, HoldsArchives}
+use Rattle.registry_tables.specs.Archives.{is_archive, number_of, next_archive, archive_number, with_archive, HeldAreStored, HoldsArchives}
 use Rattle.registry_tables.specs.Changes.{row_of, version_put}
 use Rattle.registry_tables.specs.Contents.{Archive, Contents, bytes_held, live_of, with_bytes}
 use Rattle.registry_tables.specs.Fresh.{fresh}

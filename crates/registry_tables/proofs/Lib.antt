@@ -18,10 +18,12 @@ pub mod MetaFacts
 pub mod NeedFacts
 pub mod OpeningFacts
 pub mod OrganisationFacts
+pub mod ReadableFacts
 pub mod ReferenceFacts
 pub mod ReviseFacts
 pub mod SchemaFacts
 pub mod SpentFacts
+pub mod StandingFacts
 pub mod StatusFacts
 pub mod StepFacts
 pub mod TagFacts

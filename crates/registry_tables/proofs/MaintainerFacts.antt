@@ -1,5 +1,7 @@
 -- What the statements on maintainers make and show.
-use Rattle.std.proofs.Common.{◌≡◌, ◌==◌, ℕ, List, [], ◌∷◌, not, is_some, length, Ok, refl, codes}
+use Rattle.std.proofs.Common.{◌≡◌, ◌==◌, ℕ, List, [], ◌∷◌, Bool, ◌||◌, map, not, is_some, length, Ok, refl, sym, ap, ◌∙◌, codes}
+use Rattle.std.specs.List.{list_any}
+use Rattle.std.proofs.lemmas.Simd.{map-map}
 use Rattle.sqlite.specs.declared.types.Value.TheVariants.{Null, Text as Stored}
 use Rattle.sqlite.specs.Command.TheVariants.{Insert, Delete, Select}
 use Rattle.sqlite.specs.Source.TheVariants.{Values}
@@ -9,15 +11,17 @@ use Rattle.sqlite_tied.specs.Compute.{everything}
 use Rattle.sqlite_value.specs.Order.{Row}
 use Rattle.sqlite_sql.specs.Term.{Term, lit, col}
 use Rattle.registry_names.specs.Texts.{Text}
-use Rattle.registry_names.specs.Maps.{at, erase, put}
+use Rattle.registry_names.specs.Maps.{at, erase, keys, of, put}
 use Rattle.registry_rows.specs.Frames.{Wrote}
 use Rattle.registry_rows.specs.Ready.{Ready, Leaves, Reads, Queried}
-use Rattle.registry_rows.specs.Statements.{Means, MeansQuery, IsUncascaded, scan, by_texts}
+use Rattle.registry_rows.specs.Statements.{Means, MeansQuery, IsUncascaded, scan, by_texts, in_order}
+use Rattle.registry_rows.proofs.LookUpFacts.{select_lists, seen_as_is}
 use Rattle.registry_rows.proofs.StatementFacts.{insert_puts, delete_erases}
 use Rattle.registry_tables.specs.Schema.{schema}
 use Rattle.registry_tables.specs.Schema as table
 use Rattle.registry_tables.specs.Contents.{contents}
 use Rattle.registry_tables.specs.Effects.{stored}
+use Rattle.registry_tables.specs.Teams.{text_spelled}
 use Rattle.registry_tables.proofs.FoundFacts.{there_found}
 use Rattle.registry_tables.proofs.MappedFacts.{owners_mapped}
 
@@ -67,3 +71,25 @@ find_means = ((refl, (refl, refl)), refl)
 pub maintainer_found : (p u : Text) (old new : Shown) (rows : List Row) → Ready schema old → Queried find_text (Stored p ∷ Stored u ∷ []) old new rows → HasCleanDisk new
     → Reads schema old new × (not (length rows == 0) ≡ is_some (at (stored old).owners (p, u)))
 maintainer_found p u = there_found owners_mapped find_text (col 1 2 ∷ []) _ find_means (p, u)
+
+abbrev list_text : List ℕ
+list_text = codes "SELECT user FROM owners WHERE package = ?1 ORDER BY user"
+
+list_means : MeansQuery schema list_text (Select (record { lets = []; body = scan 16 (by_texts 0 1 0) (col 1 2 ∷ []) (in_order 0 2) }) (codes "user" ∷ []))
+unfolding understood everything
+list_means = ((refl, (refl, refl)), refl)
+
+-- a maintainer who is there
+abbrev user_entry : Row → Text × Unit {0}
+user_entry r = (text_spelled r, tt)
+
+pub maintainers_listed : (p : Text) (old new : Shown) (rows : List Row) → Ready schema old → Queried list_text (Stored p ∷ []) old new rows → HasCleanDisk new
+    → Reads schema old new × (map text_spelled rows ≡ keys (of (stored old).owners p))
+maintainers_listed p old new rows form call clean =
+    let it = select_lists owners_mapped list_text (col 1 2 ∷ []) _ list_means p user_entry (λ (u : Unit {0}). u) (λ id vs. refl) old new rows form call clean in
+    (it.0, sym (map-map (λ (e : Text × Unit {0}). e.0) user_entry rows) ∙ ap keys (it.1 ∙ seen_as_is (of (stored old).owners p)))
+
+-- a test of keys is one of their entries
+pub any_key : (test : Text → Bool) (es : List (Text × Unit {0})) → list_any test (keys es) ≡ list_any (λ e. test e.0) es
+any_key test [] = refl
+any_key test (e ∷ es) = ap (λ b. test e.0 || b) (any_key test es)

@@ -1,5 +1,5 @@
 -- Which rows the rows of `held` refer to.
-use Rattle.std.proofs.Common.{◌≡◌, ℕ, ℤ, List, [], ◌∷◌, drop, inl, inr, true, false, ◌&&◌, Option, Some, None, is_some, refl, sym, ap, ap₂, subst, ◌∙◌, codes}
+use Rattle.std.proofs.Common.{◌≡◌, ℤ, [], ◌∷◌, drop, inl, inr, true, false, Some, is_some, refl, sym, ap, ap₂, subst, ◌∙◌, codes}
 use Rattle.std.proofs.lemmas.Bool.{and_parts}
 use Rattle.sqlite.specs.declared.types.Value.{Value}
 use Rattle.sqlite.specs.declared.types.Value.TheVariants.{Int, Text as Stored}
@@ -20,7 +20,6 @@ use Rattle.registry_names.specs.Keys.{Pair}
 use Rattle.registry_names.specs.Texts.{Text}
 use Rattle.registry_names.specs.Maps.{at}
 use Rattle.registry_names.proofs.KeyFacts.{text_key, same_true}
-use Rattle.registry_rules.specs.State.{Release}
 use Rattle.registry_rows.specs.Columns.{text_in, int_in, AreOf}
 use Rattle.registry_rows.specs.KeyKinds.{numbers}
 use Rattle.registry_rows.specs.Rows.{key_of}
@@ -33,7 +32,7 @@ use Rattle.registry_rows.proofs.StatementFacts.{rows_tell_by}
 use Rattle.registry_rows.proofs.TextKeyFacts.{row_parts}
 use Rattle.registry_rows.proofs.TypeFacts.{number_test, text_test}
 use Rattle.registry_tables.specs.Archives.{HeldAreStored}
-use Rattle.registry_tables.specs.Contents.{Archive, archive_in, release_in}
+use Rattle.registry_tables.specs.Contents.{archive_in, release_in}
 use Rattle.registry_tables.specs.Effects.{stored}
 use Rattle.registry_tables.specs.Schema as table
 use Rattle.registry_tables.specs.Schema.{schema}

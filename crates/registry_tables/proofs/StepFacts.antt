@@ -3,9 +3,10 @@ use Rattle.std.proofs.Common.{◌≡◌, Bool, true, false, List, [], ◌∷◌,
 use Rattle.registry_names.specs.Texts.{Text}
 use Rattle.registry_names.specs.Maps.{at, put}
 use Rattle.registry_names.specs.declared.status.Status.{Status}
+use Rattle.registry_access.specs.declared.grant.Grant.{Grant}
 use Rattle.registry_access.specs.declared.role.Role.{Role}
-use Rattle.registry_rules.specs.Changes.{Change, AddUser, AddToken, AddOrg, PutMember, DropMember, AddTeam, PutTeamMember, DropTeamMember, DropTeam, PutStatus, AddVersion, PutTag, DropTag, made, all_made}
-use Rattle.registry_rules.specs.Operations.{with_member, with_status, with_tag}
+use Rattle.registry_rules.specs.Changes.{Change, AddUser, AddToken, AddOrg, PutMember, DropMember, AddTeam, PutTeamMember, DropTeamMember, DropTeam, PutGrant, DropGrant, PutOwner, DropOwner, PutStatus, AddVersion, PutTag, DropTag, made, all_made}
+use Rattle.registry_rules.specs.Operations.{with_member, with_grant, with_status, with_tag}
 use Rattle.registry_tables.specs.Archives.{HeldAreStored}
 use Rattle.registry_tables.specs.Changes.{stored_by, all_stored}
 use Rattle.registry_tables.specs.Contents.{Contents, registry_of}
@@ -15,6 +16,11 @@ role_either : (c : Contents) (o u : Text) (role : Role) (there : Bool)
     → registry_of (record c { members = if there then put c.members (o, u) role else c.members }) ≡ (if there then with_member (registry_of c) o u role else registry_of c)
 role_either c o u role true = refl
 role_either c o u role false = refl
+
+grant_either : (c : Contents) (o t p : Text) (grant : Grant) (there : Bool)
+    → registry_of (record c { grants = if there then put c.grants (o, (t, p)) grant else c.grants }) ≡ (if there then with_grant (registry_of c) o t p grant else registry_of c)
+grant_either c o t p grant true = refl
+grant_either c o t p grant false = refl
 
 status_either : (c : Contents) (p : Text) (status : Status) (there : Bool)
     → registry_of (record c { packages = if there then put c.packages p status else c.packages }) ≡ (if there then with_status (registry_of c) p status else registry_of c)
@@ -37,6 +43,11 @@ change_makes (AddTeam o t) c held = refl
 change_makes (PutTeamMember o t u) c held = refl
 change_makes (DropTeamMember o t u) c held = refl
 change_makes (DropTeam o t) c held = refl
+change_makes (PutGrant o t p grant true) c held = grant_either c o t p grant (is_some (at c.grants (o, (t, p))))
+change_makes (PutGrant o t p grant false) c held = refl
+change_makes (DropGrant o t p) c held = refl
+change_makes (PutOwner p u) c held = refl
+change_makes (DropOwner p u) c held = refl
 change_makes (PutStatus p status true) c held = status_either c p status (is_some (at c.packages p))
 change_makes (PutStatus p status false) c held = refl
 change_makes (AddVersion f now) c held = ap (λ live. record (registry_of c) { live = live }) (live_put f now c held)
@@ -55,6 +66,10 @@ change_keeps (AddTeam o t) c held = held
 change_keeps (PutTeamMember o t u) c held = held
 change_keeps (DropTeamMember o t u) c held = held
 change_keeps (DropTeam o t) c held = held
+change_keeps (PutGrant o t p grant stands) c held = held
+change_keeps (DropGrant o t p) c held = held
+change_keeps (PutOwner p u) c held = held
+change_keeps (DropOwner p u) c held = held
 change_keeps (PutStatus p status stands) c held = held
 change_keeps (AddVersion f now) c held = put_held_stored f now c held
 change_keeps (PutTag p t v stands) c held = held

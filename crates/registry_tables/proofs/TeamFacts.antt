@@ -17,9 +17,10 @@ use Rattle.registry_rows.specs.Statements.{Means, MeansQuery, scan, by_texts, in
 use Rattle.registry_rows.proofs.StatementFacts.{insert_puts}
 use Rattle.registry_rows.proofs.LookUpFacts.{select_lists, seen_as_is}
 use Rattle.registry_tables.specs.Schema.{schema}
-use Rattle.registry_tables.specs.Contents.{contents}
+use Rattle.registry_rules.specs.Kept.{IsSound}
+use Rattle.registry_tables.specs.Contents.{Contents, access_of, contents}
 use Rattle.registry_tables.specs.Effects.{stored}
-use Rattle.registry_tables.specs.Teams.{text_spelled}
+use Rattle.registry_tables.specs.Teams.{AreTeamsSound, text_spelled}
 use Rattle.registry_tables.proofs.FoundFacts.{there_found}
 use Rattle.registry_tables.proofs.MappedFacts.{teams_mapped}
 
@@ -68,3 +69,11 @@ pub teams_listed : (o : Text) (old new : Shown) (rows : List Row) → Ready sche
 teams_listed o old new rows form call clean =
     let it = select_lists teams_mapped list_text (col 1 2 ∷ []) _ list_means o team_entry (λ (u : Unit {0}). u) (λ id vs. refl) old new rows form call clean in
     (it.0, sym (map-map (λ (e : Text × Unit {0}). e.0) team_entry rows) ∙ ap keys (it.1 ∙ seen_as_is (of (stored old).teams o)))
+
+-- ---- what teams have
+
+pub sound_teams : (c : Contents) → IsSound (access_of c) → AreTeamsSound c
+sound_teams c sound = record {
+  members = λ o t u there. (sound.team_members o t u there).1;
+  grants = λ o t p there. (sound.grants o t p there).scope;
+}

@@ -1,5 +1,5 @@
 -- What the statements on versions make and show.
-use Rattle.std.proofs.Common.{◌≡◌, ◌==◌, ℕ, List, [], ◌∷◌, pos, map, not, is_some, length, option_map, slice_get, None, Ok, refl, sym, ap, ◌∙◌, codes}
+use Rattle.std.proofs.Common.{◌≡◌, ◌==◌, ℕ, List, [], ◌∷◌, pos, map, not, is_some, length, option_map, slice_get, None, Ok, refl, sym, ◌∙◌, codes}
 use Rattle.sqlite.specs.declared.types.Value.TheVariants.{Null, Int, Text as Stored, Blob}
 use Rattle.sqlite.specs.Command.TheVariants.{Insert, Select}
 use Rattle.sqlite.specs.Source.TheVariants.{Values}

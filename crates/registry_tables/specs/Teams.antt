@@ -1,16 +1,20 @@
 -- What goes with a member and with a team, who is in a team, and what its members are granted by that.
-use Rattle.std.specs.Prelude.{◌≡◌, Bool, not, ◌&&◌, List, map, filter, Some, IsSome}
+use Rattle.std.specs.Prelude.{◌≡◌, Bool, not, ◌&&◌, List, map, filter, Some, IsSome, is_some}
 use Rattle.std.specs.List.{list_any}
 use Rattle.sqlite_value.specs.Order.{Row, column}
 use Rattle.registry_names.specs.Texts.{Text}
 use Rattle.registry_names.specs.Names.{scope_of}
 use Rattle.registry_names.specs.Keys.{pair_is}
 use Rattle.registry_names.specs.Maps.{at, erase, keep, entries, keys, pairs_of, parts}
-use Rattle.registry_access.specs.Callers.{grants}
+use Rattle.registry_access.specs.Callers.{granted, grants}
+use Rattle.registry_access.specs.Levels.{reads}
+use Rattle.registry_access.specs.Positions.{level_in, scope_role}
 use Rattle.registry_access.specs.Standings.{is_listed}
+use Rattle.registry_access.specs.declared.caller.Caller.{Caller}
 use Rattle.registry_access.specs.declared.grant.Grant.{Grant}
+use Rattle.registry_packument.specs.declared.list.Granted.{Granted}
 use Rattle.registry_rows.specs.Columns.{text_in, number_in}
-use Rattle.registry_tables.specs.Contents.{Contents, grant_of}
+use Rattle.registry_tables.specs.Contents.{Contents, access_of, grant_of}
 
 -- ---- what goes
 
@@ -53,11 +57,43 @@ AreGranted c o u p gs = (g : Grant) → is_listed gs g ≡ granted_in c o u p g
 abbrev pub GrantsInScope : Contents → Type 0
 GrantsInScope c = (o t p : Text) → IsSome (at c.grants (o, (t, p))) → scope_of p ≡ Some o
 
+-- who is in a team is a member of its organisation
+abbrev pub TeamsAreOfMembers : Contents → Type 0
+TeamsAreOfMembers c = (o t u : Text) → IsSome (at c.team_members (o, (t, u))) → IsSome (at c.members (o, u))
+
+-- A team has members of its organisation, and grants on packages of its scope
+pub record AreTeamsSound (c : Contents) : Type 0 where
+  pub members : TeamsAreOfMembers c
+  pub grants : GrantsInScope c
+
+-- the list has what the caller is granted on the package, where it is told right whether he is a member of the organisation of its scope
+abbrev pub AreHis : Contents → Caller → Text → Bool → List Grant → Type 0
+AreHis c who p is_member gs = AreTeamsSound c → is_member ≡ is_some (scope_role (access_of c) who (scope_of p)) → (g : Grant) → is_listed gs g ≡ granted (access_of c) who p g
+
+-- what a team is granted, in byte order of the packages
+abbrev pub grants_of : Contents → Text → Text → List (Text × Grant)
+grants_of c o t = parts (pairs_of c.grants o) t
+
+-- of some grants those on packages that the caller reads
+abbrev pub readable : Contents → Caller → List (Text × Grant) → List (Text × Grant)
+readable c who = filter (λ (e : Text × Grant). reads (level_in (access_of c) who e.0))
+
+-- what a team is granted on packages that the caller reads
+abbrev pub grants_read : Contents → Caller → Text → Text → List (Text × Grant)
+grants_read c who o t = readable c who (grants_of c o t)
+
 -- ---- what rows of answers spell
 
 -- a text alone
 abbrev pub text_spelled : Row → Text
 text_spelled r = text_in (column r 0)
+
+-- a package, and what is granted on it
+abbrev pub granted_spelled : Row → Text × Grant
+granted_spelled r = (text_in (column r 0), grant_of (number_in (column r 1)))
+
+abbrev pub granted_entry : Granted → Text × Grant
+granted_entry g = (g.name, g.grant)
 
 -- a grant alone
 abbrev pub grant_spelled : Row → Grant

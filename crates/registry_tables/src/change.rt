@@ -5,6 +5,8 @@ ghost use Rattle.registry_rules.specs.Changes.{change_of};
 ghost use Rattle.registry_tables.specs.Changes.{stored_by};
 ghost use Rattle.registry_tables.specs.Effects.{InForm, Makes};
 
+use crate::grants::{drop_grant, put_grant};
+use crate::maintainers::{drop_maintainer, put_maintainer};
 use crate::members::{drop_member, put_member};
 use crate::organisations::add_organisation;
 use crate::statuses::put_status;
@@ -22,7 +24,8 @@ use sqlite::{Alter, Transaction};
 ///
 /// A new row of a key that is there already is a fault, and so is a row of which the tables lack
 /// what it refers to: a version of a package without a status, or a tag of a version that doesn't
-/// live.
+/// live. A grant refers to its team and its package's status, a maintainer to the user and to that
+/// status.
 pub fn make<S: Alter>(tx: &mut Transaction<'_, S>, change: &Change<'_>) -> Result<(), Fault>
     requires in_form { InForm S.Store tx.old }
     ensures stays { Stays S.Store tx.old tx.new }
@@ -51,6 +54,20 @@ pub fn make<S: Alter>(tx: &mut Transaction<'_, S>, change: &Change<'_>) -> Resul
             user,
         } => drop_team_member(tx, organisation, team, user.text()),
         Change::DropTeam { organisation, team } => drop_team(tx, organisation, team),
+        Change::PutGrant {
+            organisation,
+            team,
+            package,
+            grant,
+            stands,
+        } => put_grant(tx, organisation, team, package.text(), grant, stands),
+        Change::DropGrant {
+            organisation,
+            team,
+            package,
+        } => drop_grant(tx, organisation, team, package.text()),
+        Change::PutOwner { package, user } => put_maintainer(tx, package.text(), user.text()),
+        Change::DropOwner { package, user } => drop_maintainer(tx, package.text(), user.text()),
         Change::PutStatus {
             package,
             status,

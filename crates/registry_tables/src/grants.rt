@@ -1,16 +1,18 @@
 //! The table `grants`: what teams are granted on packages of their organisation's scope.
 
 ghost use Rattle.std.specs.Prelude.{◌≡◌, IfOk, is_some, map, pos};
-ghost use Rattle.registry_access.specs.declared.grant.Grant.{Grant as Granted};
+ghost use Rattle.registry_access.specs.declared.grant.Grant.{Grant as Right};
 ghost use Rattle.registry_names.specs.Maps.{at, erase, put};
+ghost use Rattle.registry_names.specs.Texts.{Text as Bytes};
 ghost use Rattle.registry_rows.specs.Frames.{Stays};
 ghost use Rattle.registry_tables.specs.Changes.{amended, with_row};
 ghost use Rattle.registry_tables.specs.Effects.{InForm, Makes, Tells};
 ghost use Rattle.registry_tables.specs.Spelled.{grant_number};
-ghost use Rattle.registry_tables.specs.Teams.{AreGranted, grant_spelled};
+ghost use Rattle.registry_tables.specs.Teams.{AreGranted, grant_spelled, granted_entry, granted_spelled, grants_of};
 
 use registry_access::Grant;
-use registry_names::{Fault, Name};
+use registry_names::{Fault, Name, Text};
+use registry_packument::Granted;
 use registry_rows::{FromRow, read, values_in, write};
 use sqlite::{Alter, Error, Row, Transaction, params};
 use std::alloc::Global;
@@ -146,13 +148,64 @@ fn grants_in(alloc: Global, rows: &[Row]) -> Result<Vec<Grant>, Fault>
     Ok(grants)
 }
 
+/// What a team is granted, in byte order of the packages.
+pub(crate) fn load_team_grants<S: Alter>(
+    alloc: Global,
+    tx: &mut Transaction<'_, S>,
+    organisation: &str,
+    team: &str,
+) -> Result<Vec<Granted>, Fault>
+    requires in_form { InForm S.Store tx.old }
+    ensures stays { Stays S.Store tx.old tx.new }
+    ensures tells { Tells S.Store tx.old tx.new result (λ granted c. map granted_entry granted.items ≡ grants_of c organisation.now team.now) }
+{
+    let rows = read(
+        tx,
+        "SELECT package, level FROM grants WHERE org = ?1 AND team = ?2 ORDER BY package",
+        params![organisation, team],
+    )?;
+    granted_in(alloc, &rows)
+}
+
+fn granted_in(alloc: Global, rows: &[Row]) -> Result<Vec<Granted>, Fault>
+    ensures { IfOk result (λ granted. map granted_entry granted.items ≡ map granted_spelled rows.now) }
+{
+    let rows: Vec<ListedGrant> = values_in(alloc, rows)?;
+    let granted = rows.into_iter().map(|row| row.granted).collect(alloc)?;
+    Ok(granted)
+}
+
+#[derive(Drop)]
+struct ListedGrant {
+    granted: Granted,
+}
+
+impl FromRow for ListedGrant {
+    ghost Seen = { Bytes × Right };
+
+    ghost seen = { λ row. granted_entry row.granted };
+
+    ghost spelled = { granted_spelled };
+
+    fn from_row(row: &Row) -> Result<ListedGrant, Error> {
+        let name: String = row.get(0)?;
+        let number: i64 = row.get(1)?;
+        Ok(ListedGrant {
+            granted: Granted {
+                name: Text::from(name),
+                grant: grant_of(number)?,
+            },
+        })
+    }
+}
+
 #[derive(Drop)]
 struct GrantRow {
     grant: Grant,
 }
 
 impl FromRow for GrantRow {
-    ghost Seen = { Granted };
+    ghost Seen = { Right };
 
     ghost seen = { λ row. row.grant };
 

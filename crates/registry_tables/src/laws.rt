@@ -14,6 +14,7 @@ ghost use Rattle.registry_publish.specs.Integrity.{integrity_text};
 ghost use Rattle.registry_publish.specs.Needs.{needs_of};
 ghost use Rattle.registry_rules.specs.Actions.{version_of};
 ghost use Rattle.registry_rules.specs.Changes.{Change, all_made, made};
+ghost use Rattle.registry_rules.specs.Kept.{IsSound};
 ghost use Rattle.registry_tables.specs.Archives.{HeldAreStored, HoldsArchives};
 ghost use Rattle.registry_tables.specs.Changes.{all_stored, stored_by, version_put};
 ghost use Rattle.registry_tables.specs.Contents.{Contents, access_of, registry_of};
@@ -21,7 +22,7 @@ ghost use Rattle.registry_tables.specs.Effects.{InForm, shown, stored_in};
 ghost use Rattle.registry_tables.specs.Fresh.{fresh};
 ghost use Rattle.registry_tables.specs.Needs.{HoldsNeeds};
 ghost use Rattle.registry_tables.specs.Opening.{Finds, HasNothing, HasNumber, HasUsersAlone, IsMade, Understands, first_creation};
-ghost use Rattle.registry_tables.specs.Teams.{GrantsInScope, granted_in};
+ghost use Rattle.registry_tables.specs.Teams.{AreTeamsSound, GrantsInScope, granted_in};
 
 use sqlite::Alter;
 
@@ -74,4 +75,10 @@ pub fn tables_are_made_once<S: Alter>()
 pub fn grants_stay_in_scope()
     ensures scoped { (c : Contents) (o u p : Text) (g : Grant) → GrantsInScope c → scope_of p ≡ Some o → granted_in c o u p g ≡ team_granted (access_of c) u p g }
     ensures unscoped { (c : Contents) (u p : Text) (g : Grant) → GrantsInScope c → scope_of p ≡ None → team_granted (access_of c) u p g ≡ false }
+{}
+
+/// Where what stands refers to what is there, a team has members of its organisation alone, and
+/// grants on packages of its scope.
+pub fn teams_stay_sound()
+    ensures { (c : Contents) → IsSound (access_of c) → AreTeamsSound c }
 {}

@@ -1,13 +1,19 @@
 //! The table `owners`: the maintainers of every package.
 
-ghost use Rattle.std.specs.Prelude.{◌≡◌, is_some};
-ghost use Rattle.registry_names.specs.Maps.{at, erase, put};
+ghost use Rattle.std.specs.Prelude.{◌≡◌, is_some, not};
+ghost use Rattle.std.specs.List.{list_any};
+ghost use Rattle.registry_names.specs.Maps.{at, erase, keys, of, put};
+ghost use Rattle.registry_names.specs.Texts.{is};
 ghost use Rattle.registry_rows.specs.Frames.{Stays};
+ghost use Rattle.registry_rules.specs.State as spec;
+ghost use Rattle.registry_tables.specs.Contents.{registry_of};
 ghost use Rattle.registry_tables.specs.Effects.{InForm, Makes, Tells};
 
-use registry_names::{Fault, Name};
+use crate::team_members::texts_in;
+use registry_names::{Fault, Name, Text};
 use registry_rows::{read, write};
 use sqlite::{Alter, Transaction, params};
+use std::alloc::Global;
 
 /// Whether the user is a maintainer of the package.
 pub fn is_maintainer<S: Alter>(
@@ -25,6 +31,54 @@ pub fn is_maintainer<S: Alter>(
         params![name.text(), user],
     )?;
     Ok(!rows.is_empty())
+}
+
+/// Whether another user than this is a maintainer of the package.
+pub fn has_other_maintainer<S: Alter>(
+    alloc: Global,
+    tx: &mut Transaction<'_, S>,
+    name: &Name,
+    user: &str,
+) -> Result<bool, Fault>
+    requires in_form { InForm S.Store tx.old }
+    ensures stays { Stays S.Store tx.old tx.new }
+    ensures tells { Tells S.Store tx.old tx.new result (λ has c. has ≡ spec.has_other_maintainer (registry_of c) name.now user.now) }
+{
+    let maintainers = load_maintainers(alloc, tx, name)?;
+    Ok(maintained_by_another(&maintainers, user))
+}
+
+// The maintainers of a package, in byte order.
+fn load_maintainers<S: Alter>(
+    alloc: Global,
+    tx: &mut Transaction<'_, S>,
+    name: &Name,
+) -> Result<Vec<Text>, Fault>
+    requires in_form { InForm S.Store tx.old }
+    ensures stays { Stays S.Store tx.old tx.new }
+    ensures tells { Tells S.Store tx.old tx.new result (λ users c. users.items ≡ keys (of c.owners name.now)) }
+{
+    let rows = read(
+        tx,
+        "SELECT user FROM owners WHERE package = ?1 ORDER BY user",
+        params![name.text()],
+    )?;
+    texts_in(alloc, &rows)
+}
+
+fn maintained_by_another(maintainers: &[Text], user: &str) -> bool
+    ensures { result ≡ list_any (λ m. not (is m user.now)) maintainers.now }
+{
+    maintainers
+        .iter()
+        .any(|maintainer| !is_user(maintainer, user))
+}
+
+#[tactic(auto, unfolding(registry_names::specs::Texts::is))]
+fn is_user(text: &Text, user: &str) -> bool
+    ensures { result ≡ is text.now user.now }
+{
+    text.as_str() == user
 }
 
 /// Makes a user a maintainer of a package. One who is is a fault, and so is a package that has no

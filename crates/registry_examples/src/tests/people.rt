@@ -1,12 +1,12 @@
-//! Actions about users, organisations and teams, from their texts.
+//! Actions about users, organisations, teams and rights, from their texts.
 
 use crate::example::Ask;
-use registry_names::{Ident, Refusal, Stop};
+use registry_names::{Ident, Name, Refusal, Stop};
 use registry_publish::TokenDigest;
 use registry_rules::Action;
 use std::alloc::Global;
 
-/// The action that is asked. None where it is about a package.
+/// The action that is asked. None where it is about versions or tags of a package.
 pub(crate) fn action_of(alloc: Global, ask: Ask) -> Result<Option<Action>, Stop> {
     let ident = |text: &str| Ident::parse(alloc, text);
     let action = match ask {
@@ -63,6 +63,41 @@ fn team_action_of(alloc: Global, ask: Ask) -> Result<Option<Action>, Stop> {
         Ask::TeamMembers(organisation, team) => Action::TeamMembers {
             organisation: ident(organisation)?,
             team: ident(team)?,
+        },
+        Ask::TeamPackages(organisation, team) => Action::TeamPackages {
+            organisation: ident(organisation)?,
+            team: ident(team)?,
+        },
+        _ => return right_action_of(alloc, ask),
+    };
+    Ok(Some(action))
+}
+
+fn right_action_of(alloc: Global, ask: Ask) -> Result<Option<Action>, Stop> {
+    let ident = |text: &str| Ident::parse(alloc, text);
+    let action = match ask {
+        Ask::Grant(organisation, team, name, grant) => Action::Grant {
+            organisation: ident(organisation)?,
+            team: ident(team)?,
+            name: Name::parse(alloc, name)?,
+            grant,
+        },
+        Ask::Revoke(organisation, team, name) => Action::Revoke {
+            organisation: ident(organisation)?,
+            team: ident(team)?,
+            name: Name::parse(alloc, name)?,
+        },
+        Ask::SetAccess(name, status) => Action::SetAccess {
+            name: Name::parse(alloc, name)?,
+            status,
+        },
+        Ask::OwnerAdd(name, user) => Action::OwnerAdd {
+            name: Name::parse(alloc, name)?,
+            user: ident(user)?,
+        },
+        Ask::OwnerRemove(name, user) => Action::OwnerRemove {
+            name: Name::parse(alloc, name)?,
+            user: ident(user)?,
         },
         _ => return Ok(None),
     };

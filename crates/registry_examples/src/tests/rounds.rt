@@ -2,6 +2,7 @@
 
 ghost use Rattle.std.specs.Prelude.{◌<◌};
 
+use crate::beginnings::LAB;
 use crate::example::{Ask, Expected, Step, Who};
 use crate::tests::have_their_replies;
 use registry_names::Refusal;
@@ -17,6 +18,7 @@ fn both_ways_have_the_same_outcomes(rt: HostRuntime) -> Result<(), Fail> {
 // Rounds over seven packages in turn, each with its next version.
 fn fifty_rounds(alloc: Global) -> Result<Vec<Step>, AllocError> {
     let mut steps = Vec::new(alloc);
+    steps.extend_from_slice(LAB)?;
     for round in 0..50 {
         steps.extend_from_slice(&steps_in(round))?;
     }
@@ -59,7 +61,7 @@ fn steps_in(round: u8) -> [Step; 4]
 fn step(round: u8, ask: Ask, expected: Expected) -> Step {
     Step {
         at: i64::from(round),
-        who: Who::Anonymous,
+        who: Who::User("bob"),
         ask,
         expected,
     }

@@ -2,12 +2,18 @@
 //! each does, and tells what the calls before it put.
 
 mod call;
+mod rights;
 mod schema;
 mod teams;
 mod text;
 
 use call::{Call, Case, End, all_come_out};
+use registry_access::Grant::{ReadOnly, ReadWrite};
 use registry_names::Status;
+use rights::RightCall::{
+    Anonymous, DropGrant, DropMaintainer, NewGrant, NewMaintainer, OtherGrant, OtherMaintainer,
+    Packages, Standing,
+};
 use std::test::Fail;
 use teams::TeamCall::{Grant, Grants, Member, Organisation, Team, TeamMember, Teams, User, Users};
 use text::Body;
@@ -30,6 +36,11 @@ fn tags_stand_as_they_were_put(rt: HostRuntime) -> Result<(), Fail> {
 #[test]
 fn teams_tell_their_users_and_grants(rt: HostRuntime) -> Result<(), Fail> {
     all_come_out(rt.alloc(), &TEAMS)
+}
+
+#[test]
+fn rights_stand_as_they_were_put(rt: HostRuntime) -> Result<(), Fail> {
+    all_come_out(rt.alloc(), &RIGHTS)
 }
 
 #[test]
@@ -353,6 +364,173 @@ static TEAMS: [Case; 3] = [
             ("@lab/kit", Call::Teams(Grant("lab", "devs", 0)), "done"),
         ],
         end: End::Fault("@lab/kit", Call::Teams(Grants("lab", "ann"))),
+    },
+];
+
+// What callers may do with packages.
+static RIGHTS: [Case; 4] = [
+    Case {
+        shows: "a standing tells what a user may do",
+        calls: &[
+            ("@lab/kit", Call::Teams(User("ann")), "done"),
+            ("@lab/kit", Call::Teams(User("bob")), "done"),
+            ("@lab/kit", Call::Teams(User("eve")), "done"),
+            ("@lab/kit", Call::Teams(Organisation("lab")), "done"),
+            ("@lab/kit", Call::Teams(Member("lab", "ann")), "done"),
+            ("@lab/kit", Call::Teams(Team("lab", "devs")), "done"),
+            (
+                "@lab/kit",
+                Call::Teams(TeamMember("lab", "devs", "ann")),
+                "done",
+            ),
+            (
+                "@lab/kit",
+                Call::Rights(Standing("ann")),
+                "true developer none false",
+            ),
+            ("@lab/kit", Call::NewStatus(Status::Restricted), "done"),
+            (
+                "@lab/kit",
+                Call::Rights(NewGrant("lab", "devs", ReadOnly)),
+                "done",
+            ),
+            (
+                "@lab/kit",
+                Call::Rights(Standing("ann")),
+                "true developer restricted false read",
+            ),
+            (
+                "@lab/kit",
+                Call::Rights(OtherGrant("lab", "devs", ReadWrite)),
+                "done",
+            ),
+            (
+                "@lab/kit",
+                Call::Rights(Standing("ann")),
+                "true developer restricted false write",
+            ),
+            (
+                "@lab/kit",
+                Call::Rights(Standing("bob")),
+                "true none restricted false",
+            ),
+            (
+                "@lab/kit",
+                Call::Rights(Anonymous),
+                "true none restricted false",
+            ),
+            (
+                "kit",
+                Call::Rights(Standing("ann")),
+                "false none none false",
+            ),
+            (
+                "@labs/kit",
+                Call::Rights(Standing("ann")),
+                "false none none false",
+            ),
+            ("@lab/kit", Call::Rights(DropGrant("lab", "devs")), "done"),
+            (
+                "@lab/kit",
+                Call::Rights(Standing("ann")),
+                "true developer restricted false",
+            ),
+        ],
+        end: End::Nothing,
+    },
+    Case {
+        shows: "maintainers come and go",
+        calls: &[
+            ("@lab/kit", Call::Teams(User("ann")), "done"),
+            ("@lab/kit", Call::Teams(User("bob")), "done"),
+            ("@lab/kit", Call::NewStatus(Status::Public), "done"),
+            ("@lab/kit", Call::Rights(OtherMaintainer("ann")), "false"),
+            ("@lab/kit", Call::Rights(NewMaintainer("bob")), "done"),
+            (
+                "@lab/kit",
+                Call::Rights(Standing("bob")),
+                "false none public true",
+            ),
+            (
+                "@lab/kit",
+                Call::Rights(Standing("ann")),
+                "false none public false",
+            ),
+            ("@lab/kit", Call::Rights(OtherMaintainer("ann")), "true"),
+            ("@lab/kit", Call::Rights(OtherMaintainer("bob")), "false"),
+            ("@lab/kit", Call::Rights(NewMaintainer("ann")), "done"),
+            ("@lab/kit", Call::Rights(OtherMaintainer("bob")), "true"),
+            ("@lab/kit", Call::Rights(DropMaintainer("bob")), "done"),
+            (
+                "@lab/kit",
+                Call::Rights(Standing("bob")),
+                "false none public false",
+            ),
+            ("@lab/kit", Call::Rights(OtherMaintainer("ann")), "false"),
+        ],
+        end: End::Nothing,
+    },
+    Case {
+        shows: "the packages of a team are those that the user reads",
+        calls: &[
+            ("@lab/kit", Call::Teams(User("ann")), "done"),
+            ("@lab/kit", Call::Teams(User("bob")), "done"),
+            ("@lab/kit", Call::Teams(Organisation("lab")), "done"),
+            ("@lab/kit", Call::Teams(Member("lab", "ann")), "done"),
+            ("@lab/kit", Call::Teams(Team("lab", "devs")), "done"),
+            (
+                "@lab/kit",
+                Call::Teams(TeamMember("lab", "devs", "ann")),
+                "done",
+            ),
+            ("@lab/kit", Call::NewStatus(Status::Restricted), "done"),
+            ("@lab/pad", Call::NewStatus(Status::Public), "done"),
+            ("@lab/ant", Call::NewStatus(Status::Restricted), "done"),
+            ("@lab/kit", Call::Rights(Packages("ann", "lab", "devs")), ""),
+            (
+                "@lab/kit",
+                Call::Rights(NewGrant("lab", "devs", ReadWrite)),
+                "done",
+            ),
+            (
+                "@lab/pad",
+                Call::Rights(NewGrant("lab", "devs", ReadOnly)),
+                "done",
+            ),
+            (
+                "@lab/ant",
+                Call::Rights(NewGrant("lab", "devs", ReadOnly)),
+                "done",
+            ),
+            (
+                "@lab/kit",
+                Call::Rights(Packages("ann", "lab", "devs")),
+                " @lab/ant=read @lab/kit=write @lab/pad=read",
+            ),
+            (
+                "@lab/kit",
+                Call::Rights(Packages("bob", "lab", "devs")),
+                " @lab/pad=read",
+            ),
+            ("@lab/kit", Call::Rights(NewMaintainer("bob")), "done"),
+            (
+                "@lab/kit",
+                Call::Rights(Packages("bob", "lab", "devs")),
+                " @lab/kit=write @lab/pad=read",
+            ),
+            ("@lab/kit", Call::Rights(Packages("ann", "lab", "docs")), ""),
+        ],
+        end: End::Rows(
+            " grants grants grants members meta orgs owners packages packages packages team_members teams users users",
+        ),
+    },
+    Case {
+        shows: "a grant is a team's",
+        calls: &[
+            ("@lab/kit", Call::Teams(Organisation("lab")), "done"),
+            ("@lab/kit", Call::NewStatus(Status::Restricted), "done"),
+        ],
+        end: End::Fault("@lab/kit", Call::Rights(NewGrant("lab", "devs", ReadOnly))),
     },
 ];
 

@@ -5,6 +5,7 @@ ghost use Rattle.sqlite.specs.Held.{state};
 ghost use Rattle.sqlite.specs.Steps.{IsEmpty};
 ghost use Rattle.registry_tables.specs.Effects.{InForm};
 
+use super::rights::{self, RightCall};
 use super::teams::{self, TeamCall};
 use super::text::{
     Body, archive_text, done, form_of, status_text, tags_text, versions_text, word_text,
@@ -76,6 +77,8 @@ pub enum Call {
     Archive(&'static str),
     /// A call over the teams that may be granted something on it.
     Teams(TeamCall),
+    /// A call over what callers may do with it.
+    Rights(RightCall),
 }
 
 /// What comes after the calls of a case.
@@ -225,6 +228,7 @@ fn told_of<S: Alter>(
         Call::Versions => Ok(versions_text(alloc, &load_versions(alloc, tx, name)?)?),
         Call::Archive(version) => archive_text(alloc, &load_archive(tx, name, version)?),
         Call::Teams(call) => teams::told(alloc, tx, name, call),
+        Call::Rights(call) => rights::told(alloc, tx, name, call),
     }
 }
 

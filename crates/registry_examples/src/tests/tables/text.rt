@@ -1,9 +1,9 @@
 //! Bodies of publications, and texts that tell what was loaded.
 
 use crate::tests::body::{ABC, body_of};
-use registry_access::Grant;
+use registry_access::{Grant, Role, Standing};
 use registry_names::{Blob, DistTag, Status, Stop, Text};
-use registry_packument::VersionRow;
+use registry_packument::{Granted, VersionRow};
 use registry_publish::PublishForm;
 use std::alloc::{AllocError, Global};
 
@@ -111,10 +111,44 @@ pub fn names_text(alloc: Global, names: &[Text]) -> Result<String, AllocError> {
 pub fn grants_text(alloc: Global, grants: &[Grant]) -> Result<String, AllocError> {
     let mut text = String::new(alloc);
     for grant in grants {
-        text.push_str(match grant {
-            Grant::ReadOnly => " read",
-            Grant::ReadWrite => " write",
-        })?;
+        text.push_str(" ")?;
+        text.push_str(grant_word(*grant))?;
     }
     Ok(text)
+}
+
+fn grant_word(grant: Grant) -> &'static str {
+    match grant {
+        Grant::ReadOnly => "read",
+        Grant::ReadWrite => "write",
+    }
+}
+
+/// Each package with what is granted on it, after a space.
+pub fn granted_text(alloc: Global, rows: &[Granted]) -> Result<String, AllocError> {
+    let mut text = String::new(alloc);
+    for row in rows {
+        let name = row.name.as_str();
+        let grant = grant_word(row.grant);
+        text.push_str(&format!(in alloc; " {name}={grant}")?)?;
+    }
+    Ok(text)
+}
+
+/// Whether the organisation is there, the role in it, the package's status, whether the caller is
+/// a maintainer, and what he is granted.
+pub fn standing_text(alloc: Global, standing: &Standing) -> Result<String, AllocError> {
+    let role = match standing.role {
+        Some(Role::Owner) => "owner",
+        Some(Role::Admin) => "admin",
+        Some(Role::Developer) => "developer",
+        None => "none",
+    };
+    let status = status_text(alloc, standing.status)?;
+    let status = status.as_str();
+    let grants = grants_text(alloc, &standing.grants)?;
+    let grants = grants.as_str();
+    let org = standing.org;
+    let maintainer = standing.maintainer;
+    format!(in alloc; "{org} {role} {status} {maintainer}{grants}")
 }

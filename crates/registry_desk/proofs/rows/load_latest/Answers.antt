@@ -10,7 +10,7 @@ use Rattle.registry_tables.specs.Contents.{contents, live_of}
 use Rattle.registry_tables.specs.Effects.{shown, stored_in}
 use Rattle.registry_tables.specs.Schema.{schema}
 use Rattle.registry_tables.specs.Spelled.{document}
-use Rattle.registry_desk.proofs.found.load_latest.Goals as goal
+use Rattle.registry_desk.proofs.rows.load_latest.Goals as goal
 
 pub returns-in_ok-document-in-Some-clause-tells : goal.returns-in_ok-document-in-Some-clause-tells
 returns-in_ok-document-in-Some-clause-tells g c clean =

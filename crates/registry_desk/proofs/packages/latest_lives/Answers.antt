@@ -1,0 +1,27 @@
+use Rattle.std.proofs.Common.{◌≡◌, ◌∙◌, arith, ap, sym, is_some, Some, Option}
+use Rattle.sqlite.specs.Effect.{Database}
+use Rattle.sqlite.specs.State.{HasCleanDisk}
+use Rattle.registry_names.specs.Maps.{at}
+use Rattle.registry_names.specs.Tags.{latest}
+use Rattle.registry_names.specs.Texts.{Text}
+use Rattle.registry_rows.proofs.QuietFacts.{reads_then}
+use Rattle.registry_rules.specs.State.{lives}
+use Rattle.registry_tables.specs.Contents.{contents, live_of, registry_of}
+use Rattle.registry_tables.specs.Effects.{shown, stored_in}
+use Rattle.registry_tables.specs.Schema.{schema}
+use Rattle.registry_desk.proofs.packages.latest_lives.Goals as goal
+
+pub returns-in_ok-lives-in-Some-clause-tells : goal.returns-in_ok-lives-in-Some-clause-tells
+returns-in_ok-lives-in-Some-clause-tells g c clean =
+    let mid = shown g.S.Store c.load_tag.new.tx in
+    let was = stored_in g.S.Store c.args.tx.now in
+    let p = c.args.name.now in
+    let were : HasCleanDisk mid = omega (arith, c.has_version.ensures.stays.survives.clean, clean) in
+    let named = c.in_ok-version.ensures.tells were in
+    let found = c.in_ok-lives-in-Some.ensures.tells clean in
+    let tag : Some c.in-Some.version ≡ at was.tags (p, latest) = sym c.in-Some.is ∙ named.1 in (
+      reads_then schema (shown g.S.Store c.args.tx.now) mid (shown g.S.Store c.has_version.new.tx) named.0 found.0,
+      found.1 ∙ ap (λ (d : Database). is_some (at (live_of (contents d.trees)) (p, c.as_str.result.now))) named.0.same
+          ∙ ap (λ (v : Text). is_some (at (live_of was) (p, v))) c.as_str.ensures.text
+          ∙ ap (λ (o : Option Text). lives (registry_of was) p o) tag,
+    )

@@ -1,0 +1,87 @@
+//! What decides an action about what a team is granted on a package.
+
+ghost use Rattle.registry_access.specs.declared.grant.Grant.{Grant};
+ghost use Rattle.registry_rows.specs.Frames.{Stays};
+ghost use Rattle.registry_tables.specs.Contents.{registry_of};
+ghost use Rattle.registry_tables.specs.Effects.{InForm, Tells};
+ghost use Rattle.registry_desk.specs.Found.{IsGrantable};
+ghost use Rattle.registry_rules.specs.Facts.{StandsAbout};
+ghost use Rattle.registry_rules.specs.declared.request.Action.TheVariants as asked;
+
+use registry_access::Caller;
+use registry_names::{Fault, Ident, Name};
+use registry_rules::About;
+use registry_tables::{has_grant, has_team, load_access, load_status};
+use sqlite::{Alter, Transaction};
+use std::alloc::Global;
+
+/// Of a grant that is to be given.
+pub(crate) fn new_grant<S: Alter>(
+    alloc: Global,
+    tx: &mut Transaction<'_, S>,
+    caller: &Caller,
+    organisation: &Ident,
+    team: &Ident,
+    name: &Name,
+) -> Result<About, Fault>
+    requires in_form { InForm S.Store tx.old }
+    ensures stays { Stays S.Store tx.old tx.new }
+    ensures tells { Tells S.Store tx.old tx.new result (λ about c. (grant : Grant)
+        → StandsAbout about (registry_of c) caller.now
+        (asked.Grant organisation.now team.now name.now grant)) }
+{
+    let rows = load_access(alloc, tx, caller, organisation.text())?;
+    let grantable = find_grantable(tx, organisation.text(), team.text(), name)?;
+    Ok(About::Grant {
+        rows,
+        team_exists: grantable.team_exists,
+        is_published: grantable.is_published,
+        stands: grantable.stands,
+    })
+}
+
+// How a team of an organisation stands to a package.
+#[derive(Drop)]
+struct Grantable {
+    team_exists: bool,
+    is_published: bool,
+    stands: bool,
+}
+
+fn find_grantable<S: Alter>(
+    tx: &mut Transaction<'_, S>,
+    organisation: &str,
+    team: &str,
+    name: &Name,
+) -> Result<Grantable, Fault>
+    requires in_form { InForm S.Store tx.old }
+    ensures stays { Stays S.Store tx.old tx.new }
+    ensures tells { Tells S.Store tx.old tx.new result
+        (λ grantable c. IsGrantable grantable (registry_of c) organisation.now team.now name.now) }
+{
+    Ok(Grantable {
+        team_exists: has_team(tx, organisation, team)?,
+        is_published: load_status(tx, name)?.is_some(),
+        stands: has_grant(tx, organisation, team, name)?,
+    })
+}
+
+/// Of a grant that is to be taken.
+pub(crate) fn old_grant<S: Alter>(
+    alloc: Global,
+    tx: &mut Transaction<'_, S>,
+    caller: &Caller,
+    organisation: &Ident,
+    team: &Ident,
+    name: &Name,
+) -> Result<About, Fault>
+    requires in_form { InForm S.Store tx.old }
+    ensures stays { Stays S.Store tx.old tx.new }
+    ensures tells { Tells S.Store tx.old tx.new result (λ about c. StandsAbout about
+        (registry_of c) caller.now (asked.Revoke organisation.now team.now name.now)) }
+{
+    Ok(About::Revoke {
+        rows: load_access(alloc, tx, caller, organisation.text())?,
+        stands: has_grant(tx, organisation.text(), team.text(), name)?,
+    })
+}

@@ -1,0 +1,107 @@
+//! What decides an action about the maintainers of a package.
+
+ghost use Rattle.registry_rows.specs.Frames.{Stays};
+ghost use Rattle.registry_tables.specs.Contents.{registry_of};
+ghost use Rattle.registry_tables.specs.Effects.{InForm, Tells};
+ghost use Rattle.registry_tables.specs.Teams.{AreTeamsSound};
+ghost use Rattle.registry_desk.specs.Found.{IsLeaver, IsNewcomer};
+ghost use Rattle.registry_rules.specs.Facts.{StandsAbout};
+ghost use Rattle.registry_rules.specs.declared.request.Action.TheVariants as asked;
+
+use registry_access::Caller;
+use registry_names::{Fault, Ident, Name};
+use registry_rules::About;
+use registry_tables::{has_other_maintainer, has_user, is_maintainer, load_standing};
+use sqlite::{Alter, Transaction};
+use std::alloc::Global;
+
+/// Of a user who is to be a maintainer.
+pub(crate) fn new_maintainer<S: Alter>(
+    alloc: Global,
+    tx: &mut Transaction<'_, S>,
+    caller: &Caller,
+    name: &Name,
+    user: &Ident,
+) -> Result<About, Fault>
+    requires in_form { InForm S.Store tx.old }
+    ensures stays { Stays S.Store tx.old tx.new }
+    ensures tells { Tells S.Store tx.old tx.new result (λ about c. AreTeamsSound c
+        → StandsAbout about (registry_of c) caller.now (asked.OwnerAdd name.now user.now)) }
+{
+    let standing = load_standing(alloc, tx, caller, name)?;
+    let newcomer = find_newcomer(tx, name, user.text())?;
+    Ok(About::OwnerAdd {
+        standing,
+        user_exists: newcomer.user_exists,
+        is_owner: newcomer.is_owner,
+    })
+}
+
+// What a user is who is to be a maintainer.
+#[derive(Drop)]
+struct Newcomer {
+    user_exists: bool,
+    is_owner: bool,
+}
+
+fn find_newcomer<S: Alter>(
+    tx: &mut Transaction<'_, S>,
+    name: &Name,
+    user: &str,
+) -> Result<Newcomer, Fault>
+    requires in_form { InForm S.Store tx.old }
+    ensures stays { Stays S.Store tx.old tx.new }
+    ensures tells { Tells S.Store tx.old tx.new result
+        (λ newcomer c. IsNewcomer newcomer (registry_of c) name.now user.now) }
+{
+    Ok(Newcomer {
+        user_exists: has_user(tx, user)?,
+        is_owner: is_maintainer(tx, name, user)?,
+    })
+}
+
+/// Of a maintainer who is to be none.
+pub(crate) fn old_maintainer<S: Alter>(
+    alloc: Global,
+    tx: &mut Transaction<'_, S>,
+    caller: &Caller,
+    name: &Name,
+    user: &Ident,
+) -> Result<About, Fault>
+    requires in_form { InForm S.Store tx.old }
+    ensures stays { Stays S.Store tx.old tx.new }
+    ensures tells { Tells S.Store tx.old tx.new result (λ about c. AreTeamsSound c
+        → StandsAbout about (registry_of c) caller.now (asked.OwnerRemove name.now user.now)) }
+{
+    let standing = load_standing(alloc, tx, caller, name)?;
+    let leaver = find_leaver(alloc, tx, name, user.text())?;
+    Ok(About::OwnerRemove {
+        standing,
+        is_owner: leaver.is_owner,
+        other_owner: leaver.other_owner,
+    })
+}
+
+// What a user is who is to be a maintainer no more.
+#[derive(Drop)]
+struct Leaver {
+    is_owner: bool,
+    other_owner: bool,
+}
+
+fn find_leaver<S: Alter>(
+    alloc: Global,
+    tx: &mut Transaction<'_, S>,
+    name: &Name,
+    user: &str,
+) -> Result<Leaver, Fault>
+    requires in_form { InForm S.Store tx.old }
+    ensures stays { Stays S.Store tx.old tx.new }
+    ensures tells { Tells S.Store tx.old tx.new result
+        (λ leaver c. IsLeaver leaver (registry_of c) name.now user.now) }
+{
+    Ok(Leaver {
+        is_owner: is_maintainer(tx, name, user)?,
+        other_owner: has_other_maintainer(alloc, tx, name, user)?,
+    })
+}

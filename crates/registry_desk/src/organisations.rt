@@ -1,0 +1,125 @@
+//! What decides an action about organisations and their members.
+
+ghost use Rattle.registry_access.specs.Agreement.{SameOrganisation};
+ghost use Rattle.registry_access.specs.RowMaps.{state_of};
+ghost use Rattle.registry_access.specs.declared.caller.Caller.{Caller};
+ghost use Rattle.registry_access.specs.declared.role.Role.{Role as Rank};
+ghost use Rattle.registry_rows.specs.Frames.{Stays};
+ghost use Rattle.registry_tables.specs.Contents.{registry_of};
+ghost use Rattle.registry_tables.specs.Effects.{InForm, Tells};
+ghost use Rattle.registry_desk.specs.Found.{IsCandidate};
+ghost use Rattle.registry_rules.specs.Facts.{StandsAbout};
+ghost use Rattle.registry_rules.specs.declared.request.Action.TheVariants as asked;
+
+use registry_access::{Caller, Role};
+use registry_names::{Fault, Ident};
+use registry_rules::About;
+use registry_tables::{has_organisation, has_other_owner, has_user, load_access, load_role};
+use sqlite::{Alter, Transaction};
+use std::alloc::Global;
+
+/// Of an organisation that is to be created.
+pub(crate) fn new_organisation<S: Alter>(
+    tx: &mut Transaction<'_, S>,
+    organisation: &Ident,
+    owner: &Ident,
+) -> Result<About, Fault>
+    requires in_form { InForm S.Store tx.old }
+    ensures stays { Stays S.Store tx.old tx.new }
+    ensures tells { Tells S.Store tx.old tx.new result (λ about c. (who : Caller)
+        → StandsAbout about (registry_of c) who (asked.OrgCreate organisation.now owner.now)) }
+{
+    Ok(About::OrgCreate {
+        owner_exists: has_user(tx, owner.text())?,
+        exists: has_organisation(tx, organisation.text())?,
+    })
+}
+
+/// Of a role that a user is to have in an organisation.
+pub(crate) fn new_role<S: Alter>(
+    alloc: Global,
+    tx: &mut Transaction<'_, S>,
+    caller: &Caller,
+    organisation: &Ident,
+    user: &Ident,
+) -> Result<About, Fault>
+    requires in_form { InForm S.Store tx.old }
+    ensures stays { Stays S.Store tx.old tx.new }
+    ensures tells { Tells S.Store tx.old tx.new result (λ about c. (role : Rank)
+        → StandsAbout about (registry_of c) caller.now
+        (asked.OrgSet organisation.now user.now role)) }
+{
+    let rows = load_access(alloc, tx, caller, organisation.text())?;
+    let candidate = find_candidate(alloc, tx, organisation.text(), user.text())?;
+    Ok(About::OrgSet {
+        rows,
+        user_exists: candidate.user_exists,
+        role: candidate.role,
+        other_owner: candidate.other_owner,
+    })
+}
+
+// What is asked of a user who is to have a role in an organisation.
+#[derive(Drop)]
+struct Candidate {
+    user_exists: bool,
+    role: Option<Role>,
+    other_owner: bool,
+}
+
+fn find_candidate<S: Alter>(
+    alloc: Global,
+    tx: &mut Transaction<'_, S>,
+    organisation: &str,
+    user: &str,
+) -> Result<Candidate, Fault>
+    requires in_form { InForm S.Store tx.old }
+    ensures stays { Stays S.Store tx.old tx.new }
+    ensures tells { Tells S.Store tx.old tx.new result
+        (λ candidate c. IsCandidate candidate (registry_of c) organisation.now user.now) }
+{
+    Ok(Candidate {
+        user_exists: has_user(tx, user)?,
+        role: load_role(tx, organisation, user)?,
+        other_owner: has_other_owner(alloc, tx, organisation, user)?,
+    })
+}
+
+/// Of a member who is to leave an organisation.
+pub(crate) fn old_member<S: Alter>(
+    alloc: Global,
+    tx: &mut Transaction<'_, S>,
+    caller: &Caller,
+    organisation: &Ident,
+    user: &Ident,
+) -> Result<About, Fault>
+    requires in_form { InForm S.Store tx.old }
+    ensures stays { Stays S.Store tx.old tx.new }
+    ensures tells { Tells S.Store tx.old tx.new result (λ about c.
+        StandsAbout about (registry_of c) caller.now (asked.OrgRemove organisation.now user.now)) }
+{
+    Ok(About::OrgRemove {
+        rows: load_access(alloc, tx, caller, organisation.text())?,
+        role: load_role(tx, organisation.text(), user.text())?,
+        other_owner: has_other_owner(alloc, tx, organisation.text(), user.text())?,
+    })
+}
+
+/// Of a query about an organisation.
+pub(crate) fn seen_organisation<S: Alter>(
+    alloc: Global,
+    tx: &mut Transaction<'_, S>,
+    caller: &Caller,
+    organisation: &Ident,
+) -> Result<About, Fault>
+    requires in_form { InForm S.Store tx.old }
+    ensures stays { Stays S.Store tx.old tx.new }
+    ensures members { Tells S.Store tx.old tx.new result (λ about c.
+        StandsAbout about (registry_of c) caller.now (asked.Members organisation.now)) }
+    ensures teams { Tells S.Store tx.old tx.new result (λ about c.
+        StandsAbout about (registry_of c) caller.now (asked.Teams organisation.now)) }
+{
+    Ok(About::Organisation {
+        rows: load_access(alloc, tx, caller, organisation.text())?,
+    })
+}

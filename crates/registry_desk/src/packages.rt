@@ -1,0 +1,218 @@
+//! What decides an action about packages, their versions and their tags.
+
+ghost use Rattle.std.specs.Prelude.{◌≡◌};
+ghost use Rattle.registry_names.specs.declared.status.Status.{Status};
+ghost use Rattle.registry_rows.specs.Frames.{Stays};
+ghost use Rattle.registry_tables.specs.Contents.{registry_of};
+ghost use Rattle.registry_tables.specs.Effects.{InForm, Tells};
+ghost use Rattle.registry_tables.specs.Teams.{AreTeamsSound};
+ghost use Rattle.registry_desk.specs.Found.{AreTaken};
+ghost use Rattle.registry_rules.specs.Facts.{StandsAbout};
+ghost use Rattle.registry_rules.specs.State as state;
+ghost use Rattle.registry_rules.specs.declared.request.Action.TheVariants as asked;
+ghost use Rattle.registry_rules.specs.declared.request.Asked.TheVariants as which;
+
+use registry_access::Caller;
+use registry_names::{Fault, LATEST, Name, TagText, Ver};
+use registry_publish::PublishForm;
+use registry_rules::{About, Asked, PublishFacts};
+use registry_tables::{has_live, has_tag, has_version, is_spent, load_standing, load_tag};
+use sqlite::{Alter, Transaction};
+use std::alloc::Global;
+
+/// Of a status that is to be set.
+pub(crate) fn new_status<S: Alter>(
+    alloc: Global,
+    tx: &mut Transaction<'_, S>,
+    caller: &Caller,
+    name: &Name,
+) -> Result<About, Fault>
+    requires in_form { InForm S.Store tx.old }
+    ensures stays { Stays S.Store tx.old tx.new }
+    ensures tells { Tells S.Store tx.old tx.new result (λ about c. (status : Status)
+        → AreTeamsSound c
+        → StandsAbout about (registry_of c) caller.now (asked.SetAccess name.now status)) }
+{
+    Ok(About::SetAccess {
+        standing: load_standing(alloc, tx, caller, name)?,
+    })
+}
+
+/// Of a publish.
+pub(crate) fn new_version<S: Alter>(
+    alloc: Global,
+    tx: &mut Transaction<'_, S>,
+    caller: &Caller,
+    form: &PublishForm,
+) -> Result<About, Fault>
+    requires in_form { InForm S.Store tx.old }
+    ensures stays { Stays S.Store tx.old tx.new }
+    ensures tells { Tells S.Store tx.old tx.new result (λ about c. AreTeamsSound c
+        → StandsAbout about (registry_of c) caller.now (asked.Publish form.now)) }
+{
+    let standing = load_standing(alloc, tx, caller, form.name())?;
+    let taken = find_taken(tx, form)?;
+    Ok(About::Publish(PublishFacts {
+        standing,
+        version_lives: taken.version_lives,
+        version_spent: taken.version_spent,
+        tag_stands: taken.tag_stands,
+        latest_stands: taken.latest_stands,
+    }))
+}
+
+// What stands already of what is to be published.
+#[derive(Drop)]
+struct Taken {
+    version_lives: bool,
+    version_spent: bool,
+    tag_stands: bool,
+    latest_stands: bool,
+}
+
+fn find_taken<S: Alter>(tx: &mut Transaction<'_, S>, form: &PublishForm) -> Result<Taken, Fault>
+    requires in_form { InForm S.Store tx.old }
+    ensures stays { Stays S.Store tx.old tx.new }
+    ensures tells { Tells S.Store tx.old tx.new result
+        (λ taken c. AreTaken taken (registry_of c) form.now) }
+{
+    let (name, version) = (form.name(), form.version().text());
+    Ok(Taken {
+        version_lives: has_version(tx, name, version)?,
+        version_spent: is_spent(tx, name, version)?,
+        tag_stands: has_tag(tx, name, form.tag().text())?,
+        latest_stands: has_tag(tx, name, LATEST)?,
+    })
+}
+
+/// Of a tag that is to name a version.
+pub(crate) fn new_tag<S: Alter>(
+    alloc: Global,
+    tx: &mut Transaction<'_, S>,
+    caller: &Caller,
+    name: &Name,
+    tag: &TagText,
+    version: &Ver,
+) -> Result<About, Fault>
+    requires in_form { InForm S.Store tx.old }
+    ensures stays { Stays S.Store tx.old tx.new }
+    ensures tells { Tells S.Store tx.old tx.new result (λ about c. AreTeamsSound c
+        → StandsAbout about (registry_of c) caller.now
+        (asked.TagSet name.now tag.now version.now)) }
+{
+    Ok(About::TagSet {
+        standing: load_standing(alloc, tx, caller, name)?,
+        version_lives: has_version(tx, name, version.text())?,
+        tag_stands: has_tag(tx, name, tag.text())?,
+    })
+}
+
+/// Of a tag that is to go.
+pub(crate) fn old_tag<S: Alter>(
+    alloc: Global,
+    tx: &mut Transaction<'_, S>,
+    caller: &Caller,
+    name: &Name,
+    tag: &TagText,
+) -> Result<About, Fault>
+    requires in_form { InForm S.Store tx.old }
+    ensures stays { Stays S.Store tx.old tx.new }
+    ensures tells { Tells S.Store tx.old tx.new result (λ about c. AreTeamsSound c
+        → StandsAbout about (registry_of c) caller.now (asked.TagRemove name.now tag.now)) }
+{
+    Ok(About::TagRemove {
+        standing: load_standing(alloc, tx, caller, name)?,
+        tag_stands: has_tag(tx, name, tag.text())?,
+    })
+}
+
+/// Of a query about a package.
+pub(crate) fn seen_package<S: Alter>(
+    alloc: Global,
+    tx: &mut Transaction<'_, S>,
+    caller: &Caller,
+    name: &Name,
+) -> Result<About, Fault>
+    requires in_form { InForm S.Store tx.old }
+    ensures stays { Stays S.Store tx.old tx.new }
+    ensures packument { Tells S.Store tx.old tx.new result (λ about c. AreTeamsSound c
+        → StandsAbout about (registry_of c) caller.now (asked.Packument name.now)) }
+    ensures tags { Tells S.Store tx.old tx.new result (λ about c. AreTeamsSound c
+        → StandsAbout about (registry_of c) caller.now (asked.Tags name.now)) }
+{
+    Ok(About::Package {
+        standing: load_standing(alloc, tx, caller, name)?,
+        lives: has_live(tx, name)?,
+    })
+}
+
+/// Of a query for the document of a version.
+pub(crate) fn seen_document<S: Alter>(
+    alloc: Global,
+    tx: &mut Transaction<'_, S>,
+    caller: &Caller,
+    name: &Name,
+    version: &Asked,
+) -> Result<About, Fault>
+    requires in_form { InForm S.Store tx.old }
+    ensures stays { Stays S.Store tx.old tx.new }
+    ensures tells { Tells S.Store tx.old tx.new result (λ about c. AreTeamsSound c
+        → StandsAbout about (registry_of c) caller.now
+        (asked.VersionDoc name.now version.now)) }
+{
+    let standing = load_standing(alloc, tx, caller, name)?;
+    let lives = asked_lives(tx, name, version)?;
+    Ok(About::Version { standing, lives })
+}
+
+// Whether the version that is asked for lives.
+fn asked_lives<S: Alter>(
+    tx: &mut Transaction<'_, S>,
+    name: &Name,
+    version: &Asked,
+) -> Result<bool, Fault>
+    requires in_form { InForm S.Store tx.old }
+    ensures stays { Stays S.Store tx.old tx.new }
+    ensures tells { Tells S.Store tx.old tx.new result (λ lives c. lives ≡ state.lives
+        (registry_of c) name.now (state.asked_version (registry_of c) name.now version.now)) }
+{
+    match version {
+        Asked::Exact(version) => has_version(tx, name, version.text()),
+        Asked::Latest => latest_lives(tx, name),
+    }
+}
+
+// Whether the version that `latest` names lives. None does where the tag doesn't stand.
+fn latest_lives<S: Alter>(tx: &mut Transaction<'_, S>, name: &Name) -> Result<bool, Fault>
+    requires in_form { InForm S.Store tx.old }
+    ensures stays { Stays S.Store tx.old tx.new }
+    ensures tells { Tells S.Store tx.old tx.new result (λ lives c. lives ≡ state.lives
+        (registry_of c) name.now (state.asked_version (registry_of c) name.now which.Latest)) }
+{
+    match load_tag(tx, name, LATEST)? {
+        Some(version) => {
+            let lives = has_version(tx, name, version.as_str())?;
+            Ok(lives)
+        }
+        None => Ok(false),
+    }
+}
+
+/// Of a query for the archive of a version.
+pub(crate) fn seen_archive<S: Alter>(
+    alloc: Global,
+    tx: &mut Transaction<'_, S>,
+    caller: &Caller,
+    name: &Name,
+    version: &Ver,
+) -> Result<About, Fault>
+    requires in_form { InForm S.Store tx.old }
+    ensures stays { Stays S.Store tx.old tx.new }
+    ensures tells { Tells S.Store tx.old tx.new result (λ about c. AreTeamsSound c
+        → StandsAbout about (registry_of c) caller.now (asked.Archive name.now version.now)) }
+{
+    Ok(About::Version {
+        standing: load_standing(alloc, tx, caller, name)?,
+        lives: has_version(tx, name, version.text())?,
+    })
+}

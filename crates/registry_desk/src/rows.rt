@@ -1,0 +1,248 @@
+//! The rows that answer an action which nothing refuses. Nothing is changed.
+
+ghost use Rattle.std.specs.Prelude.{◌≡◌, option_map};
+ghost use Rattle.registry_access.specs.declared.caller.Caller.{Caller};
+ghost use Rattle.registry_history.specs.Answers.{asked_release};
+ghost use Rattle.registry_rows.specs.Frames.{Stays};
+ghost use Rattle.registry_tables.specs.Contents.{registry_of};
+ghost use Rattle.registry_tables.specs.Effects.{InForm, Knows, Tells};
+ghost use Rattle.registry_tables.specs.Spelled.{document, document_entry};
+ghost use Rattle.registry_tables.specs.Teams.{AreTeamsSound};
+ghost use Rattle.registry_desk.specs.Found.{AreRowsOf};
+ghost use Rattle.registry_rules.specs.declared.request.Action.TheVariants as asked;
+ghost use Rattle.registry_rules.specs.declared.request.Asked.TheVariants as which;
+
+use registry_access::Caller;
+use registry_names::{Blob, DistTag, Fault, Ident, LATEST, Name, Text, Ver};
+use registry_packument::{Granted, Member, VersionRow};
+use registry_rules::{Action, Asked};
+use registry_tables::{
+    DocumentRow, load_archive, load_document, load_members, load_tag, load_tags,
+    load_team_packages, load_team_users, load_teams, load_versions,
+};
+use sqlite::{Alter, Transaction};
+use std::alloc::Global;
+
+/// The rows that answer an action.
+#[derive(Drop)]
+pub(crate) enum Rows {
+    /// Of a command, which needs none.
+    Nothing,
+    /// Of a packument.
+    Packument {
+        /// The live versions, in byte order.
+        versions: Vec<VersionRow>,
+        /// The tags, in byte order.
+        tags: Vec<DistTag>,
+    },
+    /// The manifest and the message of a version, if that lives.
+    Document(Option<DocumentRow>),
+    /// The archive of a version, if that lives.
+    Archive(Option<Blob>),
+    /// The tags of a package, in byte order.
+    Tags(Vec<DistTag>),
+    /// The members of an organisation, in byte order of their names.
+    Members(Vec<Member>),
+    /// The teams of an organisation, or who is in a team, in byte order.
+    Names(Vec<Text>),
+    /// What a team is granted, in byte order of the packages: of those alone that the caller reads.
+    Grants(Vec<Granted>),
+}
+
+/// Loads what answers a caller's action.
+pub(crate) fn rows_for<S: Alter>(
+    alloc: Global,
+    tx: &mut Transaction<'_, S>,
+    caller: &Caller,
+    what: &Action,
+) -> Result<Rows, Fault>
+    requires in_form { InForm S.Store tx.old }
+    ensures stays { Stays S.Store tx.old tx.new }
+    ensures knows { Knows S.Store tx.old tx.new result
+        (λ rows c. AreTeamsSound c → AreRowsOf rows (registry_of c) caller.now what.now) }
+{
+    match what {
+        Action::UserAdd { .. }
+        | Action::TokenAdd { .. }
+        | Action::OrgCreate { .. }
+        | Action::OrgSet { .. }
+        | Action::OrgRemove { .. }
+        | Action::TeamCreate { .. }
+        | Action::TeamDestroy { .. }
+        | Action::TeamAdd { .. }
+        | Action::TeamRemove { .. }
+        | Action::Grant { .. }
+        | Action::Revoke { .. }
+        | Action::SetAccess { .. }
+        | Action::OwnerAdd { .. }
+        | Action::OwnerRemove { .. }
+        | Action::Publish { .. }
+        | Action::TagSet { .. }
+        | Action::TagRemove { .. } => Ok(Rows::Nothing),
+        Action::Packument { name } => packument_rows(alloc, tx, name),
+        Action::VersionDoc { name, version } => document_row(tx, name, version),
+        Action::Archive { name, version } => archive_row(tx, name, version),
+        Action::Tags { name } => tag_rows(alloc, tx, name),
+        Action::Members { organisation } => member_rows(alloc, tx, organisation),
+        Action::Teams { organisation } => team_rows(alloc, tx, organisation),
+        Action::TeamMembers { organisation, team } => {
+            team_member_rows(alloc, tx, organisation, team)
+        }
+        Action::TeamPackages { organisation, team } => {
+            grant_rows(alloc, tx, caller, organisation, team)
+        }
+    }
+}
+
+fn packument_rows<S: Alter>(
+    alloc: Global,
+    tx: &mut Transaction<'_, S>,
+    name: &Name,
+) -> Result<Rows, Fault>
+    requires in_form { InForm S.Store tx.old }
+    ensures stays { Stays S.Store tx.old tx.new }
+    ensures tells { Tells S.Store tx.old tx.new result
+        (λ rows c. (who : Caller) → AreRowsOf rows (registry_of c) who (asked.Packument name.now)) }
+{
+    let versions = load_versions(alloc, tx, name)?;
+    let tags = load_tags(alloc, tx, name)?;
+    Ok(Rows::Packument { versions, tags })
+}
+
+fn document_row<S: Alter>(
+    tx: &mut Transaction<'_, S>,
+    name: &Name,
+    version: &Asked,
+) -> Result<Rows, Fault>
+    requires in_form { InForm S.Store tx.old }
+    ensures stays { Stays S.Store tx.old tx.new }
+    ensures tells { Tells S.Store tx.old tx.new result
+        (λ rows c. (who : Caller)
+        → AreRowsOf rows (registry_of c) who (asked.VersionDoc name.now version.now)) }
+{
+    Ok(Rows::Document(load_asked(tx, name, version)?))
+}
+
+// The manifest and the message of the version that is asked for, if it lives.
+fn load_asked<S: Alter>(
+    tx: &mut Transaction<'_, S>,
+    name: &Name,
+    version: &Asked,
+) -> Result<Option<DocumentRow>, Fault>
+    requires in_form { InForm S.Store tx.old }
+    ensures stays { Stays S.Store tx.old tx.new }
+    ensures tells { Tells S.Store tx.old tx.new result (λ found c. option_map document_entry found
+        ≡ option_map document (asked_release (registry_of c) name.now version.now)) }
+{
+    match version {
+        Asked::Exact(version) => load_document(tx, name, version.text()),
+        Asked::Latest => load_latest(tx, name),
+    }
+}
+
+// The manifest and the message of the version that `latest` names, if it stands.
+fn load_latest<S: Alter>(
+    tx: &mut Transaction<'_, S>,
+    name: &Name,
+) -> Result<Option<DocumentRow>, Fault>
+    requires in_form { InForm S.Store tx.old }
+    ensures stays { Stays S.Store tx.old tx.new }
+    ensures tells { Tells S.Store tx.old tx.new result (λ found c. option_map document_entry found
+        ≡ option_map document (asked_release (registry_of c) name.now which.Latest)) }
+{
+    match load_tag(tx, name, LATEST)? {
+        Some(version) => {
+            let document = load_document(tx, name, version.as_str())?;
+            Ok(document)
+        }
+        None => Ok(None),
+    }
+}
+
+fn archive_row<S: Alter>(
+    tx: &mut Transaction<'_, S>,
+    name: &Name,
+    version: &Ver,
+) -> Result<Rows, Fault>
+    requires in_form { InForm S.Store tx.old }
+    ensures stays { Stays S.Store tx.old tx.new }
+    ensures tells { Tells S.Store tx.old tx.new result
+        (λ rows c. (who : Caller)
+        → AreRowsOf rows (registry_of c) who (asked.Archive name.now version.now)) }
+{
+    let archive = load_archive(tx, name, version.text())?;
+    Ok(Rows::Archive(archive))
+}
+
+fn tag_rows<S: Alter>(
+    alloc: Global,
+    tx: &mut Transaction<'_, S>,
+    name: &Name,
+) -> Result<Rows, Fault>
+    requires in_form { InForm S.Store tx.old }
+    ensures stays { Stays S.Store tx.old tx.new }
+    ensures tells { Tells S.Store tx.old tx.new result
+        (λ rows c. (who : Caller) → AreRowsOf rows (registry_of c) who (asked.Tags name.now)) }
+{
+    Ok(Rows::Tags(load_tags(alloc, tx, name)?))
+}
+
+fn member_rows<S: Alter>(
+    alloc: Global,
+    tx: &mut Transaction<'_, S>,
+    organisation: &Ident,
+) -> Result<Rows, Fault>
+    requires in_form { InForm S.Store tx.old }
+    ensures stays { Stays S.Store tx.old tx.new }
+    ensures tells { Tells S.Store tx.old tx.new result
+        (λ rows c. (who : Caller)
+        → AreRowsOf rows (registry_of c) who (asked.Members organisation.now)) }
+{
+    Ok(Rows::Members(load_members(alloc, tx, organisation.text())?))
+}
+
+fn team_rows<S: Alter>(
+    alloc: Global,
+    tx: &mut Transaction<'_, S>,
+    organisation: &Ident,
+) -> Result<Rows, Fault>
+    requires in_form { InForm S.Store tx.old }
+    ensures stays { Stays S.Store tx.old tx.new }
+    ensures tells { Tells S.Store tx.old tx.new result
+        (λ rows c. (who : Caller)
+        → AreRowsOf rows (registry_of c) who (asked.Teams organisation.now)) }
+{
+    Ok(Rows::Names(load_teams(alloc, tx, organisation.text())?))
+}
+
+fn team_member_rows<S: Alter>(
+    alloc: Global,
+    tx: &mut Transaction<'_, S>,
+    organisation: &Ident,
+    team: &Ident,
+) -> Result<Rows, Fault>
+    requires in_form { InForm S.Store tx.old }
+    ensures stays { Stays S.Store tx.old tx.new }
+    ensures tells { Tells S.Store tx.old tx.new result
+        (λ rows c. (who : Caller)
+        → AreRowsOf rows (registry_of c) who (asked.TeamMembers organisation.now team.now)) }
+{
+    let users = load_team_users(alloc, tx, organisation.text(), team.text())?;
+    Ok(Rows::Names(users))
+}
+
+fn grant_rows<S: Alter>(
+    alloc: Global,
+    tx: &mut Transaction<'_, S>,
+    caller: &Caller,
+    organisation: &Ident,
+    team: &Ident,
+) -> Result<Rows, Fault>
+    requires in_form { InForm S.Store tx.old }
+    ensures stays { Stays S.Store tx.old tx.new }
+    ensures tells { Tells S.Store tx.old tx.new result (λ rows c. AreTeamsSound c → AreRowsOf rows
+        (registry_of c) caller.now (asked.TeamPackages organisation.now team.now)) }
+{
+    let granted = load_team_packages(alloc, tx, caller, organisation.text(), team.text())?;
+    Ok(Rows::Grants(granted))
+}

@@ -1,0 +1,234 @@
+//! Calls over what callers may do with a package.
+
+ghost use Rattle.std.specs.Prelude.{◌≡◌, OnOk};
+ghost use Rattle.registry_tables.specs.Effects.{InForm};
+
+use super::text::{done, granted_text, standing_text, word_text};
+use registry_access::{Caller, Grant};
+use registry_names::{Ident, Name, Stop};
+use registry_rules::Change;
+use registry_tables::{has_other_maintainer, load_standing, load_team_packages, make};
+use sqlite::{Alter, Transaction};
+use std::alloc::Global;
+
+/// A call on a package, which names teams with their organisation first.
+#[derive(Clone, Copy, Debug)]
+pub enum RightCall {
+    /// A team is to be granted this on it.
+    NewGrant(&'static str, &'static str, Grant),
+    /// A team that is granted something on it is to be granted this.
+    OtherGrant(&'static str, &'static str, Grant),
+    /// A team is to be granted nothing on it.
+    DropGrant(&'static str, &'static str),
+    /// A user is to be a maintainer of it.
+    NewMaintainer(&'static str),
+    /// A user is to be none.
+    DropMaintainer(&'static str),
+    /// Whether another user than this is one.
+    OtherMaintainer(&'static str),
+    /// How a user stands to it.
+    Standing(&'static str),
+    /// How somebody without a credential stands to it.
+    Anonymous,
+    /// What a team is granted on packages that the user reads, who stands first.
+    Packages(&'static str, &'static str, &'static str),
+}
+
+/// What a call tells.
+pub fn told<S: Alter>(
+    alloc: Global,
+    tx: &mut Transaction<'_, S>,
+    name: &Name,
+    call: RightCall,
+) -> Result<String, Stop>
+    requires in_form { InForm S.Store tx.old }
+    ensures same_reference { tx.new.conn.ghost_name ≡ tx.old.conn.ghost_name }
+    ensures in_form { OnOk result (InForm S.Store tx.new) }
+{
+    match call {
+        RightCall::OtherMaintainer(user) => other_maintainer(alloc, tx, name, user),
+        RightCall::Standing(user) => standing(alloc, tx, name, user),
+        RightCall::Anonymous => standing_of(alloc, tx, name, &Caller::Anonymous),
+        RightCall::Packages(user, org, team) => packages(alloc, tx, user, (org, team)),
+        _ => put(alloc, tx, name, call),
+    }
+}
+
+fn put<S: Alter>(
+    alloc: Global,
+    tx: &mut Transaction<'_, S>,
+    name: &Name,
+    call: RightCall,
+) -> Result<String, Stop>
+    requires in_form { InForm S.Store tx.old }
+    ensures same_reference { tx.new.conn.ghost_name ≡ tx.old.conn.ghost_name }
+    ensures in_form { OnOk result (InForm S.Store tx.new) }
+{
+    match call {
+        RightCall::NewGrant(org, team, grant) => put_grant(
+            alloc,
+            tx,
+            (org, team),
+            name,
+            grant,
+            false,
+        ),
+        RightCall::OtherGrant(org, team, grant) => put_grant(
+            alloc,
+            tx,
+            (org, team),
+            name,
+            grant,
+            true,
+        ),
+        RightCall::DropGrant(org, team) => drop_grant(alloc, tx, (org, team), name),
+        RightCall::NewMaintainer(user) => put_maintainer(alloc, tx, name, user),
+        RightCall::DropMaintainer(user) => drop_maintainer(alloc, tx, name, user),
+        _ => done(alloc),
+    }
+}
+
+fn put_grant<S: Alter>(
+    alloc: Global,
+    tx: &mut Transaction<'_, S>,
+    team: (&str, &str),
+    package: &Name,
+    grant: Grant,
+    stands: bool,
+) -> Result<String, Stop>
+    requires in_form { InForm S.Store tx.old }
+    ensures same_reference { tx.new.conn.ghost_name ≡ tx.old.conn.ghost_name }
+    ensures in_form { OnOk result (InForm S.Store tx.new) }
+{
+    make(
+        tx,
+        &Change::PutGrant {
+            organisation: team.0,
+            team: team.1,
+            package,
+            grant,
+            stands,
+        },
+    )?;
+    done(alloc)
+}
+
+fn drop_grant<S: Alter>(
+    alloc: Global,
+    tx: &mut Transaction<'_, S>,
+    team: (&str, &str),
+    package: &Name,
+) -> Result<String, Stop>
+    requires in_form { InForm S.Store tx.old }
+    ensures same_reference { tx.new.conn.ghost_name ≡ tx.old.conn.ghost_name }
+    ensures in_form { OnOk result (InForm S.Store tx.new) }
+{
+    make(
+        tx,
+        &Change::DropGrant {
+            organisation: team.0,
+            team: team.1,
+            package,
+        },
+    )?;
+    done(alloc)
+}
+
+fn put_maintainer<S: Alter>(
+    alloc: Global,
+    tx: &mut Transaction<'_, S>,
+    package: &Name,
+    user: &str,
+) -> Result<String, Stop>
+    requires in_form { InForm S.Store tx.old }
+    ensures same_reference { tx.new.conn.ghost_name ≡ tx.old.conn.ghost_name }
+    ensures in_form { OnOk result (InForm S.Store tx.new) }
+{
+    let user = Ident::parse(alloc, user)?;
+    make(
+        tx,
+        &Change::PutOwner {
+            package,
+            user: &user,
+        },
+    )?;
+    done(alloc)
+}
+
+fn drop_maintainer<S: Alter>(
+    alloc: Global,
+    tx: &mut Transaction<'_, S>,
+    package: &Name,
+    user: &str,
+) -> Result<String, Stop>
+    requires in_form { InForm S.Store tx.old }
+    ensures same_reference { tx.new.conn.ghost_name ≡ tx.old.conn.ghost_name }
+    ensures in_form { OnOk result (InForm S.Store tx.new) }
+{
+    let user = Ident::parse(alloc, user)?;
+    make(
+        tx,
+        &Change::DropOwner {
+            package,
+            user: &user,
+        },
+    )?;
+    done(alloc)
+}
+
+fn other_maintainer<S: Alter>(
+    alloc: Global,
+    tx: &mut Transaction<'_, S>,
+    name: &Name,
+    user: &str,
+) -> Result<String, Stop>
+    requires in_form { InForm S.Store tx.old }
+    ensures same_reference { tx.new.conn.ghost_name ≡ tx.old.conn.ghost_name }
+    ensures in_form { OnOk result (InForm S.Store tx.new) }
+{
+    let has = has_other_maintainer(alloc, tx, name, user)?;
+    Ok(word_text(alloc, has)?)
+}
+
+fn standing<S: Alter>(
+    alloc: Global,
+    tx: &mut Transaction<'_, S>,
+    name: &Name,
+    user: &str,
+) -> Result<String, Stop>
+    requires in_form { InForm S.Store tx.old }
+    ensures same_reference { tx.new.conn.ghost_name ≡ tx.old.conn.ghost_name }
+    ensures in_form { OnOk result (InForm S.Store tx.new) }
+{
+    let caller = Caller::User(Ident::parse(alloc, user)?);
+    standing_of(alloc, tx, name, &caller)
+}
+
+fn standing_of<S: Alter>(
+    alloc: Global,
+    tx: &mut Transaction<'_, S>,
+    name: &Name,
+    caller: &Caller,
+) -> Result<String, Stop>
+    requires in_form { InForm S.Store tx.old }
+    ensures same_reference { tx.new.conn.ghost_name ≡ tx.old.conn.ghost_name }
+    ensures in_form { OnOk result (InForm S.Store tx.new) }
+{
+    let standing = load_standing(alloc, tx, caller, name)?;
+    Ok(standing_text(alloc, &standing)?)
+}
+
+fn packages<S: Alter>(
+    alloc: Global,
+    tx: &mut Transaction<'_, S>,
+    user: &str,
+    team: (&str, &str),
+) -> Result<String, Stop>
+    requires in_form { InForm S.Store tx.old }
+    ensures same_reference { tx.new.conn.ghost_name ≡ tx.old.conn.ghost_name }
+    ensures in_form { OnOk result (InForm S.Store tx.new) }
+{
+    let caller = Caller::User(Ident::parse(alloc, user)?);
+    let granted = load_team_packages(alloc, tx, &caller, team.0, team.1)?;
+    Ok(granted_text(alloc, &granted)?)
+}

@@ -1,0 +1,18 @@
+-- Grants on packages that a caller reads, one after another.
+use Rattle.std.proofs.Common.{◌≡◌, true, List, [], ◌∷◌, ◌++◌, map, sym, ap, ◌∙◌, append_assoc, if◌then◌else◌}
+use Rattle.std.proofs.lemmas.List.{map-append}
+use Rattle.registry_access.specs.Levels.{reads}
+use Rattle.registry_access.specs.Positions.{level_in}
+use Rattle.registry_access.specs.declared.caller.Caller.{Caller}
+use Rattle.registry_packument.specs.declared.list.Granted.{Granted}
+use Rattle.registry_tables.specs.Contents.{Contents, access_of}
+use Rattle.registry_tables.specs.Teams.{granted_entry, readable}
+
+module _ (c : Contents) (who : Caller) (done : List Granted) (g : Granted) (rest all : List Granted)
+    (so_far : map granted_entry done ++ readable c who (map granted_entry (g ∷ rest)) ≡ readable c who (map granted_entry all)) where
+  -- one that the caller reads is taken
+  pub next_taken : reads (level_in (access_of c) who g.name) ≡ true → map granted_entry (done ++ g ∷ []) ++ readable c who (map granted_entry rest) ≡ readable c who (map granted_entry all)
+  next_taken t = ap (λ es. es ++ readable c who (map granted_entry rest)) (map-append granted_entry done (g ∷ []))
+      ∙ append_assoc (map granted_entry done) (granted_entry g ∷ []) (readable c who (map granted_entry rest))
+      ∙ sym (ap (λ b. map granted_entry done ++ (if b then granted_entry g ∷ readable c who (map granted_entry rest) else readable c who (map granted_entry rest))) t)
+      ∙ so_far

@@ -1,0 +1,18 @@
+use Rattle.std.proofs.Common.{◌≡◌, ◌++◌, length, map}
+use Rattle.std.specs.Vec.Iter.{into_iter_items, into_iter_len}
+use Rattle.sqlite.specs.State.{HasCleanDisk}
+use Rattle.registry_rows.specs.Frames.{Stays}
+use Rattle.registry_tables.specs.Effects.{IsAsBefore, shown, stored_in}
+use Rattle.registry_tables.specs.Teams.{AreTeamsSound, granted_entry, readable}
+use Rattle.registry_tables.proofs.team_packages.read_by.Given as goal
+
+-- of the grants so far those stand that the caller reads, and nothing has changed
+abbrev pub invariant-loop-row : goal.invariant-loop-row
+invariant-loop-row g l = record {
+  stays : Stays g.S.Store l.fn.tx l.tx;
+  kept : HasCleanDisk (shown g.S.Store l.tx) → IsAsBefore (shown g.S.Store l.fn.tx) (shown g.S.Store l.tx);
+  told : HasCleanDisk (shown g.S.Store l.tx) → AreTeamsSound (stored_in g.S.Store l.fn.tx)
+      → map granted_entry l.read.items ++ readable (stored_in g.S.Store l.fn.tx) l.caller (map granted_entry (into_iter_items l.row-iterator))
+      ≡ readable (stored_in g.S.Store l.fn.tx) l.caller (map granted_entry (into_iter_items l.initial.row-iterator));
+  remain : into_iter_len l.row-iterator ≡ length (into_iter_items l.row-iterator);
+}

@@ -1,0 +1,140 @@
+//! How a caller stands to a package.
+
+ghost use Rattle.std.specs.Prelude.{◌≡◌};
+ghost use Rattle.registry_access.specs.Callers as callers;
+ghost use Rattle.registry_access.specs.Positions as positions;
+ghost use Rattle.registry_access.specs.RowsFor.{StandsFor};
+ghost use Rattle.registry_access.specs.declared.caller.Caller.TheVariants as caller;
+ghost use Rattle.registry_names.specs.Names.{scope_of};
+ghost use Rattle.registry_rows.specs.Frames.{Stays};
+ghost use Rattle.registry_tables.specs.Contents.{access_of};
+ghost use Rattle.registry_tables.specs.Effects.{InForm, Knows, Tells};
+ghost use Rattle.registry_tables.specs.Teams.{AreHis, AreTeamsSound};
+
+use crate::grants::load_grants;
+use crate::maintainers::is_maintainer;
+use crate::members::load_role;
+use crate::organisations::has_organisation;
+use crate::statuses::load_status;
+use registry_access::{Caller, Grant, Role, Standing};
+use registry_names::{Fault, Ident, Name};
+use sqlite::{Alter, Transaction};
+use std::alloc::Global;
+
+/// How a caller stands to a package: all that the policy asks of him and it.
+///
+/// A package without a scope is in no organisation, and only a member of an organisation is in its
+/// teams: of others no grant is asked for.
+pub fn load_standing<S: Alter>(
+    alloc: Global,
+    tx: &mut Transaction<'_, S>,
+    caller: &Caller,
+    name: &Name,
+) -> Result<Standing, Fault>
+    requires in_form { InForm S.Store tx.old }
+    ensures stays { Stays S.Store tx.old tx.new }
+    ensures tells { Tells S.Store tx.old tx.new result (λ standing c. AreTeamsSound c
+        → StandsFor standing (access_of c) caller.now name.now) }
+{
+    let status = load_status(tx, name)?;
+    let org = has_scope(tx, name)?;
+    let role = load_scope_role(tx, caller, name)?;
+    let maintainer = maintains(tx, caller, name)?;
+    let grants = load_granted(alloc, tx, caller, name, role.is_some())?;
+    Ok(Standing {
+        org,
+        role,
+        status,
+        maintainer,
+        grants,
+    })
+}
+
+// Whether the organisation of the package's scope is there.
+fn has_scope<S: Alter>(tx: &mut Transaction<'_, S>, name: &Name) -> Result<bool, Fault>
+    requires in_form { InForm S.Store tx.old }
+    ensures stays { Stays S.Store tx.old tx.new }
+    ensures knows { Knows S.Store tx.old tx.new result (λ there c. there
+        ≡ positions.has_scope (access_of c) (scope_of name.now)) }
+{
+    match name.scope() {
+        Some(organisation) => has_organisation(tx, organisation),
+        None => Ok(false),
+    }
+}
+
+// The caller's role in the organisation of the package's scope.
+fn load_scope_role<S: Alter>(
+    tx: &mut Transaction<'_, S>,
+    caller: &Caller,
+    name: &Name,
+) -> Result<Option<Role>, Fault>
+    requires in_form { InForm S.Store tx.old }
+    ensures stays { Stays S.Store tx.old tx.new }
+    ensures knows { Knows S.Store tx.old tx.new result (λ role c. role
+        ≡ positions.scope_role (access_of c) caller.now (scope_of name.now)) }
+{
+    match (caller, name.scope()) {
+        (Caller::User(user), Some(organisation)) => load_role(tx, organisation, user.text()),
+        _ => Ok(None),
+    }
+}
+
+// Whether the caller is a maintainer of the package.
+fn maintains<S: Alter>(
+    tx: &mut Transaction<'_, S>,
+    caller: &Caller,
+    name: &Name,
+) -> Result<bool, Fault>
+    requires in_form { InForm S.Store tx.old }
+    ensures stays { Stays S.Store tx.old tx.new }
+    ensures knows { Knows S.Store tx.old tx.new result (λ is c. is
+        ≡ callers.is_maintainer (access_of c) caller.now name.now) }
+{
+    match caller {
+        Caller::User(user) => is_maintainer(tx, name, user.text()),
+        Caller::Operator | Caller::Anonymous => Ok(false),
+    }
+}
+
+// What the caller's teams are granted on the package. `is_member` says whether he is a member of
+// the organisation of its scope.
+fn load_granted<S: Alter>(
+    alloc: Global,
+    tx: &mut Transaction<'_, S>,
+    caller: &Caller,
+    name: &Name,
+    is_member: bool,
+) -> Result<Vec<Grant>, Fault>
+    requires in_form { InForm S.Store tx.old }
+    ensures stays { Stays S.Store tx.old tx.new }
+    ensures knows { Knows S.Store tx.old tx.new result (λ grants c.
+        AreHis c caller.now name.now is_member grants.items) }
+{
+    match caller {
+        Caller::User(user) => load_user_grants(alloc, tx, user, name, is_member),
+        Caller::Operator | Caller::Anonymous => Ok(Vec::new(alloc)),
+    }
+}
+
+// The same of a user.
+fn load_user_grants<S: Alter>(
+    alloc: Global,
+    tx: &mut Transaction<'_, S>,
+    user: &Ident,
+    name: &Name,
+    is_member: bool,
+) -> Result<Vec<Grant>, Fault>
+    requires in_form { InForm S.Store tx.old }
+    ensures stays { Stays S.Store tx.old tx.new }
+    ensures knows { Knows S.Store tx.old tx.new result (λ grants c.
+        AreHis c (caller.User user.now) name.now is_member grants.items) }
+{
+    if !is_member {
+        return Ok(Vec::new(alloc));
+    }
+    match name.scope() {
+        Some(organisation) => load_grants(alloc, tx, organisation, user.text(), name),
+        None => Ok(Vec::new(alloc)),
+    }
+}

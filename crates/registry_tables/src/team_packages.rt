@@ -1,0 +1,79 @@
+//! The packages of a team.
+
+ghost use Rattle.std.specs.Prelude.{◌≡◌, map};
+ghost use Rattle.registry_access.specs.Levels as levels;
+ghost use Rattle.registry_access.specs.Positions.{level_in};
+ghost use Rattle.registry_rows.specs.Frames.{Stays};
+ghost use Rattle.registry_tables.specs.Contents.{access_of};
+ghost use Rattle.registry_tables.specs.Effects.{InForm, Knows, Tells};
+ghost use Rattle.registry_tables.specs.Teams.{AreTeamsSound, granted_entry, grants_read, readable};
+
+use crate::grants::load_team_grants;
+use crate::idents::name_of;
+use crate::standing::load_standing;
+use registry_access::{Caller, Level, level_of};
+use registry_names::{Fault, Text};
+use registry_packument::Granted;
+use sqlite::{Alter, Transaction};
+use std::alloc::Global;
+
+/// What a team is granted, in byte order of the packages: of those alone that the caller reads.
+pub fn load_team_packages<S: Alter>(
+    alloc: Global,
+    tx: &mut Transaction<'_, S>,
+    caller: &Caller,
+    organisation: &str,
+    team: &str,
+) -> Result<Vec<Granted>, Fault>
+    requires in_form { InForm S.Store tx.old }
+    ensures stays { Stays S.Store tx.old tx.new }
+    ensures tells { Tells S.Store tx.old tx.new result (λ granted c. AreTeamsSound c
+        → map granted_entry granted.items ≡ grants_read c caller.now organisation.now team.now) }
+{
+    let granted = load_team_grants(alloc, tx, organisation, team)?;
+    read_by(alloc, tx, caller, granted)
+}
+
+// Of grants those on packages that the caller reads.
+fn read_by<S: Alter>(
+    alloc: Global,
+    tx: &mut Transaction<'_, S>,
+    caller: &Caller,
+    granted: Vec<Granted>,
+) -> Result<Vec<Granted>, Fault>
+    requires in_form { InForm S.Store tx.old }
+    ensures stays { Stays S.Store tx.old tx.new }
+    ensures knows { Knows S.Store tx.old tx.new result (λ read c. AreTeamsSound c
+        → map granted_entry read.items ≡ readable c caller.now (map granted_entry granted.items)) }
+{
+    let mut read = Vec::new(alloc);
+    for row in granted {
+        if is_read(alloc, tx, caller, &row.name)? {
+            read.push(row)?;
+        }
+    }
+    Ok(read)
+}
+
+// Whether the caller reads the package.
+fn is_read<S: Alter>(
+    alloc: Global,
+    tx: &mut Transaction<'_, S>,
+    caller: &Caller,
+    name: &Text,
+) -> Result<bool, Fault>
+    requires in_form { InForm S.Store tx.old }
+    ensures stays { Stays S.Store tx.old tx.new }
+    ensures tells { Tells S.Store tx.old tx.new result (λ is c. AreTeamsSound c
+        → is ≡ levels.reads (level_in (access_of c) caller.now name.now)) }
+{
+    let name = name_of(alloc, name.as_str())?;
+    let standing = load_standing(alloc, tx, caller, &name)?;
+    Ok(reads(level_of(&standing, caller)))
+}
+
+fn reads(level: Level) -> bool
+    ensures { result ≡ levels.reads level }
+{
+    level >= Level::Read
+}

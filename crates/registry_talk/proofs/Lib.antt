@@ -1,0 +1,4 @@
+pub mod AnswerFacts
+pub mod BodyFacts
+pub mod CountFacts
+pub mod CourseFacts

@@ -1,0 +1,9 @@
+pub mod Actions
+pub mod Answers
+pub mod Bodies
+pub mod Callers
+pub mod Courses
+pub mod Parts
+pub mod Requests
+pub mod Servings
+pub mod Turns
