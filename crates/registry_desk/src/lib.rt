@@ -6,7 +6,9 @@
 
 mod answer;
 mod found;
+mod open;
 mod registry;
 mod reply;
+mod same;
 
 pub use crate::registry::Registry;
