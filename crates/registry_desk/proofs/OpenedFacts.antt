@@ -1,5 +1,5 @@
 -- What an open finds in files: rows whose rowids rise.
-use Rattle.std.proofs.Common.{◌≡◌, ℕ, filter, true, List, [], ◌∷◌, inl, inr, ap, sym, subst, ◌∙◌, IsTrue, OnOk, Result, Ok, Err}
+use Rattle.std.proofs.Common.{◌≡◌, ℕ, filter, true, List, [], ◌∷◌, inl, inr, ap, sym, subst, ◌∙◌, IsTrue, OnOk, Result, Ok, Err, length, refl, arith}
 use Rattle.std.proofs.Math.Logic.{∥∥₁_elim}
 use Rattle.std.specs.List.{AllByRecursion}
 use Rattle.sqlite_rules.specs.Lists.{Has}
@@ -21,13 +21,16 @@ use Rattle.sqlite_pool.specs.File.{in_use, version_in}
 use Rattle.sqlite_wal.specs.Recovery.{Image}
 use Rattle.sqlite.specs.Files.{AreFoundIn, IsEmpty}
 use Rattle.sqlite.specs.Effect.{Database, IsDatabase}
-use Rattle.sqlite.specs.State.{State as Shown, HasCleanDisk}
+use Rattle.sqlite.specs.Start.{FindsIn}
+use Rattle.sqlite.specs.State.{State as Shown, HasCleanDisk, IsLive, Opens}
 use Rattle.registry_rows.specs.Ready.{IsReady}
 use Rattle.registry_rows.specs.Rows.{HasRowids}
 use Rattle.registry_rows.specs.Tables.{no_tables}
 use Rattle.registry_tables.specs.Contents.{Contents, contents}
+use Rattle.registry_tables.specs.Effects.{stored}
+use Rattle.registry_tables.specs.Fresh.{fresh}
 use Rattle.registry_tables.specs.Schema as ours
-use Rattle.registry_desk.specs.Opened.{GivesFound, HaveRowids, IsJustOpened, IsLeftOf, IsMadeOf, LeavesFound}
+use Rattle.registry_desk.specs.Opened.{GivesFound, HoldsEach, HoldsFound, IsFreshIfEmpty, IsJustOpened, IsLeftOf, IsMadeOf, LeavesFound}
 
 -- ---- rowids
 
@@ -42,15 +45,15 @@ rises_in size pages wanted schema ours sound t here =
     subst (λ s. IsShaped s (trees t.tree)) (table_shape told rising.0 sound.lists.listed t here).0 (ordered t.tree)
 
 -- a database without a list of objects has no tables
-no_table : (db : Trees) (schema : Schema) → db catalog_tree ≡ [] → IsSound schema db → (t : Table) → Has schema.tables t → HasRowids (db t.tree)
+no_table : (db : Trees) (schema : Schema) → db catalog_tree ≡ [] → IsSound schema db → (t : Table) → ¬ Has schema.tables t
 no_table db schema none sound t here =
     let row = zipped_left IsTableRow _ schema.tables t sound.lists.listed.tables here in
-    absurd (subst (λ rows. Has (filter is_table_row rows) row.0) none row.1)
+    subst (λ rows. Has (filter is_table_row rows) row.0) none row.1
 
 pub found_rises : (image : Image) (db : Trees) (schema : Schema) → AreFoundIn image db → IsSound schema db → AllByRecursion (λ t. HasRowids (db t.tree)) schema.tables
 found_rises image db schema (inl found) sound = all_from (λ t. HasRowids (db t.tree)) schema.tables
     (λ t here. subst (λ d. HasRowids (d t.tree)) (sym found.5) (rises_in found.0 found.1 found.2 schema found.4 (subst (IsSound schema) found.5 sound) t here))
-found_rises image db schema (inr (nothing, empty)) sound = all_from (λ t. HasRowids (db t.tree)) schema.tables (no_table db schema empty.1 sound)
+found_rises image db schema (inr (nothing, empty)) sound = all_from (λ t. HasRowids (db t.tree)) schema.tables (λ t here. absurd (no_table db schema empty.1 sound t here))
 
 -- ---- what is seen at first
 
@@ -82,3 +85,41 @@ gives_found seen c (inr (none, is)) sound = inr (sound_as no_tables seen none so
 pub leaves_found : (seen : Database) (left : Trees) → IsDatabase seen → IsLeftOf seen left → LeavesFound seen.trees left
 leaves_found seen left sound (inl same) = inl same
 leaves_found seen left sound (inr (none, is)) = inr (sound_as no_tables seen none sound, is)
+
+pub empty_gives_fresh : (image : Image) (db : Trees) (c : Contents) → image.db ≡ [] → AreFoundIn image db → GivesFound db c → c ≡ fresh
+empty_gives_fresh image db c none (inl found) gives = absurd (let some = found.3.found.present in let bytes = ap length none in omega (arith, some, bytes))
+empty_gives_fresh image db c none (inr (nothing, empty)) (inl (sound, number, is)) = absurd (no_table db ours.schema empty.1 sound ours.users (inl refl))
+empty_gives_fresh image db c none (inr (nothing, empty)) (inr (sound, is)) = is
+
+-- ---- of an open
+
+module _ (image : Image) (seen later : Shown) (opened : HasCleanDisk seen → Opens seen × IsLive seen) (finds : HasCleanDisk seen → FindsIn image seen) where
+  pub just_opened : IsJustOpened seen
+  just_opened clean =
+      let now = opened clean in
+      let same = ap (λ (d : Database). d.trees) now.0.clean in
+      (now.0, now.1, found_rises image seen.now.trees seen.now.schema (subst (AreFoundIn image) (sym same) (finds clean).reads) (now.1 now.0.is_open).0)
+
+  module _ (made : HasCleanDisk later → HasCleanDisk seen × IsMadeOf seen.now (stored later)) where
+    given : (clean : HasCleanDisk later) → GivesFound seen.committed.trees (stored later)
+    given clean =
+        let it = made clean in
+        let now = opened it.0 in
+        subst (λ d. GivesFound d (stored later)) (ap (λ (d : Database). d.trees) now.0.clean) (gives_found seen.now (stored later) it.1 (now.1 now.0.is_open).0)
+
+    pub holds_found : HoldsFound image later
+    holds_found clean = (seen.committed.trees, (finds (made clean).0).reads, given clean)
+
+    pub holds_each : HoldsEach image later
+    holds_each clean db holds = subst (λ d. GivesFound d (stored later)) ((finds (made clean).0).holds db holds) (given clean)
+
+    pub fresh_if_empty : IsFreshIfEmpty image later
+    fresh_if_empty clean none = empty_gives_fresh image seen.committed.trees (stored later) none (finds (made clean).0).reads (given clean)
+
+  pub leaves_at_most : (HasCleanDisk later → HasCleanDisk seen × ((db : Trees) → later.may_leave db → IsLeftOf seen.now db))
+      → HasCleanDisk later → (db : Trees) × AreFoundIn image db × ((left : Trees) → later.may_leave left → LeavesFound db left)
+  leaves_at_most leaves clean =
+      let it = leaves clean in
+      let now = opened it.0 in
+      (seen.committed.trees, (finds it.0).reads,
+      λ left may. subst (λ d. LeavesFound d left) (ap (λ (d : Database). d.trees) now.0.clean) (leaves_found seen.now left (now.1 now.0.is_open).0 (it.1 left may)))

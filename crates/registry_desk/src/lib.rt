@@ -11,4 +11,5 @@ mod registry;
 mod reply;
 mod same;
 
+pub use crate::open::Left;
 pub use crate::registry::Registry;
