@@ -19,7 +19,11 @@ use Rattle.sqlite_store.proofs.ListingLemmas.{all_ordered}
 use Rattle.sqlite_pages.specs.PageMap.{PageMap}
 use Rattle.sqlite_pool.specs.File.{in_use, version_in}
 use Rattle.sqlite_wal.specs.Recovery.{Image}
-use Rattle.sqlite.specs.Files.{AreFoundIn, IsEmpty}
+use Rattle.sqlite.specs.Files.{AreFoundIn, Finds, file_state, image_of}
+use Rattle.sqlite.specs.Held.{Held}
+use Rattle.sqlite_disk.specs.declared.Disk as disk
+use Rattle.sqlite_disk.specs.declared.Files.{Files}
+use Rattle.sqlite_store.specs.declared.store.FileStore.{FileStore}
 use Rattle.sqlite.specs.Effect.{Database, IsDatabase}
 use Rattle.sqlite.specs.Start.{FindsIn}
 use Rattle.sqlite.specs.State.{State as Shown, HasCleanDisk, IsLive, Opens}
@@ -92,6 +96,10 @@ empty_gives_fresh image db c none (inr (nothing, empty)) (inl (sound, number, is
 empty_gives_fresh image db c none (inr (nothing, empty)) (inr (sound, is)) = is
 
 -- ---- of an open
+
+-- what an open of two files finds, by what they hold
+pub finds_in : {D : Type 0} {g : disk.Ghosts D} (files : Files D) (c : Held (FileStore D g)) → (HasCleanDisk (file_state c) → Finds files c) → HasCleanDisk (file_state c) → FindsIn (image_of g files) (file_state c)
+finds_in files c finds clean = record { holds = (finds clean).holds; reads = (finds clean).reads }
 
 module _ (image : Image) (seen later : Shown) (opened : HasCleanDisk seen → Opens seen × IsLive seen) (finds : HasCleanDisk seen → FindsIn image seen) where
   pub just_opened : IsJustOpened seen
