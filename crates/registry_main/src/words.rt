@@ -31,7 +31,7 @@ pub fn answer_words<O: ByteOut, E: ByteOut>(
         return Err(Ending::CantServe);
     }
     let request = request(rt, alloc, &line)?;
-    let reply = reply(alloc, &request)?;
+    let reply = reply(rt, alloc, line.db.as_str(), &request)?;
     print(&render(alloc, &reply)?, output, errors)
 }
 
@@ -81,9 +81,9 @@ fn file_bytes(rt: &HostRuntime, alloc: Global, path: &str) -> Result<Vec<u8>, En
     }
 }
 
-// The reply of a registry that is empty, and in memory.
-fn reply(alloc: Global, request: &Request) -> Result<Reply, Fault> {
-    let mut registry = Registry::in_memory(alloc)?;
+// The reply of the registry in the file at the path.
+fn reply(rt: &HostRuntime, alloc: Global, path: &str, request: &Request) -> Result<Reply, Fault> {
+    let mut registry = Registry::open(rt, path)?;
     registry.apply(alloc, request)
 }
 
