@@ -17,8 +17,8 @@ use std::io::ErrorKind;
 /// Answers what the words ask for, prints the answer, and gives the exit status: 0, or 1 where
 /// it is turned away.
 ///
-/// The moment is read first, where the words say none, then the file that they name, and then the
-/// texts in their order.
+/// The moment is read first, where the words say none, then the file of a publish, then the texts
+/// in their order, and last the registry's file is opened.
 pub fn answer_words<O: ByteOut, E: ByteOut>(
     rt: &HostRuntime,
     alloc: Global,
