@@ -1,6 +1,6 @@
 //! A team from its first user on: the lines of `docs/WORDS.md`, one after the other on one file.
 
-use super::lines::{Row, case, line, path};
+use super::lines::{Row, case, forget, line, path};
 use super::{Failing, leaves_it};
 use std::fs;
 use std::test::Fail;
@@ -212,5 +212,6 @@ fn a_team_works_on_one_file(rt: HostRuntime) -> Result<(), Fail> {
     publish(&rt, db.as_str(), KIT)?;
     publish(&rt, db.as_str(), TOOL)?;
     follow(&rt, db.as_str(), &PUBLISHED)?;
-    follow(&rt, db.as_str(), &END)
+    follow(&rt, db.as_str(), &END)?;
+    forget(&rt, db.as_str())
 }
