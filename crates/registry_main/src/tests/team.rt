@@ -1,4 +1,4 @@
-//! A team from its first user on: the lines of `docs/WORDS.md`, one after the other on one file.
+//! A team, its packages and its rights: the lines of `docs/WORDS.md`, each table on one file.
 
 use super::lines::{Row, case, forget, line, path};
 use super::{Failing, leaves_it};
@@ -19,7 +19,7 @@ const PACKUMENT: &str =
 /// A line and what it leaves: its status, its output and its errors.
 type Step = (&'static [&'static str], u8, &'static str, &'static str);
 
-static BEGINNING: [Step; 14] = [
+static TEAMS: [Step; 15] = [
     (&["--operator", "user-add", "ann"], 0, DONE, ""),
     (&["--operator", "user-add", "bob"], 0, DONE, ""),
     (
@@ -62,39 +62,28 @@ static BEGINNING: [Step; 14] = [
         "",
     ),
     (
-        &["--as", "bob", "team-create", "lab", "more"],
-        1,
+        &["--as", "ann", "team-rm", "lab", "ops", "bob"],
+        0,
+        DONE,
         "",
-        "refused: Denied A3\n",
     ),
+    (&["--as", "ann", "team-destroy", "lab", "ops"], 0, DONE, ""),
+    (&["--as", "ann", "org-rm", "lab", "bob"], 0, DONE, ""),
     (
-        &["--as", "eve", "members", "lab"],
+        &["--as", "bob", "members", "lab"],
         1,
         "",
-        "refused: NoCaller\n",
-    ),
-    (
-        &["--as", "bob", "tags", "@lab/kit"],
-        1,
-        "",
-        "refused: NotFound\n",
+        "refused: Denied A9\n",
     ),
 ];
 
-static PUBLISHED: [Step; 16] = [
-    (
-        &["--as", "bob", "team-packages", "lab", "developers"],
-        0,
-        "{\"@lab/kit\":\"read-write\"}\n",
-        "",
-    ),
+static BEGINNING: [Step; 2] = [
+    (&["--operator", "user-add", "bob"], 0, DONE, ""),
+    (&["--operator", "org-create", "lab", "bob"], 0, DONE, ""),
+];
+
+static PUBLISHED: [Step; 9] = [
     (&["tags", "@lab/kit"], 1, "", "refused: NotFound\n"),
-    (
-        &["--as", "bob", "tags", "@lab/kit"],
-        0,
-        "{\"latest\":\"1.0.0\"}\n",
-        "",
-    ),
     (&["--as", "bob", "packument", "@lab/kit"], 0, PACKUMENT, ""),
     (
         &["--as", "bob", "version-doc", "@lab/kit", "latest"],
@@ -122,24 +111,26 @@ static PUBLISHED: [Step; 16] = [
     ),
     (&["--as", "bob", "tag-rm", "@lab/kit", "next"], 0, DONE, ""),
     (
-        &["--as", "ann", "access", "@lab/kit", "public"],
+        &["--as", "bob", "access", "@lab/kit", "public"],
         0,
         DONE,
         "",
     ),
     (&["tags", "@lab/kit"], 0, "{\"latest\":\"1.0.0\"}\n", ""),
-    (&["--as", "bob", "owner-add", "tool", "ann"], 0, DONE, ""),
-    (&["--as", "ann", "owner-rm", "tool", "bob"], 0, DONE, ""),
+];
+
+static RIGHTS: [Step; 9] = [
     (
-        &["--as", "bob", "owner-rm", "tool", "ann"],
-        1,
+        &["--as", "bob", "team-packages", "lab", "developers"],
+        0,
+        "{\"@lab/kit\":\"read-write\"}\n",
         "",
-        "refused: Denied A7\n",
     ),
+    (&["--as", "bob", "team-create", "lab", "ops"], 0, DONE, ""),
     (
         &[
             "--as",
-            "ann",
+            "bob",
             "grant",
             "lab",
             "ops",
@@ -156,34 +147,20 @@ static PUBLISHED: [Step; 16] = [
         "{\"@lab/kit\":\"read-only\"}\n",
         "",
     ),
-];
-
-static END: [Step; 6] = [
     (
-        &["--as", "ann", "revoke", "lab", "ops", "@lab/kit"],
+        &["--as", "bob", "revoke", "lab", "ops", "@lab/kit"],
         0,
         DONE,
         "",
     ),
+    (&["--operator", "user-add", "ann"], 0, DONE, ""),
+    (&["--as", "bob", "owner-add", "tool", "ann"], 0, DONE, ""),
+    (&["--as", "ann", "owner-rm", "tool", "bob"], 0, DONE, ""),
     (
-        &["--as", "ann", "team-rm", "lab", "ops", "bob"],
-        0,
-        DONE,
-        "",
-    ),
-    (&["--as", "ann", "team-destroy", "lab", "ops"], 0, DONE, ""),
-    (&["--as", "ann", "org-rm", "lab", "bob"], 0, DONE, ""),
-    (
-        &["--as", "bob", "members", "lab"],
+        &["--as", "bob", "owner-rm", "tool", "ann"],
         1,
         "",
-        "refused: Denied A9\n",
-    ),
-    (
-        &["--as", "ann", "members", "lab"],
-        0,
-        "{\"ann\":\"owner\"}\n",
-        "",
+        "refused: Denied A7\n",
     ),
 ];
 
@@ -197,7 +174,7 @@ fn follow(rt: &HostRuntime, db: &str, steps: &[Step]) -> Result<(), Fail> {
 }
 
 fn publish(rt: &HostRuntime, db: &str, body: &str) -> Result<(), Fail> {
-    let file = path(rt, "-team.json")?;
+    let file = format!(in rt.alloc(); "{db}.json")?;
     fs::write(rt, file.as_str(), body)?;
     let row: Row = ("bob publishes", &[], 0, DONE, "");
     let words = line(rt.alloc(), db, &["--as", "bob", "publish", file.as_str()])?;
@@ -206,12 +183,27 @@ fn publish(rt: &HostRuntime, db: &str, body: &str) -> Result<(), Fail> {
 }
 
 #[test]
-fn a_team_works_on_one_file(rt: HostRuntime) -> Result<(), Fail> {
+fn a_team_comes_and_goes(rt: HostRuntime) -> Result<(), Fail> {
     let db = path(&rt, "-team.db")?;
+    follow(&rt, db.as_str(), &TEAMS)?;
+    forget(&rt, db.as_str())
+}
+
+#[test]
+fn a_package_of_an_organisation_is_published(rt: HostRuntime) -> Result<(), Fail> {
+    let db = path(&rt, "-package.db")?;
+    follow(&rt, db.as_str(), &BEGINNING)?;
+    publish(&rt, db.as_str(), KIT)?;
+    follow(&rt, db.as_str(), &PUBLISHED)?;
+    forget(&rt, db.as_str())
+}
+
+#[test]
+fn rights_are_given_and_taken(rt: HostRuntime) -> Result<(), Fail> {
+    let db = path(&rt, "-rights.db")?;
     follow(&rt, db.as_str(), &BEGINNING)?;
     publish(&rt, db.as_str(), KIT)?;
     publish(&rt, db.as_str(), TOOL)?;
-    follow(&rt, db.as_str(), &PUBLISHED)?;
-    follow(&rt, db.as_str(), &END)?;
+    follow(&rt, db.as_str(), &RIGHTS)?;
     forget(&rt, db.as_str())
 }
