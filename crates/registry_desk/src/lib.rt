@@ -8,12 +8,15 @@ mod answer;
 mod facts;
 mod grants;
 mod maintainers;
+mod open;
 mod organisations;
 mod packages;
 mod people;
 mod registry;
 mod reply;
 mod rows;
+mod same;
 mod teams;
 
+pub use crate::open::Left;
 pub use crate::registry::Registry;
