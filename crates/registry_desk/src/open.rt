@@ -114,6 +114,18 @@ impl<D: Disk + Drop> Registry<FileStore<D>> {
     }
 }
 
+impl<S: Alter> Registry<S> {
+    /// Gives the connection, which stands between requests. Over files, its `close` copies the log
+    /// into the database file.
+    pub fn release(self) -> Connection<S>
+        ensures same { result ≡ self }
+        ensures rests { Rests (state S.Store result) }
+    {
+        let Registry { conn } = self;
+        conn
+    }
+}
+
 // Opens the files at the path, and hands back what is left of them at a fault: nothing where they
 // weren't reached.
 fn opened_from<S: Start>(

@@ -1,0 +1,287 @@
+//! Registries in files: in those of the machine, and in files in memory. The machine's stand in a
+//! folder of their own where the tests run.
+
+use super::outcome::same;
+use super::{Outcome, request_of};
+use crate::example::{Ask, Expected, Step, Who};
+use registry_desk::Registry;
+use registry_names::{Fault, Refusal};
+use registry_rules::Reply;
+use sqlite::{Alter, Connection, Error, Files, Options};
+use sqlite_disk::Memory;
+use std::alloc::Global;
+use std::fs;
+use std::test::Fail;
+
+const FOLDER: &str = "files_of_registries";
+
+const PATH: &str = "files_of_registries/registry.db";
+
+/// How many bytes the head of a database has.
+const HEAD: usize = 100;
+
+const ADD_ANN: Step = Step {
+    at: 0,
+    who: Who::Operator,
+    ask: Ask::UserAdd("ann"),
+    expected: Expected::Done,
+};
+
+const TAGS_OF_NONE: Step = Step {
+    at: 0,
+    who: Who::Anonymous,
+    ask: Ask::Tags("none"),
+    expected: Expected::Refused(Refusal::NotFound),
+};
+
+/// What lies at the path.
+#[derive(Clone, Copy, Debug)]
+enum Lies {
+    /// Nothing.
+    Nothing,
+    /// A file of this text.
+    Text(&'static str),
+    /// A folder.
+    Folder,
+    /// A registry that has the user `ann`.
+    Registry,
+    /// The first so many bytes of that one's file.
+    Cut(usize),
+    /// That registry, on which a statement was run.
+    Changed(&'static str),
+    /// A database of another program, which a statement made.
+    Program(&'static str),
+}
+
+/// What comes of a request to add the user `ann`.
+#[derive(Clone, Copy, Debug)]
+enum Comes {
+    /// She is added.
+    Added,
+    /// She was there.
+    WasThere,
+    /// No registry opens, and the file is as it was.
+    NotOpened,
+}
+
+/// What each case shows, what lies there, and what comes of it.
+static CASES: [(&str, Lies, Comes); 14] = [
+    (
+        "a file that isn't there becomes a registry",
+        Lies::Nothing,
+        Comes::Added,
+    ),
+    (
+        "an empty file becomes a registry",
+        Lies::Text(""),
+        Comes::Added,
+    ),
+    (
+        "a database without tables becomes a registry",
+        Lies::Program("PRAGMA user_version = 7"),
+        Comes::Added,
+    ),
+    (
+        "a registry holds what it held",
+        Lies::Registry,
+        Comes::WasThere,
+    ),
+    (
+        "a text is no registry",
+        Lies::Text("no registry, but some text"),
+        Comes::NotOpened,
+    ),
+    (
+        "the first words of a database are none",
+        Lies::Text("SQLite format 3\0 and then something else"),
+        Comes::NotOpened,
+    ),
+    ("a folder is none", Lies::Folder, Comes::NotOpened),
+    (
+        "half of a registry is none",
+        Lies::Cut(100_000),
+        Comes::NotOpened,
+    ),
+    (
+        "a first page alone is none",
+        Lies::Cut(4096),
+        Comes::NotOpened,
+    ),
+    (
+        "another program's tables are none",
+        Lies::Program("CREATE TABLE note (id INTEGER PRIMARY KEY, title TEXT)"),
+        Comes::NotOpened,
+    ),
+    (
+        "a table more is another schema",
+        Lies::Changed("CREATE TABLE more (a TEXT)"),
+        Comes::NotOpened,
+    ),
+    (
+        "a table less is another schema",
+        Lies::Changed("DROP TABLE tags"),
+        Comes::NotOpened,
+    ),
+    (
+        "another number is another schema",
+        Lies::Changed("UPDATE meta SET value = 4"),
+        Comes::NotOpened,
+    ),
+    (
+        "tables without a number are none",
+        Lies::Changed("DELETE FROM meta"),
+        Comes::NotOpened,
+    ),
+];
+
+#[test]
+fn files_open_or_are_kept(rt: HostRuntime) -> Result<(), Fail> {
+    for (shows, lies, comes) in &CASES {
+        lay(&rt, *lies)?;
+        comes_out(&rt, shows, *comes)?;
+    }
+    Ok(fs::remove_dir_all(&rt, FOLDER)?)
+}
+
+#[test]
+fn a_byte_changed_in_the_head_is_refused(rt: HostRuntime) -> Result<(), Fail> {
+    lay(&rt, Lies::Registry)?;
+    let whole = fs::read(&rt, PATH)?;
+    for place in 0..HEAD {
+        change_byte(&rt, &whole, place)?;
+        is_kept(&rt, "a byte was changed")?;
+    }
+    Ok(fs::remove_dir_all(&rt, FOLDER)?)
+}
+
+#[test]
+fn a_registry_is_held_by_one(rt: HostRuntime) -> Result<(), Fail> {
+    lay(&rt, Lies::Registry)?;
+    let first = Registry::open(&rt, PATH)?;
+    same("a second one", added(&rt)?, Err(Fault::Database))?;
+    drop(first);
+    same("a later one", added(&rt)?, Ok(Reply::Refused(Refusal::Exists)))?;
+    Ok(fs::remove_dir_all(&rt, FOLDER)?)
+}
+
+#[test]
+fn a_registry_in_files_in_memory_lasts(rt: HostRuntime) -> Result<(), Fail> {
+    let alloc = rt.alloc();
+    let files = Files {
+        log: Memory::new(alloc),
+        db: Memory::new(alloc),
+    };
+    let (first, files) = asked_in(alloc, files, &ADD_ANN)?;
+    same("a user of a new registry", first, Ok(Reply::Done))?;
+    let (again, files) = asked_in(alloc, files, &ADD_ANN)?;
+    same("the same user", again, Ok(Reply::Refused(Refusal::Exists)))?;
+    let (tags, _files) = asked_in(alloc, files, &TAGS_OF_NONE)?;
+    same("tags of none", tags, Ok(Reply::Refused(Refusal::NotFound)))
+}
+
+// Lays this at the path, in a new folder.
+fn lay(rt: &HostRuntime, lies: Lies) -> Result<(), Fail> {
+    let _ = fs::remove_dir_all(rt, FOLDER);
+    fs::create_dir(rt, FOLDER)?;
+    match lies {
+        Lies::Nothing => Ok(()),
+        Lies::Text(text) => Ok(fs::write(rt, PATH, text.as_bytes())?),
+        Lies::Folder => Ok(fs::create_dir(rt, PATH)?),
+        Lies::Registry => with_ann(rt),
+        Lies::Cut(length) => cut(rt, length),
+        Lies::Changed(text) => changed(rt, text),
+        Lies::Program(text) => Ok(run(rt, text)?),
+    }
+}
+
+// Writes these bytes, with one of them changed.
+fn change_byte(rt: &HostRuntime, whole: &[u8], place: usize) -> Result<(), Fail> {
+    let mut bytes = Vec::new(rt.alloc());
+    bytes.extend_from_slice(whole)?;
+    if let Some(byte) = bytes.get_mut(place) {
+        *byte ^= 0x5a;
+    }
+    Ok(fs::write(rt, PATH, bytes.as_slice())?)
+}
+
+// A registry in which the user is, closed.
+fn with_ann(rt: &HostRuntime) -> Result<(), Fail> {
+    let mut registry = Registry::open(rt, PATH)?;
+    let outcome = asked(rt.alloc(), &mut registry, &ADD_ANN)?;
+    registry.release().close()?;
+    same("a user of a new registry", outcome, Ok(Reply::Done))
+}
+
+fn cut(rt: &HostRuntime, length: usize) -> Result<(), Fail> {
+    with_ann(rt)?;
+    let bytes = fs::read(rt, PATH)?;
+    let Some(begin) = bytes.get(..length) else {
+        return Err(Fail::new(format_args!("the file has {} bytes", bytes.len())));
+    };
+    Ok(fs::write(rt, PATH, begin)?)
+}
+
+fn changed(rt: &HostRuntime, text: &str) -> Result<(), Fail> {
+    with_ann(rt)?;
+    Ok(run(rt, text)?)
+}
+
+fn run(rt: &HostRuntime, text: &str) -> Result<(), Error> {
+    let mut conn = Connection::open(rt, PATH)?;
+    run_on(&mut conn, text)?;
+    conn.close()
+}
+
+fn run_on<S: Alter>(conn: &mut Connection<S>, text: &str) -> Result<(), Error> {
+    conn.execute_batch(text)
+}
+
+// Asks for the user to be added to what opens at the path, and sees what comes of it.
+fn comes_out(rt: &HostRuntime, shows: &str, comes: Comes) -> Result<(), Fail> {
+    match comes {
+        Comes::Added => same(shows, added(rt)?, Ok(Reply::Done)),
+        Comes::WasThere => same(shows, added(rt)?, Ok(Reply::Refused(Refusal::Exists))),
+        Comes::NotOpened => is_kept(rt, shows),
+    }
+}
+
+fn is_kept(rt: &HostRuntime, shows: &str) -> Result<(), Fail> {
+    let before = fs::read(rt, PATH).ok();
+    same(shows, added(rt)?, Err(Fault::Database))?;
+    same((shows, "kept"), fs::read(rt, PATH).ok() == before, true)
+}
+
+fn added(rt: &HostRuntime) -> Result<Outcome, Fail> {
+    match Registry::open(rt, PATH) {
+        Ok(mut registry) => asked(rt.alloc(), &mut registry, &ADD_ANN),
+        Err(fault) => Ok(Err(fault)),
+    }
+}
+
+// Asks a registry in these files, which are closed then.
+fn asked_in(
+    alloc: Global,
+    files: Files<Memory>,
+    step: &Step,
+) -> Result<(Outcome, Files<Memory>), Fail> {
+    if !files.may_be_used() {
+        return Err(Fail::new(format_args!("the files can't be used")));
+    }
+    let Ok(mut registry) = Registry::open_files(alloc, files, Options::new(1)) else {
+        return Err(Fail::new(format_args!("no registry opens from the files")));
+    };
+    let outcome = asked(alloc, &mut registry, step)?;
+    match registry.release().close_files() {
+        Ok(files) => Ok((outcome, files)),
+        Err((error, _)) => Err(error.into()),
+    }
+}
+
+fn asked<S: Alter>(
+    alloc: Global,
+    registry: &mut Registry<S>,
+    step: &Step,
+) -> Result<Outcome, Fail> {
+    let request = request_of(alloc, step)?;
+    Ok(registry.apply(alloc, &request))
+}
