@@ -114,18 +114,6 @@ impl<D: Disk + Drop> Registry<FileStore<D>> {
     }
 }
 
-impl<S: Alter> Registry<S> {
-    /// Gives the connection, which stands between requests. Over files, its `close` copies the log
-    /// into the database file.
-    pub fn release(self) -> Connection<S>
-        ensures same { result ≡ self }
-        ensures rests { Rests (state S.Store result) }
-    {
-        let Registry { conn } = self;
-        conn
-    }
-}
-
 // Opens the files at the path, and hands back what is left of them at a fault: nothing where they
 // weren't reached.
 fn opened_from<S: Start>(
@@ -157,14 +145,14 @@ fn held<S: Alter>(alloc: Global, conn: Connection<S>) -> Result<Registry<S>, (Fa
     requires opened { IsJustOpened (state S.Store conn) }
     ensures made { IfOk result (λ r. HasCleanDisk (state S.Store r)
         → HasCleanDisk (state S.Store conn)
-            × IsMadeOf (state S.Store conn).now (stored (state S.Store r))) }
+        × IsMadeOf (state S.Store conn).now (stored (state S.Store r))) }
     ensures served { IfOk result (λ r. HasCleanDisk (state S.Store r)
         → IsTrue (state S.Store r).is_open) }
     ensures stays { IfOk result (λ r. HasCleanDisk (state S.Store r) → IsSure (state S.Store r)) }
     ensures left { IfErr result (λ e. HasCleanDisk (state S.Store e.1)
         → HasCleanDisk (state S.Store conn)
-            × ((db : Trees) → (state S.Store e.1).may_leave db
-                → IsLeftOf (state S.Store conn).now db)) }
+        × ((db : Trees) → (state S.Store e.1).may_leave db
+        → IsLeftOf (state S.Store conn).now db)) }
 {
     let mut conn = conn;
     match settle(alloc, &mut conn) {

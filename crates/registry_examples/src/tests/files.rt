@@ -160,7 +160,11 @@ fn a_registry_is_held_by_one(rt: HostRuntime) -> Result<(), Fail> {
     let first = Registry::open(&rt, PATH)?;
     same("a second one", added(&rt)?, Err(Fault::Database))?;
     drop(first);
-    same("a later one", added(&rt)?, Ok(Reply::Refused(Refusal::Exists)))?;
+    same(
+        "a later one",
+        added(&rt)?,
+        Ok(Reply::Refused(Refusal::Exists)),
+    )?;
     Ok(fs::remove_dir_all(&rt, FOLDER)?)
 }
 
