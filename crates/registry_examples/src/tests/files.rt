@@ -8,7 +8,7 @@ use registry_desk::Registry;
 use registry_names::{Fault, Refusal};
 use registry_rules::Reply;
 use sqlite::{Alter, Connection, Error, Files, Options};
-use sqlite_disk::Memory;
+use sqlite_disk::{Disk, Memory};
 use std::alloc::Global;
 use std::fs;
 use std::test::Fail;
@@ -47,6 +47,8 @@ enum Lies {
     Registry,
     /// The first so many bytes of that one's file.
     Cut(usize),
+    /// That one's file, with the byte at this place changed.
+    Spoiled(usize),
     /// That registry, on which a statement was run.
     Changed(&'static str),
     /// A database of another program, which a statement made.
@@ -65,7 +67,7 @@ enum Comes {
 }
 
 /// What each case shows, what lies there, and what comes of it.
-static CASES: [(&str, Lies, Comes); 14] = [
+static CASES: [(&str, Lies, Comes); 16] = [
     (
         "a file that isn't there becomes a registry",
         Lies::Nothing,
@@ -78,7 +80,7 @@ static CASES: [(&str, Lies, Comes); 14] = [
     ),
     (
         "a database without tables becomes a registry",
-        Lies::Program("PRAGMA user_version = 7"),
+        Lies::Program("CREATE TABLE gone (a TEXT); DROP TABLE gone"),
         Comes::Added,
     ),
     (
@@ -105,6 +107,16 @@ static CASES: [(&str, Lies, Comes); 14] = [
     (
         "a first page alone is none",
         Lies::Cut(4096),
+        Comes::NotOpened,
+    ),
+    (
+        "a registry with a byte changed in its head is none",
+        Lies::Spoiled(24),
+        Comes::NotOpened,
+    ),
+    (
+        "a registry with a byte changed in a row is none",
+        Lies::Spoiled(100_000),
         Comes::NotOpened,
     ),
     (
@@ -145,13 +157,12 @@ fn files_open_or_are_kept(rt: HostRuntime) -> Result<(), Fail> {
 
 #[test]
 fn a_byte_changed_in_the_head_is_refused(rt: HostRuntime) -> Result<(), Fail> {
-    lay(&rt, Lies::Registry)?;
-    let whole = fs::read(&rt, PATH)?;
+    let alloc = rt.alloc();
+    let (_, files) = asked_in(alloc, new_files(alloc), &ADD_ANN)?;
     for place in 0..HEAD {
-        change_byte(&rt, &whole, place)?;
-        is_kept(&rt, "a byte was changed")?;
+        opens_none(alloc, place, changed_at(alloc, files.db.bytes(), place)?)?;
     }
-    Ok(fs::remove_dir_all(&rt, FOLDER)?)
+    Ok(())
 }
 
 #[test]
@@ -171,11 +182,7 @@ fn a_registry_is_held_by_one(rt: HostRuntime) -> Result<(), Fail> {
 #[test]
 fn a_registry_in_files_in_memory_lasts(rt: HostRuntime) -> Result<(), Fail> {
     let alloc = rt.alloc();
-    let files = Files {
-        log: Memory::new(alloc),
-        db: Memory::new(alloc),
-    };
-    let (first, files) = asked_in(alloc, files, &ADD_ANN)?;
+    let (first, files) = asked_in(alloc, new_files(alloc), &ADD_ANN)?;
     same("a user of a new registry", first, Ok(Reply::Done))?;
     let (again, files) = asked_in(alloc, files, &ADD_ANN)?;
     same("the same user", again, Ok(Reply::Refused(Refusal::Exists)))?;
@@ -193,19 +200,10 @@ fn lay(rt: &HostRuntime, lies: Lies) -> Result<(), Fail> {
         Lies::Folder => Ok(fs::create_dir(rt, PATH)?),
         Lies::Registry => with_ann(rt),
         Lies::Cut(length) => cut(rt, length),
+        Lies::Spoiled(place) => spoil(rt, place),
         Lies::Changed(text) => changed(rt, text),
         Lies::Program(text) => Ok(run(rt, text)?),
     }
-}
-
-// Writes these bytes, with one of them changed.
-fn change_byte(rt: &HostRuntime, whole: &[u8], place: usize) -> Result<(), Fail> {
-    let mut bytes = Vec::new(rt.alloc());
-    bytes.extend_from_slice(whole)?;
-    if let Some(byte) = bytes.get_mut(place) {
-        *byte ^= 0x5a;
-    }
-    Ok(fs::write(rt, PATH, bytes.as_slice())?)
 }
 
 // A registry in which the user is, closed.
@@ -223,6 +221,16 @@ fn cut(rt: &HostRuntime, length: usize) -> Result<(), Fail> {
         return Err(Fail::new(format_args!("the file has {} bytes", bytes.len())));
     };
     Ok(fs::write(rt, PATH, begin)?)
+}
+
+fn spoil(rt: &HostRuntime, place: usize) -> Result<(), Fail> {
+    with_ann(rt)?;
+    let mut bytes = fs::read(rt, PATH)?;
+    let Some(byte) = bytes.get_mut(place) else {
+        return Err(Fail::new(format_args!("the file ends before byte {place}")));
+    };
+    *byte ^= 0x5a;
+    Ok(fs::write(rt, PATH, bytes.as_slice())?)
 }
 
 fn changed(rt: &HostRuntime, text: &str) -> Result<(), Fail> {
@@ -259,6 +267,36 @@ fn added(rt: &HostRuntime) -> Result<Outcome, Fail> {
     match Registry::open(rt, PATH) {
         Ok(mut registry) => asked(rt.alloc(), &mut registry, &ADD_ANN),
         Err(fault) => Ok(Err(fault)),
+    }
+}
+
+fn new_files(alloc: Global) -> Files<Memory> {
+    Files {
+        log: Memory::new(alloc),
+        db: Memory::new(alloc),
+    }
+}
+
+// Files of these bytes, with the one at this place changed.
+fn changed_at(alloc: Global, whole: &[u8], place: usize) -> Result<Files<Memory>, Fail> {
+    let mut bytes = Vec::new(alloc);
+    bytes.extend_from_slice(whole)?;
+    if let Some(byte) = bytes.get_mut(place) {
+        *byte ^= 0x5a;
+    }
+    let mut files = new_files(alloc);
+    files.db.write_at(0, &bytes)?;
+    Ok(files)
+}
+
+// No registry opens from these files, where the byte at this place was changed.
+fn opens_none(alloc: Global, place: usize, files: Files<Memory>) -> Result<(), Fail> {
+    if !files.may_be_used() {
+        return Err(Fail::new(format_args!("the files can't be used")));
+    }
+    match Registry::open_files(alloc, files, Options::new(1)) {
+        Ok(_) => Err(Fail::new(format_args!("a registry opens, with byte {place} changed"))),
+        Err((fault, _)) => same(place, fault, Fault::Database),
     }
 }
 
