@@ -17,8 +17,10 @@ const FOLDER: &str = "files_of_registries";
 
 const PATH: &str = "files_of_registries/registry.db";
 
-/// How many bytes the head of a database has.
-const HEAD: usize = 100;
+/// A place in each field of a database's head: the name of the format, the size of pages, the
+/// versions, the sums, the counter of changes, the number of pages, the free pages, the schema's
+/// cookie and format, the encoding, the version that users give, and the counter again.
+const HEAD: [usize; 12] = [0, 16, 18, 20, 24, 28, 32, 40, 44, 56, 60, 92];
 
 const ADD_ANN: Step = Step {
     at: 0,
@@ -62,12 +64,10 @@ enum Comes {
     Added,
     /// She was there.
     WasThere,
-    /// No registry opens, and the file is as it was.
-    NotOpened,
 }
 
-/// What each case shows, what lies there, and what comes of it.
-static CASES: [(&str, Lies, Comes); 16] = [
+/// What each case shows, what lies there, and what comes of a request to add the user.
+static OPENED: [(&str, Lies, Comes); 4] = [
     (
         "a file that isn't there becomes a registry",
         Lies::Nothing,
@@ -88,79 +88,86 @@ static CASES: [(&str, Lies, Comes); 16] = [
         Lies::Registry,
         Comes::WasThere,
     ),
+];
+
+/// Files that are no registry: what each case shows, and what lies there.
+static DAMAGED: [(&str, Lies); 7] = [
     (
         "a text is no registry",
         Lies::Text("no registry, but some text"),
-        Comes::NotOpened,
     ),
     (
         "the first words of a database are none",
         Lies::Text("SQLite format 3\0 and then something else"),
-        Comes::NotOpened,
     ),
-    ("a folder is none", Lies::Folder, Comes::NotOpened),
+    ("a folder is none", Lies::Folder),
     (
         "half of a registry is none",
         Lies::Cut(100_000),
-        Comes::NotOpened,
     ),
     (
         "a first page alone is none",
         Lies::Cut(4096),
-        Comes::NotOpened,
     ),
     (
         "a registry with a byte changed in its head is none",
         Lies::Spoiled(24),
-        Comes::NotOpened,
     ),
     (
         "a registry with a byte changed in a row is none",
         Lies::Spoiled(100_000),
-        Comes::NotOpened,
     ),
+];
+
+/// Databases that are no registry of this schema.
+static OTHERS: [(&str, Lies); 5] = [
     (
         "another program's tables are none",
         Lies::Program("CREATE TABLE note (id INTEGER PRIMARY KEY, title TEXT)"),
-        Comes::NotOpened,
     ),
     (
         "a table more is another schema",
         Lies::Changed("CREATE TABLE more (a TEXT)"),
-        Comes::NotOpened,
     ),
     (
         "a table less is another schema",
         Lies::Changed("DROP TABLE tags"),
-        Comes::NotOpened,
     ),
     (
         "another number is another schema",
         Lies::Changed("UPDATE meta SET value = 4"),
-        Comes::NotOpened,
     ),
     (
         "tables without a number are none",
         Lies::Changed("DELETE FROM meta"),
-        Comes::NotOpened,
     ),
 ];
 
 #[test]
-fn files_open_or_are_kept(rt: HostRuntime) -> Result<(), Fail> {
-    for (shows, lies, comes) in &CASES {
+fn files_become_registries(rt: HostRuntime) -> Result<(), Fail> {
+    for (shows, lies, comes) in &OPENED {
         lay(&rt, *lies)?;
-        comes_out(&rt, shows, *comes)?;
+        same(shows, added(&rt)?, Ok(reply_of(*comes)))?;
     }
     Ok(fs::remove_dir_all(&rt, FOLDER)?)
+}
+
+#[test]
+fn damaged_files_are_kept(rt: HostRuntime) -> Result<(), Fail> {
+    all_are_kept(&rt, &DAMAGED)
+}
+
+#[test]
+fn databases_of_others_are_kept(rt: HostRuntime) -> Result<(), Fail> {
+    all_are_kept(&rt, &OTHERS)
 }
 
 #[test]
 fn a_byte_changed_in_the_head_is_refused(rt: HostRuntime) -> Result<(), Fail> {
     let alloc = rt.alloc();
     let (_, files) = asked_in(alloc, new_files(alloc), &ADD_ANN)?;
-    for place in 0..HEAD {
-        opens_none(alloc, place, changed_at(alloc, files.db.bytes(), place)?)?;
+    for place in &HEAD {
+        opens_none(alloc, *place, changed_at(alloc, files.db.bytes(), *place)?)?;
     }
     Ok(())
 }
@@ -248,13 +255,20 @@ fn run_on<S: Alter>(conn: &mut Connection<S>, text: &str) -> Result<(), Error> {
     conn.execute_batch(text)
 }
 
-// Asks for the user to be added to what opens at the path, and sees what comes of it.
-fn comes_out(rt: &HostRuntime, shows: &str, comes: Comes) -> Result<(), Fail> {
+fn reply_of(comes: Comes) -> Reply {
     match comes {
-        Comes::Added => same(shows, added(rt)?, Ok(Reply::Done)),
-        Comes::WasThere => same(shows, added(rt)?, Ok(Reply::Refused(Refusal::Exists))),
-        Comes::NotOpened => is_kept(rt, shows),
+        Comes::Added => Reply::Done,
+        Comes::WasThere => Reply::Refused(Refusal::Exists),
     }
+}
+
+// No registry opens from any of these, and each is as it was.
+fn all_are_kept(rt: &HostRuntime, cases: &[(&str, Lies)]) -> Result<(), Fail> {
+    for (shows, lies) in cases {
+        lay(rt, *lies)?;
+        is_kept(rt, shows)?;
+    }
+    Ok(fs::remove_dir_all(rt, FOLDER)?)
 }
 
 fn is_kept(rt: &HostRuntime, shows: &str) -> Result<(), Fail> {
