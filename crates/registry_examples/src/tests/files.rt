@@ -1,6 +1,9 @@
 //! Registries in files: in those of the machine, and in files in memory. The machine's stand in a
 //! folder of their own where the tests run.
 
+ghost use Rattle.std.specs.Prelude.{IsTrue};
+ghost use Rattle.sqlite_disk.specs.Memory.{memory_is_usable};
+
 use super::outcome::same;
 use super::{Outcome, request_of};
 use crate::example::{Ask, Expected, Step, Who};
@@ -284,7 +287,9 @@ fn added(rt: &HostRuntime) -> Result<Outcome, Fail> {
     }
 }
 
-fn new_files(alloc: Global) -> Files<Memory> {
+fn new_files(alloc: Global) -> Files<Memory>
+    ensures { IsTrue (memory_is_usable result.db) }
+{
     Files {
         log: Memory::new(alloc),
         db: Memory::new(alloc),
@@ -327,10 +332,10 @@ fn asked_in(
         return Err(Fail::new(format_args!("no registry opens from the files")));
     };
     let outcome = asked(alloc, &mut registry, step)?;
-    match registry.release().close_files() {
-        Ok(files) => Ok((outcome, files)),
-        Err((error, _)) => Err(error.into()),
-    }
+    let Ok(files) = registry.release().close_files() else {
+        return Err(Fail::new(format_args!("the files don't close")));
+    };
+    Ok((outcome, files))
 }
 
 fn asked<S: Alter>(
