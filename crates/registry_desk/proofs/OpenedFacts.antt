@@ -1,5 +1,5 @@
 -- What an open finds in files: rows whose rowids rise.
-use Rattle.std.proofs.Common.{◌≡◌, ℕ, filter, true, List, [], ◌∷◌, inl, inr, ap, sym, subst, ◌∙◌, IsTrue, OnOk, Result, Ok, Err, length, refl, arith}
+use Rattle.std.proofs.Common.{◌≡◌, ℕ, filter, true, List, [], inl, inr, ap, sym, subst, IsTrue, OnOk, Result, Ok, Err, length, refl, arith}
 use Rattle.std.proofs.Math.Logic.{∥∥₁_elim}
 use Rattle.std.specs.List.{AllByRecursion}
 use Rattle.sqlite_rules.specs.Lists.{Has}
@@ -30,7 +30,7 @@ use Rattle.sqlite.specs.State.{State as Shown, HasCleanDisk, IsLive, Opens}
 use Rattle.registry_rows.specs.Ready.{IsReady}
 use Rattle.registry_rows.specs.Rows.{HasRowids}
 use Rattle.registry_rows.specs.Tables.{no_tables}
-use Rattle.registry_tables.specs.Contents.{Contents, contents}
+use Rattle.registry_tables.specs.Contents.{Contents}
 use Rattle.registry_tables.specs.Effects.{stored}
 use Rattle.registry_tables.specs.Fresh.{fresh}
 use Rattle.registry_tables.specs.Schema as ours
@@ -128,6 +128,8 @@ module _ (image : Image) (seen later : Shown) (opened : HasCleanDisk seen → Op
       → HasCleanDisk later → (db : Trees) × AreFoundIn image db × ((left : Trees) → later.may_leave left → LeavesFound db left)
   leaves_at_most leaves clean =
       let it = leaves clean in
-      let now = opened it.0 in
-      (seen.committed.trees, (finds it.0).reads,
-      λ left may. subst (λ d. LeavesFound d left) (ap (λ (d : Database). d.trees) now.0.clean) (leaves_found seen.now left (now.1 now.0.is_open).0 (it.1 left may)))
+      let now = opened it.0 in (
+        seen.committed.trees,
+        (finds it.0).reads,
+        λ left may. subst (λ d. LeavesFound d left) (ap (λ (d : Database). d.trees) now.0.clean) (leaves_found seen.now left (now.1 now.0.is_open).0 (it.1 left may)),
+      )

@@ -145,14 +145,14 @@ fn held<S: Alter>(alloc: Global, conn: Connection<S>) -> Result<Registry<S>, (Fa
     requires opened { IsJustOpened (state S.Store conn) }
     ensures made { IfOk result (λ r. HasCleanDisk (state S.Store r)
         → HasCleanDisk (state S.Store conn)
-            × IsMadeOf (state S.Store conn).now (stored (state S.Store r))) }
+        × IsMadeOf (state S.Store conn).now (stored (state S.Store r))) }
     ensures served { IfOk result (λ r. HasCleanDisk (state S.Store r)
         → IsTrue (state S.Store r).is_open) }
     ensures stays { IfOk result (λ r. HasCleanDisk (state S.Store r) → IsSure (state S.Store r)) }
     ensures left { IfErr result (λ e. HasCleanDisk (state S.Store e.1)
         → HasCleanDisk (state S.Store conn)
-            × ((db : Trees) → (state S.Store e.1).may_leave db
-                → IsLeftOf (state S.Store conn).now db)) }
+        × ((db : Trees) → (state S.Store e.1).may_leave db
+        → IsLeftOf (state S.Store conn).now db)) }
 {
     let mut conn = conn;
     match settle(alloc, &mut conn) {

@@ -154,6 +154,16 @@ impl<S: Alter> Registry<S> {
         }
         Ok(outcomes)
     }
+
+    /// Gives the connection, which stands between requests. Over files, its `close` copies the log
+    /// into the database file.
+    pub fn release(self) -> Connection<S>
+        ensures same { result ≡ self }
+        ensures rests { Rests (state S.Store result) }
+    {
+        let Registry { conn } = self;
+        conn
+    }
 }
 
 // Makes the tables of an empty database, in one transaction.

@@ -1,5 +1,5 @@
-use Rattle.std.proofs.Common.{◌≡◌, ◌∙◌, arith, rules, ap, refl, subst, true}
-use Rattle.sqlite.specs.Held.{Held, state}
+use Rattle.std.proofs.Common.{◌≡◌, ◌∙◌, arith, rules, refl, subst, true}
+use Rattle.sqlite.specs.Held.{state}
 use Rattle.sqlite.specs.State.{HasCleanDisk}
 use Rattle.registry_rows.specs.Ready.{Leaves}
 use Rattle.registry_tables.specs.Contents.{contents}

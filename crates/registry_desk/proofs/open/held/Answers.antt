@@ -14,8 +14,10 @@ returns-in-Ok-clause-stays g c clean db left =
 pub returns-in-Err-clause-left : goal.returns-in-Err-clause-left
 returns-in-Err-clause-left g c clean =
     let before : HasCleanDisk (state g.S.Store c.args.conn) = omega (arith, c.settle.ensures.survives.clean, clean) in
-    let opened = (c.requires.opened before).0 in
-    (before, λ db may. elim (c.settle.ensures.survives.crash clean db may) [
-      | inl earlier ↦ inl (g.met.S.Store.settled c.args.conn.store db opened.is_open earlier ∙ ap (λ (d : Database). d.trees) (sym opened.clean))
-      | inr made ↦ made
-    ])
+    let opened = (c.requires.opened before).0 in (
+      before,
+      λ db may. elim (c.settle.ensures.survives.crash clean db may) [
+        | inl earlier ↦ inl (g.met.S.Store.settled c.args.conn.store db opened.is_open earlier ∙ ap (λ (d : Database). d.trees) (sym opened.clean))
+        | inr made ↦ made
+      ],
+    )
