@@ -1,6 +1,7 @@
 -- A connection apart from its socket, and what a turn makes of it.
-use Rattle.std.specs.Prelude.{◌≡◌, ◌-◌, ◌==◌, ◌++◌, ◌≢◌, [], ℕ, Bool, true, false, List, Option, Some, None}
+use Rattle.std.specs.Prelude.{◌≡◌, ◌-◌, ◌==◌, [], ℕ, Bool, true, false, List, Option, Some, None, is_some, length}
 use Rattle.registry_wire.specs.Reading.{TakenOf}
+use Rattle.registry_wire.specs.Responses.{head_bytes}
 use Rattle.registry_wire.specs.Spelling.{IsUnfinished}
 use Rattle.registry_talk.specs.Answers.{body_bytes}
 use Rattle.registry_talk.specs.Courses.{Gave, count_of, moment_of, taken_for}
@@ -10,6 +11,10 @@ use Rattle.registry_talk.specs.declared.turning.End.{End}
 use Rattle.registry_talk.specs.declared.turning.Turned.{Turned}
 use Rattle.registry_server.specs.declared.line.Progress.{Progress}
 use Rattle.registry_server.specs.declared.line.Progress.TheVariants.{Answered, Waits, Closed}
+
+-- the head of a turn's response
+abbrev pub head_in : Turned → List ℕ
+head_in t = head_bytes t.answer.status t.answer.kind (length (body_bytes t.answer.body)) (is_some t.end)
 
 -- the body of a turn's answer, where there is one
 abbrev pub body_in : Option Turned → List ℕ
@@ -54,7 +59,7 @@ module _ {D : Type 0} (answers : Answers D) where
   pub record TakesNone (old new : Pending) (M N : D) (readings readings2 : Option (List ℕ)) : Type 0 where
     pub line : new ≡ old
     pub desk : N ≡ M
-    pub readings : readings2 ≡ readings
+    pub unasked : readings2 ≡ readings
 
   -- what a turn does: where a request, or what is none, has come it is answered; what may become a request is waited for; and behind the last byte nothing is
   abbrev pub Does : Pending → Pending → D → D → Option (List ℕ) → Option (List ℕ) → Bool → Progress → Type 0

@@ -15,12 +15,9 @@ pub struct WallClock<'a, R: time::Clock> {
 }
 
 impl<'a, R: time::Clock> WallClock<'a, R> {
-    /// Reads the clock for the first time. An error comes where it can't be read.
-    pub fn new(source: &'a R) -> io::Result<WallClock<'a, R>> {
-        Ok(WallClock {
-            source,
-            last: moment(source)?,
-        })
+    /// A clock that was read once.
+    pub fn new(source: &'a R, last: Moment) -> WallClock<'a, R> {
+        WallClock { source, last }
     }
 }
 
@@ -37,13 +34,14 @@ impl<R: time::Clock> Clock for WallClock<'_, R> {
     }
 }
 
-fn moment<R: time::Clock>(source: &R) -> io::Result<Moment> {
+/// The moment that it is. An error comes where the clock can't be read.
+pub fn moment<R: time::Clock>(source: &R) -> io::Result<Moment> {
     let since = SystemTime::now(source)?.duration_since(SystemTime::UNIX_EPOCH);
     let seconds = since.map_or(0, |passed| passed.as_secs());
     Ok(Moment::clamped(i64::try_from(seconds).unwrap_or(i64::MAX)))
 }
 
-/// The milliseconds since it was made. They never go back.
+/// The milliseconds since a time. They never go back.
 #[derive(Drop)]
 pub struct Timer<'a, R: time::Clock> {
     source: &'a R,
@@ -52,13 +50,13 @@ pub struct Timer<'a, R: time::Clock> {
 }
 
 impl<'a, R: time::Clock> Timer<'a, R> {
-    /// An error comes where the clock can't be read.
-    pub fn new(source: &'a R) -> io::Result<Timer<'a, R>> {
-        Ok(Timer {
+    /// A timer that began then.
+    pub fn new(source: &'a R, start: Instant) -> Timer<'a, R> {
+        Timer {
             source,
-            start: Instant::now(source)?,
+            start,
             last: 0,
-        })
+        }
     }
 
     pub fn now(&mut self) -> u64

@@ -4,6 +4,7 @@ ghost use Rattle.std.specs.Prelude.{◌≡◌, ◌≤◌, ◌-◌, ◌==◌, ◌
 ghost use Rattle.registry_talk.specs.Courses.{Gave};
 ghost use Rattle.registry_talk.specs.Servings.{bytes_of};
 ghost use Rattle.registry_talk.specs.Turns.{Turns, request};
+ghost use Rattle.registry_server.specs.declared.line.Progress.TheVariants.{Answered};
 ghost use Rattle.registry_server.specs.Lines.{Does, fresh, holding, pending, sending};
 
 use crate::unsent::Unsent;
@@ -110,28 +111,27 @@ impl Line {
         ensures { Does D.answers self.old self.new desk.old desk.new
             (C.readings clock.old) (C.readings clock.new) is_over result }
     {
-        let turned = match first_in(alloc, &self.held) {
+        match first_in(alloc, &self.held) {
             Ok(First::Whole(wanted, used)) => {
                 self.drop_first(alloc, used);
-                self.answered(alloc, desk, clock, &wanted)
+                let turned = self.answered(alloc, desk, clock, &wanted);
+                self.put(turned)
             }
-            Ok(First::Bad(refusal)) => turn_away(refusal),
-            Ok(First::Unfinished) if !is_over => return Progress::Waits,
+            Ok(First::Bad(refusal)) => self.put(turn_away(refusal)),
+            Ok(First::Unfinished) if !is_over => Progress::Waits,
             Ok(First::Unfinished) => match ending_of(&self.held) {
-                Ending::Closed => return Progress::Closed,
-                Ending::BadInput(refusal) => turn_away(refusal),
+                Ending::Closed => Progress::Closed,
+                Ending::BadInput(refusal) => self.put(turn_away(refusal)),
             },
-            Err(_) => turn_starved(),
-        };
-        self.put(turned);
-        Progress::Answered
+            Err(_) => self.put(turn_starved()),
+        }
     }
 
     /// There was no memory to hold what came: this is answered, and the connection ends.
     pub fn starve(&mut self)
         ensures held { self.new.held ≡ self.old.held }
     {
-        self.put(turn_starved());
+        let _answered = self.put(turn_starved());
     }
 
     // The turn of a whole request. It is one of those that the connection may have.
@@ -154,12 +154,14 @@ impl Line {
     }
 
     // The response of a turn is to be sent.
-    fn put(&mut self, turned: Turned)
-        ensures { self.new
+    fn put(&mut self, turned: Turned) -> Progress
+        ensures line { self.new
             ≡ pending self.old.held (bytes_of turned) self.old.left turned.end }
+        ensures answered { result ≡ Answered }
     {
         self.ends = turned.end;
         self.unsent = Unsent::of(turned);
+        Progress::Answered
     }
 
     // These bytes are used. What is kept of memory for none is little.

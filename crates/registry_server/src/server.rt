@@ -1,6 +1,6 @@
 //! The loop over all connections.
 
-use crate::clocks::{Timer, WallClock};
+use crate::clocks::{Timer, WallClock, moment};
 use crate::door::Door;
 use crate::hall::{Hall, SEAT_COUNT};
 use mio::net::TcpStream;
@@ -8,7 +8,7 @@ use mio::{Events, Interest, Poll, Token};
 use registry_talk::Desk;
 use std::alloc::Global;
 use std::net::Net;
-use std::time::Duration;
+use std::time::{Duration, Instant};
 use std::{io, time};
 
 /// The token of the door. Those of connections are their places.
@@ -60,12 +60,15 @@ impl Server {
         alloc: Global,
         desk: &mut D,
     ) -> io::Result<()> {
-        let mut timer = Timer::new(rt)?;
-        let mut clock = WallClock::new(rt)?;
+        let start = Instant::now(rt)?;
+        let at = moment(rt)?;
+        let mut timer = Timer::new(rt, start);
+        let mut clock = WallClock::new(rt, at);
         let mut events = Events::with_capacity(alloc, EVENT_COUNT)?;
         let mut buffer = [0; BUFFER_LEN];
         for _ in 0..u64::MAX {
-            self.poll.poll(&mut events, Some(self.patience()))?;
+            let patience = self.patience();
+            self.poll.poll(&mut events, Some(patience))?;
             let now = timer.now();
             self.wake(&events);
             self.admit(alloc, now);

@@ -45,14 +45,7 @@ impl Unsent {
     pub fn of(turned: Turned) -> Unsent
         ensures { result ≡ bytes_of turned }
     {
-        let answer = &turned.answer;
-        let response = Response {
-            status: answer.status,
-            kind: answer.kind,
-            body: answer.body.as_slice(),
-            closes: turned.end.is_some(),
-        };
-        let head = response.head();
+        let head = head_of(&turned);
         Unsent {
             head,
             turned: Some(turned),
@@ -75,9 +68,11 @@ impl Unsent {
         let head = self.head.as_slice();
         let body = body_in(&self.turned);
         if self.sent < head.len() {
-            (&head[self.sent..], body)
+            let (_, rest) = head.split_at(self.sent);
+            (rest, body)
         } else {
-            (&[], &body[self.sent - head.len()..])
+            let (_, rest) = body.split_at(self.sent - head.len());
+            (&[], rest)
         }
     }
 
@@ -86,8 +81,9 @@ impl Unsent {
         requires { count ≤ length self.old }
         ensures { self.new ≡ drop count self.old }
     {
+        let total = total(&self.head, &self.turned);
         self.sent += count;
-        if self.is_empty() {
+        if self.sent == total {
             *self = Unsent::none();
         }
     }
@@ -100,4 +96,24 @@ fn body_in(turned: &Option<Turned>) -> &[u8]
         Some(turned) => turned.answer.body.as_slice(),
         None => &[],
     }
+}
+
+// How many bytes the response has.
+fn total(head: &ShortText, turned: &Option<Turned>) -> usize
+    ensures { result ≡ length (head.now ++ spec.body_in turned.now) }
+{
+    head.as_slice().len() + body_in(turned).len()
+}
+
+fn head_of(turned: &Turned) -> ShortText
+    ensures { result ≡ spec.head_in turned.now }
+{
+    let answer = &turned.answer;
+    let response = Response {
+        status: answer.status,
+        kind: answer.kind,
+        body: answer.body.as_slice(),
+        closes: turned.end.is_some(),
+    };
+    response.head()
 }
