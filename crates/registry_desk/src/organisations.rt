@@ -1,7 +1,5 @@
 //! What decides an action about organisations and their members.
 
-ghost use Rattle.registry_access.specs.Agreement.{SameOrganisation};
-ghost use Rattle.registry_access.specs.RowMaps.{state_of};
 ghost use Rattle.registry_access.specs.declared.caller.Caller.{Caller};
 ghost use Rattle.registry_access.specs.declared.role.Role.{Role as Rank};
 ghost use Rattle.registry_rows.specs.Frames.{Stays};

@@ -6,7 +6,7 @@ use registry_access::{Grant, Role};
 use registry_names::{Refusal, Rule, Status};
 
 /// Teams are granted what they may do with packages of their scope.
-pub static GRANTS: [Example; 4] = [
+pub static GRANTS: [Example; 5] = [
     Example {
         shows: "the first publish of a scope's package grants its first team all",
         before: LAB,
@@ -250,6 +250,60 @@ pub static GRANTS: [Example; 4] = [
                 who: Who::User("ann"),
                 ask: Ask::Revoke("lab", "developers", "@lab/kit"),
                 expected: Expected::Refused(Refusal::NotFound),
+            },
+        ],
+    },
+    Example {
+        shows: "a team's packages are listed to who reads them",
+        before: LAB_KIT,
+        steps: &[
+            Step {
+                at: 100,
+                who: Who::User("ann"),
+                ask: Ask::TeamCreate("lab", "ops"),
+                expected: Expected::Done,
+            },
+            Step {
+                at: 100,
+                who: Who::User("ann"),
+                ask: Ask::Grant("lab", "ops", "@lab/kit", Grant::ReadOnly),
+                expected: Expected::Done,
+            },
+            Step {
+                at: 100,
+                who: Who::User("bob"),
+                ask: Ask::TeamPackages("lab", "ops"),
+                expected: Expected::Doc(r#"{"@lab/kit":"read-only"}"#),
+            },
+            Step {
+                at: 100,
+                who: Who::User("ann"),
+                ask: Ask::Revoke("lab", "developers", "@lab/kit"),
+                expected: Expected::Done,
+            },
+            Step {
+                at: 100,
+                who: Who::User("bob"),
+                ask: Ask::TeamPackages("lab", "ops"),
+                expected: Expected::Doc("{}"),
+            },
+            Step {
+                at: 100,
+                who: Who::User("ann"),
+                ask: Ask::TeamPackages("lab", "ops"),
+                expected: Expected::Doc(r#"{"@lab/kit":"read-only"}"#),
+            },
+            Step {
+                at: 100,
+                who: Who::User("ann"),
+                ask: Ask::TeamAdd("lab", "ops", "bob"),
+                expected: Expected::Done,
+            },
+            Step {
+                at: 100,
+                who: Who::User("bob"),
+                ask: Ask::TeamPackages("lab", "ops"),
+                expected: Expected::Doc(r#"{"@lab/kit":"read-only"}"#),
             },
         ],
     },

@@ -1,12 +1,20 @@
 //! The examples: of publishes, of queries and of tags.
 
-use crate::beginnings::{KIT_BODY, LAB, LAB_KIT};
+use crate::beginnings::{KIT_BODY, LAB};
 use crate::example::{Ask, Example, Expected, Step, Who};
 use registry_names::Refusal;
 
-/// Its packument.
+/// The packument of `@lab/kit`.
 const KIT_PACKUMENT: &str =
     r#"{"_id":"@lab/kit","dist-tags":{"latest":"1.0.0"},"name":"@lab/kit","versions":{"1.0.0":{"dist":{"integrity":"sha512-3a81oZNherrMQXNJriBBMRLm+k6JqX6iCp7u5ktV05ohkpkqJ0/BqDa6PCOj/uu9RU1EI2Q86A4qmslPpUyknw==","shasum":"a9993e364706816aba3e25717850c26c9cd0d89d","tarball":"http://localhost:8080/@lab/kit/-/@lab/kit-1.0.0.tgz"},"name":"@lab/kit","version":"1.0.0"}}}"#;
+
+/// The client's body of `@lab/kit` 1.0.0 without the archive's integrity.
+const UNCHECKED_BODY: &str =
+    r#"{"_id":"@lab/kit","name":"@lab/kit","dist-tags":{"latest":"1.0.0"},"versions":{"1.0.0":{"name":"@lab/kit","version":"1.0.0","dist":{"shasum":"a9993e364706816aba3e25717850c26c9cd0d89d","tarball":"http://localhost:8080/@lab/kit/-/@lab/kit-1.0.0.tgz"}}},"access":null,"_attachments":{"@lab/kit-1.0.0.tgz":{"content_type":"application/octet-stream","data":"YWJj","length":3}}}"#;
+
+/// The same without `dist`.
+const SHORT_BODY: &str =
+    r#"{"_id":"@lab/kit","name":"@lab/kit","dist-tags":{"latest":"1.0.0"},"versions":{"1.0.0":{"name":"@lab/kit","version":"1.0.0"}},"access":null,"_attachments":{"@lab/kit-1.0.0.tgz":{"content_type":"application/octet-stream","data":"YWJj","length":3}}}"#;
 
 /// The body of `@lab/kit` 1.0.1 with an archive of no bytes.
 const EMPTY_BODY: &str =
@@ -25,7 +33,7 @@ const LATER_BODY: &str =
     r#"{"name":"kit","dist-tags":{"next":"1.1.0"},"versions":{"1.1.0":{"name":"kit","version":"1.1.0"}},"_attachments":{"a":{"data":"YWJj"}}}"#;
 
 /// Versions are published, or refused.
-pub static PUBLISHES: [Example; 4] = [
+pub static PUBLISHES: [Example; 6] = [
     Example {
         shows: "the body of @lab/kit gives its packument byte for byte",
         before: LAB,
@@ -77,6 +85,42 @@ pub static PUBLISHES: [Example; 4] = [
                 who: Who::User("bob"),
                 ask: Ask::Packument("@lab/kid"),
                 expected: Expected::Refused(Refusal::NotFound),
+            },
+        ],
+    },
+    Example {
+        shows: "a body needs no integrity",
+        before: LAB,
+        steps: &[
+            Step {
+                at: 100,
+                who: Who::User("bob"),
+                ask: Ask::Body(UNCHECKED_BODY),
+                expected: Expected::Created,
+            },
+            Step {
+                at: 100,
+                who: Who::User("bob"),
+                ask: Ask::Archive("@lab/kit", "1.0.0"),
+                expected: Expected::Bytes("abc"),
+            },
+        ],
+    },
+    Example {
+        shows: "and no dist",
+        before: LAB,
+        steps: &[
+            Step {
+                at: 100,
+                who: Who::User("bob"),
+                ask: Ask::Body(SHORT_BODY),
+                expected: Expected::Created,
+            },
+            Step {
+                at: 100,
+                who: Who::User("bob"),
+                ask: Ask::Archive("@lab/kit", "1.0.0"),
+                expected: Expected::Bytes("abc"),
             },
         ],
     },

@@ -54,7 +54,7 @@ never-fails_write (Ok reply) true closes e = cc
 never-fails_write (Ok reply) false true e = cc
 never-fails_write (Ok reply) false false e = cc
 
-taken-open : (all held : List ℕ) (AtEnd : Type 0) (c : Cause) → is_request c ≡ true → TakenOf all held AtEnd (taken_for c) → TakenOf all held ⊥ (taken_for c)
+pub taken-open : (all held : List ℕ) (AtEnd : Type 0) (c : Cause) → is_request c ≡ true → TakenOf all held AtEnd (taken_for c) → TakenOf all held ⊥ (taken_for c)
 taken-open all held AtEnd (request w at) is took = took
 taken-open all held AtEnd (bad_input r) is took = cc
 taken-open all held AtEnd no_memory is took = cc
@@ -118,7 +118,7 @@ taken-any all held AtEnd (request w at) took = took
 taken-any all held AtEnd (bad_input r) took = (took.0, bad-any all r AtEnd took.1)
 taken-any all held AtEnd no_memory took = took
 
-took-any : (came : List ℕ) (ts : List Turn) (held : List ℕ) (AtEnd : Type 0) → Took came ts held ⊥ → Took came ts held AtEnd
+pub took-any : (came : List ℕ) (ts : List Turn) (held : List ℕ) (AtEnd : Type 0) → Took came ts held ⊥ → Took came ts held AtEnd
 took-any came [] held AtEnd took = took
 took-any came (t ∷ ts) held AtEnd took = (took.0, took.1, taken-any took.0 held AtEnd t.cause took.2)
 
@@ -134,7 +134,7 @@ bytes-same o a closes is = rw (is.status, is.kind, is.body) refl
 -- ---- one turn more
 
 module _ {D : Type 0} (answers : Answers D) where
-  on-request : (c : Cause) (K : D) (last : Bool) (o : Outcome) (ended : Option End) (N : D) → IsTurnFor answers c K last o ended N → ended ≡ None → is_request c ≡ true
+  pub on-request : (c : Cause) (K : D) (last : Bool) (o : Outcome) (ended : Option End) (N : D) → IsTurnFor answers c K last o ended N → ended ≡ None → is_request c ≡ true
   on-request (request w at) K last o ended N turn stays = refl
   on-request (bad_input r) K last o ended N turn stays = let shut = turn.0.1 in cc
   on-request no_memory K last o ended N turn stays = let shut = turn.0.1 in cc

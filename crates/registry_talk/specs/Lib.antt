@@ -3,6 +3,8 @@ pub mod Answers
 pub mod Bodies
 pub mod Callers
 pub mod Courses
+pub mod Histories
+pub mod Laws
 pub mod Parts
 pub mod Requests
 pub mod Servings

@@ -9,6 +9,7 @@ mod action;
 mod answer;
 mod body;
 mod caller;
+pub mod laws;
 mod part;
 mod parts;
 mod request;

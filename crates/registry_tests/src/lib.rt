@@ -26,6 +26,8 @@ mod routes;
 #[cfg(test)]
 mod rules;
 #[cfg(test)]
+mod talk;
+#[cfg(test)]
 mod wire;
 #[cfg(test)]
 mod words;
