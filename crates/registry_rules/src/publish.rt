@@ -1,6 +1,6 @@
 //! The decision on a publish.
 
-ghost use Rattle.std.specs.Prelude.{◌≡◌, is_some, map, IfOk};
+ghost use Rattle.std.specs.Prelude.{◌≡◌, not, ◌&&◌, is_some, map, IfOk, None};
 ghost use Rattle.registry_names.specs.Names.{scope_of};
 ghost use Rattle.registry_rules.specs.Changes.{change_of};
 ghost use Rattle.registry_rules.specs.Effects as effects;
@@ -8,22 +8,30 @@ ghost use Rattle.registry_rules.specs.Effects.{publication};
 ghost use Rattle.registry_rules.specs.Facts.{ArePublishFacts};
 ghost use Rattle.registry_rules.specs.Refusals as spec;
 ghost use Rattle.registry_rules.specs.State.{State};
+ghost use Rattle.registry_rules.specs.Withdrawals.{is_less_than_a_day_ago};
+ghost use Rattle.registry_names.specs.declared.refusal.Refusal.TheVariants as refusal;
 ghost use Rattle.registry_access.specs.declared.caller.Caller.{Caller};
 
 use crate::change::{Change, Changes};
 use crate::facts::PublishFacts;
 use crate::grants::{first_right, status_refusal};
 use crate::tags::is_latest;
+use crate::withdrawals::is_less_than_a_day_ago;
 use registry_access::Caller;
 use registry_names::{LATEST, Moment, Name, Refusal, Status};
 use registry_publish::PublishForm;
 use std::alloc::{AllocError, Global};
 
 /// Why the publish is turned away, if it is: a live version is never published again, and neither
-/// is one that was withdrawn; a package without a scope is never restricted.
-pub(crate) fn publish_refusal(facts: &PublishFacts, form: &PublishForm) -> Option<Refusal>
+/// is one that was withdrawn; a package without a scope is never restricted; and one of which all
+/// versions were withdrawn waits a day.
+pub(crate) fn publish_refusal(
+    facts: &PublishFacts,
+    form: &PublishForm,
+    now: &Moment,
+) -> Option<Refusal>
     ensures { (S : State) (who : Caller) → ArePublishFacts facts.now S who form.now
-        → result ≡ spec.publish_refusal S form.now }
+        → result ≡ spec.publish_refusal S now.now form.now }
 {
     if facts.version_lives {
         return Some(Refusal::Published);
@@ -31,7 +39,19 @@ pub(crate) fn publish_refusal(facts: &PublishFacts, form: &PublishForm) -> Optio
     if facts.version_spent {
         return Some(Refusal::Spent);
     }
-    status_refusal(form.access(), form.name())
+    status_refusal(form.access(), form.name()).or(waiting_refusal(facts, now))
+}
+
+// A package of which no version lives waits a day from its last withdrawal on.
+fn waiting_refusal(facts: &PublishFacts, now: &Moment) -> Option<Refusal>
+    ensures { result ≡ spec.refuse (not facts.now.lives
+        && is_less_than_a_day_ago now.now facts.now.last_withdrawal) refusal.Waiting None }
+{
+    if !facts.lives && is_less_than_a_day_ago(now, facts.last_withdrawal) {
+        Some(Refusal::Waiting)
+    } else {
+        None
+    }
 }
 
 /// What a publish that isn't turned away changes. Its tag names the version, and so does `latest`

@@ -1,0 +1,176 @@
+//! The decision on a withdrawal and on a deprecation.
+
+ghost use Rattle.std.specs.Prelude.{◌≡◌, ◌++◌, ◌∷◌, [], List, map, option_map, IfOk};
+ghost use Rattle.registry_names.specs.Greatest as greatest;
+ghost use Rattle.registry_names.specs.Tags.{latest};
+ghost use Rattle.registry_names.specs.Texts as texts;
+ghost use Rattle.registry_names.specs.Versions.{text_of_version};
+ghost use Rattle.registry_rules.specs.Changes.{change_of, Retire};
+ghost use Rattle.registry_rules.specs.Effects as effects;
+ghost use Rattle.registry_rules.specs.Refusals as spec;
+ghost use Rattle.registry_rules.specs.Withdrawals as words;
+
+use crate::change::{Change, Changes};
+use registry_names::{LATEST, Message, Moment, Name, Refusal, Text, Ver};
+use registry_ranges::Selector;
+use std::alloc::{AllocError, Global};
+
+/// Three days: an older version isn't withdrawn.
+const OLDEST: i64 = 259_200;
+
+/// A day, which a package waits whose versions are all withdrawn.
+const LONGEST_WAIT: i64 = 86_400;
+
+/// A live version that is to go, and what stands about it.
+pub(crate) struct Going<'a> {
+    /// The package.
+    pub(crate) package: &'a Name,
+    /// The version.
+    pub(crate) version: &'a Ver,
+    /// When it was published.
+    pub(crate) published: &'a Moment,
+    /// The tags that name it.
+    pub(crate) tags: &'a Vec<Text>,
+    /// The live versions of the package.
+    pub(crate) live: &'a Vec<Ver>,
+}
+
+/// Whether the moment of a last withdrawal was less than a day ago, or is still to come.
+pub(crate) fn is_less_than_a_day_ago(now: &Moment, last: Option<Moment>) -> bool
+    ensures { result ≡ words.is_less_than_a_day_ago now.now last }
+{
+    match last {
+        Some(last) => now.seconds() < last.seconds() + LONGEST_WAIT,
+        None => false,
+    }
+}
+
+// Whether a version was published too long ago. After a clock that went back its age is 0.
+fn is_too_old(now: &Moment, published: Moment) -> bool
+    ensures { result ≡ words.is_too_old now.now published }
+{
+    published.seconds() + OLDEST <= now.seconds()
+}
+
+/// Why a version isn't withdrawn, if it isn't: it doesn't live, it is older than three days, or
+/// another package needs it.
+pub(crate) fn withdraw_refusal(
+    published: Option<Moment>,
+    depended: bool,
+    now: &Moment,
+) -> Option<Refusal>
+    ensures { result ≡ spec.withdraw_refusal now.now published depended }
+{
+    match published {
+        None => Some(Refusal::NotFound),
+        Some(published) if is_too_old(now, published) => Some(Refusal::TooLate),
+        Some(_) if depended => Some(Refusal::Depended),
+        Some(_) => None,
+    }
+}
+
+/// What a withdrawal that isn't turned away changes: no tag names the version any more, of which
+/// `latest` names the greatest other live version instead, where there is one; and then the version
+/// goes.
+pub(crate) fn withdrawal<'a>(
+    alloc: Global,
+    going: &Going<'a>,
+    now: &'a Moment,
+) -> Result<Changes<'a>, AllocError>
+    ensures { IfOk result (λ changes. map change_of changes.items
+        ≡ map (effects.freed going.now.package.now (greatest_of_others going.now))
+        (tags_of going.now) ++ retirement going.now now.now ∷ []) }
+{
+    let other = greatest_other(going.live, going.version);
+    let mut changes = Vec::new(alloc);
+    for tag in going.tags {
+        changes.push(freed(going.package, other, tag))?;
+    }
+    changes.push(Change::Retire {
+        package: going.package,
+        version: going.version,
+        published: going.published,
+        withdrawn: now,
+    })?;
+    Ok(changes)
+}
+
+// The greatest of the live versions but this one, if there is another.
+fn greatest_other<'a>(live: &'a Vec<Ver>, version: &Ver) -> Option<&'a Ver>
+    ensures { option_map text_of_found result ≡ greatest.greatest
+        (words.others (map text_of_version live.now.items) (text_of_version version.now)) }
+{
+    let mut best = None;
+    for other in live {
+        if !is_same(other, version) {
+            best = Some(greater(other, best));
+        }
+    }
+    best
+}
+
+fn is_same(one: &Ver, other: &Ver) -> bool
+    ensures { result ≡ texts.is (text_of_version one.now) (text_of_version other.now) }
+{
+    one.text() == other.text()
+}
+
+// The one of both with precedence.
+fn greater<'a>(version: &'a Ver, best: Option<&'a Ver>) -> &'a Ver
+    ensures { text_of_found result
+        ≡ greatest.greater (text_of_version version.now) (option_map text_of_found best.entry) }
+{
+    match best {
+        Some(best) if version.cmp(best).is_lt() => best,
+        _ => version,
+    }
+}
+
+fn is_latest(tag: &Text) -> bool
+    ensures { result ≡ texts.is tag.now latest }
+{
+    tag.as_str() == LATEST
+}
+
+// A tag that names the version is to name the other one, if it is `latest` and there is another;
+// else it goes.
+fn freed<'a>(package: &'a Name, other: Option<&'a Ver>, tag: &'a Text) -> Change<'a>
+    ensures { change_of result
+        ≡ effects.freed package.now (option_map text_of_found other.entry) tag.now }
+{
+    let text = tag.as_str();
+    match other {
+        Some(version) if is_latest(tag) => Change::PutTag {
+            package,
+            tag: text,
+            version,
+            stands: true,
+        },
+        _ => Change::DropTag { package, tag: text },
+    }
+}
+
+/// Each live version that the selector selects has the message.
+pub(crate) fn deprecation<'a>(
+    alloc: Global,
+    package: &'a Name,
+    live: &'a Vec<Ver>,
+    selector: &Selector,
+    message: &'a Message,
+) -> Result<Changes<'a>, AllocError>
+    ensures { IfOk result (λ changes. map change_of changes.items
+        ≡ effects.deprecation package.now message.now
+        (words.selected (map text_of_version live.now.items) selector.now)) }
+{
+    let mut changes = Vec::new(alloc);
+    for version in live {
+        if selector.selects(version) {
+            changes.push(Change::PutMessage {
+                package,
+                version,
+                message,
+            })?;
+        }
+    }
+    Ok(changes)
+}
