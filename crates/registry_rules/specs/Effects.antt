@@ -85,10 +85,14 @@ abbrev pub freed : Text → Option Text → Text → Change
 freed p None t = DropTag p t
 freed p (Some other) t = if is t latest then PutTag p t other true else DropTag p t
 
--- Of a version that lives: its tags first, of which `latest` is to name the greatest of the others, and then itself
-abbrev pub withdrawal : State → ℕ → Text → Text → Option Release → List Change
-withdrawal S now p v None = []
-withdrawal S now p v (Some release) = map (freed p (greatest (others (live_versions S p) v))) (tags_of S p v) ++ Retire p v release.at now ∷ []
+-- Of a version that was published then: the tags that name it first, of which `latest` is to name the greatest of the others that live, and then itself
+abbrev pub withdrawal : ℕ → Text → Text → ℕ → List Text → List Text → List Change
+withdrawal now p v published live tags = map (freed p (greatest (others live v))) tags ++ Retire p v published now ∷ []
+
+-- of one that lives
+abbrev pub withdrawal_of : State → ℕ → Text → Text → Option Release → List Change
+withdrawal_of S now p v None = []
+withdrawal_of S now p v (Some release) = withdrawal now p v release.at (live_versions S p) (tags_of S p v)
 
 -- ---- a deprecation
 
@@ -122,7 +126,7 @@ effects S now who (OwnerRemove p u) = DropOwner p u ∷ []
 effects S now who (Publish f) = publication S now who f
 effects S now who (TagSet p t v) = PutTag p t (text_of_version v) (stands S p t) ∷ []
 effects S now who (TagRemove p t) = DropTag p t ∷ []
-effects S now who (Withdraw p v) = withdrawal S now p (text_of_version v) (at S.live (p, text_of_version v))
+effects S now who (Withdraw p v) = withdrawal_of S now p (text_of_version v) (at S.live (p, text_of_version v))
 effects S now who (Deprecate p selector message) = deprecation p message (selected (live_versions S p) selector)
 effects S now who _ = []
 

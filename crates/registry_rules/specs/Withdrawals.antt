@@ -1,11 +1,12 @@
 -- When a version may be withdrawn, when a package may be published again, and what is about a version that goes.
 use Rattle.std.specs.Prelude.{ℕ, ◌+◌, Bool, false, not, ◌&&◌, List, [], ◌∷◌, filter, max, nat_le, nat_lt, Option, Some, None, unwrap_or, option_map}
+use Rattle.std.specs.Borrow.{Bor}
 use Rattle.std.specs.List.{list_any}
 use Rattle.registry_names.specs.Keys.{Pair}
 use Rattle.registry_names.specs.Maps.{entries, keys, of}
 use Rattle.registry_names.specs.Precedence.{version_in}
 use Rattle.registry_names.specs.Texts.{Text, is}
-use Rattle.registry_names.specs.Versions.{VersionParts}
+use Rattle.registry_names.specs.Versions.{VersionParts, text_of_version}
 use Rattle.registry_publish.specs.Needs.{needs_of}
 use Rattle.registry_publish.specs.declared.need.Need.{Need}
 use Rattle.registry_ranges.specs.Selectors.{Condition, set_selects}
@@ -61,6 +62,10 @@ is_depended S p v = list_any (λ (e : Pair × Release). not (is e.0.0 p) && list
 
 abbrev pub live_versions : State → Text → List Text
 live_versions S p = keys (of S.live p)
+
+-- the text of a version behind a reference
+abbrev pub text_seen : Bor VersionParts → Text
+text_seen v = text_of_version v.now
 
 -- the other live versions
 abbrev pub others : List Text → Text → List Text

@@ -20,7 +20,7 @@ use crate::request::{Action, Request};
 use crate::tags::tag_remove_refusal;
 use crate::teams::{team_destroy_refusal, team_joined};
 use crate::users::{added_to_refusal, unless_new};
-use crate::withdrawals::{Going, deprecation, withdraw_refusal, withdrawal};
+use crate::withdrawals::{deprecation, withdraw_refusal, withdrawal};
 use registry_access::Caller;
 use registry_names::{Fault, Moment, Refusal, Rule, Stop};
 use std::alloc::{AllocError, Global};
@@ -381,14 +381,7 @@ fn changes<'a>(
             },
             Action::Withdraw { name, version },
         ) => {
-            let going = Going {
-                package: name,
-                version,
-                published,
-                tags,
-                live,
-            };
-            withdrawal(alloc, &going, &request.at)
+            withdrawal(alloc, name, version, published, live, tags, &request.at)
         }
         (
             About::Deprecate { live, .. },

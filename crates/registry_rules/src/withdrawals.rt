@@ -1,11 +1,11 @@
 //! The decision on a withdrawal and on a deprecation.
 
-ghost use Rattle.std.specs.Prelude.{◌≡◌, ◌++◌, ◌∷◌, [], List, map, option_map, IfOk};
+ghost use Rattle.std.specs.Prelude.{◌≡◌, map, option_map, IfOk};
 ghost use Rattle.registry_names.specs.Greatest as greatest;
 ghost use Rattle.registry_names.specs.Tags.{latest};
 ghost use Rattle.registry_names.specs.Texts as texts;
 ghost use Rattle.registry_names.specs.Versions.{text_of_version};
-ghost use Rattle.registry_rules.specs.Changes.{change_of, Retire};
+ghost use Rattle.registry_rules.specs.Changes.{change_of};
 ghost use Rattle.registry_rules.specs.Effects as effects;
 ghost use Rattle.registry_rules.specs.Refusals as spec;
 ghost use Rattle.registry_rules.specs.Withdrawals as words;
@@ -20,20 +20,6 @@ const OLDEST: i64 = 259_200;
 
 /// A day, which a package waits whose versions are all withdrawn.
 const LONGEST_WAIT: i64 = 86_400;
-
-/// A live version that is to go, and what stands about it.
-pub(crate) struct Going<'a> {
-    /// The package.
-    pub(crate) package: &'a Name,
-    /// The version.
-    pub(crate) version: &'a Ver,
-    /// When it was published.
-    pub(crate) published: &'a Moment,
-    /// The tags that name it.
-    pub(crate) tags: &'a Vec<Text>,
-    /// The live versions of the package.
-    pub(crate) live: &'a Vec<Ver>,
-}
 
 /// Whether the moment of a last withdrawal was less than a day ago, or is still to come.
 pub(crate) fn is_less_than_a_day_ago(now: &Moment, last: Option<Moment>) -> bool
@@ -74,34 +60,51 @@ pub(crate) fn withdraw_refusal(
 /// goes.
 pub(crate) fn withdrawal<'a>(
     alloc: Global,
-    going: &Going<'a>,
+    package: &'a Name,
+    version: &'a Ver,
+    published: &'a Moment,
+    live: &'a Vec<Ver>,
+    tags: &'a Vec<Text>,
     now: &'a Moment,
 ) -> Result<Changes<'a>, AllocError>
     ensures { IfOk result (λ changes. map change_of changes.items
-        ≡ map (effects.freed going.now.package.now (greatest_of_others going.now))
-        (tags_of going.now) ++ retirement going.now now.now ∷ []) }
+        ≡ effects.withdrawal now.now package.now (text_of_version version.now) published.now
+        (map text_of_version live.now.items) tags.now.items) }
 {
-    let other = greatest_other(going.live, going.version);
-    let mut changes = Vec::new(alloc);
-    for tag in going.tags {
-        changes.push(freed(going.package, other, tag))?;
-    }
+    let other = greatest_other(live, version);
+    let mut changes = all_freed(alloc, package, other, tags)?;
     changes.push(Change::Retire {
-        package: going.package,
-        version: going.version,
-        published: going.published,
+        package,
+        version,
+        published,
         withdrawn: now,
     })?;
     Ok(changes)
 }
 
+fn all_freed<'a>(
+    alloc: Global,
+    package: &'a Name,
+    other: Option<&'a Ver>,
+    tags: &'a Vec<Text>,
+) -> Result<Changes<'a>, AllocError>
+    ensures { IfOk result (λ changes. map change_of changes.items
+        ≡ map (effects.freed package.now (option_map words.text_seen other.entry)) tags.now.items) }
+{
+    let mut changes = Vec::new(alloc);
+    for tag in tags.iter() {
+        changes.push(freed(package, other, tag))?;
+    }
+    Ok(changes)
+}
+
 // The greatest of the live versions but this one, if there is another.
 fn greatest_other<'a>(live: &'a Vec<Ver>, version: &Ver) -> Option<&'a Ver>
-    ensures { option_map text_of_found result ≡ greatest.greatest
+    ensures { option_map words.text_seen result ≡ greatest.greatest
         (words.others (map text_of_version live.now.items) (text_of_version version.now)) }
 {
     let mut best = None;
-    for other in live {
+    for other in live.iter() {
         if !is_same(other, version) {
             best = Some(greater(other, best));
         }
@@ -117,8 +120,8 @@ fn is_same(one: &Ver, other: &Ver) -> bool
 
 // The one of both with precedence.
 fn greater<'a>(version: &'a Ver, best: Option<&'a Ver>) -> &'a Ver
-    ensures { text_of_found result
-        ≡ greatest.greater (text_of_version version.now) (option_map text_of_found best.entry) }
+    ensures { words.text_seen result
+        ≡ greatest.greater (text_of_version version.now) (option_map words.text_seen best.entry) }
 {
     match best {
         Some(best) if version.cmp(best).is_lt() => best,
@@ -136,7 +139,7 @@ fn is_latest(tag: &Text) -> bool
 // else it goes.
 fn freed<'a>(package: &'a Name, other: Option<&'a Ver>, tag: &'a Text) -> Change<'a>
     ensures { change_of result
-        ≡ effects.freed package.now (option_map text_of_found other.entry) tag.now }
+        ≡ effects.freed package.now (option_map words.text_seen other.entry) tag.now }
 {
     let text = tag.as_str();
     match other {
@@ -163,7 +166,7 @@ pub(crate) fn deprecation<'a>(
         (words.selected (map text_of_version live.now.items) selector.now)) }
 {
     let mut changes = Vec::new(alloc);
-    for version in live {
+    for version in live.iter() {
         if selector.selects(version) {
             changes.push(Change::PutMessage {
                 package,
