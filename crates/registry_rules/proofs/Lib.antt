@@ -7,3 +7,4 @@ pub mod OtherFacts
 pub mod PublishedFacts
 pub mod SoundFacts
 pub mod SoundSteps
+pub mod WithdrawnFacts
