@@ -1,17 +1,19 @@
 -- What a withdrawal and a deprecation leave, each map by itself.
-use Rattle.std.proofs.Common.{◌≡◌, ℕ, Bool, true, false, cond, not, ◌&&◌, ◌||◌, List, [], ◌∷◌, ◌++◌, map, filter, is_some, Option, Some, None, option_map, refl, sym, ap, ◌∙◌, subst, true≢false, if◌then◌else◌}
-use Rattle.std.specs.Prelude.{IsSome}
+use Rattle.std.proofs.Common.{◌≡◌, ◌≢◌, ℕ, Bool, true, false, cond, not, ◌&&◌, ◌||◌, List, [], ◌∷◌, ◌++◌, map, filter, is_some, Option, Some, None, option_map, refl, sym, ap, ◌∙◌, subst, true≢false, if◌then◌else◌}
+use Rattle.std.proofs.lemmas.Bool.{and_parts, and_from}
 use Rattle.std.specs.List.{list_any}
 use Rattle.registry_names.specs.Keys.{Pair, pair_is}
-use Rattle.registry_names.specs.Maps.{PairMap, among, at, put, erase, keys}
+use Rattle.registry_names.specs.Maps.{PairMap, among, at, put, erase, revise, keys, of}
 use Rattle.registry_names.specs.Tags.{latest}
 use Rattle.registry_names.specs.Texts.{Text, is}
-use Rattle.registry_names.proofs.KeyFacts.{text_key, pair_key, same_true}
-use Rattle.registry_names.proofs.MapFacts.{at-put_same, at-put_other, at-erase_same, at-erase_other}
+use Rattle.registry_names.proofs.KeyFacts.{text_key, pair_key, same_true, same_self}
+use Rattle.registry_names.proofs.MapFacts.{at-put_same, at-put_other, at-erase_same, at-erase_other, at-revise}
 use Rattle.registry_rules.specs.Changes.{Change, Retire, PutTag, DropTag, made, all_made}
-use Rattle.registry_rules.specs.Effects.{freed, withdrawal}
-use Rattle.registry_rules.specs.Operations.{retired, with_tag}
-use Rattle.registry_rules.specs.State.{State}
+use Rattle.registry_rules.specs.Effects.{deprecation, freed}
+use Rattle.registry_rules.specs.Operations.{retired, with_message, with_tag}
+use Rattle.registry_rules.specs.State.{State, Release}
+use Rattle.registry_rules.specs.Withdrawals.{tags_of}
+use Rattle.registry_rules.proofs.OtherFacts.{any_of, of_any}
 
 -- ---- the tags
 
@@ -124,5 +126,92 @@ filtered test [] u = refl
 filtered test (e ∷ es) u = by_test (test e) ∙ ap (λ b. test e && is e.0 u || b) (filtered test es u)
   where
     by_test : (b : Bool) → among is (keys (if b then e ∷ filter test es else filter test es)) u ≡ (b && is e.0 u || among is (keys (filter test es)) u)
+    by_test true = refl
+    by_test false = refl
+
+module _ (S : State) (p v : Text) where
+  pub names_where_among : (u : Text) → among is (tags_of S p v) u ≡ true → at S.tags (p, u) ≡ Some v
+  names_where_among u h =
+      let found = any_of S.tags p (λ (e : Text × Text). is e.1 v && is e.0 u) (sym (filtered (λ (e : Text × Text). is e.1 v) (of S.tags p) u) ∙ h) in
+      let parts = and_parts (is found.0.1 v) (is found.0.0 u) found.2 in
+      ap (λ t. at S.tags (p, t)) (sym (same_true text_key found.0.0 u parts.1)) ∙ found.1 ∙ ap (λ w. Some w) (same_true text_key found.0.1 v parts.0)
+
+  pub among_where_names : (u : Text) → at S.tags (p, u) ≡ Some v → among is (tags_of S p v) u ≡ true
+  among_where_names u e =
+      filtered (λ (e : Text × Text). is e.1 v) (of S.tags p) u
+      ∙ of_any S.tags p (λ (e : Text × Text). is e.1 v && is e.0 u) u v e (and_from (is v v) (is u u) (same_self text_key v) (same_self text_key u))
+
+  pub apart_where_others : (u : Text) → at S.tags (p, u) ≢ Some v → among is (tags_of S p v) u ≡ false
+  apart_where_others u differ = by_test (among is (tags_of S p v) u) refl
+    where
+      by_test : (b : Bool) → among is (tags_of S p v) u ≡ b → among is (tags_of S p v) u ≡ false
+      by_test true e = absurd (differ (names_where_among u e))
+      by_test false e = e
+
+-- ---- a deprecation
+
+-- the live versions after these of a package have the message
+abbrev pub marked_all : PairMap Release → Text → Text → List Text → PairMap Release
+marked_all m p message [] = m
+marked_all m p message (v ∷ vs) = marked_all (revise m (λ k (r : Release). if pair_is (p, v) k then record r { message = message } else r)) p message vs
+
+pub deprecated_is : (S : State) (p message : Text) (vs : List Text) → all_made S (deprecation p message vs) ≡ record S { live = marked_all S.live p message vs }
+deprecated_is S p message [] = refl
+deprecated_is S p message (v ∷ vs) = deprecated_is (with_message S p v message) p message vs
+
+abbrev pub marked_value : Text → Option Release → Option Release
+marked_value message old = option_map (λ (r : Release). record r { message = message }) old
+
+marked_twice : (message : Text) (old : Option Release) → marked_value message (marked_value message old) ≡ marked_value message old
+marked_twice message (Some r) = refl
+marked_twice message None = refl
+
+marked_one : (b : Bool) (message : Text) (old : Option Release) → option_map (λ (r : Release). if b then record r { message = message } else r) old ≡ cond b (marked_value message old) old
+marked_one true message (Some r) = refl
+marked_one true message None = refl
+marked_one false message (Some r) = refl
+marked_one false message None = refl
+
+-- one of the versions was marked first, and then the others
+marked_joined : (here first later : Bool) (f : Option Release → Option Release) (old : Option Release) → f (f old) ≡ f old
+    → cond (here && later) (f (cond (here && first) (f old) old)) (cond (here && first) (f old) old) ≡ cond (here && (first || later)) (f old) old
+marked_joined true true true f old twice = twice
+marked_joined true true false f old twice = refl
+marked_joined true false later f old twice = refl
+marked_joined false first later f old twice = refl
+
+none_here : {X : Type 0} (b : Bool) (x y : X) → y ≡ cond (b && false) x y
+none_here true x y = refl
+none_here false x y = refl
+
+pub at-marked : (m : PairMap Release) (p message : Text) (vs : List Text) (q u : Text)
+    → at (marked_all m p message vs) (q, u) ≡ cond (is p q && among is vs u) (marked_value message (at m (q, u))) (at m (q, u))
+at-marked m p message [] q u = none_here (is p q) _ _
+at-marked m p message (v ∷ vs) q u =
+    at-marked (revise m (λ k (r : Release). if pair_is (p, v) k then record r { message = message } else r)) p message vs q u
+    ∙ ap (λ o. cond (is p q && among is vs u) (marked_value message o) o)
+    (at-revise pair_key m (λ k (r : Release). if pair_is (p, v) k then record r { message = message } else r) (q, u) ∙ marked_one (is p q && is v u) message (at m (q, u)))
+    ∙ marked_joined (is p q) (is v u) (among is vs u) (marked_value message) (at m (q, u)) (marked_twice message (at m (q, u)))
+
+-- of these texts those are left that pass
+none_passes : (b : Bool) → false ≡ (b && false)
+none_passes true = refl
+none_passes false = refl
+
+passes_first : (here passed mine later : Bool) → (here ≡ true → passed ≡ mine) → cond passed (here || (mine && later)) (mine && later) ≡ (mine && (here || later))
+passes_first true true true later same = refl
+passes_first true true false later same = absurd (true≢false (same refl))
+passes_first true false true later same = absurd (true≢false (sym (same refl)))
+passes_first true false false later same = refl
+passes_first false true mine later same = refl
+passes_first false false mine later same = refl
+
+pub among_passing : (test : Text → Bool) (vs : List Text) (u : Text) → among is (filter test vs) u ≡ (test u && among is vs u)
+among_passing test [] u = none_passes (test u)
+among_passing test (v ∷ vs) u =
+    by_test (test v) ∙ ap (λ b. cond (test v) (is v u || b) b) (among_passing test vs u)
+    ∙ passes_first (is v u) (test v) (test u) (among is vs u) (λ e. ap test (same_true text_key v u e))
+  where
+    by_test : (b : Bool) → among is (if b then v ∷ filter test vs else filter test vs) u ≡ cond b (is v u || among is (filter test vs) u) (among is (filter test vs) u)
     by_test true = refl
     by_test false = refl
