@@ -4,15 +4,16 @@ use Rattle.std.proofs.lemmas.Bool.{and_parts, and_from}
 use Rattle.std.specs.List.{list_any}
 use Rattle.registry_names.specs.Keys.{Pair, pair_is}
 use Rattle.registry_names.specs.Maps.{PairMap, among, at, put, erase, revise, keys, of}
+use Rattle.registry_names.specs.Greatest.{greatest}
 use Rattle.registry_names.specs.Tags.{latest}
 use Rattle.registry_names.specs.Texts.{Text, is}
 use Rattle.registry_names.proofs.KeyFacts.{text_key, pair_key, same_true, same_self}
 use Rattle.registry_names.proofs.MapFacts.{at-put_same, at-put_other, at-erase_same, at-erase_other, at-revise}
 use Rattle.registry_rules.specs.Changes.{Change, Retire, PutTag, DropTag, made, all_made}
-use Rattle.registry_rules.specs.Effects.{deprecation, freed}
+use Rattle.registry_rules.specs.Effects.{deprecation, freed, withdrawal_of}
 use Rattle.registry_rules.specs.Operations.{retired, with_message, with_tag}
 use Rattle.registry_rules.specs.State.{State, Release}
-use Rattle.registry_rules.specs.Withdrawals.{tags_of}
+use Rattle.registry_rules.specs.Withdrawals.{live_versions, others, tags_of}
 use Rattle.registry_rules.proofs.OtherFacts.{any_of, of_any}
 
 -- ---- the tags
@@ -54,6 +55,11 @@ pub withdrawn_is : (S : State) (now : ℕ) (p v : Text) (published : ℕ) (other
     → all_made S (map (freed p other) tags ++ Retire p v published now ∷ []) ≡ retired (record S { tags = freed_tags S.tags p other tags }) p v published now
 withdrawn_is S now p v published other tags =
     made_then S (map (freed p other) tags) (Retire p v published now ∷ []) ∙ ap (λ T. retired T p v published now) (tags_freed S p other tags)
+
+-- it leaves alone who may do what
+pub withdrawn_access : (S : State) (now : ℕ) (p v : Text) (old : Option Release) → (all_made S (withdrawal_of S now p v old)).access ≡ S.access
+withdrawn_access S now p v None = refl
+withdrawn_access S now p v (Some r) = ap (λ (T : State). T.access) (withdrawn_is S now p v r.at (greatest (others (live_versions S p) v)) (tags_of S p v))
 
 -- what a tag of this name names then, which named something before or nothing
 abbrev pub freed_value : Option Text → Text → Option Text → Option Text
@@ -98,6 +104,25 @@ at-freed_tag m p other t q u = by_key (pair_is (p, t) (q, u)) refl
     by_key : (b : Bool) → pair_is (p, t) (q, u) ≡ b → at (freed_tag m p other t) (q, u) ≡ cond b (freed_value other u (at m (q, u))) (at m (q, u))
     by_key true e = subst (λ (k : Pair). at (freed_tag m p other t) k ≡ freed_value other k.1 (at m k)) (same_true pair_key (p, t) (q, u) e) (freed_own m p other t)
     by_key false e = freed_other m p other t (q, u) e
+
+-- `latest`, which named a version, names the other one, if there is one, and another tag nothing
+pub freed_latest : (other old : Option Text) (v : Text) → old ≡ Some v → freed_value other latest old ≡ other
+freed_latest None old v e = refl
+freed_latest (Some w) old v e = ap (λ b. cond b (option_map (λ (x : Text). w) old) None) (same_self text_key latest) ∙ ap (option_map (λ (x : Text). w)) e
+
+pub freed_gone : (other old : Option Text) (u : Text) → is u latest ≡ false → freed_value other u old ≡ None
+freed_gone None old u e = refl
+freed_gone (Some w) old u e = ap (λ b. cond b (option_map (λ (x : Text). w) old) None) e
+
+-- what a freed tag names is the other version, and it is `latest`
+pub freed_names : (other old : Option Text) (u w : Text) → freed_value other u old ≡ Some w → (is u latest ≡ true) × (other ≡ Some w)
+freed_names None old u w e = cc
+freed_names (Some x) old u w e = by_name (is u latest) old refl e
+  where
+    by_name : (b : Bool) (old : Option Text) → is u latest ≡ b → cond b (option_map (λ (y : Text). x) old) None ≡ Some w → (is u latest ≡ true) × (◌≡◌ {A = Option Text} (Some x) (Some w))
+    by_name true (Some y) f e = (f, e)
+    by_name true None f e = cc
+    by_name false old f e = cc
 
 -- one of the tags was freed first, and then the others
 freed_joined : (here first later : Bool) (f : Option Text → Option Text) (old : Option Text) → f (f old) ≡ f old
