@@ -1,17 +1,20 @@
 -- The laws of what commands make.
-use Rattle.std.proofs.Common.{◌≡◌, ◌≢◌, ℕ, Bool, true, false, cond, not, ◌&&◌, ◌||◌, is_some, Option, Some, None, refl, sym, ap, ◌∙◌, subst, true≢false, if◌then◌else◌, Ordering}
+use Rattle.std.proofs.Common.{◌≡◌, ◌≢◌, ℕ, Bool, true, false, cond, not, ◌&&◌, ◌||◌, List, is_some, Option, Some, None, refl, sym, ap, ◌∙◌, subst, true≢false, if◌then◌else◌, Ordering}
 use Rattle.std.proofs.lemmas.Bool.{and_right}
 use Rattle.std.specs.Prelude.{IsSome}
 use Rattle.registry_names.specs.Keys.{IsKey, Pair, Triple, pair_is, triple_is}
-use Rattle.registry_names.specs.Maps.{TextMap, PairMap, TripleMap, at, put, keep}
+use Rattle.registry_names.specs.Maps.{TextMap, PairMap, TripleMap, among, at, put, keep}
+use Rattle.registry_names.specs.Greatest.{greatest}
 use Rattle.registry_names.specs.Tags.{latest}
 use Rattle.registry_names.specs.Texts.{Text, is}
-use Rattle.registry_names.specs.Versions.{text_of_version}
+use Rattle.registry_names.specs.Versions.{VersionParts, text_of_version}
 use Rattle.registry_names.specs.declared.status.Status.{Status}
 use Rattle.registry_names.specs.declared.status.Status.TheVariants.{Public, Restricted}
 use Rattle.registry_names.proofs.KeyFacts.{text_key, pair_key, triple_key, same_true, same_self}
 use Rattle.registry_names.proofs.MapFacts.{at-put, at-put_same, at-put_other, at-erase_same, at-erase_other, at-keep}
+use Rattle.registry_names.proofs.PartFacts.{any-part}
 use Rattle.registry_names.proofs.PutFacts.{put_there}
+use Rattle.registry_ranges.specs.Selectors.{Condition}
 use Rattle.registry_access.specs.Access.{Access}
 use Rattle.registry_access.specs.declared.caller.Caller.{Caller}
 use Rattle.registry_access.specs.declared.caller.Caller.TheVariants.{Operator, User, Anonymous}
@@ -23,16 +26,16 @@ use Rattle.registry_names.specs.Names.{scope_of}
 use Rattle.registry_publish.specs.Form.{FormParts}
 use Rattle.registry_rules.specs.Actions.{version_of, ends_team}
 use Rattle.registry_rules.specs.Changes.{all_made, release_of}
-use Rattle.registry_rules.specs.Effects.{first_status, joining, membership, owning, new_status}
-use Rattle.registry_rules.specs.Laws.{GivesFirstRight, IsGrantChange, IsMaintainerChange, SetsAccess, GrantsAreGiven, GrantsAreRevoked, StatusesAreSet, MaintainersAreAdded, MaintainersAreRemoved, PublishesGiveFirstRights, SetsRole, OrganisationsAreCreated, RolesAreSet, MembersAreRemoved, UsersAreAdded, TokensAreAdded, AddsVersion, SetsTags, SetsStatus, IsTagChange, IsApart, DestroysTeam, IsTeamMemberChange, TeamsAreCreated, NewTeamsAreEmpty, TeamsAreDestroyed, TeamMembersAreAdded, TeamMembersAreRemoved, PublishesAddVersions, PublishesSetTags, PublishesSetStatuses, SetTagsName, RemovedTagsAreGone, QueriesChangeNothing, PackagesStandApart}
+use Rattle.registry_rules.specs.Effects.{deprecation, first_status, joining, membership, owning, new_status, withdrawal_of}
+use Rattle.registry_rules.specs.Laws.{SpendsVersion, FreesTags, WithdrawalsSpend, WithdrawalsFreeTags, Deprecates, DeprecationsMark, GivesFirstRight, IsGrantChange, IsMaintainerChange, SetsAccess, GrantsAreGiven, GrantsAreRevoked, StatusesAreSet, MaintainersAreAdded, MaintainersAreRemoved, PublishesGiveFirstRights, SetsRole, OrganisationsAreCreated, RolesAreSet, MembersAreRemoved, UsersAreAdded, TokensAreAdded, AddsVersion, SetsTags, SetsStatus, IsTagChange, IsApart, DestroysTeam, IsTeamMemberChange, TeamsAreCreated, NewTeamsAreEmpty, TeamsAreDestroyed, TeamMembersAreAdded, TeamMembersAreRemoved, PublishesAddVersions, PublishesSetTags, PublishesSetStatuses, SetTagsName, RemovedTagsAreGone, QueriesChangeNothing, PackagesStandApart}
 use Rattle.registry_rules.specs.Operations.{without_team, with_grant, with_status, with_tag, without_tag}
-use Rattle.registry_rules.specs.State.{State, developers, is_in_team, has_grant, is_published, is_owned_by, stands}
+use Rattle.registry_rules.specs.State.{State, Release, developers, is_in_team, has_grant, is_published, is_owned_by, stands}
 use Rattle.registry_rules.specs.declared.request.Action.{Action}
 use Rattle.registry_rules.specs.declared.request.Action.TheVariants as asked
 use Rattle.registry_rules.specs.declared.request.Action.TheVariants.{UserAdd, TokenAdd, OrgCreate, OrgSet, OrgRemove, TeamCreate, TeamDestroy, TeamAdd, TeamRemove, Revoke, SetAccess, OwnerAdd, OwnerRemove, Publish, TagSet, TagRemove, Withdraw, Deprecate}
 use Rattle.registry_rules.proofs.MadeFacts.{grant_put, latest_put, role_put, status_put, tag_put}
 use Rattle.registry_rules.specs.Withdrawals.{live_versions, others, selected, selects, tags_of}
-use Rattle.registry_rules.proofs.WithdrawnFacts.{among_passing, among_where_names, apart_where_others, at-freed, at-marked, deprecated_is, freed_gone, freed_latest, freed_tags, freed_value, marked_all, marked_value, withdrawn_is}
+use Rattle.registry_rules.proofs.WithdrawnFacts.{among_passing, among_where_names, apart_where_others, at-freed, at-marked, deprecated_is, freed_gone, freed_latest, marked_value, withdrawn_is}
 use Rattle.registry_rules.proofs.PublishedFacts.{statuses_after, granted_first, grants_after, maintained_first, maintainers_after, status_of, after_publish, published_is}
 
 -- keys that differ fail the test

@@ -8,3 +8,4 @@ pub mod PublishedFacts
 pub mod SoundFacts
 pub mod SoundSteps
 pub mod WithdrawnFacts
+pub mod WithdrawnKept
