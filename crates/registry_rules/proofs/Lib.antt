@@ -1,6 +1,7 @@
 pub mod AllowedFacts
 pub mod CallerFacts
 pub mod KeptFacts
+pub mod ListedFacts
 pub mod LawFacts
 pub mod MadeFacts
 pub mod OtherFacts

@@ -1,7 +1,8 @@
 -- When a version may be withdrawn, when a package may be published again, and what is about a version that goes.
-use Rattle.std.specs.Prelude.{ℕ, ◌+◌, Bool, false, not, ◌&&◌, List, [], ◌∷◌, filter, max, nat_le, nat_lt, Option, Some, None, unwrap_or, option_map}
+use Rattle.std.specs.Prelude.{ℕ, ◌+◌, Bool, false, not, ◌&&◌, List, [], ◌∷◌, filter, max, nat_le, nat_lt, Option, Some, None, unwrap_or, option_map, if◌then◌else◌}
 use Rattle.std.specs.Borrow.{Bor}
 use Rattle.std.specs.List.{list_any}
+use Rattle.registry_names.specs.Greatest.{greater}
 use Rattle.registry_names.specs.Keys.{Pair}
 use Rattle.registry_names.specs.Maps.{entries, keys, of}
 use Rattle.registry_names.specs.Precedence.{version_in}
@@ -70,6 +71,10 @@ text_seen v = text_of_version v.now
 -- the other live versions
 abbrev pub others : List Text → Text → List Text
 others vs v = filter (λ w. not (is w v)) vs
+
+-- the one with precedence of both, but for a text that is left out
+abbrev pub better : Option Text → Text → Text → Option Text
+better best other without = if is other without then best else Some (greater other best)
 
 -- the tags that name the version
 abbrev pub tags_of : State → Text → Text → List Text

@@ -1,7 +1,9 @@
 //! The decision on a withdrawal and on a deprecation.
 
 ghost use Rattle.std.specs.Prelude.{◌≡◌, map, option_map, IfOk};
+ghost use Rattle.std.specs.Ordering.{is_lt};
 ghost use Rattle.registry_names.specs.Greatest as greatest;
+ghost use Rattle.registry_names.specs.Precedence.{text_precedence};
 ghost use Rattle.registry_names.specs.Tags.{latest};
 ghost use Rattle.registry_names.specs.Texts as texts;
 ghost use Rattle.registry_names.specs.Versions.{text_of_version};
@@ -63,13 +65,13 @@ pub(crate) fn withdrawal<'a>(
     package: &'a Name,
     version: &'a Ver,
     published: &'a Moment,
-    live: &'a Vec<Ver>,
-    tags: &'a Vec<Text>,
+    live: &'a [Ver],
+    tags: &'a [Text],
     now: &'a Moment,
 ) -> Result<Changes<'a>, AllocError>
     ensures { IfOk result (λ changes. map change_of changes.items
         ≡ effects.withdrawal now.now package.now (text_of_version version.now) published.now
-        (map text_of_version live.now.items) tags.now.items) }
+        (map text_of_version live.now) tags.now) }
 {
     let other = greatest_other(live, version);
     let mut changes = all_freed(alloc, package, other, tags)?;
@@ -86,36 +88,57 @@ fn all_freed<'a>(
     alloc: Global,
     package: &'a Name,
     other: Option<&'a Ver>,
-    tags: &'a Vec<Text>,
+    tags: &'a [Text],
 ) -> Result<Changes<'a>, AllocError>
     ensures { IfOk result (λ changes. map change_of changes.items
-        ≡ map (effects.freed package.now (option_map words.text_seen other.entry)) tags.now.items) }
+        ≡ map (effects.freed package.now (option_map words.text_seen other.entry)) tags.now) }
 {
     let mut changes = Vec::new(alloc);
-    for tag in tags.iter() {
+    for tag in tags {
         changes.push(freed(package, other, tag))?;
     }
     Ok(changes)
 }
 
 // The greatest of the live versions but this one, if there is another.
-fn greatest_other<'a>(live: &'a Vec<Ver>, version: &Ver) -> Option<&'a Ver>
+fn greatest_other<'a>(live: &'a [Ver], version: &Ver) -> Option<&'a Ver>
     ensures { option_map words.text_seen result ≡ greatest.greatest
-        (words.others (map text_of_version live.now.items) (text_of_version version.now)) }
+        (words.others (map text_of_version live.now) (text_of_version version.now)) }
 {
     let mut best = None;
-    for other in live.iter() {
-        if !is_same(other, version) {
-            best = Some(greater(other, best));
-        }
+    for other in live {
+        best = better(best, other, version);
     }
     best
 }
 
+// The greater of both, but for the version that is left out.
+fn better<'a>(best: Option<&'a Ver>, other: &'a Ver, without: &Ver) -> Option<&'a Ver>
+    ensures { option_map words.text_seen result ≡ words.better
+        (option_map words.text_seen best.entry) (text_of_version other.now)
+        (text_of_version without.now) }
+{
+    if is_same(other, without) {
+        return best;
+    }
+    Some(greater(other, best))
+}
+
+#[tactic(auto, unfolding(registry_names::specs::Texts::is))]
 fn is_same(one: &Ver, other: &Ver) -> bool
     ensures { result ≡ texts.is (text_of_version one.now) (text_of_version other.now) }
 {
     one.text() == other.text()
+}
+
+// By precedence, as their texts have it.
+fn is_below(one: &Ver, other: &Ver) -> bool
+    ensures { result ≡ is_lt (text_precedence (text_of_version one.now)
+        (text_of_version other.now)) }
+{
+    one.text();
+    other.text();
+    one.cmp(other).is_lt()
 }
 
 // The one of both with precedence.
@@ -124,11 +147,12 @@ fn greater<'a>(version: &'a Ver, best: Option<&'a Ver>) -> &'a Ver
         ≡ greatest.greater (text_of_version version.now) (option_map words.text_seen best.entry) }
 {
     match best {
-        Some(best) if version.cmp(best).is_lt() => best,
+        Some(best) if is_below(version, best) => best,
         _ => version,
     }
 }
 
+#[tactic(auto, unfolding(registry_names::specs::Texts::is))]
 fn is_latest(tag: &Text) -> bool
     ensures { result ≡ texts.is tag.now latest }
 {
@@ -157,17 +181,17 @@ fn freed<'a>(package: &'a Name, other: Option<&'a Ver>, tag: &'a Text) -> Change
 pub(crate) fn deprecation<'a>(
     alloc: Global,
     package: &'a Name,
-    live: &'a Vec<Ver>,
+    live: &'a [Ver],
     selector: &Selector,
     message: &'a Message,
 ) -> Result<Changes<'a>, AllocError>
     ensures { IfOk result (λ changes. map change_of changes.items
         ≡ effects.deprecation package.now message.now
-        (words.selected (map text_of_version live.now.items) selector.now)) }
+        (words.selected (map text_of_version live.now) selector.now)) }
 {
     let mut changes = Vec::new(alloc);
-    for version in live.iter() {
-        if selector.selects(version) {
+    for version in live {
+        if selects(selector, version) {
             changes.push(Change::PutMessage {
                 package,
                 version,
@@ -176,4 +200,11 @@ pub(crate) fn deprecation<'a>(
         }
     }
     Ok(changes)
+}
+
+fn selects(selector: &Selector, version: &Ver) -> bool
+    ensures { result ≡ words.selects selector.now (text_of_version version.now) }
+{
+    version.text();
+    selector.selects(version)
 }

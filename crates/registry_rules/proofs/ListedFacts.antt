@@ -1,0 +1,27 @@
+-- Lists that a loop goes through, one more at a time.
+use Rattle.std.proofs.Common.{◌≡◌, ℕ, ◌+◌, ◌<◌, Bool, true, false, not, List, [], ◌∷◌, ◌++◌, map, filter, take, length, Option, Some, None, refl, sym, ap, ◌∙◌, if◌then◌else◌}
+use Rattle.std.proofs.lemmas.List.{take_more}
+use Rattle.std.proofs.lemmas.List.Elements.{filter-append}
+use Rattle.std.specs.Prelude.{slice_index_or}
+use Rattle.registry_names.specs.Greatest.{greater, greatest}
+use Rattle.registry_names.specs.Texts.{Text, is}
+use Rattle.registry_names.proofs.GreatestFacts.{greatest_push}
+use Rattle.registry_rules.specs.Withdrawals.{better, others}
+
+map_append : {X Y : Type 0} (f : X → Y) (xs ys : List X) → map f (xs ++ ys) ≡ map f xs ++ map f ys
+map_append f [] ys = refl
+map_append f (x ∷ xs) ys = ap (λ l. f x ∷ l) (map_append f xs ys)
+
+pub mapped_more : {X Y : Type 0} (f : X → Y) (xs : List X) (i : ℕ) (d : X) → i < length xs → map f (take (i + 1) xs) ≡ map f (take i xs) ++ f (slice_index_or xs i d) ∷ []
+mapped_more f xs i d within = ap (map f) (take_more xs i d within) ∙ map_append f (take i xs) (slice_index_or xs i d ∷ [])
+
+-- the greatest of the others, with one text more
+pub greatest_more : (xs : List Text) (x v : Text) → greatest (others (xs ++ x ∷ []) v) ≡ better (greatest (others xs v)) x v
+greatest_more xs x v = ap greatest (filter-append (λ w. not (is w v)) xs (x ∷ [])) ∙ by_test (is x v)
+  where
+    all_left : (ys : List Text) → ys ++ [] ≡ ys
+    all_left [] = refl
+    all_left (y ∷ ys) = ap (λ l. y ∷ l) (all_left ys)
+    by_test : (b : Bool) → greatest (others xs v ++ (if not b then x ∷ [] else [])) ≡ (if b then greatest (others xs v) else Some (greater x (greatest (others xs v))))
+    by_test true = ap greatest (all_left (others xs v))
+    by_test false = greatest_push (others xs v) x
