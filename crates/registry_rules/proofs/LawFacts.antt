@@ -431,9 +431,11 @@ deprecations_mark S now who p conditions message =
   where
     lives : (v : Text) (release : Release) → at S.live (p, v) ≡ Some release → among is (live_versions S p) v ≡ true
     lives v release e = any-part text_key S.live p v ∙ ap is_some e
+
     none_of : {X : Type 0} (here b : Bool) (x y : X) → here ≡ false → cond (here && b) x y ≡ y
     none_of true b x y e = absurd (true≢false e)
     none_of false b x y e = refl
+
     either_none : (b : Bool) → cond b (marked_value message None) None ≡ None
     either_none true = refl
     either_none false = refl

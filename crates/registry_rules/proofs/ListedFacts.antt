@@ -22,6 +22,7 @@ greatest_more xs x v = ap greatest (filter-append (λ w. not (is w v)) xs (x ∷
     all_left : (ys : List Text) → ys ++ [] ≡ ys
     all_left [] = refl
     all_left (y ∷ ys) = ap (λ l. y ∷ l) (all_left ys)
+
     by_test : (b : Bool) → greatest (others xs v ++ (if not b then x ∷ [] else [])) ≡ (if b then greatest (others xs v) else Some (greater x (greatest (others xs v))))
     by_test true = ap greatest (all_left (others xs v))
     by_test false = greatest_push (others xs v) x

@@ -38,6 +38,7 @@ tag_freed S p (Some w) t = by_name (is t latest)
     by_standing : (b : Bool) → (if b then with_tag S p t w else S) ≡ record S { tags = cond b (put S.tags (p, t) w) S.tags }
     by_standing true = refl
     by_standing false = refl
+
     by_name : (b : Bool) → made S (if b then PutTag p t w true else DropTag p t) ≡ record S { tags = cond b (moved_to S.tags p t w) (erase S.tags (p, t)) }
     by_name true = by_standing (is_some (at S.tags (p, t)))
     by_name false = refl
@@ -82,6 +83,7 @@ freed_own m p (Some w) t = by_name (is t latest)
     by_standing : (old : Option Text) → at m (p, t) ≡ old → at (cond (is_some old) (put m (p, t) w) m) (p, t) ≡ option_map (λ (x : Text). w) old
     by_standing (Some x) e = at-put_same pair_key m (p, t) w
     by_standing None e = e
+
     by_name : (b : Bool) → at (cond b (moved_to m p t w) (erase m (p, t))) (p, t) ≡ cond b (option_map (λ (x : Text). w) (at m (p, t))) None
     by_name true = by_standing (at m (p, t)) refl
     by_name false = at-erase_same pair_key m (p, t)
@@ -93,6 +95,7 @@ freed_other m p (Some w) t k e = by_name (is t latest)
     by_standing : (b : Bool) → at (cond b (put m (p, t) w) m) k ≡ at m k
     by_standing true = at-put_other pair_key m (p, t) w k e
     by_standing false = refl
+
     by_name : (b : Bool) → at (cond b (moved_to m p t w) (erase m (p, t))) k ≡ at m k
     by_name true = by_standing (is_some (at m (p, t)))
     by_name false = at-erase_other pair_key m (p, t) k e

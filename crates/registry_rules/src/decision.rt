@@ -34,9 +34,7 @@ pub fn may_ask(facts: &Facts, request: &Request) -> Result<(), Refusal>
 {
     match &facts.caller {
         None => Err(Refusal::NoCaller),
-        Some(caller) => {
-            permitted(refusal_by(caller, &facts.about, &request.what, &request.at))
-        }
+        Some(caller) => { permitted(refusal_by(caller, &facts.about, &request.what, &request.at)) }
     }
 }
 
@@ -380,9 +378,7 @@ fn changes<'a>(
                 ..
             },
             Action::Withdraw { name, version },
-        ) => {
-            withdrawal(alloc, name, version, published, live, tags, &request.at)
-        }
+        ) => { withdrawal(alloc, name, version, published, live, tags, &request.at) }
         (
             About::Deprecate { live, .. },
             Action::Deprecate {
