@@ -137,14 +137,14 @@ new_teams_are_empty S now who o t sound none = record {
 }
 
 module _ (S : State) (o t : Text) where
-  abbrev others : Triple → Bool
-  others k = not (is o k.0 && is t k.1.0)
+  abbrev other_entries : Triple → Bool
+  other_entries k = not (is o k.0 && is t k.1.0)
 
-  dropped : {X : Type 0} (m : TripleMap X) (x : Text) → at (keep m others) (o, (t, x)) ≡ None
-  dropped m x = at-keep triple_key m others (o, (t, x)) ∙ ap (λ b. cond (not b) (at m (o, (t, x))) None) (same_self pair_key (o, t))
+  dropped : {X : Type 0} (m : TripleMap X) (x : Text) → at (keep m other_entries) (o, (t, x)) ≡ None
+  dropped m x = at-keep triple_key m other_entries (o, (t, x)) ∙ ap (λ b. cond (not b) (at m (o, (t, x))) None) (same_self pair_key (o, t))
 
-  undropped : {X : Type 0} (m : TripleMap X) (p s x : Text) → ◌≢◌ {A = Pair} (p, s) (o, t) → at (keep m others) (p, (s, x)) ≡ at m (p, (s, x))
-  undropped m p s x differ = at-keep triple_key m others (p, (s, x)) ∙ ap (λ b. cond (not b) (at m (p, (s, x))) None) (unlike pair_key (o, t) (p, s) differ)
+  undropped : {X : Type 0} (m : TripleMap X) (p s x : Text) → ◌≢◌ {A = Pair} (p, s) (o, t) → at (keep m other_entries) (p, (s, x)) ≡ at m (p, (s, x))
+  undropped m p s x differ = at-keep triple_key m other_entries (p, (s, x)) ∙ ap (λ b. cond (not b) (at m (p, (s, x))) None) (unlike pair_key (o, t) (p, s) differ)
 
   team_destroyed : DestroysTeam S (without_team S o t) o t
   team_destroyed = record {
@@ -397,7 +397,7 @@ tags_free S now p w release =
     let ts = tags_of S p w in
     let self = same_self text_key p in
     subst (λ T. FreesTags S T p w) (sym (withdrawn_is S now p w release.at next ts)) (record {
-      latest = λ e. at-freed S.tags p next ts p latest ∙ is_here (is p p) (among is ts latest) _ _ self (among_where_names S p w latest e) ∙ freed_latest next _ w e;
+      moved = λ e. at-freed S.tags p next ts p latest ∙ is_here (is p p) (among is ts latest) _ _ self (among_where_names S p w latest e) ∙ freed_latest next _ w e;
       gone = λ t differ e. at-freed S.tags p next ts p t ∙ is_here (is p p) (among is ts t) _ _ self (among_where_names S p w t e) ∙ freed_gone next _ t (unlike text_key t latest (λ same. differ (sym same)));
       stays = λ t differ. at-freed S.tags p next ts p t ∙ among_others (is p p) (among is ts t) _ _ (apart_where_others S p w t differ);
       tags = λ q t differ. at-freed S.tags p next ts q t ∙ none_of (is p q) (among is ts t) _ _ (unlike text_key p q differ);
@@ -536,7 +536,7 @@ apart_from_destroying S o t p = record {
   tags = λ t. refl;
   status = refl;
   maintainers = λ u. refl;
-  grants = λ q s. at-keep triple_key S.access.grants (others S o t) (q, (s, p)) ∙ unless_ended (is o q && is t s) (at S.access.grants (q, (s, p)));
+  grants = λ q s. at-keep triple_key S.access.grants (other_entries S o t) (q, (s, p)) ∙ unless_ended (is o q && is t s) (at S.access.grants (q, (s, p)));
 }
 
 not_here : {X : Type 0} (here b : Bool) (x y : X) → here ≡ false → cond (here && b) x y ≡ y

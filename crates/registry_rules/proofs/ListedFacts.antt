@@ -1,12 +1,15 @@
 -- Lists that a loop goes through, one more at a time.
-use Rattle.std.proofs.Common.{◌≡◌, ℕ, ◌+◌, ◌<◌, Bool, true, false, not, List, [], ◌∷◌, ◌++◌, map, filter, take, length, Option, Some, None, refl, sym, ap, ◌∙◌, if◌then◌else◌}
+use Rattle.std.proofs.Common.{◌≡◌, ℕ, ◌+◌, ◌<◌, Bool, true, false, not, List, [], ◌∷◌, ◌++◌, map, filter, take, length, Option, Some, None, refl, sym, ap, ap₂, ◌∙◌, if◌then◌else◌}
 use Rattle.std.proofs.lemmas.List.{take_more}
 use Rattle.std.proofs.lemmas.List.Elements.{filter-append}
 use Rattle.std.specs.Prelude.{slice_index_or}
 use Rattle.registry_names.specs.Greatest.{greater, greatest}
 use Rattle.registry_names.specs.Texts.{Text, is}
 use Rattle.registry_names.proofs.GreatestFacts.{greatest_push}
-use Rattle.registry_rules.specs.Withdrawals.{better, others}
+use Rattle.registry_ranges.specs.Selectors.{Condition}
+use Rattle.registry_rules.specs.Changes.{PutMessage}
+use Rattle.registry_rules.specs.Effects.{deprecation}
+use Rattle.registry_rules.specs.Withdrawals.{better, others, selected, selects}
 
 map_append : {X Y : Type 0} (f : X → Y) (xs ys : List X) → map f (xs ++ ys) ≡ map f xs ++ map f ys
 map_append f [] ys = refl
@@ -26,3 +29,13 @@ greatest_more xs x v = ap greatest (filter-append (λ w. not (is w v)) xs (x ∷
     by_test : (b : Bool) → greatest (others xs v ++ (if not b then x ∷ [] else [])) ≡ (if b then greatest (others xs v) else Some (greater x (greatest (others xs v))))
     by_test true = ap greatest (all_left (others xs v))
     by_test false = greatest_push (others xs v) x
+
+-- one more change is made of one more of a list
+pub changes_more : {X C D : Type 0} (f : C → D) (g : X → D) (cs : List C) (c : C) (xs : List X) (i : ℕ) (d : X) → i < length xs → map f cs ≡ map g (take i xs) → f c ≡ g (slice_index_or xs i d)
+    → map f (cs ++ c ∷ []) ≡ map g (take (i + 1) xs)
+changes_more f g cs c xs i d within so_far is = map_append f cs (c ∷ []) ∙ ap₂ (λ a b. a ++ b ∷ []) so_far is ∙ sym (mapped_more g xs i d within)
+
+pub messages_more : (p message : Text) (conditions : List (List Condition)) (xs : List Text) (x : Text)
+    → deprecation p message (selected (xs ++ x ∷ []) conditions) ≡ deprecation p message (selected xs conditions) ++ deprecation p message (selected (x ∷ []) conditions)
+messages_more p message conditions xs x =
+    ap (deprecation p message) (filter-append (selects conditions) xs (x ∷ [])) ∙ map_append (λ v. PutMessage p v message) (selected xs conditions) (selected (x ∷ []) conditions)

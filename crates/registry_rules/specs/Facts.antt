@@ -85,12 +85,12 @@ pub record AreTagSetFacts (standing : Standing) (lives stood : Bool) (S : State)
   pub version_lives : lives ≡ is_live S p v
   pub tag_stands : stood ≡ stands S p t
 
-pub record AreWithdrawFacts (standing : Standing) (published : Option ℕ) (depended : Bool) (tags : List Text) (live : List VersionParts) (S : State) (who : Caller) (p : Text) (v : VersionParts) : Type 0 where
+pub record AreWithdrawFacts (standing : Standing) (since : Option ℕ) (needed : Bool) (named : List Text) (living : List VersionParts) (S : State) (who : Caller) (p : Text) (v : VersionParts) : Type 0 where
   pub standing_tells : TellsOf standing S who p
-  pub published : published ≡ option_map (λ (r : Release). r.at) (at S.live (p, text_of_version v))
-  pub depended : depended ≡ is_depended S p v
-  pub tags : tags ≡ tags_of S p (text_of_version v)
-  pub live : map text_of_version live ≡ live_versions S p
+  pub published : since ≡ option_map (λ (r : Release). r.at) (at S.live (p, text_of_version v))
+  pub depended : needed ≡ is_depended S p v
+  pub tags : named ≡ tags_of S p (text_of_version v)
+  pub live : map text_of_version living ≡ live_versions S p
 
 -- What is told of a caller's action is so. What is told of another kind of action stands for no state
 abbrev pub StandsAbout : About → State → Caller → Action → Type 0

@@ -257,7 +257,7 @@ pub record SpendsVersion (S T : State) (now : ℕ) (p v : Text) (release : Relea
 
 -- No tag names it: `latest`, where it did, names the greatest other live version, or is gone where there is none, and each other tag that did is gone. All that named another version stay
 pub record FreesTags (S T : State) (p v : Text) : Type 0 where
-  pub latest : at S.tags (p, latest) ≡ Some v → at T.tags (p, latest) ≡ greatest (others (live_versions S p) v)
+  pub moved : at S.tags (p, latest) ≡ Some v → at T.tags (p, latest) ≡ greatest (others (live_versions S p) v)
   pub gone : (t : Text) → t ≢ latest → at S.tags (p, t) ≡ Some v → at T.tags (p, t) ≡ None
   pub stays : (t : Text) → at S.tags (p, t) ≢ Some v → at T.tags (p, t) ≡ at S.tags (p, t)
   pub tags : (q t : Text) → q ≢ p → at T.tags (q, t) ≡ at S.tags (q, t)

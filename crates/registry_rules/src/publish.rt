@@ -1,6 +1,6 @@
 //! The decision on a publish.
 
-ghost use Rattle.std.specs.Prelude.{◌≡◌, not, ◌&&◌, is_some, map, IfOk, None};
+ghost use Rattle.std.specs.Prelude.{◌≡◌, is_some, map, IfOk};
 ghost use Rattle.registry_names.specs.Names.{scope_of};
 ghost use Rattle.registry_rules.specs.Changes.{change_of};
 ghost use Rattle.registry_rules.specs.Effects as effects;
@@ -8,13 +8,13 @@ ghost use Rattle.registry_rules.specs.Effects.{publication};
 ghost use Rattle.registry_rules.specs.Facts.{ArePublishFacts};
 ghost use Rattle.registry_rules.specs.Refusals as spec;
 ghost use Rattle.registry_rules.specs.State.{State};
-ghost use Rattle.registry_rules.specs.Withdrawals.{is_less_than_a_day_ago};
-ghost use Rattle.registry_names.specs.declared.refusal.Refusal.TheVariants as refusal;
+ghost use Rattle.registry_rules.specs.Withdrawals as words;
+ghost use Rattle.registry_publish.specs.Form.{FormParts};
 ghost use Rattle.registry_access.specs.declared.caller.Caller.{Caller};
 
 use crate::change::{Change, Changes};
 use crate::facts::PublishFacts;
-use crate::grants::{first_right, status_refusal};
+use crate::grants::{first_right, is_closed};
 use crate::tags::is_latest;
 use crate::withdrawals::is_less_than_a_day_ago;
 use registry_access::Caller;
@@ -39,19 +39,21 @@ pub(crate) fn publish_refusal(
     if facts.version_spent {
         return Some(Refusal::Spent);
     }
-    status_refusal(form.access(), form.name()).or(waiting_refusal(facts, now))
+    if is_closed(form.access(), form.name()) {
+        return Some(Refusal::AlwaysPublic);
+    }
+    if is_waiting(facts, now) {
+        return Some(Refusal::Waiting);
+    }
+    None
 }
 
-// A package of which no version lives waits a day from its last withdrawal on.
-fn waiting_refusal(facts: &PublishFacts, now: &Moment) -> Option<Refusal>
-    ensures { result ≡ spec.refuse (not facts.now.lives
-        && is_less_than_a_day_ago now.now facts.now.last_withdrawal) refusal.Waiting None }
+// Whether no version of the package lives, and its last withdrawal was less than a day ago.
+fn is_waiting(facts: &PublishFacts, now: &Moment) -> bool
+    ensures { (S : State) (who : Caller) (form : FormParts) → ArePublishFacts facts.now S who form
+        → result ≡ words.is_waiting S now.now form.name }
 {
-    if !facts.lives && is_less_than_a_day_ago(now, facts.last_withdrawal) {
-        Some(Refusal::Waiting)
-    } else {
-        None
-    }
+    !facts.lives && is_less_than_a_day_ago(now, facts.last_withdrawal)
 }
 
 /// What a publish that isn't turned away changes. Its tag names the version, and so does `latest`

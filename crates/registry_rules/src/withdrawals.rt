@@ -1,6 +1,6 @@
 //! The decision on a withdrawal and on a deprecation.
 
-ghost use Rattle.std.specs.Prelude.{◌≡◌, map, option_map, IfOk};
+ghost use Rattle.std.specs.Prelude.{◌≡◌, ◌++◌, ◌∷◌, [], map, option_map, IfOk, OnOk};
 ghost use Rattle.std.specs.Ordering.{is_lt};
 ghost use Rattle.registry_names.specs.Greatest as greatest;
 ghost use Rattle.registry_names.specs.Precedence.{text_precedence};
@@ -62,7 +62,7 @@ pub(crate) fn withdraw_refusal(
 /// goes.
 pub(crate) fn withdrawal<'a>(
     alloc: Global,
-    package: &'a Name,
+    name: &'a Name,
     version: &'a Ver,
     published: &'a Moment,
     live: &'a [Ver],
@@ -70,13 +70,13 @@ pub(crate) fn withdrawal<'a>(
     now: &'a Moment,
 ) -> Result<Changes<'a>, AllocError>
     ensures { IfOk result (λ changes. map change_of changes.items
-        ≡ effects.withdrawal now.now package.now (text_of_version version.now) published.now
+        ≡ effects.withdrawal now.now name.now (text_of_version version.now) published.now
         (map text_of_version live.now) tags.now) }
 {
     let other = greatest_other(live, version);
-    let mut changes = all_freed(alloc, package, other, tags)?;
+    let mut changes = all_freed(alloc, name, other, tags)?;
     changes.push(Change::Retire {
-        package,
+        package: name,
         version,
         published,
         withdrawn: now,
@@ -86,16 +86,16 @@ pub(crate) fn withdrawal<'a>(
 
 fn all_freed<'a>(
     alloc: Global,
-    package: &'a Name,
+    name: &'a Name,
     other: Option<&'a Ver>,
     tags: &'a [Text],
 ) -> Result<Changes<'a>, AllocError>
     ensures { IfOk result (λ changes. map change_of changes.items
-        ≡ map (effects.freed package.now (option_map words.text_seen other.entry)) tags.now) }
+        ≡ map (effects.freed name.now (option_map words.text_seen other.entry)) tags.now) }
 {
     let mut changes = Vec::new(alloc);
     for tag in tags {
-        changes.push(freed(package, other, tag))?;
+        changes.push(freed(name, other, tag))?;
     }
     Ok(changes)
 }
@@ -161,45 +161,64 @@ fn is_latest(tag: &Text) -> bool
 
 // A tag that names the version is to name the other one, if it is `latest` and there is another;
 // else it goes.
-fn freed<'a>(package: &'a Name, other: Option<&'a Ver>, tag: &'a Text) -> Change<'a>
+fn freed<'a>(name: &'a Name, other: Option<&'a Ver>, tag: &'a Text) -> Change<'a>
     ensures { change_of result
-        ≡ effects.freed package.now (option_map words.text_seen other.entry) tag.now }
+        ≡ effects.freed name.now (option_map words.text_seen other.entry) tag.now }
 {
     let text = tag.as_str();
     match other {
         Some(version) if is_latest(tag) => Change::PutTag {
-            package,
+            package: name,
             tag: text,
             version,
             stands: true,
         },
-        _ => Change::DropTag { package, tag: text },
+        _ => Change::DropTag {
+            package: name,
+            tag: text,
+        },
     }
 }
 
 /// Each live version that the selector selects has the message.
 pub(crate) fn deprecation<'a>(
     alloc: Global,
-    package: &'a Name,
+    name: &'a Name,
     live: &'a [Ver],
     selector: &Selector,
     message: &'a Message,
 ) -> Result<Changes<'a>, AllocError>
     ensures { IfOk result (λ changes. map change_of changes.items
-        ≡ effects.deprecation package.now message.now
+        ≡ effects.deprecation name.now message.now
         (words.selected (map text_of_version live.now) selector.now)) }
 {
     let mut changes = Vec::new(alloc);
     for version in live {
-        if selects(selector, version) {
-            changes.push(Change::PutMessage {
-                package,
-                version,
-                message,
-            })?;
-        }
+        push_message(&mut changes, name, version, selector, message)?;
     }
     Ok(changes)
+}
+
+// A version has the message where it is selected.
+fn push_message<'a>(
+    changes: &mut Changes<'a>,
+    name: &'a Name,
+    version: &'a Ver,
+    selector: &Selector,
+    message: &'a Message,
+) -> Result<(), AllocError>
+    ensures { OnOk result (map change_of changes.new.items ≡ map change_of changes.old.items
+        ++ effects.deprecation name.now message.now
+        (words.selected (text_of_version version.now ∷ []) selector.now)) }
+{
+    if selects(selector, version) {
+        changes.push(Change::PutMessage {
+            package: name,
+            version,
+            message,
+        })?;
+    }
+    Ok(())
 }
 
 fn selects(selector: &Selector, version: &Ver) -> bool
