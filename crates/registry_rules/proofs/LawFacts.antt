@@ -26,7 +26,7 @@ use Rattle.registry_names.specs.Names.{scope_of}
 use Rattle.registry_publish.specs.Form.{FormParts}
 use Rattle.registry_rules.specs.Actions.{version_of, ends_team}
 use Rattle.registry_rules.specs.Changes.{all_made, release_of}
-use Rattle.registry_rules.specs.Effects.{deprecation, first_status, joining, membership, owning, new_status, withdrawal_of}
+use Rattle.registry_rules.specs.Effects.{deprecation, first_status, joining, membership, owning, new_status}
 use Rattle.registry_rules.specs.Laws.{SpendsVersion, FreesTags, WithdrawalsSpend, WithdrawalsFreeTags, Deprecates, DeprecationsMark, GivesFirstRight, IsGrantChange, IsMaintainerChange, SetsAccess, GrantsAreGiven, GrantsAreRevoked, StatusesAreSet, MaintainersAreAdded, MaintainersAreRemoved, PublishesGiveFirstRights, SetsRole, OrganisationsAreCreated, RolesAreSet, MembersAreRemoved, UsersAreAdded, TokensAreAdded, AddsVersion, SetsTags, SetsStatus, IsTagChange, IsApart, DestroysTeam, IsTeamMemberChange, TeamsAreCreated, NewTeamsAreEmpty, TeamsAreDestroyed, TeamMembersAreAdded, TeamMembersAreRemoved, PublishesAddVersions, PublishesSetTags, PublishesSetStatuses, SetTagsName, RemovedTagsAreGone, QueriesChangeNothing, PackagesStandApart}
 use Rattle.registry_rules.specs.Operations.{without_team, with_grant, with_status, with_tag, without_tag}
 use Rattle.registry_rules.specs.State.{State, Release, developers, is_in_team, has_grant, is_published, is_owned_by, stands}
@@ -35,7 +35,7 @@ use Rattle.registry_rules.specs.declared.request.Action.TheVariants as asked
 use Rattle.registry_rules.specs.declared.request.Action.TheVariants.{UserAdd, TokenAdd, OrgCreate, OrgSet, OrgRemove, TeamCreate, TeamDestroy, TeamAdd, TeamRemove, Revoke, SetAccess, OwnerAdd, OwnerRemove, Publish, TagSet, TagRemove, Withdraw, Deprecate}
 use Rattle.registry_rules.proofs.MadeFacts.{grant_put, latest_put, role_put, status_put, tag_put}
 use Rattle.registry_rules.specs.Withdrawals.{live_versions, others, selected, selects, tags_of}
-use Rattle.registry_rules.proofs.WithdrawnFacts.{among_passing, among_where_names, apart_where_others, at-freed, at-marked, deprecated_is, freed_gone, freed_latest, marked_value, withdrawn_is}
+use Rattle.registry_rules.proofs.WithdrawnFacts.{among_passing, among_where_names, apart_where_others, at-freed, at-marked, deprecated_is, freed_gone, freed_latest, marked_value, withdrawal_of, withdrawn_is}
 use Rattle.registry_rules.proofs.PublishedFacts.{statuses_after, granted_first, grants_after, maintained_first, maintainers_after, status_of, after_publish, published_is}
 
 -- keys that differ fail the test

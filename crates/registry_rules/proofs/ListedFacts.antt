@@ -1,12 +1,15 @@
 -- Lists that a loop goes through, one more at a time.
-use Rattle.std.proofs.Common.{◌≡◌, ℕ, ◌+◌, ◌<◌, Bool, true, false, not, List, [], ◌∷◌, ◌++◌, map, filter, take, length, Option, Some, None, refl, sym, ap, ap₂, ◌∙◌, if◌then◌else◌}
+use Rattle.std.proofs.Common.{◌≡◌, ℕ, ◌+◌, ◌<◌, Bool, true, false, not, List, [], ◌∷◌, ◌++◌, map, filter, take, length, Option, Some, None, option_map, refl, sym, ap, ap₂, ◌∙◌, subst, if◌then◌else◌}
 use Rattle.std.proofs.lemmas.List.{take_more}
 use Rattle.std.proofs.lemmas.List.Elements.{filter-append}
-use Rattle.std.specs.Prelude.{slice_index_or}
+use Rattle.std.specs.Prelude.{slice_index_or, unwrap_or}
 use Rattle.registry_names.specs.Greatest.{greater, greatest}
 use Rattle.registry_names.specs.Texts.{Text, is}
+use Rattle.registry_names.specs.Precedence.{text_precedence}
+use Rattle.registry_names.specs.Versions.{VersionParts, IsVersionOf, precedence, text_of_version}
 use Rattle.registry_names.proofs.GreatestFacts.{greatest_push}
-use Rattle.registry_ranges.specs.Selectors.{Condition}
+use Rattle.registry_names.proofs.PrecedenceFacts.{text_precedence_agrees, version_reads}
+use Rattle.registry_ranges.specs.Selectors.{Condition, set_selects}
 use Rattle.registry_rules.specs.Changes.{PutMessage}
 use Rattle.registry_rules.specs.Effects.{deprecation}
 use Rattle.registry_rules.specs.Withdrawals.{better, others, selected, selects}
@@ -39,3 +42,15 @@ pub messages_more : (p message : Text) (conditions : List (List Condition)) (xs 
     → deprecation p message (selected (xs ++ x ∷ []) conditions) ≡ deprecation p message (selected xs conditions) ++ deprecation p message (selected (x ∷ []) conditions)
 messages_more p message conditions xs x =
     ap (deprecation p message) (filter-append (selects conditions) xs (x ∷ [])) ∙ map_append (λ v. PutMessage p v message) (selected xs conditions) (selected (x ∷ []) conditions)
+
+-- ---- versions, by their texts
+
+in_form : (t : Text) (v : VersionParts) → t ≡ text_of_version v → IsVersionOf t v → IsVersionOf (text_of_version v) v
+in_form t v e form = subst (λ x. IsVersionOf x v) e form
+
+pub precedence_by_texts : (a b : Text) (x y : VersionParts) → a ≡ text_of_version x → IsVersionOf a x → b ≡ text_of_version y → IsVersionOf b y
+    → precedence x y ≡ text_precedence (text_of_version x) (text_of_version y)
+precedence_by_texts a b x y e f g h = sym (text_precedence_agrees (text_of_version x) (text_of_version y) x y (in_form a x e f) (in_form b y g h))
+
+pub selects_by_text : (conditions : List (List Condition)) (t : Text) (v : VersionParts) → t ≡ text_of_version v → IsVersionOf t v → set_selects v conditions ≡ selects conditions (text_of_version v)
+selects_by_text conditions t v e form = ap (λ o. unwrap_or (option_map (λ parts. set_selects parts conditions) o) false) (sym (version_reads (text_of_version v) v (in_form t v e form)))

@@ -10,7 +10,7 @@ use Rattle.registry_names.specs.Texts.{Text, is}
 use Rattle.registry_names.proofs.KeyFacts.{text_key, pair_key, same_true, same_self}
 use Rattle.registry_names.proofs.MapFacts.{at-put_same, at-put_other, at-erase_same, at-erase_other, at-revise}
 use Rattle.registry_rules.specs.Changes.{Change, Retire, PutTag, DropTag, made, all_made}
-use Rattle.registry_rules.specs.Effects.{deprecation, freed, withdrawal_of}
+use Rattle.registry_rules.specs.Effects.{deprecation, freed, withdrawal}
 use Rattle.registry_rules.specs.Operations.{retired, with_message, with_tag}
 use Rattle.registry_rules.specs.State.{State, Release}
 use Rattle.registry_rules.specs.Withdrawals.{live_versions, others, tags_of}
@@ -56,6 +56,10 @@ pub withdrawn_is : (S : State) (now : ℕ) (p v : Text) (published : ℕ) (other
     → all_made S (map (freed p other) tags ++ Retire p v published now ∷ []) ≡ retired (record S { tags = freed_tags S.tags p other tags }) p v published now
 withdrawn_is S now p v published other tags =
     made_then S (map (freed p other) tags) (Retire p v published now ∷ []) ∙ ap (λ T. retired T p v published now) (tags_freed S p other tags)
+
+-- what a withdrawal of a version changes, which lives or doesn't
+abbrev pub withdrawal_of : State → ℕ → Text → Text → Option Release → List Change
+withdrawal_of S now p v old = withdrawal now p v (option_map (λ (r : Release). r.at) old) (live_versions S p) (tags_of S p v)
 
 -- it leaves alone who may do what
 pub withdrawn_access : (S : State) (now : ℕ) (p v : Text) (old : Option Release) → (all_made S (withdrawal_of S now p v old)).access ≡ S.access

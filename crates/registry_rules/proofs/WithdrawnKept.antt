@@ -17,12 +17,11 @@ use Rattle.registry_names.proofs.MapFacts.{at-erase, at-erase_same, at-erase_oth
 use Rattle.registry_names.proofs.PartFacts.{any-part}
 use Rattle.registry_names.proofs.PutFacts.{each_put, each_left}
 use Rattle.registry_rules.specs.Changes.{all_made}
-use Rattle.registry_rules.specs.Effects.{withdrawal_of}
 use Rattle.registry_rules.specs.Kept.{IsReleaseOf, IsWithdrawalOf, IsTagOf, IsKept}
 use Rattle.registry_rules.specs.Operations.{retired}
 use Rattle.registry_rules.specs.State.{State, Release, Withdrawal, is_live}
 use Rattle.registry_rules.specs.Withdrawals.{live_versions, others, tags_of}
-use Rattle.registry_rules.proofs.WithdrawnFacts.{among_passing, among_where_names, at-freed, at-marked, freed_latest, freed_names, freed_tags, freed_value, marked_all, marked_value, names_where_among, withdrawn_is}
+use Rattle.registry_rules.proofs.WithdrawnFacts.{among_passing, among_where_names, at-freed, at-marked, freed_latest, freed_names, freed_tags, freed_value, marked_all, marked_value, names_where_among, withdrawal_of, withdrawn_is}
 
 -- what is erased stood before, and what didn't stand doesn't then
 stood_before : {X : Type 0} (b : Bool) (old : Option X) → IsSome (cond b None old) → IsSome old

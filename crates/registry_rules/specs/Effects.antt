@@ -18,8 +18,8 @@ use Rattle.registry_publish.specs.Form.{FormParts}
 use Rattle.registry_rules.specs.Actions.{version_of}
 use Rattle.registry_rules.specs.Callers.{caller_of}
 use Rattle.registry_rules.specs.Changes.{Change, AddUser, AddToken, AddOrg, PutMember, DropMember, AddTeam, PutTeamMember, DropTeamMember, DropTeam, PutGrant, DropGrant, PutOwner, DropOwner, PutStatus, AddVersion, Retire, PutMessage, PutTag, DropTag, all_made}
-use Rattle.registry_rules.specs.State.{State, Release, developers, is_in_team, has_grant, is_published, is_owned_by, stands}
-use Rattle.registry_rules.specs.Withdrawals.{live_versions, others, selected, tags_of}
+use Rattle.registry_rules.specs.State.{State, developers, is_in_team, has_grant, is_published, is_owned_by, stands}
+use Rattle.registry_rules.specs.Withdrawals.{live_versions, others, published_at, selected, tags_of}
 use Rattle.registry_rules.specs.declared.request.Action.{Action}
 use Rattle.registry_rules.specs.declared.request.Action.TheVariants.{UserAdd, TokenAdd, OrgCreate, OrgSet, OrgRemove, TeamCreate, TeamDestroy, TeamAdd, TeamRemove, Grant, Revoke, SetAccess, OwnerAdd, OwnerRemove, Publish, TagSet, TagRemove, Withdraw, Deprecate}
 use Rattle.registry_rules.specs.declared.request.Request.{Request}
@@ -85,14 +85,10 @@ abbrev pub freed : Text → Option Text → Text → Change
 freed p None t = DropTag p t
 freed p (Some other) t = if is t latest then PutTag p t other true else DropTag p t
 
--- Of a version that was published then: the tags that name it first, of which `latest` is to name the greatest of the others that live, and then itself
-abbrev pub withdrawal : ℕ → Text → Text → ℕ → List Text → List Text → List Change
-withdrawal now p v published live tags = map (freed p (greatest (others live v))) tags ++ Retire p v published now ∷ []
-
--- of one that lives
-abbrev pub withdrawal_of : State → ℕ → Text → Text → Option Release → List Change
-withdrawal_of S now p v None = []
-withdrawal_of S now p v (Some release) = withdrawal now p v release.at (live_versions S p) (tags_of S p v)
+-- Of a version that lives since a moment, if it does: the tags that name it first, of which `latest` is to name the greatest of the others that live, and then itself
+abbrev pub withdrawal : ℕ → Text → Text → Option ℕ → List Text → List Text → List Change
+withdrawal now p v None live tags = []
+withdrawal now p v (Some published) live tags = map (freed p (greatest (others live v))) tags ++ Retire p v published now ∷ []
 
 -- ---- a deprecation
 
@@ -126,7 +122,7 @@ effects S now who (OwnerRemove p u) = DropOwner p u ∷ []
 effects S now who (Publish f) = publication S now who f
 effects S now who (TagSet p t v) = PutTag p t (text_of_version v) (stands S p t) ∷ []
 effects S now who (TagRemove p t) = DropTag p t ∷ []
-effects S now who (Withdraw p v) = withdrawal_of S now p (text_of_version v) (at S.live (p, text_of_version v))
+effects S now who (Withdraw p v) = withdrawal now p (text_of_version v) (published_at S p (text_of_version v)) (live_versions S p) (tags_of S p (text_of_version v))
 effects S now who (Deprecate p selector message) = deprecation p message (selected (live_versions S p) selector)
 effects S now who _ = []
 

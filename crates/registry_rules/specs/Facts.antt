@@ -1,5 +1,5 @@
 -- When what a decision rests on is what the registry holds of a request.
-use Rattle.std.specs.Prelude.{◌≡◌, ℕ, Bool, List, map, option_map, Option, Some}
+use Rattle.std.specs.Prelude.{◌≡◌, ℕ, Bool, List, map, Option, Some}
 use Rattle.registry_names.specs.Maps.{at}
 use Rattle.registry_names.specs.Tags.{latest}
 use Rattle.registry_names.specs.Versions.{VersionParts, text_of_version}
@@ -15,8 +15,8 @@ use Rattle.registry_access.specs.declared.rows.AccessRows.{AccessRows}
 use Rattle.registry_publish.specs.Form.{FormParts}
 use Rattle.registry_rules.specs.Actions.{version_of}
 use Rattle.registry_rules.specs.Callers.{caller_of}
-use Rattle.registry_rules.specs.State.{State, Release, has_user, has_team, is_member, is_in_team, has_grant, is_published, is_owned_by, has_other_maintainer, has_other_owner, has_token, is_live, is_spent, has_live, stands, asked_version, lives}
-use Rattle.registry_rules.specs.Withdrawals.{is_depended, last_withdrawal, live_versions, tags_of}
+use Rattle.registry_rules.specs.State.{State, has_user, has_team, is_member, is_in_team, has_grant, is_published, is_owned_by, has_other_maintainer, has_other_owner, has_token, is_live, is_spent, has_live, stands, asked_version, lives}
+use Rattle.registry_rules.specs.Withdrawals.{is_depended, last_withdrawal, live_versions, published_at, tags_of}
 use Rattle.registry_rules.specs.declared.facts.About.{About}
 use Rattle.registry_rules.specs.declared.facts.About.TheVariants as about
 use Rattle.registry_rules.specs.declared.facts.Facts.{Facts}
@@ -87,7 +87,7 @@ pub record AreTagSetFacts (standing : Standing) (lives stood : Bool) (S : State)
 
 pub record AreWithdrawFacts (standing : Standing) (since : Option ℕ) (needed : Bool) (named : List Text) (living : List VersionParts) (S : State) (who : Caller) (p : Text) (v : VersionParts) : Type 0 where
   pub standing_tells : TellsOf standing S who p
-  pub published : since ≡ option_map (λ (r : Release). r.at) (at S.live (p, text_of_version v))
+  pub published : since ≡ published_at S p (text_of_version v)
   pub depended : needed ≡ is_depended S p v
   pub tags : named ≡ tags_of S p (text_of_version v)
   pub live : map text_of_version living ≡ live_versions S p

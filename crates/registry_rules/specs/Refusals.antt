@@ -1,5 +1,5 @@
 -- Why a request is turned away, on what the registry holds: the first reason that holds, if one does.
-use Rattle.std.specs.Prelude.{ℕ, Bool, true, false, not, ◌&&◌, ◌||◌, is_none, option_map, Option, Some, None, Result, Ok, Err, if◌then◌else◌}
+use Rattle.std.specs.Prelude.{ℕ, Bool, true, false, not, ◌&&◌, ◌||◌, is_none, Option, Some, None, Result, Ok, Err, if◌then◌else◌}
 use Rattle.std.specs.Option.{option_or}
 use Rattle.registry_names.specs.Tags.{latest}
 use Rattle.registry_names.specs.Texts.{Text, is}
@@ -18,8 +18,8 @@ use Rattle.registry_publish.specs.Form.{FormParts}
 use Rattle.registry_rules.specs.Actions.{version_of}
 use Rattle.registry_rules.specs.Callers.{caller_of}
 use Rattle.registry_rules.specs.Permissions.{permission}
-use Rattle.registry_rules.specs.State.{State, Release, developers, has_user, has_token, is_member, has_team, is_in_team, has_grant, is_published, is_owned_by, has_other_maintainer, is_last_owner, is_live, is_spent, has_live, stands, asked_version, lives}
-use Rattle.registry_rules.specs.Withdrawals.{is_depended, is_too_old, is_waiting}
+use Rattle.registry_rules.specs.State.{State, developers, has_user, has_token, is_member, has_team, is_in_team, has_grant, is_published, is_owned_by, has_other_maintainer, is_last_owner, is_live, is_spent, has_live, stands, asked_version, lives}
+use Rattle.registry_rules.specs.Withdrawals.{is_depended, is_too_old, is_waiting, published_at}
 use Rattle.registry_rules.specs.declared.request.Action.{Action}
 use Rattle.registry_rules.specs.declared.request.Action.TheVariants.{UserAdd, TokenAdd, OrgCreate, OrgSet, OrgRemove, TeamCreate, TeamDestroy, TeamAdd, TeamRemove, Grant, Revoke, SetAccess, OwnerAdd, OwnerRemove, Publish, TagSet, TagRemove, Withdraw, Deprecate, Packument, VersionDoc, Archive, Tags, Members, Teams, TeamMembers, TeamPackages}
 use Rattle.registry_rules.specs.declared.request.Request.{Request}
@@ -91,7 +91,7 @@ state_refusal S now (OwnerRemove p u) = refuse (not (is_owned_by S p u)) NotFoun
 state_refusal S now (Publish f) = publish_refusal S now f
 state_refusal S now (TagSet p t v) = unless_there (is_live S p (text_of_version v))
 state_refusal S now (TagRemove p t) = tag_refusal (stands S p t) t
-state_refusal S now (Withdraw p v) = withdraw_refusal now (option_map (λ (r : Release). r.at) (at S.live (p, text_of_version v))) (is_depended S p v)
+state_refusal S now (Withdraw p v) = withdraw_refusal now (published_at S p (text_of_version v)) (is_depended S p v)
 state_refusal S now (Deprecate p selector message) = None
 state_refusal S now (Packument p) = unless_there (has_live S p)
 state_refusal S now (VersionDoc p asked) = unless_there (lives S p (asked_version S p asked))

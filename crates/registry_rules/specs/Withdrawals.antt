@@ -4,7 +4,7 @@ use Rattle.std.specs.Borrow.{Bor}
 use Rattle.std.specs.List.{list_any}
 use Rattle.registry_names.specs.Greatest.{greater}
 use Rattle.registry_names.specs.Keys.{Pair}
-use Rattle.registry_names.specs.Maps.{entries, keys, of}
+use Rattle.registry_names.specs.Maps.{at, entries, keys, of}
 use Rattle.registry_names.specs.Precedence.{version_in}
 use Rattle.registry_names.specs.Texts.{Text, is}
 use Rattle.registry_names.specs.Versions.{VersionParts, text_of_version}
@@ -60,6 +60,10 @@ abbrev pub is_depended : State → Text → VersionParts → Bool
 is_depended S p v = list_any (λ (e : Pair × Release). not (is e.0.0 p) && list_any (is_need_of p v) (needs_in e.1)) (entries S.live)
 
 -- ---- a package's versions and tags, in byte order
+
+-- when the version was published, if it lives
+abbrev pub published_at : State → Text → Text → Option ℕ
+published_at S p v = option_map (λ (r : Release). r.at) (at S.live (p, v))
 
 abbrev pub live_versions : State → Text → List Text
 live_versions S p = keys (of S.live p)

@@ -372,7 +372,7 @@ fn changes<'a>(
         }
         (
             About::Withdraw {
-                published: Some(published),
+                published,
                 tags,
                 live,
                 ..

@@ -59,12 +59,12 @@ pub(crate) fn withdraw_refusal(
 
 /// What a withdrawal that isn't turned away changes: no tag names the version any more, of which
 /// `latest` names the greatest other live version instead, where there is one; and then the version
-/// goes.
+/// goes. One that doesn't live is turned away.
 pub(crate) fn withdrawal<'a>(
     alloc: Global,
     name: &'a Name,
     version: &'a Ver,
-    published: &'a Moment,
+    published: &'a Option<Moment>,
     live: &'a [Ver],
     tags: &'a [Text],
     now: &'a Moment,
@@ -73,6 +73,9 @@ pub(crate) fn withdrawal<'a>(
         ≡ effects.withdrawal now.now name.now (text_of_version version.now) published.now
         (map text_of_version live.now) tags.now) }
 {
+    let Some(published) = published else {
+        return Ok(Vec::new(alloc));
+    };
     let other = greatest_other(live, version);
     let mut changes = all_freed(alloc, name, other, tags)?;
     changes.push(Change::Retire {

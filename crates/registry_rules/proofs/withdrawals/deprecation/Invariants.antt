@@ -7,4 +7,4 @@ use Rattle.registry_rules.proofs.withdrawals.deprecation.Given as goal
 
 -- those so far have the message where they are selected
 abbrev pub invariant-loop-version : goal.invariant-loop-version
-invariant-loop-version l = map change_of l.changes.items ≡ effects.deprecation l.package l.message (selected (map text_of_version (take l.version-index l.live)) l.selector)
+invariant-loop-version l = map change_of l.changes.items ≡ effects.deprecation l.name l.message (selected (map text_of_version (take l.version-index l.live)) l.selector)
