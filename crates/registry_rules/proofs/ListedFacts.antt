@@ -38,6 +38,9 @@ pub changes_more : {X C D : Type 0} (f : C → D) (g : X → D) (cs : List C) (c
     → map f (cs ++ c ∷ []) ≡ map g (take (i + 1) xs)
 changes_more f g cs c xs i d within so_far is = map_append f cs (c ∷ []) ∙ ap₂ (λ a b. a ++ b ∷ []) so_far is ∙ sym (mapped_more g xs i d within)
 
+pub pushed : {C D : Type 0} (f : C → D) (old new : List C) (c : C) (ds : List D) → new ≡ old ++ c ∷ [] → map f old ≡ ds → map f new ≡ ds ++ f c ∷ []
+pushed f old new c ds e so_far = ap (map f) e ∙ map_append f old (c ∷ []) ∙ ap (λ l. l ++ f c ∷ []) so_far
+
 pub messages_more : (p message : Text) (conditions : List (List Condition)) (xs : List Text) (x : Text)
     → deprecation p message (selected (xs ++ x ∷ []) conditions) ≡ deprecation p message (selected xs conditions) ++ deprecation p message (selected (x ∷ []) conditions)
 messages_more p message conditions xs x =
