@@ -10,7 +10,7 @@ use Rattle.registry_names.specs.Versions.{VersionParts, IsVersionOf, precedence,
 use Rattle.registry_names.proofs.GreatestFacts.{greatest_push}
 use Rattle.registry_names.proofs.PrecedenceFacts.{text_precedence_agrees, version_reads}
 use Rattle.registry_ranges.specs.Selectors.{Condition, set_selects}
-use Rattle.registry_rules.specs.Changes.{PutMessage}
+use Rattle.registry_rules.specs.Changes.{PutDeprecation}
 use Rattle.registry_rules.specs.Effects.{deprecation}
 use Rattle.registry_rules.specs.Withdrawals.{better, others, selected, selects}
 
@@ -44,7 +44,7 @@ pushed f old new c ds e so_far = ap (map f) e ∙ map_append f old (c ∷ []) �
 pub messages_more : (p message : Text) (conditions : List (List Condition)) (xs : List Text) (x : Text)
     → deprecation p message (selected (xs ++ x ∷ []) conditions) ≡ deprecation p message (selected xs conditions) ++ deprecation p message (selected (x ∷ []) conditions)
 messages_more p message conditions xs x =
-    ap (deprecation p message) (filter-append (selects conditions) xs (x ∷ [])) ∙ map_append (λ v. PutMessage p v message) (selected xs conditions) (selected (x ∷ []) conditions)
+    ap (deprecation p message) (filter-append (selects conditions) xs (x ∷ [])) ∙ map_append (λ v. PutDeprecation p v message) (selected xs conditions) (selected (x ∷ []) conditions)
 
 -- ---- versions, by their texts
 

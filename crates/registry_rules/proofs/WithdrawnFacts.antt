@@ -9,7 +9,7 @@ use Rattle.registry_names.specs.Tags.{latest}
 use Rattle.registry_names.specs.Texts.{Text, is}
 use Rattle.registry_names.proofs.KeyFacts.{text_key, pair_key, same_true, same_self}
 use Rattle.registry_names.proofs.MapFacts.{at-put_same, at-put_other, at-erase_same, at-erase_other, at-revise}
-use Rattle.registry_rules.specs.Changes.{Change, Retire, PutTag, DropTag, made, all_made}
+use Rattle.registry_rules.specs.Changes.{Change, RetireVersion, PutTag, DropTag, made, all_made}
 use Rattle.registry_rules.specs.Effects.{deprecation, freed, withdrawal}
 use Rattle.registry_rules.specs.Operations.{retired, with_message, with_tag}
 use Rattle.registry_rules.specs.State.{State, Release}
@@ -53,9 +53,9 @@ made_then S (c ∷ cs) ds = made_then (made S c) cs ds
 
 -- a withdrawal leaves the tags freed, and then the version is retired
 pub withdrawn_is : (S : State) (now : ℕ) (p v : Text) (published : ℕ) (other : Option Text) (tags : List Text)
-    → all_made S (map (freed p other) tags ++ Retire p v published now ∷ []) ≡ retired (record S { tags = freed_tags S.tags p other tags }) p v published now
+    → all_made S (map (freed p other) tags ++ RetireVersion p v published now ∷ []) ≡ retired (record S { tags = freed_tags S.tags p other tags }) p v published now
 withdrawn_is S now p v published other tags =
-    made_then S (map (freed p other) tags) (Retire p v published now ∷ []) ∙ ap (λ T. retired T p v published now) (tags_freed S p other tags)
+    made_then S (map (freed p other) tags) (RetireVersion p v published now ∷ []) ∙ ap (λ T. retired T p v published now) (tags_freed S p other tags)
 
 -- what a withdrawal of a version changes, which lives or doesn't
 abbrev pub withdrawal_of : State → ℕ → Text → Text → Option Release → List Change

@@ -17,7 +17,7 @@ use Rattle.registry_access.specs.declared.role.Role.TheVariants.{Owner}
 use Rattle.registry_publish.specs.Form.{FormParts}
 use Rattle.registry_rules.specs.Actions.{version_of}
 use Rattle.registry_rules.specs.Callers.{caller_of}
-use Rattle.registry_rules.specs.Changes.{Change, AddUser, AddToken, AddOrg, PutMember, DropMember, AddTeam, PutTeamMember, DropTeamMember, DropTeam, PutGrant, DropGrant, PutOwner, DropOwner, PutStatus, AddVersion, Retire, PutMessage, PutTag, DropTag, all_made}
+use Rattle.registry_rules.specs.Changes.{Change, AddUser, AddToken, AddOrg, PutMember, DropMember, AddTeam, PutTeamMember, DropTeamMember, DropTeam, PutGrant, DropGrant, PutOwner, DropOwner, PutStatus, AddVersion, RetireVersion, PutDeprecation, PutTag, DropTag, all_made}
 use Rattle.registry_rules.specs.State.{State, developers, is_in_team, has_grant, is_published, is_owned_by, stands}
 use Rattle.registry_rules.specs.Withdrawals.{live_versions, others, published_at, selected, tags_of}
 use Rattle.registry_rules.specs.declared.request.Action.{Action}
@@ -88,13 +88,13 @@ freed p (Some other) t = if is t latest then PutTag p t other true else DropTag 
 -- Of a version that lives since a moment, if it does: the tags that name it first, of which `latest` is to name the greatest of the others that live, and then itself
 abbrev pub withdrawal : ℕ → Text → Text → Option ℕ → List Text → List Text → List Change
 withdrawal now p v None live tags = []
-withdrawal now p v (Some published) live tags = map (freed p (greatest (others live v))) tags ++ Retire p v published now ∷ []
+withdrawal now p v (Some published) live tags = map (freed p (greatest (others live v))) tags ++ RetireVersion p v published now ∷ []
 
 -- ---- a deprecation
 
 -- each of these versions has the message
 abbrev pub deprecation : Text → Text → List Text → List Change
-deprecation p message vs = map (λ v. PutMessage p v message) vs
+deprecation p message vs = map (λ v. PutDeprecation p v message) vs
 
 -- ---- rights to a package
 

@@ -131,7 +131,7 @@ pub enum Change<'a> {
         at: &'a Moment,
     },
     /// The version lives no more, and is never published again.
-    Retire {
+    RetireVersion {
         /// The package.
         package: &'a Name,
         /// The version.
@@ -142,7 +142,7 @@ pub enum Change<'a> {
         withdrawn: &'a Moment,
     },
     /// The live version has this message of deprecation, or none where it is empty.
-    PutMessage {
+    PutDeprecation {
         /// The package.
         package: &'a Name,
         /// The version.

@@ -78,7 +78,7 @@ pub(crate) fn withdrawal<'a>(
     };
     let other = greatest_other(live, version);
     let mut changes = all_freed(alloc, name, other, tags)?;
-    changes.push(Change::Retire {
+    changes.push(Change::RetireVersion {
         package: name,
         version,
         published,
@@ -215,7 +215,7 @@ fn push_message<'a>(
         (words.selected (text_of_version version.now ∷ []) selector.now)) }
 {
     if selects(selector, version) {
-        changes.push(Change::PutMessage {
+        changes.push(Change::PutDeprecation {
             package: name,
             version,
             message,

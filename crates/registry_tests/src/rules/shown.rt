@@ -75,7 +75,7 @@ fn shown_of_package(alloc: Global, change: &Change<'_>) -> Result<String, AllocE
             let (name, version) = (form.name().text(), form.version().text());
             format!(in alloc; "AddVersion {name} {version} {}", at.seconds())
         }
-        Change::Retire {
+        Change::RetireVersion {
             package,
             version,
             published,
@@ -83,15 +83,15 @@ fn shown_of_package(alloc: Global, change: &Change<'_>) -> Result<String, AllocE
         } => {
             let (name, version) = (package.text(), version.text());
             let (from, to) = (published.seconds(), withdrawn.seconds());
-            format!(in alloc; "Retire {name} {version} {from} {to}")
+            format!(in alloc; "RetireVersion {name} {version} {from} {to}")
         }
-        Change::PutMessage {
+        Change::PutDeprecation {
             package,
             version,
             message,
         } => {
             let (name, version) = (package.text(), version.text());
-            format!(in alloc; "PutMessage {name} {version} {}", message.text())
+            format!(in alloc; "PutDeprecation {name} {version} {}", message.text())
         }
         Change::PutTag {
             package,

@@ -85,7 +85,7 @@ static WITHDRAWALS: [Going; 10] = [
         Ok(&[
             "PutTag kit latest 1.10.0 true",
             "DropTag kit next",
-            "Retire kit 1.1.0 0 259199",
+            "RetireVersion kit 1.1.0 0 259199",
         ]),
     ),
     (
@@ -95,7 +95,10 @@ static WITHDRAWALS: [Going; 10] = [
         false,
         &["latest"],
         &["1.0.0", "1.1.0", "2.0.0-a"],
-        Ok(&["PutTag kit latest 2.0.0-a true", "Retire kit 1.1.0 7 7"]),
+        Ok(&[
+            "PutTag kit latest 2.0.0-a true",
+            "RetireVersion kit 1.1.0 7 7",
+        ]),
     ),
     (
         "latest names another",
@@ -104,7 +107,7 @@ static WITHDRAWALS: [Going; 10] = [
         false,
         &[],
         &["1.0.0", "1.1.0"],
-        Ok(&["Retire kit 1.1.0 7 8"]),
+        Ok(&["RetireVersion kit 1.1.0 7 8"]),
     ),
     (
         "the last one",
@@ -116,7 +119,7 @@ static WITHDRAWALS: [Going; 10] = [
         Ok(&[
             "DropTag kit latest",
             "DropTag kit zeta",
-            "Retire kit 1.1.0 7 8",
+            "RetireVersion kit 1.1.0 7 8",
         ]),
     ),
     (
@@ -126,7 +129,7 @@ static WITHDRAWALS: [Going; 10] = [
         false,
         &[],
         &["1.1.0"],
-        Ok(&["Retire kit 1.1.0 300000 5"]),
+        Ok(&["RetireVersion kit 1.1.0 300000 5"]),
     ),
     (
         "after three days",
@@ -194,19 +197,22 @@ static DEPRECATIONS: [Deprecated; 4] = [
         "some, a prerelease among them",
         "<2.0.0",
         "old",
-        Ok(&["PutMessage kit 1.0.0 old", "PutMessage kit 1.1.0-a old"]),
+        Ok(&[
+            "PutDeprecation kit 1.0.0 old",
+            "PutDeprecation kit 1.1.0-a old",
+        ]),
     ),
     (
         "all",
         "*",
         "",
         Ok(&[
-            "PutMessage kit 1.0.0 ",
-            "PutMessage kit 1.1.0-a ",
-            "PutMessage kit 2.0.0 ",
+            "PutDeprecation kit 1.0.0 ",
+            "PutDeprecation kit 1.1.0-a ",
+            "PutDeprecation kit 2.0.0 ",
         ]),
     ),
-    ("one", "2.0.0", "new", Ok(&["PutMessage kit 2.0.0 new"])),
+    ("one", "2.0.0", "new", Ok(&["PutDeprecation kit 2.0.0 new"])),
     ("none", ">3.0.0", "none", Ok(&[])),
 ];
 
