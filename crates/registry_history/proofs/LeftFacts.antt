@@ -1,7 +1,8 @@
 -- What an action leaves, each map by itself.
 use Rattle.std.proofs.Common.{◌≡◌, ℕ, Bool, true, false, cond, ◌||◌, Option, Some, None, refl, ap, is_some, Ordering}
-use Rattle.registry_names.specs.Maps.{MapBy, at, put}
+use Rattle.registry_names.specs.Maps.{MapBy, PairMap, at, put, erase}
 use Rattle.registry_names.specs.Greatest.{greatest}
+use Rattle.registry_names.specs.Keys.{Pair}
 use Rattle.registry_names.specs.Tags.{latest}
 use Rattle.registry_names.specs.Texts.{Text, is}
 use Rattle.registry_names.specs.Versions.{text_of_version}
@@ -10,8 +11,8 @@ use Rattle.registry_access.specs.declared.role.Role.{Role}
 use Rattle.registry_rules.specs.Actions.{version_of}
 use Rattle.registry_rules.specs.Changes.{all_made, release_of}
 use Rattle.registry_rules.specs.Effects.{joining, membership, owning, step_by}
-use Rattle.registry_rules.specs.Operations.{retired, with_grant, with_status, with_tag}
-use Rattle.registry_rules.specs.State.{State, Release, developers, has_grant, is_in_team, is_owned_by, is_published, stands}
+use Rattle.registry_rules.specs.Operations.{with_grant, with_status, with_tag}
+use Rattle.registry_rules.specs.State.{State, Release, Withdrawal, developers, has_grant, is_in_team, is_owned_by, is_published, stands}
 use Rattle.registry_rules.specs.Withdrawals.{live_versions, others, selected, tags_of}
 use Rattle.registry_rules.specs.declared.request.Action.{Action}
 use Rattle.registry_rules.specs.declared.request.Action.TheVariants as command
@@ -24,10 +25,21 @@ use Rattle.registry_rules.proofs.PublishedFacts.{after_publish, published_is, st
 abbrev pub joined : {K : Type 0} {cmp : K → K → Ordering} → MapBy cmp (Unit {0}) → Bool → K → MapBy cmp (Unit {0})
 joined m there k = cond there m (put m k tt)
 
--- what a withdrawal leaves of a version that lives, if it does
+-- what a withdrawal leaves of each map, of a version that lives, if it does
+abbrev pub live_taken : PairMap Release → Pair → Option Release → PairMap Release
+live_taken m k None = m
+live_taken m k (Some r) = erase m k
+
+abbrev pub spent_taken : PairMap Withdrawal → ℕ → Pair → Option Release → PairMap Withdrawal
+spent_taken m now k None = m
+spent_taken m now k (Some r) = put m k (record { published = r.at; withdrawn = now })
+
+abbrev pub tags_taken : State → Text → Text → Option Release → PairMap Text
+tags_taken S p v None = S.tags
+tags_taken S p v (Some r) = freed_tags S.tags p (greatest (others (live_versions S p) v)) (tags_of S p v)
+
 abbrev pub taken : State → ℕ → Text → Text → Option Release → State
-taken S now p v None = S
-taken S now p v (Some r) = retired (record S { tags = freed_tags S.tags p (greatest (others (live_versions S p) v)) (tags_of S p v) }) p v r.at now
+taken S now p v old = record S { live = live_taken S.live (p, v) old; spent = spent_taken S.spent now (p, v) old; tags = tags_taken S p v old }
 
 taken_is : (S : State) (now : ℕ) (p v : Text) (old : Option Release) → all_made S (withdrawal_of S now p v old) ≡ taken S now p v old
 taken_is S now p v None = refl
