@@ -1,0 +1,93 @@
+-- What a withdrawal leaves of a package: which versions remain, as the map and as the history say it, and what its tags name.
+use Rattle.std.proofs.Common.{◌≡◌, Bool, true, false, cond, not, ◌&&◌, ◌||◌, List, [], ◌∷◌, map, filter, refl, sym, ap, ap₂, ◌∙◌, true≢false, Some, None, Option, is_some, if◌then◌else◌}
+use Rattle.std.proofs.lemmas.Bool.{and_from}
+use Rattle.registry_names.specs.Keys.{Pair, pair_is}
+use Rattle.registry_names.specs.Maps.{PairMap, among, at, erase, keys, of}
+use Rattle.registry_names.specs.Texts.{Text, is}
+use Rattle.registry_names.proofs.KeyFacts.{text_key, pair_key, same_true}
+use Rattle.registry_names.proofs.PartFacts.{any-erase, any-part}
+use Rattle.registry_names.proofs.TextFacts.{is_self, is_sym, is_true}
+use Rattle.registry_rules.specs.State.{State, Release}
+use Rattle.registry_rules.specs.Withdrawals.{others, tags_of}
+use Rattle.registry_rules.proofs.WithdrawnFacts.{among_passing, among_where_names, apart_where_others, at-freed, freed_tags, freed_value, names_where_among}
+use Rattle.registry_history.specs.History.{Entry}
+use Rattle.registry_history.specs.Readings.{is_named, published, remains, remaining}
+
+-- ---- the versions that remain
+
+-- the others of a package's versions are those that stand when one is erased
+pub among_others : (m : PairMap Release) (p v u : Text) → among is (others (keys (of m p)) v) u ≡ is_some (at (erase m (p, v)) (p, u))
+among_others m p v u =
+    among_passing (λ w. not (is w v)) (keys (of m p)) u
+    ∙ ap (λ b. not b && among is (keys (of m p)) u) (is_sym u v)
+    ∙ sym (any-erase text_key m p v u)
+    ∙ any-part text_key (erase m (p, v)) p u
+
+none_passes : (b : Bool) → false ≡ (b && false)
+none_passes true = refl
+none_passes false = refl
+
+-- the first of the pairs, and the others; `here` and `this` say that it is of this package and this version
+first_or_others : (here this passed mine later : Bool) → (here ≡ true → this ≡ true → passed ≡ mine)
+    → cond (here && passed) (this || (mine && later)) (mine && later) ≡ (mine && ((here && this) || later))
+first_or_others true true true true later same = refl
+first_or_others true true true false later same = absurd (true≢false (same refl refl))
+first_or_others true true false true later same = absurd (true≢false (sym (same refl refl)))
+first_or_others true true false false later same = refl
+first_or_others true false true mine later same = refl
+first_or_others true false false mine later same = refl
+first_or_others false this passed mine later same = refl
+
+-- the versions of this package, of those pairs that pass
+among_versions : (test : Pair → Bool) (p u : Text) (ks : List Pair)
+    → among is (map (λ (k : Pair). k.1) (filter (λ (k : Pair). is k.0 p && test k) ks)) u ≡ (test (p, u) && among pair_is ks (p, u))
+among_versions test p u [] = none_passes (test (p, u))
+among_versions test p u (k ∷ ks) =
+    by_test (is k.0 p && test k)
+    ∙ ap (λ b. cond (is k.0 p && test k) (is k.1 u || b) b) (among_versions test p u ks)
+    ∙ first_or_others (is k.0 p) (is k.1 u) (test k) (test (p, u)) (among pair_is ks (p, u)) (λ a b. ap test (same_true pair_key k (p, u) (and_from (is k.0 p) (is k.1 u) a b)))
+  where
+    rest : List Pair
+    rest = filter (λ (k : Pair). is k.0 p && test k) ks
+
+    by_test : (b : Bool) → among is (map (λ (k : Pair). k.1) (if b then k ∷ rest else rest)) u
+        ≡ cond b (is k.1 u || among is (map (λ (k : Pair). k.1) rest) u) (among is (map (λ (k : Pair). k.1) rest) u)
+    by_test true = refl
+    by_test false = refl
+
+-- what remains was published
+was_published : (b c : Bool) → ((b && c) && b) ≡ (b && c)
+was_published true true = refl
+was_published true false = refl
+was_published false c = refl
+
+pub among_remaining : (h : List Entry) (p u : Text) → among is (remaining h p) u ≡ remains h (p, u)
+among_remaining h p u = among_versions (remains h) p u (published h) ∙ was_published (among pair_is (published h) (p, u)) _
+
+-- ---- the tags that named the version that goes
+
+-- they are those of this package that named it
+named_by : (S : State) (q v p t : Text) (old : Option Text) → at S.tags (p, t) ≡ old → (is q p && among is (tags_of S q v) t) ≡ (is q p && is_named v old)
+named_by S q v p t old stood = by_package (is q p) refl
+  where
+    by_named : (o : Option Text) → at S.tags (q, t) ≡ o → among is (tags_of S q v) t ≡ is_named v o
+    by_named None e = by_test (among is (tags_of S q v) t) refl
+      where
+        by_test : (b : Bool) → among is (tags_of S q v) t ≡ b → among is (tags_of S q v) t ≡ false
+        by_test true f = let none : None ≡ Some v = sym e ∙ names_where_among S q v t f in absurd (cc)
+        by_test false f = f
+    by_named (Some w) e = by_test (is v w) refl
+      where
+        by_test : (b : Bool) → is v w ≡ b → among is (tags_of S q v) t ≡ is v w
+        by_test true f = among_where_names S q v t (e ∙ ap (λ x. Some x) (sym (is_true v w f))) ∙ sym f
+        by_test false f = apart_where_others S q v t (λ same. let one : Some w ≡ Some v = sym e ∙ same in let alike : w ≡ v = cc in absurd (true≢false (sym (ap (is v) alike ∙ is_self v) ∙ f))) ∙ sym f
+
+    by_package : (b : Bool) → is q p ≡ b → (b && among is (tags_of S q v) t) ≡ (b && is_named v old)
+    by_package true e = by_named old (ap (λ r. at S.tags (r, t)) (is_true q p e) ∙ stood)
+    by_package false e = refl
+
+-- what a tag names after them were freed, which named this before
+pub at-freed_by : (S : State) (q v : Text) (next : Option Text) (p t : Text) (old : Option Text) → at S.tags (p, t) ≡ old
+    → at (freed_tags S.tags q next (tags_of S q v)) (p, t) ≡ cond (is q p && is_named v old) (freed_value next t old) old
+at-freed_by S q v next p t old stood =
+    at-freed S.tags q next (tags_of S q v) p t ∙ ap₂ (λ b o. cond b (freed_value next t o) o) (named_by S q v p t old stood) stood
