@@ -11,7 +11,7 @@ use Rattle.registry_rules.specs.State.{State, Release}
 use Rattle.registry_rules.specs.Withdrawals.{others, tags_of}
 use Rattle.registry_rules.proofs.WithdrawnFacts.{among_passing, among_where_names, apart_where_others, at-freed, freed_tags, freed_value, names_where_among}
 use Rattle.registry_history.specs.History.{Entry}
-use Rattle.registry_history.specs.Readings.{is_named, published, remains, remaining}
+use Rattle.registry_history.specs.Readings.{is_named, published, withdrawn, remains, remaining}
 
 -- ---- the versions that remain
 
@@ -43,17 +43,14 @@ among_versions : (test : Pair → Bool) (p u : Text) (ks : List Pair)
     → among is (map (λ (k : Pair). k.1) (filter (λ (k : Pair). is k.0 p && test k) ks)) u ≡ (test (p, u) && among pair_is ks (p, u))
 among_versions test p u [] = none_passes (test (p, u))
 among_versions test p u (k ∷ ks) =
-    by_test (is k.0 p && test k)
+    by_test (is k.0 p && test k) (filter (λ (j : Pair). is j.0 p && test j) ks)
     ∙ ap (λ b. cond (is k.0 p && test k) (is k.1 u || b) b) (among_versions test p u ks)
     ∙ first_or_others (is k.0 p) (is k.1 u) (test k) (test (p, u)) (among pair_is ks (p, u)) (λ a b. ap test (same_true pair_key k (p, u) (and_from (is k.0 p) (is k.1 u) a b)))
   where
-    rest : List Pair
-    rest = filter (λ (k : Pair). is k.0 p && test k) ks
-
-    by_test : (b : Bool) → among is (map (λ (k : Pair). k.1) (if b then k ∷ rest else rest)) u
-        ≡ cond b (is k.1 u || among is (map (λ (k : Pair). k.1) rest) u) (among is (map (λ (k : Pair). k.1) rest) u)
-    by_test true = refl
-    by_test false = refl
+    by_test : (b : Bool) (rest : List Pair) → among is (map (λ (j : Pair). j.1) (if b then k ∷ rest else rest)) u
+        ≡ cond b (is k.1 u || among is (map (λ (j : Pair). j.1) rest) u) (among is (map (λ (j : Pair). j.1) rest) u)
+    by_test true rest = refl
+    by_test false rest = refl
 
 -- what remains was published
 was_published : (b c : Bool) → ((b && c) && b) ≡ (b && c)
@@ -62,32 +59,32 @@ was_published true false = refl
 was_published false c = refl
 
 pub among_remaining : (h : List Entry) (p u : Text) → among is (remaining h p) u ≡ remains h (p, u)
-among_remaining h p u = among_versions (remains h) p u (published h) ∙ was_published (among pair_is (published h) (p, u)) _
+among_remaining h p u = among_versions (remains h) p u (published h) ∙ was_published (among pair_is (published h) (p, u)) (not (among pair_is (withdrawn h) (p, u)))
 
 -- ---- the tags that named the version that goes
 
--- they are those of this package that named it
-named_by : (S : State) (q v p t : Text) (old : Option Text) → at S.tags (p, t) ≡ old → (is q p && among is (tags_of S q v) t) ≡ (is q p && is_named v old)
-named_by S q v p t old stood = by_package (is q p) refl
-  where
-    by_named : (o : Option Text) → at S.tags (q, t) ≡ o → among is (tags_of S q v) t ≡ is_named v o
-    by_named None e = by_test (among is (tags_of S q v) t) refl
-      where
-        by_test : (b : Bool) → among is (tags_of S q v) t ≡ b → among is (tags_of S q v) t ≡ false
-        by_test true f = let none : None ≡ Some v = sym e ∙ names_where_among S q v t f in absurd (cc)
-        by_test false f = f
-    by_named (Some w) e = by_test (is v w) refl
-      where
-        by_test : (b : Bool) → is v w ≡ b → among is (tags_of S q v) t ≡ is v w
-        by_test true f = among_where_names S q v t (e ∙ ap (λ x. Some x) (sym (is_true v w f))) ∙ sym f
-        by_test false f = apart_where_others S q v t (λ same. let one : Some w ≡ Some v = sym e ∙ same in let alike : w ≡ v = cc in absurd (true≢false (sym (ap (is v) alike ∙ is_self v) ∙ f))) ∙ sym f
+pub same_text : (x y : Text) → ◌≡◌ {A = Option Text} (Some x) (Some y) → x ≡ y
+same_text x y e = cc
 
-    by_package : (b : Bool) → is q p ≡ b → (b && among is (tags_of S q v) t) ≡ (b && is_named v old)
-    by_package true e = by_named old (ap (λ r. at S.tags (r, t)) (is_true q p e) ∙ stood)
-    by_package false e = refl
+module _ (S : State) (q v t : Text) where
+  unnamed : at S.tags (q, t) ≡ None → (b : Bool) → among is (tags_of S q v) t ≡ b → b ≡ false
+  unnamed stood true f = let none : None ≡ Some v = sym stood ∙ names_where_among S q v t f in absurd (cc)
+  unnamed stood false f = refl
 
--- what a tag names after them were freed, which named this before
-pub at-freed_by : (S : State) (q v : Text) (next : Option Text) (p t : Text) (old : Option Text) → at S.tags (p, t) ≡ old
-    → at (freed_tags S.tags q next (tags_of S q v)) (p, t) ≡ cond (is q p && is_named v old) (freed_value next t old) old
-at-freed_by S q v next p t old stood =
-    at-freed S.tags q next (tags_of S q v) p t ∙ ap₂ (λ b o. cond b (freed_value next t o) o) (named_by S q v p t old stood) stood
+  named_alike : (w : Text) → at S.tags (q, t) ≡ Some w → (b : Bool) → is v w ≡ b → among is (tags_of S q v) t ≡ b
+  named_alike w stood true f = among_where_names S q v t (stood ∙ ap (λ x. Some x) (sym (is_true v w f)))
+  named_alike w stood false f = apart_where_others S q v t (λ named. true≢false (sym (ap (is v) (same_text w v (sym stood ∙ named)) ∙ is_self v) ∙ f))
+
+  named_before : (old : Option Text) → at S.tags (q, t) ≡ old → among is (tags_of S q v) t ≡ is_named v old
+  named_before None stood = unnamed stood (among is (tags_of S q v) t) refl
+  named_before (Some w) stood = named_alike w stood (is v w) refl
+
+  named_here : (p : Text) (old : Option Text) → at S.tags (p, t) ≡ old → (b : Bool) → is q p ≡ b → (b && among is (tags_of S q v) t) ≡ (b && is_named v old)
+  named_here p old stood true e = named_before old (ap (λ r. at S.tags (r, t)) (is_true q p e) ∙ stood)
+  named_here p old stood false e = refl
+
+  -- what a tag names after they were freed, which named this before
+  pub at-freed_by : (next : Option Text) (p : Text) (old : Option Text) → at S.tags (p, t) ≡ old
+      → at (freed_tags S.tags q next (tags_of S q v)) (p, t) ≡ cond (is q p && is_named v old) (freed_value next t old) old
+  at-freed_by next p old stood =
+      at-freed S.tags q next (tags_of S q v) p t ∙ ap₂ (λ (b : Bool) (o : Option Text). cond b (freed_value next t o) o) (named_here p old stood (is q p) refl) stood
