@@ -2,6 +2,7 @@
 
 ghost use Rattle.sqlite.specs.Held.{state};
 ghost use Rattle.registry_http.specs.Desks.{LogRuns, TurnsRun};
+ghost use Rattle.registry_http.specs.Hiding.{HiddenAreUnheardOf};
 
 use sqlite::Alter;
 
@@ -13,4 +14,10 @@ use sqlite::Alter;
 pub fn turns_are_one_run<S: Alter>()
     ensures connection { TurnsRun (state S.Store) }
     ensures all { LogRuns (state S.Store) }
+{}
+
+/// Of a package that he doesn't read a caller gets the response, byte for byte, that he gets where
+/// it was never published: of its packument, its versions, its archives and its tags.
+pub fn hidden_packages_are_unheard_of()
+    ensures { HiddenAreUnheardOf }
 {}
