@@ -1,18 +1,17 @@
 -- What each route asks for.
 use Rattle.registry_names.specs.Texts.{Text}
-use Rattle.registry_names.specs.declared.refusal.Refusal.TheVariants.{NotFound}
 use Rattle.registry_routes.specs.Bodies.{grant_named, role_named, status_named}
 use Rattle.registry_routes.specs.Routes.{Values}
 use Rattle.registry_routes.specs.declared.endpoint.Endpoint.{Endpoint}
 use Rattle.registry_routes.specs.declared.endpoint.Endpoint.TheVariants as endpoint
 use Rattle.registry_rules.specs.declared.request.Action.{Action}
-use Rattle.registry_rules.specs.declared.request.Action.TheVariants.{OrgSet, OrgRemove, TeamCreate, TeamDestroy, TeamAdd, TeamRemove, Grant, Revoke, SetAccess, OwnerAdd, OwnerRemove, Publish, TagSet, TagRemove, Packument, VersionDoc, Archive, Tags, Members, Teams, TeamMembers, TeamPackages}
-use Rattle.registry_talk.specs.Bodies.{reads_file, reads_form, reads_version_in, reads_word}
-use Rattle.registry_talk.specs.Parts.{Reading, gives, one, reads_asked, reads_ident, reads_name, reads_tag, refuses, then, three, two}
+use Rattle.registry_rules.specs.declared.request.Action.TheVariants.{OrgSet, OrgRemove, TeamCreate, TeamDestroy, TeamAdd, TeamRemove, Grant, Revoke, SetAccess, OwnerAdd, OwnerRemove, Withdraw, Deprecate, Publish, TagSet, TagRemove, Packument, VersionDoc, Archive, Tags, Members, Teams, TeamMembers, TeamPackages}
+use Rattle.registry_talk.specs.Bodies.{reads_deprecation, reads_file, reads_form, reads_version_in, reads_word}
+use Rattle.registry_talk.specs.Parts.{Reading, gives, one, reads_asked, reads_ident, reads_name, reads_tag, reads_version, then, three, two}
 
 -- ---- the routes
 
--- The values of the path, in their order, then the body, and the action that they make. A route that the registry has no action for yet isn't found
+-- The values of the path, in their order, then the body, and the action that they make.
 abbrev pub reads_action : Endpoint → Values → Text → Reading Action
 reads_action endpoint.Packument v body = then (one reads_name v) (λ p. gives (Packument p))
 reads_action endpoint.Publish v body = then (one reads_name v) (λ p. then (reads_form p body) (λ form. gives (Publish form)))
@@ -24,8 +23,8 @@ reads_action endpoint.TagRemove v body = then (two reads_name reads_tag v) (λ p
 reads_action endpoint.SetAccess v body = then (one reads_name v) (λ p. then (reads_word status_named body) (λ status. gives (SetAccess p status)))
 reads_action endpoint.OwnerAdd v body = then (two reads_name reads_ident v) (λ p. gives (OwnerAdd p.0 p.1))
 reads_action endpoint.OwnerRemove v body = then (two reads_name reads_ident v) (λ p. gives (OwnerRemove p.0 p.1))
-reads_action endpoint.Deprecate v body = refuses NotFound
-reads_action endpoint.Withdraw v body = refuses NotFound
+reads_action endpoint.Deprecate v body = then (one reads_name v) (λ p. then (reads_deprecation body) (λ d. gives (Deprecate p d.selector d.message)))
+reads_action endpoint.Withdraw v body = then (two reads_name reads_version v) (λ p. gives (Withdraw p.0 p.1))
 reads_action endpoint.Members v body = then (one reads_ident v) (λ p. gives (Members p))
 reads_action endpoint.OrgSet v body = then (two reads_ident reads_ident v) (λ p. then (reads_word role_named body) (λ role. gives (OrgSet p.0 p.1 role)))
 reads_action endpoint.OrgRemove v body = then (two reads_ident reads_ident v) (λ p. gives (OrgRemove p.0 p.1))

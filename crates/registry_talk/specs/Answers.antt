@@ -1,12 +1,12 @@
 -- What an outcome of the registry is in HTTP.
-use Rattle.std.specs.Prelude.{◌≡◌, ℕ, Bool, List, ◌++◌, length, codes, Result, Ok, Err}
+use Rattle.std.specs.Prelude.{◌≡◌, ℕ, Bool, List, ◌++◌, length, codes, decimal, Result, Ok, Err}
 use Rattle.registry_names.specs.Faults.{fault_status, fault_text}
 use Rattle.registry_names.specs.Refusals.{refusal_status, refusal_text}
 use Rattle.registry_names.specs.Texts.{Text}
 use Rattle.registry_names.specs.declared.refusal.Refusal.{Refusal}
 use Rattle.registry_names.specs.declared.stop.Fault.{Fault}
 use Rattle.registry_rules.specs.declared.reply.Reply.{Reply}
-use Rattle.registry_rules.specs.declared.reply.Reply.TheVariants.{Created, Done, Doc, Bytes, Refused}
+use Rattle.registry_rules.specs.declared.reply.Reply.TheVariants.{Created, Done, Count, Doc, Bytes, Refused}
 use Rattle.registry_wire.specs.Responses.{head_bytes}
 use Rattle.registry_wire.specs.declared.response.ContentKind.{ContentKind}
 use Rattle.registry_wire.specs.declared.response.ContentKind.TheVariants as content
@@ -22,6 +22,7 @@ Outcome = Result Reply Fault
 abbrev pub status_of : Outcome → ℕ
 status_of (Ok Created) = 201
 status_of (Ok Done) = 200
+status_of (Ok (Count n)) = 200
 status_of (Ok (Doc text)) = 200
 status_of (Ok (Bytes bytes)) = 200
 status_of (Ok (Refused refusal)) = refusal_status refusal
@@ -34,12 +35,16 @@ kind_of _ = content.Json
 abbrev pub ok_text : Text
 ok_text = codes "{\"ok\":true}"
 
+abbrev pub count_text : ℕ → Text
+count_text n = codes "{\"count\":" ++ decimal n ++ codes ",\"ok\":true}"
+
 abbrev pub error_text : Text → Text
 error_text name = codes "{\"error\":\"" ++ name ++ codes "\"}"
 
 abbrev pub body_of : Outcome → List ℕ
 body_of (Ok Created) = ok_text
 body_of (Ok Done) = ok_text
+body_of (Ok (Count n)) = count_text n
 body_of (Ok (Doc text)) = text
 body_of (Ok (Bytes bytes)) = bytes
 body_of (Ok (Refused refusal)) = error_text (refusal_text refusal)

@@ -6,7 +6,9 @@ use Rattle.registry_names.specs.Versions.{VersionParts}
 use Rattle.registry_names.specs.declared.refusal.Refusal.TheVariants.{BadBody, NotFound}
 use Rattle.registry_names.specs.declared.stop.Stop.TheVariants.{Refused}
 use Rattle.registry_publish.specs.Form.{FormParts, IsFormOf, StopsForm}
-use Rattle.registry_routes.specs.Bodies.{IsNoWord, IsVersionBody, IsWordOf, StopsVersion}
+use Rattle.registry_ranges.specs.Selectors.{HasConditions}
+use Rattle.registry_routes.specs.Bodies.{IsDeprecationBody, IsNoWord, IsVersionBody, IsWordOf, StopsDeprecation, StopsVersion}
+use Rattle.registry_routes.specs.declared.body.Deprecation.{Deprecation}
 use Rattle.registry_routes.specs.Files.{IsFileOf, IsNoFileOf}
 use Rattle.registry_routes.specs.Written.{StopsValue, text_of}
 use Rattle.registry_talk.specs.Parts.{Reading}
@@ -25,6 +27,11 @@ reads_version_in body (Err stop) = StopsVersion body stop
 unfoldable pub reads_word : {A : Type 0} → (Text → Option A) → Text → Reading A
 reads_word named body (Ok value) = IsWordOf named body value
 reads_word named body (Err stop) = IsMemoryOr BadBody (IsNoWord named body) stop
+
+-- a selector and a message
+unfoldable pub reads_deprecation : Text → Reading Deprecation
+reads_deprecation body (Ok d) = (text : Text) × IsDeprecationBody body text d.message × HasConditions text d.selector
+reads_deprecation body (Err stop) = StopsDeprecation body stop
 
 -- the version of this package whose archive has the file's name
 unfoldable pub reads_file : Text → Text → Reading VersionParts

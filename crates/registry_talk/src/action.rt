@@ -7,8 +7,8 @@ ghost use Rattle.registry_talk.specs.Actions as spec;
 
 use crate::body;
 use crate::parts::{one, three, two};
-use registry_names::{Name, Refusal, Stop};
-use registry_routes::{Endpoint, Values};
+use registry_names::{Name, Stop};
+use registry_routes::{Deprecation, Endpoint, Values};
 use registry_rules::Action;
 use std::alloc::Global;
 
@@ -48,7 +48,8 @@ pub(crate) fn action(
         Endpoint::TeamPackages => team_packages(alloc, values),
         Endpoint::Grant => grant(alloc, values, body),
         Endpoint::Revoke => revoke(alloc, values),
-        Endpoint::Deprecate | Endpoint::Withdraw => Err(Stop::Refused(Refusal::NotFound)),
+        Endpoint::Deprecate => deprecate(alloc, values, body),
+        Endpoint::Withdraw => withdraw(alloc, values),
     }
 }
 
@@ -231,4 +232,23 @@ fn revoke(alloc: Global, values: Values<'_>) -> Result<Action, Stop>
         team,
         name,
     })
+}
+
+fn deprecate(alloc: Global, values: Values<'_>, body: &[u8]) -> Result<Action, Stop>
+    ensures { spec.reads_action endpoint.Deprecate (values_view values.entry) body.now result }
+{
+    let name = one(alloc, values)?;
+    let Deprecation { selector, message } = body::deprecation(alloc, body)?;
+    Ok(Action::Deprecate {
+        name,
+        selector,
+        message,
+    })
+}
+
+fn withdraw(alloc: Global, values: Values<'_>) -> Result<Action, Stop>
+    ensures { spec.reads_action endpoint.Withdraw (values_view values.entry) [] result }
+{
+    let (name, version) = two(alloc, values)?;
+    Ok(Action::Withdraw { name, version })
 }

@@ -58,14 +58,15 @@ impl Answer {
     /// stands.
     ///
     /// `Created` is 201 and any other reply 200, but for a refusal and a fault, which have their
-    /// own status. The body is the document, the bytes of the archive, `{"ok":true}`, or
-    /// `{"error":"NotFound"}` with the name of the refusal or the fault.
+    /// own status. The body is the document, the bytes of the archive, `{"ok":true}`,
+    /// `{"count":2,"ok":true}`, or `{"error":"NotFound"}` with the name of the refusal or the fault.
     pub fn of(outcome: Result<Reply, Fault>) -> Answer
         ensures { AnswersSo outcome result }
     {
         match outcome {
             Ok(Reply::Created) => ok(StatusCode::CREATED),
             Ok(Reply::Done) => ok(StatusCode::OK),
+            Ok(Reply::Count(count)) => counted(count),
             Ok(Reply::Doc(text)) => whole(ContentKind::Json, Body::Doc(text)),
             Ok(Reply::Bytes(bytes)) => whole(ContentKind::Bytes, Body::Bytes(bytes)),
             Ok(Reply::Refused(refusal)) => refused(refusal),
@@ -108,6 +109,16 @@ fn ok(status: StatusCode) -> Answer
         kind: ContentKind::Json,
         body: Body::Short(text),
     }
+}
+
+fn counted(count: u64) -> Answer
+    ensures { AnswersSo (Ok (Reply.Count count)) result }
+{
+    let mut text = ShortText::new();
+    text.push(b"{\"count\":");
+    text.push_number(count);
+    text.push(b",\"ok\":true}");
+    whole(ContentKind::Json, Body::Short(text))
 }
 
 #[tactic(auto, using(crate::proofs::AnswerFacts::names))]

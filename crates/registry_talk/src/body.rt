@@ -8,7 +8,7 @@ use registry_access::{Grant, Role};
 use registry_names::{Name, Refusal, Status, Stop, Ver};
 use registry_publish::PublishForm;
 use registry_routes::{
-    grant_of_body, role_of_body, status_of_body, version_of_body, version_of_file,
+    Deprecation, deprecation_of_body, grant_of_body, role_of_body, status_of_body, version_of_body, version_of_file,
 };
 use std::alloc::Global;
 
@@ -57,6 +57,13 @@ pub(crate) fn grant(alloc: Global, body: &[u8]) -> Result<Grant, Stop>
     ensures { spec.reads_word grant_named body.now result }
 {
     grant_of_body(alloc, body)
+}
+
+#[tactic(auto, unfolding(crate::specs::Bodies::reads_deprecation))]
+pub(crate) fn deprecation(alloc: Global, body: &[u8]) -> Result<Deprecation, Stop>
+    ensures { spec.reads_deprecation body.now result }
+{
+    deprecation_of_body(alloc, body)
 }
 
 /// The version of this package whose archive has the file name that is written in a path.

@@ -40,6 +40,12 @@ fn outcomes_are_responses(rt: HostRuntime) -> Result<(), Fail> {
     )?;
     is_sent(
         alloc,
+        Ok(Reply::Count(2)),
+        false,
+        "HTTP/1.1 200 OK\r\ncontent-type: application/json\r\ncontent-length: 21\r\n\r\n{\"count\":2,\"ok\":true}",
+    )?;
+    is_sent(
+        alloc,
         Ok(Reply::Doc(Text::from_str(alloc, "{\"latest\":\"1.0.0\"}")?)),
         false,
         "HTTP/1.1 200 OK\r\ncontent-type: application/json\r\ncontent-length: 18\r\n\r\n{\"latest\":\"1.0.0\"}",

@@ -32,6 +32,14 @@ fn of_packages(alloc: Global, action: &Action) -> Result<String, AllocError> {
         Action::SetAccess { name, status } => {
             format!(in alloc; "status {} {status:?}", name.text())
         }
+        Action::Withdraw { name, version } => {
+            format!(in alloc; "withdraw {} {}", name.text(), version.text())
+        }
+        Action::Deprecate {
+            name,
+            selector: _,
+            message,
+        } => format!(in alloc; "deprecate {} {}", name.text(), message.text()),
         Action::OwnerAdd { name, user } => {
             format!(in alloc; "owner {} {}", name.text(), user.text())
         }
@@ -151,7 +159,7 @@ const KIT: &str =
     r#"{"name":"@lab/kit","versions":{"1.0.0":{"name":"@lab/kit","version":"1.0.0"}},"_attachments":{"kit.tgz":{"data":"YWJj"}}}"#;
 
 // Each route once, and what is written in more ways than one.
-static ROUTES: [Case; 29] = [
+static ROUTES: [Case; 31] = [
     (Get, "/kit", "", Ok("packument kit")),
     (Get, "/@lab%2Fkit", "dropped", Ok("packument @lab/kit")),
     (Get, "/%40lab/kit?write=true", "", Ok("packument @lab/kit")),
@@ -207,6 +215,18 @@ static ROUTES: [Case; 29] = [
         "",
         Ok("no owner kit ann"),
     ),
+    (
+        Delete,
+        "/-/package/kit/versions/1.0.0",
+        "",
+        Ok("withdraw kit 1.0.0"),
+    ),
+    (
+        Post,
+        "/-/package/kit/deprecate",
+        "{\"selector\":\"1.x\",\"message\":\"old\"}",
+        Ok("deprecate kit old"),
+    ),
     (Get, "/-/org/lab", "", Ok("members lab")),
     (
         Put,
@@ -245,7 +265,7 @@ fn routes_ask_for_actions(rt: HostRuntime) -> Result<(), Fail> {
 
 // The route, the values of the path from left to right, and then the body: the first that isn't in
 // form is refused.
-static REFUSALS: [Case; 16] = [
+static REFUSALS: [Case; 18] = [
     (Post, "/Kit", "", Err(Refusal::NotFound)),
     (Get, "kit", "", Err(Refusal::NotFound)),
     (Get, "/kit//1", "", Err(Refusal::NotFound)),
@@ -279,6 +299,18 @@ static REFUSALS: [Case; 16] = [
         "/-/package/kit/dist-tags/next",
         "\"x\"",
         Err(Refusal::BadVersion),
+    ),
+    (
+        Post,
+        "/-/package/kit/deprecate",
+        "{\"selector\":\"^1\",\"message\":1}",
+        Err(Refusal::BadBody),
+    ),
+    (
+        Post,
+        "/-/package/kit/deprecate",
+        "{\"selector\":\"^1\",\"message\":\"old\"}",
+        Err(Refusal::BadSelector),
     ),
     (Put, "/-/org/lab/Bob", "?", Err(Refusal::BadName)),
     (Put, "/kit", KIT, Err(Refusal::BadBody)),
