@@ -57,8 +57,8 @@ fn counted(alloc: Global, count: u64) -> Result<Printed, AllocError>
     ensures { IfOk result (λ p. p ≡ on_output
         (codes "{\"count\":" ++ decimal count ++ codes ",\"ok\":true}" ++ newline)) }
 {
-    let text = format!(in alloc; "{{\"count\":{count},\"ok\":true}}\n")?;
-    answer(alloc, text.as_bytes(), "")
+    let text = format!(in alloc; "{{\"count\":{count},\"ok\":true}}")?;
+    answer(alloc, text.as_bytes(), "\n")
 }
 
 fn refused(alloc: Global, refusal: Refusal) -> Result<Printed, AllocError>
