@@ -1,8 +1,9 @@
 -- What the program prints of an answer, and the status with which it ends.
 use Rattle.std.specs.Prelude.{ℕ, List, [], ◌++◌, codes}
+use Rattle.std.specs.Fmt.{decimal}
 use Rattle.registry_names.specs.Refusals.{refusal_text}
 use Rattle.registry_rules.specs.declared.reply.Reply.{Reply}
-use Rattle.registry_rules.specs.declared.reply.Reply.TheVariants.{Created, Done, Doc, Bytes, Refused}
+use Rattle.registry_rules.specs.declared.reply.Reply.TheVariants.{Created, Done, Count, Doc, Bytes, Refused}
 use Rattle.registry_cli.specs.declared.printed.Printed.{Printed}
 
 abbrev pub newline : List ℕ
@@ -19,9 +20,14 @@ on_errors text = record { out = []; err = text; status = 1 }
 abbrev pub done : List ℕ
 done = codes "{\"ok\":true}"
 
+-- how many versions a deprecation was about
+abbrev pub counted : ℕ → List ℕ
+counted n = codes "{\"count\":" ++ (decimal n ++ codes ",\"ok\":true}")
+
 abbrev pub printed : Reply → Printed
 printed Created = on_output (done ++ newline)
 printed Done = on_output (done ++ newline)
+printed (Count n) = on_output (counted n ++ newline)
 printed (Doc text) = on_output (text ++ newline)
 printed (Bytes archive) = on_output archive
 printed (Refused refusal) = on_errors (codes "refused: " ++ refusal_text refusal ++ newline)
