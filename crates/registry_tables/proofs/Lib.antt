@@ -33,3 +33,4 @@ pub mod TeamMemberFacts
 pub mod TokenFacts
 pub mod UserFacts
 pub mod VersionFacts
+pub mod WithdrawalFacts
