@@ -20,6 +20,7 @@ pub mod OpeningFacts
 pub mod OrganisationFacts
 pub mod ReadableFacts
 pub mod ReferenceFacts
+pub mod RetiredFacts
 pub mod ReviseFacts
 pub mod SchemaFacts
 pub mod SpentFacts
@@ -33,3 +34,4 @@ pub mod TeamMemberFacts
 pub mod TokenFacts
 pub mod UserFacts
 pub mod VersionFacts
+pub mod WithdrawalFacts

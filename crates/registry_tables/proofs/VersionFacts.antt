@@ -1,7 +1,7 @@
 -- What the statements on versions make and show.
-use Rattle.std.proofs.Common.{◌≡◌, ◌==◌, ℕ, List, [], ◌∷◌, pos, map, not, is_some, length, option_map, slice_get, None, Ok, refl, sym, ◌∙◌, codes}
+use Rattle.std.proofs.Common.{◌≡◌, ◌==◌, ℕ, List, [], ◌∷◌, pos, map, not, is_some, length, option_map, slice_get, Option, None, Some, Ok, refl, sym, ◌∙◌, codes}
 use Rattle.sqlite.specs.declared.types.Value.TheVariants.{Null, Int, Text as Stored, Blob}
-use Rattle.sqlite.specs.Command.TheVariants.{Insert, Select}
+use Rattle.sqlite.specs.Command.TheVariants.{Insert, Update, Select}
 use Rattle.sqlite.specs.Source.TheVariants.{Values}
 use Rattle.sqlite.specs.Listing.{understood}
 use Rattle.sqlite.specs.State.{State as Shown, HasCleanDisk}
@@ -16,9 +16,10 @@ use Rattle.registry_tables.specs.Contents.{contents, live_of, registry_of}
 use Rattle.registry_tables.specs.Effects.{stored}
 use Rattle.registry_names.specs.Maps.{at, of, put, seen}
 use Rattle.registry_rules.specs.State.{Release, has_live}
-use Rattle.registry_rows.specs.Statements.{Means, MeansQuery, scan, by_texts, in_order}
-use Rattle.registry_rows.proofs.StatementFacts.{insert_puts, insert_meets_none}
+use Rattle.registry_rows.specs.Statements.{Means, MeansQuery, scan, by_texts, in_order, set_terms}
+use Rattle.registry_rows.proofs.StatementFacts.{insert_puts, insert_meets_none, update_revises}
 use Rattle.registry_rows.proofs.LookUpFacts.{select_finds, select_lists, first_listed}
+use Rattle.registry_tables.specs.Withdrawals.{with_message}
 use Rattle.registry_tables.specs.Spelled.{number_spelled, document, document_spelled, row_spelled, version_spelled}
 use Rattle.registry_tables.proofs.FoundFacts.{some_found, some_seen}
 use Rattle.registry_tables.proofs.LiveFacts.{document_as_row, documents_as_rows, lives_as_row, lives_as_rows, some_listed}
@@ -45,6 +46,24 @@ version_inserted p v published manifest old new form call = insert_puts versions
 pub version_is_new : (p v : Text) (published : ℕ) (manifest : Text) (old new : Shown) → Ready schema old
     → Wrote put_text (Stored p ∷ Stored v ∷ Int (pos published) ∷ Stored manifest ∷ []) old new → HasCleanDisk new → at (stored old).versions (p, v) ≡ None
 version_is_new p v published manifest old new form call = insert_meets_none versions_mapped put_text put_cells put_means (Stored p ∷ Stored v ∷ Int (pos published) ∷ Stored manifest ∷ []) refl old new (Ok call.0) form call.1
+
+-- ---- UPDATE
+
+abbrev set_text : List ℕ
+set_text = codes "UPDATE versions SET deprecated = ?3 WHERE package = ?1 AND version = ?2"
+
+-- all stays but the message, which is the third parameter
+abbrev sets : List (Option ℕ)
+sets = None ∷ None ∷ None ∷ None ∷ Some 2 ∷ None ∷ []
+
+set_means : Means schema set_text (Update 9 (record { lets = []; body = scan 18 (by_texts 1 1 0) (col 1 0 ∷ col 1 0 ∷ set_terms 1 sets) [] }))
+unfolding understood everything
+set_means = (refl, (refl, refl))
+
+pub message_set : (p v message : Text) (old new : Shown) → Ready schema old → Wrote set_text (Stored p ∷ Stored v ∷ Stored message ∷ []) old new → HasCleanDisk new
+    → Leaves schema contents (record (stored old) { versions = with_message (stored old).versions (p, v) message }) new
+message_set p v message old new form call =
+    update_revises versions_mapped set_text sets set_means refl (p, v) (Stored message ∷ []) refl (λ (r : Release). record r { message = message }) (λ vs. refl) (λ vs. refl) old new (Ok call.0) form call.1
 
 -- ---- SELECT by package and version
 

@@ -29,6 +29,7 @@ mod teams;
 mod tokens;
 mod users;
 mod versions;
+mod withdrawals;
 
 pub use crate::access::load_access;
 pub use crate::archives::load_archive;

@@ -1,12 +1,12 @@
 //! The table `spent`: the versions that were withdrawn, which are never published again.
 
 ghost use Rattle.std.specs.Prelude.{◌≡◌, is_some};
-ghost use Rattle.registry_names.specs.Maps.{at};
+ghost use Rattle.registry_names.specs.Maps.{at, put};
 ghost use Rattle.registry_rows.specs.Frames.{Stays};
-ghost use Rattle.registry_tables.specs.Effects.{InForm, Tells};
+ghost use Rattle.registry_tables.specs.Effects.{InForm, Makes, Tells};
 
-use registry_names::{Fault, Name};
-use registry_rows::read;
+use registry_names::{Fault, Moment, Name};
+use registry_rows::{read, write};
 use sqlite::{Alter, Transaction, params};
 
 /// Whether the version of the package was withdrawn.
@@ -25,4 +25,28 @@ pub fn is_spent<S: Alter>(
         params![name.text(), version],
     )?;
     Ok(!rows.is_empty())
+}
+
+/// Puts the version among those that were withdrawn, with the moments at which it was published and
+/// withdrawn.
+///
+/// One that was withdrawn already is a fault, and so is a package without a status.
+pub(crate) fn put_withdrawal<S: Alter>(
+    tx: &mut Transaction<'_, S>,
+    name: &str,
+    version: &str,
+    published: Moment,
+    withdrawn: Moment,
+) -> Result<(), Fault>
+    requires in_form { InForm S.Store tx.old }
+    ensures stays { Stays S.Store tx.old tx.new }
+    ensures makes { Makes S.Store tx.old tx.new result
+        (λ c. record c { spent = put c.spent (name.now, version.now)
+        (record { published = published; withdrawn = withdrawn }) }) }
+{
+    write(
+        tx,
+        "INSERT INTO spent VALUES (?1, ?2, ?3, ?4)",
+        params![name, version, published.seconds(), withdrawn.seconds()],
+    )
 }

@@ -11,6 +11,7 @@ ghost use Rattle.registry_tables.specs.Changes.{IsNew, is_unspent, row_of, versi
 ghost use Rattle.registry_tables.specs.Contents.{live_of, registry_of};
 ghost use Rattle.registry_tables.specs.Effects.{InForm, Makes, Tells, shown, stored_in};
 ghost use Rattle.registry_tables.specs.Spelled.{document, document_entry, document_spelled, row_entry, row_spelled};
+ghost use Rattle.registry_tables.specs.Withdrawals.{with_message};
 
 use crate::archives::put_archive;
 use crate::needs::put_needs;
@@ -161,6 +162,25 @@ fn insert_version<S: Alter>(
             published.seconds(),
             form.manifest_text()
         ],
+    )
+}
+
+/// Gives a version this message of deprecation, if it lives. Its manifest stays as it is.
+pub(crate) fn put_message<S: Alter>(
+    tx: &mut Transaction<'_, S>,
+    name: &str,
+    version: &str,
+    message: &str,
+) -> Result<(), Fault>
+    requires in_form { InForm S.Store tx.old }
+    ensures stays { Stays S.Store tx.old tx.new }
+    ensures makes { Makes S.Store tx.old tx.new result (λ c. record c
+        { versions = with_message c.versions (name.now, version.now) message.now }) }
+{
+    write(
+        tx,
+        "UPDATE versions SET deprecated = ?3 WHERE package = ?1 AND version = ?2",
+        params![name, version, message],
     )
 }
 
