@@ -15,6 +15,7 @@ pub mod MaintainerFacts
 pub mod MappedFacts
 pub mod MemberFacts
 pub mod MetaFacts
+pub mod NamingFacts
 pub mod NeedFacts
 pub mod OpeningFacts
 pub mod OrganisationFacts
