@@ -3,6 +3,7 @@ pub mod ArchiveFacts
 pub mod CatalogFacts
 pub mod ContentsFacts
 pub mod CreationFacts
+pub mod DependentFacts
 pub mod EffectFacts
 pub mod FoundFacts
 pub mod GrantFacts
