@@ -1,5 +1,5 @@
 -- What the statement on the needs of a package shows, and who needs its versions.
-use Rattle.std.proofs.Common.{◌≡◌, inl, inr, ℕ, Bool, true, false, not, ◌&&◌, true≢false, List, [], ◌∷◌, drop, map, filter, Option, Some, None, is_some, option_map, Ordering, Less, Equal, Greater, is_eq, refl, sym, ap, ap₂, subst, ◌∙◌, codes}
+use Rattle.std.proofs.Common.{◌≡◌, ℕ, Bool, true, false, not, ◌&&◌, true≢false, List, [], ◌∷◌, drop, map, filter, Option, Some, None, is_some, option_map, Ordering, Less, Equal, Greater, is_eq, refl, sym, ap, ap₂, subst, ◌∙◌, codes}
 use Rattle.std.specs.List.{list_any}
 use Rattle.std.specs.Ordering.{is_ne}
 use Rattle.std.specs.Prelude.{option_and_then, unwrap_or}
@@ -19,7 +19,6 @@ use Rattle.sqlite_sql.specs.Ops.{binary, is_true, from_truth}
 use Rattle.sqlite_sql.specs.Term.{Term, col, op2}
 use Rattle.sqlite_rules.specs.Lists.{Has}
 use Rattle.sqlite_rules.proofs.ListLemmas.{all_has, has_filtered, has_kept}
-use Rattle.sqlite_rules.proofs.ProbeLemmas.{has_mapped}
 use Rattle.registry_names.specs.Keys.{Pair}
 use Rattle.registry_names.specs.Texts.{Text, is}
 use Rattle.registry_names.specs.Maps.{at, entries}
@@ -39,6 +38,7 @@ use Rattle.registry_rows.specs.Rows.{key_of}
 use Rattle.registry_rows.specs.Statements.{MeansQuery, select_where, in_order, is_wanted}
 use Rattle.registry_rows.specs.TextKeys.{Texts}
 use Rattle.registry_rows.proofs.KeyedFacts.{by_texts_given, texts_of}
+use Rattle.registry_rows.proofs.ListFacts.{has_mapped, map_has}
 use Rattle.registry_rows.proofs.ListingFacts.{first_risen}
 use Rattle.registry_rows.proofs.LookUpFacts.{select_passes_by, seen_as_is}
 use Rattle.registry_rows.proofs.OrderFacts.{found_has}
@@ -121,11 +121,6 @@ one_truth false false to from = refl
 some_there : {X : Type 0} (o : Option X) → is_some o ≡ true → (x : X) × (o ≡ Some x)
 some_there None h = absurd (true≢false (sym h))
 some_there (Some x) h = (x, refl)
-
-map_has : {A B : Type 0} (f : A → B) (es : List A) (e : A) → Has es e → Has (map f es) (f e)
-map_has f [] e h = absurd h
-map_has f (x ∷ es) e (inl is) = inl (ap f is)
-map_has f (x ∷ es) e (inr later) = inr (map_has f es e later)
 
 -- a live version whose manifest has these needs, of which one passes
 record IsNeeding (c : Contents) (k : Pair) (test : Need → Bool) : Type 0 where

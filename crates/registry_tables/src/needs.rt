@@ -102,7 +102,8 @@ pub fn load_dependents<S: Alter>(
 ) -> Result<Vec<Text>, Fault>
     requires in_form { InForm S.Store tx.old }
     ensures stays { Stays S.Store tx.old tx.new }
-    ensures tells { Tells S.Store tx.old tx.new result (λ texts c. texts.items ≡ ranges_on c name.now) }
+    ensures tells { Tells S.Store tx.old tx.new result
+        (λ texts c. texts.items ≡ ranges_on c name.now) }
     ensures depended { HasCleanDisk (shown S.Store tx.new) → HoldsNeeds (stored_in S.Store tx.old)
         → IfOk result (λ texts. (v : VersionParts) → list_any (λ text. binds text v) texts.items
         ≡ is_depended (registry_of (stored_in S.Store tx.old)) name.now v) }
