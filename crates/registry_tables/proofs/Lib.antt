@@ -3,6 +3,7 @@ pub mod ArchiveFacts
 pub mod CatalogFacts
 pub mod ContentsFacts
 pub mod CreationFacts
+pub mod DependentFacts
 pub mod EffectFacts
 pub mod FoundFacts
 pub mod GrantFacts
@@ -15,6 +16,7 @@ pub mod MaintainerFacts
 pub mod MappedFacts
 pub mod MemberFacts
 pub mod MetaFacts
+pub mod NamingFacts
 pub mod NeedFacts
 pub mod OpeningFacts
 pub mod OrganisationFacts

@@ -1,5 +1,5 @@
 -- What the statements make that withdraw a version, and what goes with its row.
-use Rattle.std.proofs.Common.{◌≡◌, ◌==◌, ℕ, ℤ, List, [], ◌∷◌, pos, map, filter, length, not, Bool, true, false, cond, arith, ne_eqb, Ok, refl, ap, ◌∙◌, codes}
+use Rattle.std.proofs.Common.{◌≡◌, ◌==◌, ℕ, ℤ, List, [], ◌∷◌, pos, map, filter, length, not, ◌||◌, Bool, true, false, cond, arith, ne_eqb, Ok, refl, ap, ◌∙◌, codes}
 use Rattle.std.specs.List.{list_any}
 use Rattle.std.specs.Ordering.{int_eq}
 use Rattle.sqlite.specs.declared.types.Value.TheVariants.{Null, Int, Text as Stored}
@@ -115,7 +115,7 @@ some_passes read rows g test [] h = none rows h
     none (r ∷ rows) h = absurd cc
 some_passes read rows g test (e ∷ es) h = each (test e) rows h (some_passes read rows g test es)
   where
-    each : (b : Bool) (rows : List Row) → map read rows ≡ map g (cond b (e ∷ filter test es) (filter test es)) → (map read rows ≡ map g (filter test es) → not (length rows == 0) ≡ list_any test es) → not (length rows == 0) ≡ cond b true (list_any test es)
+    each : (b : Bool) (rows : List Row) → map read rows ≡ map g (cond b (e ∷ filter test es) (filter test es)) → (map read rows ≡ map g (filter test es) → not (length rows == 0) ≡ list_any test es) → not (length rows == 0) ≡ (b || list_any test es)
     each true [] h rest = absurd cc
     each true (r ∷ rows) h rest = ap not (ne_eqb _ 0 (omega arith))
     each false rows h rest = rest h

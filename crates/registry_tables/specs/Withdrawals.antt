@@ -1,5 +1,5 @@
 -- What a withdrawal and a deprecation leave of what is stored, and who needs a package.
-use Rattle.std.specs.Prelude.{ℕ, ℤ, Bool, not, ◌&&◌, List, map, filter, Option, Some, None, if◌then◌else◌}
+use Rattle.std.specs.Prelude.{ℕ, ℤ, Bool, not, ◌&&◌, List, [], ◌∷◌, map, filter, max, unwrap_or, Option, Some, None, if◌then◌else◌}
 use Rattle.std.specs.List.{list_any}
 use Rattle.std.specs.Ordering.{int_eq}
 use Rattle.registry_names.specs.Keys.{Pair, pair_is}
@@ -47,8 +47,15 @@ with_message live q message = revise live (λ k (r : Release). if pair_is q k th
 
 -- the need is of this package, and another's
 abbrev pub is_foreign_need : Text → Texts 3 → Bool
-is_foreign_need p k = not (is k.0 p) && is k.1.1.0 p
+is_foreign_need p k = is p k.1.1.0 && not (is p k.0)
 
 -- the ranges in which live versions of other packages need this one, one for each need
 abbrev pub ranges_on : Contents → Text → List Text
 ranges_on c p = map (λ (e : Texts 3 × Unit {0}). e.0.1.1.1) (filter (λ (e : Texts 3 × Unit {0}). is_foreign_need p e.0) (entries c.need_ranges))
+
+-- ---- when a package's versions were withdrawn
+
+-- the last of some moments, if there is one
+abbrev pub last_number : List ℕ → Option ℕ
+last_number [] = None
+last_number (n ∷ ns) = Some (max n (unwrap_or (last_number ns) 0))

@@ -43,8 +43,10 @@ pub fn archives_are_kept()
     ensures fresh { HoldsArchives fresh }
     ensures others { (c d : Contents) → d.versions ≡ c.versions → d.held ≡ c.held → d.archives ≡ c.archives → HoldsArchives c → HoldsArchives d }
     ensures versions { (f : FormParts) (now : ℕ) (c : Contents) → f.integrity ≡ integrity_text f.archive → is_some (at c.versions (f.name, version_of f)) ≡ false → HoldsArchives c → HoldsArchives (version_put f now c) }
-    ensures withdrawals { (p v : Text) (published withdrawn : ℕ) (c : Contents) → HoldsArchives c → HoldsArchives (stored_by (RetireVersion p v published withdrawn) c) }
-    ensures deprecations { (p v message : Text) (c : Contents) → HoldsArchives c → HoldsArchives (stored_by (PutDeprecation p v message) c) }
+    ensures withdrawals { (p v : Text) (published withdrawn : ℕ) (c : Contents)
+        → HoldsArchives c → HoldsArchives (stored_by (RetireVersion p v published withdrawn) c) }
+    ensures deprecations { (p v message : Text) (c : Contents)
+        → HoldsArchives c → HoldsArchives (stored_by (PutDeprecation p v message) c) }
 {}
 
 /// The needs that are stored are exactly those that live manifests name: there are none at first,
@@ -55,8 +57,10 @@ pub fn needs_are_kept()
     ensures fresh { HoldsNeeds fresh }
     ensures others { (c d : Contents) → d.versions ≡ c.versions → d.need_ranges ≡ c.need_ranges → HoldsNeeds c → HoldsNeeds d }
     ensures versions { (f : FormParts) (now : ℕ) (c : Contents) → needs_of f.manifest ≡ Some f.needs → is_some (at c.versions (f.name, version_of f)) ≡ false → HoldsNeeds c → HoldsNeeds (version_put f now c) }
-    ensures withdrawals { (p v : Text) (published withdrawn : ℕ) (c : Contents) → HoldsNeeds c → HoldsNeeds (stored_by (RetireVersion p v published withdrawn) c) }
-    ensures deprecations { (p v message : Text) (c : Contents) → HoldsNeeds c → HoldsNeeds (stored_by (PutDeprecation p v message) c) }
+    ensures withdrawals { (p v : Text) (published withdrawn : ℕ) (c : Contents)
+        → HoldsNeeds c → HoldsNeeds (stored_by (RetireVersion p v published withdrawn) c) }
+    ensures deprecations { (p v message : Text) (c : Contents)
+        → HoldsNeeds c → HoldsNeeds (stored_by (PutDeprecation p v message) c) }
 {}
 
 /// Whatever a database holds: it is answered to have no tables only where it has nothing, and it

@@ -3,8 +3,11 @@
 ghost use Rattle.std.specs.Prelude.{◌≡◌, is_some};
 ghost use Rattle.registry_names.specs.Maps.{at, put};
 ghost use Rattle.registry_rows.specs.Frames.{Stays};
+ghost use Rattle.registry_rules.specs.Withdrawals.{last_withdrawal};
+ghost use Rattle.registry_tables.specs.Contents.{registry_of};
 ghost use Rattle.registry_tables.specs.Effects.{InForm, Makes, Tells};
 
+use crate::moments::last_moment;
 use registry_names::{Fault, Moment, Name};
 use registry_rows::{read, write};
 use sqlite::{Alter, Transaction, params};
@@ -25,6 +28,24 @@ pub fn is_spent<S: Alter>(
         params![name.text(), version],
     )?;
     Ok(!rows.is_empty())
+}
+
+/// When a version of the package was withdrawn last. None where none ever was.
+pub fn load_last_withdrawal<S: Alter>(
+    tx: &mut Transaction<'_, S>,
+    name: &Name,
+) -> Result<Option<Moment>, Fault>
+    requires in_form { InForm S.Store tx.old }
+    ensures stays { Stays S.Store tx.old tx.new }
+    ensures tells { Tells S.Store tx.old tx.new result
+        (λ last c. last ≡ last_withdrawal (registry_of c) name.now) }
+{
+    let rows = read(
+        tx,
+        "SELECT withdrawn, version FROM spent WHERE package = ?1 ORDER BY version",
+        params![name.text()],
+    )?;
+    last_moment(&rows)
 }
 
 /// Puts the version among those that were withdrawn, with the moments at which it was published and
