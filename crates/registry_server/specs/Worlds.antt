@@ -3,7 +3,7 @@ use Rattle.std.specs.Prelude.{◌≡◌, ◌+◌, ◌==◌, ◌<◌, ◌++◌, [
 use Rattle.registry_talk.specs.Courses.{GoOn}
 use Rattle.registry_talk.specs.Histories.{Reached, World, start, turns_of}
 use Rattle.registry_talk.specs.Turns.{Answers, Turn, request_limit}
-use Rattle.registry_server.specs.Lines.{Pending, TakesTurn, fresh, holding, sending}
+use Rattle.registry_server.specs.Lines.{IsStarved, Pending, TakesTurn, fresh, holding, sending}
 
 -- each of the turns went on, and some more may follow, up to the limit
 pub record MayHave (ts : List Turn) (left : ℕ) : Type 0 where
@@ -46,6 +46,10 @@ module _ {D : Type 0} (answers : Answers D) where
   TakesTurns = (M : D) (w : World D) (k : ℕ) (over : Bool) (p q : Pending) (N : D) (readings readings2 : Option (List ℕ))
       → Reached answers M w → StandsFor w k over p → p.ends ≡ None → p.unsent ≡ []
       → TakesTurn answers p q w.desk N readings readings2 over → LeadsTo M w k over q N
+
+  -- want of memory has a turn, too, of which neither the desk nor the clock is asked
+  abbrev pub Starves : Type 0
+  Starves = (M : D) (readings : Option (List ℕ)) (over : Bool) (p q : Pending) → IsStarved p q → TakesTurn answers p q M M readings readings over
 
   -- some of what isn't sent is sent
   abbrev pub Sends : Type 0

@@ -1,6 +1,6 @@
 //! A law of lines. It stands as the contract of a function that does nothing.
 
-ghost use Rattle.registry_server.specs.Worlds.{Begins, Comes, Sends, Shuts, TakesTurns};
+ghost use Rattle.registry_server.specs.Worlds.{Begins, Comes, Sends, Shuts, Starves, TakesTurns};
 
 use registry_talk::Desk;
 
@@ -13,5 +13,6 @@ pub fn lines_make_one_history<D: Desk>()
     ensures comes { Comes D.answers }
     ensures shuts { Shuts D.answers }
     ensures turns { TakesTurns D.answers }
+    ensures starves { Starves D.answers }
     ensures sends { Sends D.answers }
 {}

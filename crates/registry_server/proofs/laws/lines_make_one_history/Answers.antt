@@ -1,3 +1,4 @@
+use Rattle.registry_server.proofs.LineFacts.{starved-turn}
 use Rattle.registry_server.proofs.WorldFacts.{line-begins, line-comes, line-sends, line-shuts, line-turns}
 use Rattle.registry_server.proofs.laws.lines_make_one_history.Goals as goal
 
@@ -15,3 +16,6 @@ returns-clause-turns g c = line-turns g.D.Desk.answers
 
 pub returns-clause-sends : goal.returns-clause-sends
 returns-clause-sends g c = line-sends g.D.Desk.answers
+
+pub returns-clause-starves : goal.returns-clause-starves
+returns-clause-starves g c = starved-turn g.D.Desk.answers
