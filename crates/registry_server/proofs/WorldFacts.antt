@@ -5,8 +5,8 @@ use Rattle.std.proofs.lemmas.List.{take-append-drop}
 use Rattle.registry_wire.specs.Reading.{TakenOf}
 use Rattle.registry_talk.specs.Courses.{GoOn, count_of, taken_for}
 use Rattle.registry_talk.specs.Histories.{Entry, Line, Reached, World, at_end, changed, comes, begins, is_last, on_line, sends, shuts, start, turned_on, turns, turns_of, with_bytes, with_sent, with_turn}
-use Rattle.registry_talk.specs.Turns.{Answers, IsTurn, IsTurnFor, Turn, request_limit, response_of}
-use Rattle.registry_talk.proofs.CourseFacts.{bytes-same, count-one, on-not_last, on-request}
+use Rattle.registry_talk.specs.Turns.{Answers, Cause, IsTurn, IsTurnFor, Turn, bad_input, is_request, no_memory, request, response_of}
+use Rattle.registry_talk.proofs.CourseFacts.{bytes-same, on-not_last, on-request}
 use Rattle.registry_server.specs.Lines.{Pending, TakesTurn, fresh, holding, sending}
 use Rattle.registry_server.specs.Worlds.{Begins, Comes, LeadsTo, MayHave, Sends, Shuts, StandsFor, TakesTurns}
 
@@ -41,6 +41,11 @@ same-last n left all = grind (arith, nat_tests, all)
 
 one-less : (left : ℕ) → (left == 1) ≡ false → 0 < left → 0 < left - 1
 one-less left is some = grind (arith, nat_tests, is, some)
+
+count-one : (c : Cause) → is_request c ≡ true → count_of c ≡ 1
+count-one (request w at) is = refl
+count-one (bad_input r) is = cc
+count-one no_memory is = cc
 
 may-more : (ts : List Turn) (t : Turn) (left left2 : ℕ) → MayHave ts left → t.ended ≡ None → (left == 1) ≡ false → left2 ≡ left - 1 → MayHave (t ∷ ts) left2
 may-more ts t left left2 may going is less =
