@@ -1,29 +1,29 @@
 //! A registry in memory, served over HTTP.
 //!
 //! Its words are a user, his token, an organisation that he owns, and then a port, which is any
-//! free one where it is left out or 0, and how many connections are to be served, which is no
-//! number that is ever reached where it is left out. It prints `listening 127.0.0.1:PORT`, and ends
-//! with status 0 when the last connection has ended; with 2 where the words are none of these; and
-//! with 3 where the registry or the system failed.
+//! free one where it is 0 or left out, and how many connections are to be served, without end where
+//! it is left out. It prints `listening 127.0.0.1:PORT`, and ends with status 0 when the last
+//! connection has ended, with 2 where the words are none of these, and with 3 where the registry or
+//! the system failed.
 #![tactic(auto)]
 
 mod house;
 mod plan;
 
-use house::House;
 use plan::{Plan, Trouble};
+use registry_http::FrontDesk;
 use registry_names::Text;
 use registry_server::Server;
+use sqlite::MemStore;
 use std::alloc::AllocError;
-use std::io;
 use std::net::Net;
 use std::process::ExitCode;
 use std::rt::Env;
 use std::time::Clock;
-use std::env;
+use std::{env, io};
 
 fn main(rt: HostRuntime) -> ExitCode {
-    let served = match plan(&rt) {
+    let served = match planned(&rt) {
         Ok(plan) => serve(&rt, &plan),
         Err(trouble) => Err(trouble),
     };
@@ -35,7 +35,7 @@ fn main(rt: HostRuntime) -> ExitCode {
 }
 
 // What the words after the program's name say.
-fn plan<R: Env + AllocGlobal>(rt: &R) -> Result<Plan, Trouble> {
+fn planned<R: Env + AllocGlobal>(rt: &R) -> Result<Plan, Trouble> {
     let mut words = Vec::new(rt.alloc());
     let Ok(given) = env::args(rt) else {
         return Err(Trouble::Usage);
@@ -47,17 +47,17 @@ fn plan<R: Env + AllocGlobal>(rt: &R) -> Result<Plan, Trouble> {
 }
 
 fn serve<R: Net + Clock + Print + AllocGlobal>(rt: &R, plan: &Plan) -> Result<(), Trouble> {
-    let mut house = House::open(rt.alloc(), plan)?;
-    listen(rt, plan, &mut house).map_err(|_| Trouble::Failed)
+    let mut desk = house::open(rt.alloc(), plan)?;
+    listen(rt, plan, &mut desk).map_err(|_| Trouble::Failed)
 }
 
 fn listen<R: Net + Clock + Print + AllocGlobal>(
     rt: &R,
     plan: &Plan,
-    house: &mut House,
+    desk: &mut FrontDesk<MemStore>,
 ) -> io::Result<()> {
     let server = Server::bind(rt, rt.alloc(), plan.port, plan.connections)?;
     let port = server.port()?;
     println!(rt; "listening 127.0.0.1:{port}")?;
-    server.run(rt, rt.alloc(), house)
+    server.run(rt, rt.alloc(), desk)
 }

@@ -6,7 +6,7 @@ use Rattle.registry_wire.specs.Spelling.{IsUnfinished}
 use Rattle.registry_talk.specs.Answers.{body_bytes}
 use Rattle.registry_talk.specs.Courses.{Gave, count_of, moment_of, taken_for}
 use Rattle.registry_talk.specs.Servings.{bytes_of}
-use Rattle.registry_talk.specs.Turns.{Answers, Cause, Turns, request_limit}
+use Rattle.registry_talk.specs.Turns.{Answers, Cause, Turns, TurnsAway, no_memory, request_limit}
 use Rattle.registry_talk.specs.declared.turning.End.{End}
 use Rattle.registry_talk.specs.declared.turning.Turned.{Turned}
 use Rattle.registry_server.specs.declared.line.Progress.{Progress}
@@ -42,6 +42,12 @@ holding p held = pending held p.unsent p.left p.ends
 -- the same with these bytes not sent
 abbrev pub sending : Pending → List ℕ → Pending
 sending p unsent = pending p.held unsent p.left p.ends
+
+-- want of memory for what came is answered, and the connection ends
+pub record IsStarved (old new : Pending) : Type 0 where
+  pub turned : Turned
+  pub away : TurnsAway no_memory turned
+  pub line : new ≡ pending old.held (bytes_of turned) old.left turned.end
 
 module _ {D : Type 0} (answers : Answers D) where
   -- One turn was taken of what was held, at a desk and a clock, and its response is to be sent. Over says that no more bytes come.

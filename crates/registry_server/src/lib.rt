@@ -12,6 +12,7 @@
 mod clocks;
 mod door;
 mod hall;
+pub mod laws;
 mod line;
 mod seat;
 mod server;

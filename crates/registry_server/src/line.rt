@@ -5,7 +5,7 @@ ghost use Rattle.registry_talk.specs.Courses.{Gave};
 ghost use Rattle.registry_talk.specs.Servings.{bytes_of};
 ghost use Rattle.registry_talk.specs.Turns.{Turns, request};
 ghost use Rattle.registry_server.specs.declared.line.Progress.TheVariants.{Answered};
-ghost use Rattle.registry_server.specs.Lines.{Does, fresh, holding, pending, sending};
+ghost use Rattle.registry_server.specs.Lines.{Does, IsStarved, fresh, holding, pending, sending};
 
 use crate::unsent::Unsent;
 use registry_talk::{Clock, Desk, End, REQUEST_LIMIT, Turned, turn, turn_away, turn_starved};
@@ -129,7 +129,7 @@ impl Line {
 
     /// There was no memory to hold what came: this is answered, and the connection ends.
     pub fn starve(&mut self)
-        ensures held { self.new.held ≡ self.old.held }
+        ensures { IsStarved self.old self.new }
     {
         let _answered = self.put(turn_starved());
     }

@@ -87,11 +87,10 @@ impl Seat {
         self.until <= now
     }
 
-    /// Since when nothing is begun on it, or nothing where something is. The least is the longest
-    /// ago; it has no other meaning.
+    /// Since when nothing is begun on it. None where something is.
     pub fn idle_since(&self) -> Option<u64> {
         match self.stage {
-            Stage::Idle => Some(self.until),
+            Stage::Idle => Some(self.until.saturating_sub(IDLE_LIMIT)),
             _ => None,
         }
     }

@@ -15,8 +15,8 @@ use std::test::Fail;
 
 /// A desk that tells the tags of any package to who shows a token, and has a fault for teams.
 #[derive(Drop)]
-struct Shelf {
-    asked: Vec<i64>,
+pub struct Shelf {
+    pub asked: Vec<i64>,
 }
 
 impl Desk for Shelf {
@@ -37,8 +37,8 @@ impl Desk for Shelf {
 
 /// A clock that goes on by a second each time.
 #[derive(Drop)]
-struct Steps {
-    next: i64,
+pub struct Steps {
+    pub next: i64,
 }
 
 impl Clock for Steps {
@@ -52,7 +52,7 @@ impl Clock for Steps {
 }
 
 // Input, what is written of it, how many requests are answered, and how it ends.
-type Case = (&'static str, &'static str, u32, End);
+pub type Case = (&'static str, &'static str, u32, End);
 
 fn is_served<R: ByteIn + Drop>(
     alloc: Global,
@@ -74,24 +74,19 @@ fn is_served<R: ByteIn + Drop>(
     same(case, desk.asked.is_sorted(), true)
 }
 
-const TAGS: &str =
+pub const TAGS: &str =
     "GET /-/package/@lab%2fkit/dist-tags HTTP/1.1\r\nauthorization: Bearer npm_bob_000000001\r\n\r\n";
 
-const TAGS_OUT: &str =
+pub const TAGS_OUT: &str =
     "HTTP/1.1 200 OK\r\ncontent-type: application/json\r\ncontent-length: 18\r\n\r\n{\"latest\":\"1.0.0\"}";
 
-const CUT_OUT: &str =
+pub const CUT_OUT: &str =
     "HTTP/1.1 400 Bad Request\r\ncontent-type: application/json\r\ncontent-length: 19\r\nconnection: close\r\n\r\n{\"error\":\"BadBody\"}";
 
-static CONNECTIONS: [Case; 8] = [
+pub static CONNECTIONS: [Case; 8] = [
     ("", "", 0, End::Closed),
     (TAGS, TAGS_OUT, 1, End::Closed),
-    (
-        "GET /kit HTTP/1.1\r\nhost: l",
-        CUT_OUT,
-        0,
-        End::BadInput,
-    ),
+    ("GET /kit HTTP/1.1\r\nhost: l", CUT_OUT, 0, End::BadInput),
     (
         "PUT /kit HTTP/1.1\r\ncontent-length: 4194305\r\n\r\n",
         "HTTP/1.1 413 Payload Too Large\r\ncontent-type: application/json\r\ncontent-length: 20\r\nconnection: close\r\n\r\n{\"error\":\"TooLarge\"}",
@@ -147,7 +142,9 @@ fn a_connection_has_a_thousand_requests(rt: HostRuntime) -> Result<(), Fail> {
     let alloc = rt.alloc();
     let input = TAGS.repeat(alloc, 1_001)?;
     let mut wanted = TAGS_OUT.repeat(alloc, 999)?;
-    wanted.push_str("HTTP/1.1 200 OK\r\ncontent-type: application/json\r\ncontent-length: 18\r\nconnection: close\r\n\r\n{\"latest\":\"1.0.0\"}")?;
+    wanted.push_str(
+        "HTTP/1.1 200 OK\r\ncontent-type: application/json\r\ncontent-length: 18\r\nconnection: close\r\n\r\n{\"latest\":\"1.0.0\"}",
+    )?;
     let served = Served {
         requests: 1_000,
         end: End::Limit,
@@ -177,13 +174,7 @@ fn interrupted_reads_are_tried_again(rt: HostRuntime) -> Result<(), Fail> {
     let kind = ErrorKind::Interrupted;
     is_served(alloc, "999 times", faltering(kind, 999), TAGS_OUT, whole)?;
     is_served(alloc, "1,000 times", faltering(kind, 1_000), "", none)?;
-    is_served(
-        alloc,
-        "broken",
-        faltering(ErrorKind::TimedOut, 1),
-        "",
-        none,
-    )
+    is_served(alloc, "broken", faltering(ErrorKind::TimedOut, 1), "", none)
 }
 
 #[test]
