@@ -17,6 +17,7 @@ mod reply;
 mod rows;
 mod same;
 mod teams;
+mod withdrawals;
 
 pub use crate::open::Left;
 pub use crate::registry::Registry;
