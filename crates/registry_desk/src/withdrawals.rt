@@ -1,13 +1,10 @@
 //! What decides a withdrawal and a deprecation.
 
-ghost use Rattle.std.specs.Prelude.{◌≡◌, List, IfOk};
-ghost use Rattle.std.specs.List.{list_any};
+ghost use Rattle.std.specs.Prelude.{List};
 ghost use Rattle.registry_names.specs.Texts.{Text as Word};
 ghost use Rattle.registry_ranges.specs.Selectors.{Condition};
-ghost use Rattle.registry_ranges.specs.Texts as texts;
 ghost use Rattle.registry_rows.specs.Frames.{Stays};
 ghost use Rattle.registry_rules.specs.Facts.{StandsAbout};
-ghost use Rattle.registry_rules.specs.Withdrawals as words;
 ghost use Rattle.registry_rules.specs.declared.request.Action.TheVariants as asked;
 ghost use Rattle.registry_tables.specs.Contents.{registry_of};
 ghost use Rattle.registry_tables.specs.Effects.{InForm, Tells};
@@ -17,12 +14,8 @@ ghost use Rattle.registry_desk.specs.Found.{IsLife};
 
 use registry_access::Caller;
 use registry_names::{Fault, Moment, Name, Text, Ver};
-use registry_ranges::Range;
-use registry_ranges::laws::texts_are_read;
 use registry_rules::About;
-use registry_tables::{
-    load_dependents, load_live, load_published, load_standing, load_version_tags,
-};
+use registry_tables::{is_depended, load_live, load_published, load_standing, load_version_tags};
 use sqlite::{Alter, Transaction};
 use std::alloc::Global;
 
@@ -80,46 +73,6 @@ fn find_life<S: Alter>(
         tags,
         live,
     })
-}
-
-// Whether a live version of another package needs this one.
-fn is_depended<S: Alter>(
-    alloc: Global,
-    tx: &mut Transaction<'_, S>,
-    name: &Name,
-    version: &Ver,
-) -> Result<bool, Fault>
-    requires in_form { InForm S.Store tx.old }
-    ensures stays { Stays S.Store tx.old tx.new }
-    ensures tells { Tells S.Store tx.old tx.new result (λ depended c. HoldsNeeds c
-        → depended ≡ words.is_depended (registry_of c) name.now version.now) }
-{
-    let texts = load_dependents(alloc, tx, name)?;
-    is_bound(alloc, &texts, version)
-}
-
-// Whether one of the texts is no range, or allows the version.
-fn is_bound(alloc: Global, texts: &[Text], version: &Ver) -> Result<bool, Fault>
-    ensures { IfOk result
-        (λ bound. bound ≡ list_any (λ text. texts.binds text version.now) texts.now) }
-{
-    for text in texts {
-        if binds(alloc, text.as_str(), version)? {
-            return Ok(true);
-        }
-    }
-    Ok(false)
-}
-
-// Whether the text is no range, or allows the version.
-fn binds(alloc: Global, text: &str, version: &Ver) -> Result<bool, Fault>
-    ensures { IfOk result (λ bound. bound ≡ texts.binds text.now version.now) }
-{
-    texts_are_read();
-    match Range::parse(alloc, text)? {
-        Some(range) => Ok(range.allows(version)),
-        None => Ok(true),
-    }
 }
 
 /// Of versions that are to be deprecated.

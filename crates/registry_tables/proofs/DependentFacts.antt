@@ -45,7 +45,7 @@ use Rattle.registry_rows.proofs.OrderFacts.{found_has}
 use Rattle.registry_rows.proofs.TextKeyFacts.{and_true, row_parts, texts_key}
 use Rattle.registry_tables.specs.Contents.{Contents, live_of, registry_of, with_bytes}
 use Rattle.registry_tables.specs.Effects.{stored}
-use Rattle.registry_tables.specs.Needs.{HoldsNeeds, is_needed, names_if_any, names_range}
+use Rattle.registry_tables.specs.Needs.{HoldsNeeds, is_needed, names_if_any}
 use Rattle.registry_tables.specs.Schema as table
 use Rattle.registry_tables.specs.Schema.{schema}
 use Rattle.registry_tables.specs.Teams.{text_spelled}

@@ -91,9 +91,11 @@ in_part p v m = tags_are p v (entries m)
 pub naming_listed : (p v : Text) (old new : Shown) (rows : List Row) → Ready schema old → Queried naming_text (Stored p ∷ Stored v ∷ []) old new rows → HasCleanDisk new
     → Reads schema old new × (map text_spelled rows ≡ tags_of (registry_of (stored old)) p v)
 naming_listed p v old new rows form call clean =
-    let it = select_passes_by (by_texts_given tags_mapped) naming_text naming_wanted (col 1 2 ∷ []) _ naming_means (Stored p ∷ Stored v ∷ []) (names_it p v) (tag_of p) nothing_of whole old new (passes p v old) rows form call clean in
-    (it.0, sym (map-map (λ (e : Pair × Unit {0}). e.0.1) (tag_of p) rows) ∙ ap (map (λ (e : Pair × Unit {0}). e.0.1)) it.1
-        ∙ map-map (λ (e : Pair × Unit {0}). e.0.1) (seen nothing_of) (filter (names_it p v) (entries (stored old).tags)) ∙ in_part p v (stored old).tags)
+    let it = select_passes_by (by_texts_given tags_mapped) naming_text naming_wanted (col 1 2 ∷ []) _ naming_means (Stored p ∷ Stored v ∷ []) (names_it p v) (tag_of p) nothing_of whole old new (passes p v old) rows form call clean in (
+      it.0,
+      sym (map-map (λ (e : Pair × Unit {0}). e.0.1) (tag_of p) rows) ∙ ap (map (λ (e : Pair × Unit {0}). e.0.1)) it.1
+          ∙ map-map (λ (e : Pair × Unit {0}). e.0.1) (seen nothing_of) (filter (names_it p v) (entries (stored old).tags)) ∙ in_part p v (stored old).tags,
+    )
   where
     whole : (id : Value) (vs : Row) → names_it p v (key_of 1 (id ∷ vs), named_in vs) ≡ true → ◌≡◌ {A = Pair × Unit {0}} ((p, text_in (column vs 1)), tt) (key_of 1 (id ∷ vs), tt)
     whole id vs pass = ap (λ (a : Text). ((a, text_in (column vs 1)), tt)) (text_is p (text_in (column vs 0)) (and_parts _ _ pass).0)

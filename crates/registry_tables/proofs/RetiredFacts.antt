@@ -7,7 +7,7 @@ use Rattle.std.proofs.lemmas.Bool.{cases_Bool}
 use Rattle.sqlite_rules.specs.Lists.{Has}
 use Rattle.registry_names.specs.Keys.{Pair, pair_is}
 use Rattle.registry_names.specs.Texts.{Text}
-use Rattle.registry_names.specs.Maps.{PairMap, at, erase, keep, entries, revise}
+use Rattle.registry_names.specs.Maps.{at, erase, entries, revise}
 use Rattle.registry_names.proofs.KeyFacts.{pair_key, same_true, same_self}
 use Rattle.registry_names.proofs.MapFacts.{at-entries, at-erase, at-erase_same, at-erase_other, at-keep, at-revise, same_map}
 use Rattle.registry_names.proofs.EntryFacts.{entries_rise}

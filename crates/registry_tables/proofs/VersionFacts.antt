@@ -138,6 +138,8 @@ live_found p old new rows form call clean =
 pub live_listed : (p : Text) (old new : Shown) (rows : List Row) → Ready schema old → Queried live_text (Stored p ∷ []) old new rows → HasCleanDisk new
     → Reads schema old new × (map text_spelled rows ≡ live_versions (registry_of (stored old)) p)
 live_listed p old new rows form call clean =
-    let it = select_lists versions_mapped live_text (col 1 2 ∷ []) _ live_means p version_spelled (λ (r : Release). tt) (λ id vs. refl) old new rows form call clean in
-    (it.0, sym (map-map (λ (e : Text × Unit {0}). e.0) version_spelled rows) ∙ ap keys it.1
-        ∙ map-map (λ (e : Text × Unit {0}). e.0) (seen (λ (r : Release). tt)) (of (stored old).versions p) ∙ sym (versions_as_rows (stored old) p))
+    let it = select_lists versions_mapped live_text (col 1 2 ∷ []) _ live_means p version_spelled (λ (r : Release). tt) (λ id vs. refl) old new rows form call clean in (
+      it.0,
+      sym (map-map (λ (e : Text × Unit {0}). e.0) version_spelled rows) ∙ ap keys it.1
+          ∙ map-map (λ (e : Text × Unit {0}). e.0) (seen (λ (r : Release). tt)) (of (stored old).versions p) ∙ sym (versions_as_rows (stored old) p),
+    )

@@ -1,5 +1,5 @@
 -- What the statements make that withdraw a version, and what goes with its row.
-use Rattle.std.proofs.Common.{◌≡◌, ◌==◌, ℕ, ℤ, List, [], ◌∷◌, pos, map, filter, length, not, ◌||◌, Bool, true, false, cond, arith, ne_eqb, Ok, refl, ap, ◌∙◌, codes}
+use Rattle.std.proofs.Common.{◌≡◌, ◌==◌, ℕ, ℤ, List, [], ◌∷◌, pos, map, filter, length, not, ◌||◌, Bool, true, false, cond, arith, ne_eqb, Ok, refl, ap, codes}
 use Rattle.std.specs.List.{list_any}
 use Rattle.std.specs.Ordering.{int_eq}
 use Rattle.sqlite.specs.declared.types.Value.TheVariants.{Null, Int, Text as Stored}
@@ -12,14 +12,14 @@ use Rattle.sqlite_tied.specs.Compute.{everything}
 use Rattle.sqlite_value.specs.Order.{Row, column}
 use Rattle.registry_names.specs.Texts.{Text}
 use Rattle.registry_names.specs.Keys.{Pair, pair_is}
-use Rattle.registry_names.specs.Maps.{at, put, erase, keep, entries, seen}
+use Rattle.registry_names.specs.Maps.{put, erase, keep, entries, seen}
 use Rattle.registry_names.proofs.ChangeFacts.{keep_but}
 use Rattle.registry_names.proofs.KeyFacts.{pair_key}
 use Rattle.registry_rows.specs.Columns.{text_in}
 use Rattle.registry_rows.specs.Frames.{Wrote}
 use Rattle.registry_rows.specs.KeyKinds.{numbers}
 use Rattle.registry_rows.specs.Ready.{Ready, Leaves, Reads, Queried}
-use Rattle.registry_rows.specs.Statements.{Means, MeansQuery, IsUncascaded, insert_values, delete_where, select_where, scan, by_column, by_texts, in_order}
+use Rattle.registry_rows.specs.Statements.{Means, MeansQuery, IsUncascaded, delete_where, select_where, scan, by_column, by_texts, in_order}
 use Rattle.registry_rows.proofs.KeyedFacts.{by_number_given, by_texts_given}
 use Rattle.registry_rows.proofs.LookUpFacts.{select_has_by}
 use Rattle.registry_rows.proofs.StatementFacts.{insert_puts, delete_erases_by}

@@ -39,7 +39,7 @@ fn moment_in(row: &Row) -> Result<Moment, Fault>
 
 // The later of both.
 fn later(moment: Moment, other: Option<Moment>) -> Moment
-    ensures { result ≡ max moment (unwrap_or other.entry 0) }
+    ensures { result ≡ max moment (unwrap_or other 0) }
 {
     match other {
         Some(other) if moment.seconds() < other.seconds() => other,

@@ -62,8 +62,10 @@ pub(crate) fn put_withdrawal<S: Alter>(
     requires in_form { InForm S.Store tx.old }
     ensures stays { Stays S.Store tx.old tx.new }
     ensures makes { Makes S.Store tx.old tx.new result
-        (λ c. record c { spent = put c.spent (name.now, version.now)
-        (record { published = published; withdrawn = withdrawn }) }) }
+        (λ c. record c {
+          spent = put c.spent (name.now, version.now)
+              (record { published = published; withdrawn = withdrawn });
+        }) }
 {
     write(
         tx,
