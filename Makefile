@@ -16,7 +16,7 @@ help:
 	@echo 'make build  the same, but for the publish: leave the program as out/registry'
 	@echo 'make test   the gate: prove every crate from nothing, and run every test: an hour or more'
 	@echo 'make check  prove every crate over what earlier checks kept'
-	@echo 'make bench  print how long publishes, packuments and the reading of bodies take'
+	@echo 'make bench  print how long requests and the reading of bodies take'
 	@echo 'make fmt    lay out the files'
 
 kit:

@@ -1,7 +1,7 @@
 //! Why the program ends early.
 
 use registry_names::{Fault, Refusal, Stop};
-use std::alloc::AllocError;
+use std::alloc::{AllocError, AllocFailed};
 
 /// Why the program ends early, with status 1.
 #[derive(Clone, Copy, Debug)]
@@ -29,6 +29,12 @@ impl From<Fault> for Failure {
 impl From<AllocError> for Failure {
     fn from(error: AllocError) -> Failure {
         Failure::Fault(Fault::from(error))
+    }
+}
+
+impl<T: Drop> From<AllocFailed<T>> for Failure {
+    fn from(_error: AllocFailed<T>) -> Failure {
+        Failure::Fault(Fault::Memory)
     }
 }
 

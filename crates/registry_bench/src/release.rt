@@ -27,6 +27,8 @@ pub enum Archive {
 /// A version of a package, each a number from 0 on.
 #[derive(Clone, Copy)]
 pub struct Release {
+    /// Whose the package is, if its name has a scope: the number of an organisation.
+    pub organisation: Option<u32>,
     /// Which package.
     pub package: u32,
     /// Which of its versions.
@@ -34,7 +36,7 @@ pub struct Release {
 }
 
 impl Release {
-    /// The package's name, as `package-7`.
+    /// The package's name, as `package-7`, or `@org-03/package-7`.
     pub fn name(self, alloc: Global) -> Result<Name, Stop> {
         Name::parse(alloc, &self.name_text(alloc)?)
     }
@@ -70,6 +72,11 @@ impl Release {
     }
 
     fn name_text(self, alloc: Global) -> Result<String, AllocError> {
-        format!(in alloc; "package-{}", self.package)
+        match self.organisation {
+            None => format!(in alloc; "package-{}", self.package),
+            Some(organisation) => {
+                format!(in alloc; "@org-{organisation:02}/package-{}", self.package)
+            }
+        }
     }
 }

@@ -1,9 +1,9 @@
 //! Ten rounds of a publish and a packument.
 
 use crate::failure::Failure;
+use crate::people;
 use crate::release::{Archive, Release};
-use crate::requests::{packument, publish, publisher};
-use registry_desk::Registry;
+use crate::requests::{packument, publish};
 use registry_names::{Fault, Stop};
 use registry_rules::{Reply, Request};
 use std::alloc::{AllocError, Global};
@@ -22,13 +22,13 @@ pub fn print_rounds<R: Print>(rt: &R, alloc: Global) -> Result<(), Failure> {
 }
 
 fn outcomes(alloc: Global) -> Result<Vec<Result<Reply, Fault>>, Failure> {
-    let requests = requests(alloc)?;
-    let (_registry, outcomes) = Registry::run_in_memory(alloc, &requests)?;
-    Ok(outcomes)
+    let mut registry = people::registry(alloc)?;
+    Ok(registry.run(alloc, &requests(alloc)?)?)
 }
 
 fn release(version: u32) -> Release {
     Release {
+        organisation: None,
         package: 0,
         version,
     }
@@ -36,7 +36,6 @@ fn release(version: u32) -> Release {
 
 fn requests(alloc: Global) -> Result<Vec<Request>, Stop> {
     let mut requests = Vec::new(alloc);
-    requests.push(publisher(alloc)?)?;
     for version in 0..ROUNDS {
         requests.push(publish(alloc, release(version), Archive::Shared)?)?;
         requests.push(packument(alloc, release(version))?)?;
@@ -44,12 +43,9 @@ fn requests(alloc: Global) -> Result<Vec<Request>, Stop> {
     Ok(requests)
 }
 
-// Whether the outcomes are those of the rounds, behind the addition of the user who publishes.
+// Whether the outcomes are those of the rounds.
 fn are_rounds(alloc: Global, outcomes: &[Result<Reply, Fault>]) -> Result<bool, AllocError> {
-    let [Ok(Reply::Done), rounds @ ..] = outcomes else {
-        return Ok(false);
-    };
-    for (version, round) in (0..ROUNDS).zip(rounds.chunks(2)) {
+    for (version, round) in (0..ROUNDS).zip(outcomes.chunks(2)) {
         if !is_round(alloc, round, release(version))? {
             return Ok(false);
         }

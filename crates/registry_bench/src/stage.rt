@@ -3,7 +3,8 @@
 use crate::failure::Failure;
 use crate::measurement::{Measurement, start};
 use crate::release::{Archive, Release};
-use crate::requests::{archive, ask_all, packument, publish};
+use crate::requests::{Wanted, archive, ask_all, packument, publish};
+use crate::turns::Turns;
 use registry_desk::Registry;
 use registry_names::Stop;
 use registry_rules::Request;
@@ -12,7 +13,7 @@ use std::alloc::Global;
 use std::time::Clock;
 
 /// Requests of one kind about each of these versions of some packages. Of both, the number of the
-/// first and that behind the last.
+/// first and that behind the last. The publisher publishes, and anybody reads.
 #[derive(Clone, Copy)]
 pub struct Stage {
     /// What they are called.
@@ -58,11 +59,34 @@ fn print_stage<R: Print + Clock, S: Alter>(
     requests: &[Request],
 ) -> Result<(), Failure> {
     let began = start(rt)?;
-    ask_all(alloc, registry, requests)?;
+    ask_all(alloc, registry, requests, Wanted::Answered)?;
     Measurement::since(rt, began, requests.len())?.print(rt, what)
 }
 
+/// Asks the requests of each stage.
+pub fn ask_stages<S: Alter>(
+    alloc: Global,
+    registry: &mut Registry<S>,
+    stages: &[Stage],
+) -> Result<(), Failure> {
+    for stage in stages {
+        let requests = stage.requests(alloc)?;
+        ask_all(alloc, registry, &requests, Wanted::Answered)?;
+    }
+    Ok(())
+}
+
 impl Stage {
+    /// Its requests in turns: a share of the publishes in each, and all queries in each.
+    pub fn turns(self, alloc: Global) -> Result<Turns, Stop> {
+        let what = String::from_str(alloc, self.what)?;
+        let requests = self.requests(alloc)?;
+        match self.ask {
+            Ask::Publish(_) => Ok(Turns::shared(what, requests)),
+            Ask::Packument | Ask::Archive => Ok(Turns::repeated(what, requests, Wanted::Answered)),
+        }
+    }
+
     // First the requests about the first version of each package.
     fn requests(self, alloc: Global) -> Result<Vec<Request>, Stop> {
         let mut requests = Vec::new(alloc);
@@ -82,7 +106,12 @@ impl Stage {
     ) -> Result<(), Stop> {
         let (first, end) = self.packages;
         for package in first..end {
-            requests.push(self.request(alloc, Release { package, version })?)?;
+            let release = Release {
+                organisation: None,
+                package,
+                version,
+            };
+            requests.push(self.request(alloc, release)?)?;
         }
         Ok(())
     }

@@ -1,5 +1,5 @@
 -- Words that stop at the last.
-use Rattle.std.proofs.Common.{◌≡◌, ◌⊎◌, inl, inr, List, Ok, Err}
+use Rattle.std.proofs.Common.{inl, inr, List, Ok, Err}
 use Rattle.registry_names.specs.Texts.{Text}
 use Rattle.registry_names.specs.declared.stop.Stop.{Stop}
 use Rattle.registry_cli.specs.Lines.{word_at}

@@ -2,7 +2,6 @@
 use Rattle.std.proofs.Common.{◌≡◌, ◌∙◌, Bool, true, false, List, [], ◌∷◌, Option, Some, None, ap, cond, find, is_some, option_map, refl, sym, true≢false}
 use Rattle.std.specs.Prelude.{Box}
 use Rattle.std.specs.List.{list_all}
-use Rattle.std.specs.Str.{bytes_eq}
 use Rattle.std.proofs.lemmas.List.{length-map}
 use Rattle.clap.specs.Simple.{Shape, built, entered, label_of, names_of, argument_words, rows_at, subcommand_of, subcommand_rows}
 use Rattle.clap.specs.Walk.{Text, answers_to, stop_after}

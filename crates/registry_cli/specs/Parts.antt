@@ -1,5 +1,5 @@
 -- What words are read as: what may be answered of a text.
-use Rattle.std.specs.Prelude.{◌≡◌, ◌⊎◌, ℕ, Bool, true, false, List, [], Option, Some, None, Result, Ok, Err, codes, unwrap_or, slice_get}
+use Rattle.std.specs.Prelude.{◌≡◌, ◌⊎◌, ℕ, true, false, List, Some, None, Result, Ok, Err, codes}
 use Rattle.std.specs.Str.{bytes_eq}
 use Rattle.registry_names.specs.Texts.{Text}
 use Rattle.registry_names.specs.Faults.{IsMemoryOr}
@@ -8,11 +8,9 @@ use Rattle.registry_names.specs.Messages.{is_message}
 use Rattle.registry_names.specs.Names.{IsName}
 use Rattle.registry_names.specs.declared.status.Status.{Status}
 use Rattle.registry_names.specs.Versions.{IsVersion, IsVersionOf, VersionParts}
-use Rattle.registry_names.specs.declared.refusal.Refusal.{Refusal}
 use Rattle.registry_names.specs.declared.refusal.Refusal.TheVariants.{BadName, BadVersion, RangeTag, BadTag, BadBody, BadSelector}
 use Rattle.registry_names.specs.declared.stop.Stop.{Stop}
-use Rattle.registry_names.specs.declared.stop.Stop.TheVariants.{Refused, Fault as Faulted}
-use Rattle.registry_names.specs.declared.stop.Fault.TheVariants.{Memory}
+use Rattle.registry_names.specs.declared.stop.Stop.TheVariants.{Refused}
 use Rattle.registry_ranges.specs.Grammar.{IsRangeText}
 use Rattle.registry_ranges.specs.Tags.{IsNeither, IsTag}
 use Rattle.registry_ranges.specs.Selectors.{Condition, HasConditions, IsSelector}

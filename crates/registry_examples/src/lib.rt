@@ -8,6 +8,7 @@
 
 mod beginnings;
 mod example;
+mod limits;
 mod people;
 mod rights;
 mod table;
@@ -15,6 +16,7 @@ mod table;
 mod tests;
 
 pub use crate::example::{Ask, Example, Expected, Step, Who};
+pub use crate::limits::{KEEPERS, LEAVERS, PUBLISHERS, READERS};
 pub use crate::people::{ORGANISATIONS, TEAMS, USERS};
 pub use crate::rights::{GRANTS, MAINTAINERS, STATUSES};
 pub use crate::table::{PUBLISHES, QUERIES, TAGS};

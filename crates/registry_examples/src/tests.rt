@@ -2,6 +2,8 @@
 //! long lists, and calls on the tables and on rows alone.
 
 mod body;
+mod hidden;
+mod limits;
 mod outcome;
 mod people;
 mod rounds;

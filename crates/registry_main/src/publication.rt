@@ -18,7 +18,7 @@ pub fn packument_of(alloc: Global, body: &[u8]) -> Result<Text, Ending> {
     document_in(outcomes)
 }
 
-// What makes the registry ready for the body, its publish, and the query of its package's packument.
+// What makes the registry ready for the body, its publish, and the query of the packument.
 fn requests_of(alloc: Global, body: &[u8]) -> Result<Vec<Request>, Stop> {
     let form = PublishForm::read(alloc, body)?;
     let name = Name::parse(alloc, form.name().text())?;

@@ -15,6 +15,15 @@ const BODY: &str =
 const PACKUMENT: &str =
     "{\"_id\":\"kit\",\"dist-tags\":{\"latest\":\"1.0.0\"},\"name\":\"kit\",\"versions\":{\"1.0.0\":{\"name\":\"kit\",\"version\":\"1.0.0\"}}}\n";
 
+const SCOPED_BODY: &str =
+    r#"{"name":"@lab/kit","versions":{"1.0.0":{"name":"@lab/kit","version":"1.0.0"}},"_attachments":{"a":{"data":"YWJj"}}}"#;
+
+const SCOPED_PACKUMENT: &str =
+    "{\"_id\":\"@lab/kit\",\"dist-tags\":{\"latest\":\"1.0.0\"},\"name\":\"@lab/kit\",\"versions\":{\"1.0.0\":{\"name\":\"@lab/kit\",\"version\":\"1.0.0\"}}}\n";
+
+const RESTRICTED_BODY: &str =
+    r#"{"name":"kit","versions":{"1.0.0":{"name":"kit","version":"1.0.0"}},"access":"restricted","_attachments":{"a":{"data":"YWJj"}}}"#;
+
 const NAME_OUT_OF_FORM: &str =
     r#"{"name":".x","versions":{"1.0.0":{"name":".x","version":"1.0.0"}},"_attachments":{"a":{"data":""}}}"#;
 
@@ -29,6 +38,7 @@ enum Failing {
 }
 
 /// How the program is called, and what it leaves.
+#[derive(Clone, Copy)]
 struct Case {
     shows: &'static str,
     words: &'static [&'static str],
@@ -41,7 +51,7 @@ struct Case {
     errors: &'static str,
 }
 
-static CASES: [Case; 7] = [
+static CASES: [Case; 9] = [
     Case {
         shows: "a body is published, and its packument printed",
         words: &[],
@@ -51,6 +61,26 @@ static CASES: [Case; 7] = [
         status: 0,
         output: PACKUMENT,
         errors: "",
+    },
+    Case {
+        shows: "who publishes owns the organisation of the scope, and reads the package",
+        words: &[],
+        text: SCOPED_BODY,
+        times: 1,
+        failing: Failing::None,
+        status: 0,
+        output: SCOPED_PACKUMENT,
+        errors: "",
+    },
+    Case {
+        shows: "a package without a scope can't be restricted",
+        words: &[],
+        text: RESTRICTED_BODY,
+        times: 1,
+        failing: Failing::None,
+        status: 1,
+        output: "",
+        errors: "refused: AlwaysPublic\n",
     },
     Case {
         shows: "an object without members is refused",

@@ -81,10 +81,10 @@ fn file_bytes(rt: &HostRuntime, alloc: Global, path: &str) -> Result<Vec<u8>, En
     }
 }
 
-// The reply of an empty registry in memory.
-fn reply(alloc: Global, request: &Request) -> Result<Reply, Ending> {
+// The reply of a registry that is empty, and in memory.
+fn reply(alloc: Global, request: &Request) -> Result<Reply, Fault> {
     let mut registry = Registry::in_memory(alloc)?;
-    Ok(registry.apply(alloc, request)?)
+    registry.apply(alloc, request)
 }
 
 // Prints an answer, and gives its exit status.

@@ -11,8 +11,8 @@ use call::{Call, Case, End, all_come_out};
 use registry_access::Grant::{ReadOnly, ReadWrite};
 use registry_names::Status;
 use rights::RightCall::{
-    Anonymous, DropGrant, DropMaintainer, NewGrant, NewMaintainer, OtherGrant, OtherMaintainer,
-    Packages, Standing,
+    Anonymous, DropGrant, DropMaintainer, HasGrant, IsMaintainer, NewGrant, NewMaintainer,
+    OtherGrant, OtherMaintainer, Packages, Standing,
 };
 use std::test::Fail;
 use teams::TeamCall::{Grant, Grants, Member, Organisation, Team, TeamMember, Teams, User, Users};
@@ -389,11 +389,16 @@ static RIGHTS: [Case; 4] = [
                 "true developer none false",
             ),
             ("@lab/kit", Call::NewStatus(Status::Restricted), "done"),
+            ("@lab/kit", Call::Rights(HasGrant("lab", "devs")), "false"),
             (
                 "@lab/kit",
                 Call::Rights(NewGrant("lab", "devs", ReadOnly)),
                 "done",
             ),
+            ("@lab/kit", Call::Rights(HasGrant("lab", "devs")), "true"),
+            ("@lab/kit", Call::Rights(HasGrant("lab", "docs")), "false"),
+            ("@lab/kit", Call::Rights(HasGrant("labs", "devs")), "false"),
+            ("@lab/pad", Call::Rights(HasGrant("lab", "devs")), "false"),
             (
                 "@lab/kit",
                 Call::Rights(Standing("ann")),
@@ -430,6 +435,7 @@ static RIGHTS: [Case; 4] = [
                 "false none none false",
             ),
             ("@lab/kit", Call::Rights(DropGrant("lab", "devs")), "done"),
+            ("@lab/kit", Call::Rights(HasGrant("lab", "devs")), "false"),
             (
                 "@lab/kit",
                 Call::Rights(Standing("ann")),
@@ -445,7 +451,11 @@ static RIGHTS: [Case; 4] = [
             ("@lab/kit", Call::Teams(User("bob")), "done"),
             ("@lab/kit", Call::NewStatus(Status::Public), "done"),
             ("@lab/kit", Call::Rights(OtherMaintainer("ann")), "false"),
+            ("@lab/kit", Call::Rights(IsMaintainer("bob")), "false"),
             ("@lab/kit", Call::Rights(NewMaintainer("bob")), "done"),
+            ("@lab/kit", Call::Rights(IsMaintainer("bob")), "true"),
+            ("@lab/kit", Call::Rights(IsMaintainer("ann")), "false"),
+            ("@lab/pad", Call::Rights(IsMaintainer("bob")), "false"),
             (
                 "@lab/kit",
                 Call::Rights(Standing("bob")),
@@ -461,6 +471,7 @@ static RIGHTS: [Case; 4] = [
             ("@lab/kit", Call::Rights(NewMaintainer("ann")), "done"),
             ("@lab/kit", Call::Rights(OtherMaintainer("bob")), "true"),
             ("@lab/kit", Call::Rights(DropMaintainer("bob")), "done"),
+            ("@lab/kit", Call::Rights(IsMaintainer("bob")), "false"),
             (
                 "@lab/kit",
                 Call::Rights(Standing("bob")),

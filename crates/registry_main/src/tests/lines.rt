@@ -2,22 +2,27 @@
 
 use super::{BODY, Case, Failing, leaves_it, words};
 use registry_names::Text;
+use std::alloc::Global;
 use std::test::Fail;
 use std::{env, fs, process};
 
-const fn case(
-    shows: &'static str,
-    words: &'static [&'static str],
-    status: u8,
-    output: &'static str,
-    errors: &'static str,
-) -> Case {
+/// What is shown, the words, and the status, the output and the errors that they leave.
+type Row = (
+    &'static str,
+    &'static [&'static str],
+    u8,
+    &'static str,
+    &'static str,
+);
+
+fn case(row: &Row, failing: Failing) -> Case {
+    let (shows, words, status, output, errors) = *row;
     Case {
         shows,
         words,
         text: "",
         times: 0,
-        failing: Failing::None,
+        failing,
         status,
         output,
         errors,
@@ -32,114 +37,135 @@ Usage: registry [OPTIONS] <COMMAND>
 For more information, try '--help'.
 ";
 
-static CASES: [Case; 14] = [
-    case(
+static ROWS: [Row; 12] = [
+    (
         "a command is done",
         &["--at", "0", "--operator", "user-add", "ann"],
         0,
         "{\"ok\":true}\n",
         "",
     ),
-    case(
+    (
         "without a moment the clock is read",
-        &["--operator", "user-add", "ann"],
+        &["--operator", "user-add", "bob"],
         0,
         "{\"ok\":true}\n",
         "",
     ),
-    case(
+    (
         "nobody adds a user",
         &["user-add", "ann"],
         1,
         "",
         "refused: NoCaller\n",
     ),
-    case(
+    (
         "a user who isn't known is nobody",
-        &["--as", "ann", "tags", "kit"],
+        &["--as", "eve", "tags", "kit"],
         1,
         "",
         "refused: NoCaller\n",
     ),
-    case(
+    (
         "a package that was never published isn't found",
         &["tags", "kit"],
         1,
         "",
         "refused: NotFound\n",
     ),
-    case(
+    (
         "the user's name is read first",
         &["--as", "Ann", "token-add", "ann", "short"],
         1,
         "",
         "refused: BadName\n",
     ),
-    case(
+    (
         "texts are read before the registry is asked",
         &["--as", "ann", "token-add", "ann", "short"],
         1,
         "",
         "refused: BadBody\n",
     ),
-    case(
+    (
         "a file that isn't there is a fault",
         &["--as", "ann", "publish", "no-such-file.json"],
         3,
         "",
         "fault: File\n",
     ),
-    case(
+    (
         "a file is read before the texts",
         &["--as", "Ann", "publish", "no-such-file.json"],
         3,
         "",
         "fault: File\n",
     ),
-    case(
+    (
         "a folder is no file",
         &["publish", "."],
         3,
         "",
         "fault: File\n",
     ),
-    case(
+    (
         "a user isn't the operator too",
         &["--as", "ann", "--operator", "tags", "kit"],
         2,
         "",
         "--as excludes --operator\n",
     ),
-    case("another word is told", &["nonsense"], 2, "", NONSENSE),
-    Case {
-        shows: "an output that takes nothing is a fault",
-        words: &["--operator", "user-add", "ann"],
-        text: "",
-        times: 0,
-        failing: Failing::Output,
-        status: 3,
-        output: "",
-        errors: "fault: Write\n",
-    },
-    Case {
-        shows: "a refusal needs no output",
-        words: &["tags", "kit"],
-        text: "",
-        times: 0,
-        failing: Failing::Output,
-        status: 1,
-        output: "",
-        errors: "refused: NotFound\n",
-    },
+    ("another word is told", &["nonsense"], 2, "", NONSENSE),
 ];
+
+/// Rows whose output takes nothing.
+static ROWS_OF_NO_OUTPUT: [Row; 2] = [
+    (
+        "an answer has no place",
+        &["--operator", "user-add", "cid"],
+        3,
+        "",
+        "fault: Write\n",
+    ),
+    (
+        "a refusal needs no output",
+        &["tags", "kit"],
+        1,
+        "",
+        "refused: NotFound\n",
+    ),
+];
+
+// The path of a file that no other process has.
+fn path(rt: &HostRuntime, end: &str) -> Result<String, Fail> {
+    let folder = env::temp_dir(rt)?;
+    let id = process::id(rt.process());
+    Ok(format!(in rt.alloc(); "{}/registry-{id}{end}", folder.as_str())?)
+}
+
+// The words behind those that name the registry's file.
+fn line(alloc: Global, db: &str, given: &[&str]) -> Result<Vec<Text>, Fail> {
+    let mut line = words(alloc, &["--db", db])?;
+    for word in given {
+        line.push(Text::from_str(alloc, word)?)?;
+    }
+    Ok(line)
+}
+
+fn leave_it(rt: &HostRuntime, db: &str, rows: &[Row], failing: Failing) -> Result<(), Fail> {
+    for row in rows {
+        let case = case(row, failing);
+        let words = line(rt.alloc(), db, case.words)?;
+        leaves_it(rt, rt.alloc(), &words, &case)?;
+    }
+    Ok(())
+}
 
 #[test]
 fn lines_leave_what_they_should(rt: HostRuntime) -> Result<(), Fail> {
-    for case in &CASES {
-        let words = words(rt.alloc(), case.words)?;
-        leaves_it(&rt, rt.alloc(), &words, case)?;
-    }
-    Ok(())
+    let db = path(&rt, "-lines.db")?;
+    leave_it(&rt, db.as_str(), &ROWS, Failing::None)?;
+    leave_it(&rt, db.as_str(), &ROWS_OF_NO_OUTPUT, Failing::Output)
 }
 
 static FILES: [(&'static str, &'static str); 3] = [
@@ -152,20 +178,17 @@ static FILES: [(&'static str, &'static str); 3] = [
 #[test]
 fn files_are_read(rt: HostRuntime) -> Result<(), Fail> {
     let alloc = rt.alloc();
-    let folder = env::temp_dir(&rt)?;
-    let path = format!(in alloc; "{}/{}.json", folder.as_str(), process::id(rt.process()))?;
+    let db = path(&rt, "-files.db")?;
+    let file = path(&rt, "-files.json")?;
     for (text, errors) in &FILES {
-        fs::write(&rt, path.as_str(), *text)?;
-        let mut words = words(alloc, &["--operator", "publish"])?;
-        words.push(Text::from_str(alloc, path.as_str())?)?;
-        let left = leaves_it(
-            &rt,
+        fs::write(&rt, file.as_str(), *text)?;
+        let row: Row = ("a file is read", &["--operator", "publish"], 1, "", errors);
+        let words = line(
             alloc,
-            &words,
-            &case("a file is read", &["--operator", "publish"], 1, "", errors),
-        );
-        fs::remove_file(&rt, path.as_str())?;
-        left?;
+            db.as_str(),
+            &["--operator", "publish", file.as_str()],
+        )?;
+        leaves_it(&rt, alloc, &words, &case(&row, Failing::None))?;
     }
-    Ok(())
+    Ok(fs::remove_file(&rt, file.as_str())?)
 }

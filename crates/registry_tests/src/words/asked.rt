@@ -9,19 +9,15 @@ use std::alloc::{AllocError, Global};
 use std::test::Fail;
 
 /// A line of words, the text of the file that it names, and who asks for what, or the refusal.
+#[derive(Clone, Copy)]
 struct Case {
     words: &'static [&'static str],
     body: &'static str,
     asks: &'static str,
 }
 
-const fn case(words: &'static [&'static str], asks: &'static str) -> Case {
-    Case {
-        words,
-        body: "",
-        asks,
-    }
-}
+/// A line that names no file, and what it asks for.
+type Row = (&'static [&'static str], &'static str);
 
 fn caller(alloc: Global, who: &Credential) -> Result<String, AllocError> {
     match who {
@@ -176,49 +172,63 @@ fn asks(alloc: Global, case: &Case) -> Result<(), Fail> {
     same(case.words, came_out, String::from_str(alloc, case.asks)?)
 }
 
+fn ask(alloc: Global, rows: &[Row]) -> Result<(), Fail> {
+    for (words, wanted) in rows {
+        asks(
+            alloc,
+            &Case {
+                words,
+                body: "",
+                asks: wanted,
+            },
+        )?;
+    }
+    Ok(())
+}
+
 /// One line of each subcommand but `publish`, whose texts are in form.
-static IN_FORM: [Case; 27] = [
-    case(
+static IN_FORM: [Row; 27] = [
+    (
         &["--operator", "user-add", "ann"],
         "the operator: UserAdd ann",
     ),
-    case(
+    (
         &["--operator", "token-add", "ann", "npm_ann_000000001"],
         "the operator: TokenAdd ann Some(179)",
     ),
-    case(
+    (
         &["--operator", "org-create", "lab", "ann"],
         "the operator: OrgCreate lab ann",
     ),
-    case(
+    (
         &["--as", "ann", "org-set", "lab", "bob"],
         "ann: OrgSet lab bob Developer",
     ),
-    case(
+    (
         &["--as", "ann", "org-set", "lab", "bob", "admin"],
         "ann: OrgSet lab bob Admin",
     ),
-    case(
+    (
         &["--as", "ann", "org-rm", "lab", "bob"],
         "ann: OrgRemove lab bob",
     ),
-    case(
+    (
         &["--as", "ann", "team-create", "lab", "ops"],
         "ann: TeamCreate lab ops",
     ),
-    case(
+    (
         &["--as", "ann", "team-destroy", "lab", "ops"],
         "ann: TeamDestroy lab ops",
     ),
-    case(
+    (
         &["--as", "ann", "team-add", "lab", "ops", "bob"],
         "ann: TeamAdd lab ops bob",
     ),
-    case(
+    (
         &["--as", "ann", "team-rm", "lab", "ops", "bob"],
         "ann: TeamRemove lab ops bob",
     ),
-    case(
+    (
         &[
             "--as",
             "ann",
@@ -230,120 +240,112 @@ static IN_FORM: [Case; 27] = [
         ],
         "ann: Grant lab ops @lab/kit ReadWrite",
     ),
-    case(
+    (
         &["--as", "ann", "revoke", "lab", "ops", "@lab/kit"],
         "ann: Revoke lab ops @lab/kit",
     ),
-    case(
+    (
         &["--as", "ann", "access", "@lab/kit", "restricted"],
         "ann: SetAccess @lab/kit Restricted",
     ),
-    case(
+    (
         &["--as", "bob", "owner-add", "tool", "eve"],
         "bob: OwnerAdd tool eve",
     ),
-    case(
+    (
         &["--as", "bob", "owner-rm", "tool", "eve"],
         "bob: OwnerRemove tool eve",
     ),
-    case(
+    (
         &["--as", "bob", "tag-set", "@lab/kit", "next", "1.1.0"],
         "bob: TagSet @lab/kit next 1.1.0",
     ),
-    case(
+    (
         &["--as", "bob", "tag-rm", "@lab/kit", "next"],
         "bob: TagRemove @lab/kit next",
     ),
-    case(&["packument", "@lab/kit"], "nobody: Packument @lab/kit"),
-    case(
+    (&["packument", "@lab/kit"], "nobody: Packument @lab/kit"),
+    (
         &["version-doc", "@lab/kit", "1.0.0"],
         "nobody: VersionDoc @lab/kit 1.0.0",
     ),
-    case(
+    (
         &["version-doc", "@lab/kit", "latest"],
         "nobody: VersionDoc @lab/kit Latest",
     ),
-    case(
+    (
         &["archive", "@lab/kit", "1.0.0"],
         "nobody: Archive @lab/kit 1.0.0",
     ),
-    case(&["tags", "@lab/kit"], "nobody: Tags @lab/kit"),
-    case(&["--as", "bob", "members", "lab"], "bob: Members lab"),
-    case(&["--as", "bob", "teams", "lab"], "bob: Teams lab"),
-    case(
+    (&["tags", "@lab/kit"], "nobody: Tags @lab/kit"),
+    (&["--as", "bob", "members", "lab"], "bob: Members lab"),
+    (&["--as", "bob", "teams", "lab"], "bob: Teams lab"),
+    (
         &["--as", "bob", "team-members", "lab", "ops"],
         "bob: TeamMembers lab ops",
     ),
-    case(
+    (
         &["--as", "bob", "team-packages", "lab", "ops"],
         "bob: TeamPackages lab ops",
     ),
-    case(&["serve"], "serve"),
+    (&["serve"], "serve"),
 ];
 
 /// One line of each subcommand, of which one text isn't in form.
-static OUT_OF_FORM: [Case; 25] = [
-    case(&["user-add", "Ann"], "BadName"),
-    case(&["token-add", "ann", "npm_ann"], "BadBody"),
-    case(&["org-create", "@lab", "ann"], "BadName"),
-    case(&["org-set", "lab", "bob", "king"], "BadBody"),
-    case(&["org-rm", "lab", ""], "BadName"),
-    case(&["team-create", "lab", "Ops"], "BadName"),
-    case(&["team-destroy", "lab", "@ops"], "BadName"),
-    case(&["team-add", "lab", "ops", "Bob"], "BadName"),
-    case(&["team-rm", "lab", "ops team", "bob"], "BadName"),
-    case(&["grant", "lab", "ops", "@lab/kit", "write"], "BadBody"),
-    case(&["revoke", "lab", "ops", "@lab"], "BadName"),
-    case(&["access", "@lab/kit", "private"], "BadBody"),
-    case(&["owner-add", "tool", "Eve"], "BadName"),
-    case(&["owner-rm", ".tool", "eve"], "BadName"),
-    case(&["publish", "body.json"], "BadBody"),
-    case(&["tag-set", "@lab/kit", "next", "1.1"], "BadVersion"),
-    case(&["tag-rm", "@lab/kit", "1.x"], "RangeTag"),
-    case(&["packument", "@lab"], "BadName"),
-    case(&["version-doc", "@lab/kit", "next"], "BadVersion"),
-    case(&["archive", "@lab/kit", "latest"], "BadVersion"),
-    case(&["tags", "_kit"], "BadName"),
-    case(&["members", "@lab"], "BadName"),
-    case(&["teams", ""], "BadName"),
-    case(&["team-members", "lab", "Ops"], "BadName"),
-    case(&["team-packages", "lab", "Ops"], "BadName"),
+static OUT_OF_FORM: [Row; 25] = [
+    (&["user-add", "Ann"], "BadName"),
+    (&["token-add", "ann", "npm_ann"], "BadBody"),
+    (&["org-create", "@lab", "ann"], "BadName"),
+    (&["org-set", "lab", "bob", "king"], "BadBody"),
+    (&["org-rm", "lab", ""], "BadName"),
+    (&["team-create", "lab", "Ops"], "BadName"),
+    (&["team-destroy", "lab", "@ops"], "BadName"),
+    (&["team-add", "lab", "ops", "Bob"], "BadName"),
+    (&["team-rm", "lab", "ops team", "bob"], "BadName"),
+    (&["grant", "lab", "ops", "@lab/kit", "write"], "BadBody"),
+    (&["revoke", "lab", "ops", "@lab"], "BadName"),
+    (&["access", "@lab/kit", "private"], "BadBody"),
+    (&["owner-add", "tool", "Eve"], "BadName"),
+    (&["owner-rm", ".tool", "eve"], "BadName"),
+    (&["publish", "body.json"], "BadBody"),
+    (&["tag-set", "@lab/kit", "next", "1.1"], "BadVersion"),
+    (&["tag-rm", "@lab/kit", "1.x"], "RangeTag"),
+    (&["packument", "@lab"], "BadName"),
+    (&["version-doc", "@lab/kit", "next"], "BadVersion"),
+    (&["archive", "@lab/kit", "latest"], "BadVersion"),
+    (&["tags", "_kit"], "BadName"),
+    (&["members", "@lab"], "BadName"),
+    (&["teams", ""], "BadName"),
+    (&["team-members", "lab", "Ops"], "BadName"),
+    (&["team-packages", "lab", "Ops"], "BadName"),
 ];
 
 /// Lines of which several texts aren't in form: the first is told.
-static IN_ORDER: [Case; 13] = [
-    case(&["--as", "Ann", "token-add", "bob", "npm_ann"], "BadName"),
-    case(&["--as", "Ann", "publish", "body.json"], "BadName"),
-    case(&["--as", "Ann", "tags", "@lab/kit"], "BadName"),
-    case(&["token-add", "Ann", "npm_ann"], "BadName"),
-    case(&["org-set", "lab", "Bob", "king"], "BadName"),
-    case(&["grant", "lab", "ops", "@lab", "write"], "BadName"),
-    case(&["access", "@lab", "private"], "BadName"),
-    case(&["tag-set", ".kit", "1.x", "1.1"], "BadName"),
-    case(&["tag-set", "kit", "1.x", "1.1"], "RangeTag"),
-    case(&["tag-set", "kit", "next", "1.1"], "BadVersion"),
-    case(&["tag-rm", "_kit", "1.x"], "BadName"),
-    case(&["version-doc", "_kit", "next"], "BadName"),
-    case(&["archive", "_kit", "next"], "BadName"),
+static IN_ORDER: [Row; 13] = [
+    (&["--as", "Ann", "token-add", "bob", "npm_ann"], "BadName"),
+    (&["--as", "Ann", "publish", "body.json"], "BadName"),
+    (&["--as", "Ann", "tags", "@lab/kit"], "BadName"),
+    (&["token-add", "Ann", "npm_ann"], "BadName"),
+    (&["org-set", "lab", "Bob", "king"], "BadName"),
+    (&["grant", "lab", "ops", "@lab", "write"], "BadName"),
+    (&["access", "@lab", "private"], "BadName"),
+    (&["tag-set", ".kit", "1.x", "1.1"], "BadName"),
+    (&["tag-set", "kit", "1.x", "1.1"], "RangeTag"),
+    (&["tag-set", "kit", "next", "1.1"], "BadVersion"),
+    (&["tag-rm", "_kit", "1.x"], "BadName"),
+    (&["version-doc", "_kit", "next"], "BadName"),
+    (&["archive", "_kit", "next"], "BadName"),
 ];
 
 #[test]
 fn lines_in_form_ask_for_actions(rt: HostRuntime) -> Result<(), Fail> {
-    for case in &IN_FORM {
-        asks(rt.alloc(), case)?;
-    }
-    Ok(())
+    ask(rt.alloc(), &IN_FORM)
 }
 
 #[test]
 fn the_first_text_out_of_form_is_told(rt: HostRuntime) -> Result<(), Fail> {
-    for case in &OUT_OF_FORM {
-        asks(rt.alloc(), case)?;
-    }
-    for case in &IN_ORDER {
-        asks(rt.alloc(), case)?;
-    }
-    Ok(())
+    ask(rt.alloc(), &OUT_OF_FORM)?;
+    ask(rt.alloc(), &IN_ORDER)
 }
 
 const BODY: &str =

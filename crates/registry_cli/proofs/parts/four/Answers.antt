@@ -1,4 +1,4 @@
-use Rattle.std.proofs.Common.{◌≡◌, rules, sym, subst, Ok, Err}
+use Rattle.std.proofs.Common.{rules, sym, subst, Ok, Err}
 use Rattle.std.proofs.lemmas.Result.{err_from_is_err_and}
 use Rattle.registry_cli.specs.Lines.{word_at}
 use Rattle.registry_cli.specs.Parts.{four}

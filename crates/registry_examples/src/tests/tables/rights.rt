@@ -7,7 +7,9 @@ use super::text::{done, granted_text, standing_text, word_text};
 use registry_access::{Caller, Grant};
 use registry_names::{Ident, Name, Stop};
 use registry_rules::Change;
-use registry_tables::{has_other_maintainer, load_standing, load_team_packages, make};
+use registry_tables::{
+    has_grant, has_other_maintainer, is_maintainer, load_standing, load_team_packages, make,
+};
 use sqlite::{Alter, Transaction};
 use std::alloc::Global;
 
@@ -24,6 +26,10 @@ pub enum RightCall {
     NewMaintainer(&'static str),
     /// A user is to be none.
     DropMaintainer(&'static str),
+    /// Whether a team is granted something on it.
+    HasGrant(&'static str, &'static str),
+    /// Whether a user is a maintainer of it.
+    IsMaintainer(&'static str),
     /// Whether another user than this is one.
     OtherMaintainer(&'static str),
     /// How a user stands to it.
@@ -46,6 +52,8 @@ pub fn told<S: Alter>(
     ensures in_form { OnOk result (InForm S.Store tx.new) }
 {
     match call {
+        RightCall::HasGrant(org, team) => Ok(word_text(alloc, has_grant(tx, org, team, name)?)?),
+        RightCall::IsMaintainer(user) => Ok(word_text(alloc, is_maintainer(tx, name, user)?)?),
         RightCall::OtherMaintainer(user) => other_maintainer(alloc, tx, name, user),
         RightCall::Standing(user) => standing(alloc, tx, name, user),
         RightCall::Anonymous => standing_of(alloc, tx, name, &Caller::Anonymous),

@@ -1,7 +1,10 @@
+use Rattle.std.proofs.Common.{subst}
+use Rattle.sqlite.specs.Held.{state}
+use Rattle.registry_http.specs.Desks.{Applies}
 use Rattle.registry_http.proofs.front_desk.FrontDeskDesk.answer.Goals as goal
 
 pub returns : goal.returns
-returns g c = record {
+returns g c = subst (λ was. Applies (state g.S.Store was) (state g.S.Store c.apply.new.self) c.args.request.now c.apply.result) c.self.view_is (record {
   answer = c.apply.ensures.answer;
   served = c.apply.ensures.served;
   opened = c.apply.ensures.opened;
@@ -13,4 +16,4 @@ returns g c = record {
   archives = c.apply.ensures.archives;
   survives = c.apply.ensures.survives;
   stays = c.apply.ensures.stays;
-}
+})
