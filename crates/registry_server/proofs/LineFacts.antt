@@ -1,5 +1,5 @@
 -- What a turn makes of a line.
-use Rattle.std.proofs.Common.{◌≡◌, ◌-◌, ◌⊎◌, ℕ, Bool, true, List, Option, refl, ap, arith}
+use Rattle.std.proofs.Common.{◌≡◌, ◌⊎◌, ℕ, Bool, true, List, Option, refl, ap, arith}
 use Rattle.registry_names.specs.declared.refusal.Refusal.{Refusal}
 use Rattle.registry_wire.specs.Spelling.{EndsWith, IsBad}
 use Rattle.registry_wire.specs.declared.first.Ending.TheVariants.{BadInput}

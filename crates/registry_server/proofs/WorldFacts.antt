@@ -1,13 +1,13 @@
 -- What the calls of a line make of all connections.
-use Rattle.std.proofs.Common.{◌≡◌, ◌==◌, ◌<◌, ◌-◌, ◌+◌, ◌++◌, ◌∷◌, ◌∙◌, [], ℕ, Bool, true, false, List, Option, None, cond, length, take, drop, refl, sym, ap, subst, arith, append_assoc, append-nil, is_some}
+use Rattle.std.proofs.Common.{◌≡◌, ◌==◌, ◌<◌, ◌-◌, ◌+◌, ◌++◌, ◌∷◌, ◌∙◌, ℕ, Bool, true, false, List, None, cond, length, take, drop, refl, sym, ap, subst, arith, append_assoc, append-nil, is_some}
 use Rattle.std.proofs.lemmas.Bool.Decides.{nat_tests}
 use Rattle.std.proofs.lemmas.List.{take-append-drop}
 use Rattle.registry_wire.specs.Reading.{TakenOf}
-use Rattle.registry_talk.specs.Courses.{GoOn, count_of, taken_for}
-use Rattle.registry_talk.specs.Histories.{Entry, Line, Reached, World, at_end, changed, comes, begins, is_last, on_line, sends, shuts, start, turned_on, turns, turns_of, with_bytes, with_sent, with_turn}
+use Rattle.registry_talk.specs.Courses.{count_of, taken_for}
+use Rattle.registry_talk.specs.Histories.{Line, Reached, World, at_end, comes, is_last, on_line, sends, shuts, turned_on, turns, turns_of, with_bytes, with_sent, with_turn}
 use Rattle.registry_talk.specs.Turns.{Answers, Cause, IsTurn, IsTurnFor, Turn, bad_input, is_request, no_memory, request, response_of}
 use Rattle.registry_talk.proofs.CourseFacts.{bytes-same, on-not_last, on-request}
-use Rattle.registry_server.specs.Lines.{Pending, TakesTurn, fresh, holding, sending}
+use Rattle.registry_server.specs.Lines.{Pending, holding, sending}
 use Rattle.registry_server.specs.Worlds.{Begins, Comes, LeadsTo, MayHave, Sends, Shuts, StandsFor, TakesTurns}
 
 -- ---- one connection of a world
