@@ -1,5 +1,5 @@
-//! The program's words and what it prints: what a line of words means and asks for, how roles,
-//! levels and statuses are spelled, and what is printed of an answer.
+//! The program's words and what it prints: what a line of words means and asks for, and what
+//! is printed of an answer.
 #![tactic(auto)]
 
 mod action;
@@ -9,7 +9,6 @@ mod part;
 mod parts;
 mod printed;
 mod reading;
-pub mod spelling;
 mod subcommand;
 mod usage;
 mod words;

@@ -4,7 +4,6 @@ ghost use Rattle.std.specs.Prelude.{List, ℕ, Result};
 ghost use Rattle.registry_names.specs.declared.stop.Stop.{Stop};
 ghost use Rattle.registry_cli.specs.Parts as spec;
 
-use crate::spelling;
 use registry_access::{Grant, Role};
 use registry_names::{Ident, Message, Name, Refusal, Status, Stop, TagText, Ver};
 use registry_publish::TokenDigest;
@@ -69,9 +68,9 @@ impl Part for Role {
     ghost reads = { spec.reads_role };
 
     fn read(_alloc: Global, text: &str) -> Result<Role, Stop> {
-        match spelling::role(text) {
-            Ok(role) => Ok(role),
-            Err(refusal) => Err(Stop::Refused(refusal)),
+        match Role::named(text) {
+            Some(role) => Ok(role),
+            None => Err(Stop::Refused(Refusal::BadBody)),
         }
     }
 }
@@ -80,9 +79,9 @@ impl Part for Grant {
     ghost reads = { spec.reads_level };
 
     fn read(_alloc: Global, text: &str) -> Result<Grant, Stop> {
-        match spelling::level(text) {
-            Ok(level) => Ok(level),
-            Err(refusal) => Err(Stop::Refused(refusal)),
+        match Grant::named(text) {
+            Some(level) => Ok(level),
+            None => Err(Stop::Refused(Refusal::BadBody)),
         }
     }
 }
@@ -91,9 +90,9 @@ impl Part for Status {
     ghost reads = { spec.reads_status };
 
     fn read(_alloc: Global, text: &str) -> Result<Status, Stop> {
-        match spelling::status(text) {
-            Ok(status) => Ok(status),
-            Err(refusal) => Err(Stop::Refused(refusal)),
+        match Status::named(text) {
+            Some(status) => Ok(status),
+            None => Err(Stop::Refused(Refusal::BadBody)),
         }
     }
 }

@@ -1,8 +1,7 @@
-//! What is printed of answers, and how roles, levels and statuses are spelled.
+//! What is printed of answers, and how roles, grants and statuses are spelled.
 
 use crate::outcome::same;
 use registry_access::{Grant, Role};
-use registry_cli::spelling::{level, role, status};
 use registry_cli::{Printed, render};
 use registry_names::{Blob, Fault, Refusal, Rule, Status, Text};
 use registry_rules::Reply;
@@ -65,39 +64,40 @@ fn refusals_are_printed(rt: HostRuntime) -> Result<(), Fail> {
     Ok(())
 }
 
-static ROLES: [(&'static str, Result<Role, Refusal>); 6] = [
-    ("developer", Ok(Role::Developer)),
-    ("admin", Ok(Role::Admin)),
-    ("owner", Ok(Role::Owner)),
-    ("Owner", Err(Refusal::BadBody)),
-    ("owner ", Err(Refusal::BadBody)),
-    ("", Err(Refusal::BadBody)),
+static ROLES: [(&'static str, Option<Role>); 6] = [
+    ("developer", Some(Role::Developer)),
+    ("admin", Some(Role::Admin)),
+    ("owner", Some(Role::Owner)),
+    ("Owner", None),
+    ("owner ", None),
+    ("", None),
 ];
 
-static LEVELS: [(&'static str, Result<Grant, Refusal>); 4] = [
-    ("read-only", Ok(Grant::ReadOnly)),
-    ("read-write", Ok(Grant::ReadWrite)),
-    ("read_only", Err(Refusal::BadBody)),
-    ("nothing", Err(Refusal::BadBody)),
+static GRANTS: [(&'static str, Option<Grant>); 4] = [
+    ("read-only", Some(Grant::ReadOnly)),
+    ("read-write", Some(Grant::ReadWrite)),
+    ("read_only", None),
+    ("nothing", None),
 ];
 
-static STATUSES: [(&'static str, Result<Status, Refusal>); 4] = [
-    ("public", Ok(Status::Public)),
-    ("restricted", Ok(Status::Restricted)),
-    ("private", Err(Refusal::BadBody)),
-    ("PUBLIC", Err(Refusal::BadBody)),
+static STATUSES: [(&'static str, Option<Status>); 4] = [
+    ("public", Some(Status::Public)),
+    ("restricted", Some(Status::Restricted)),
+    ("private", None),
+    ("PUBLIC", None),
 ];
 
 #[test]
-fn roles_levels_and_statuses_are_spelled(_rt: HostRuntime) -> Result<(), Fail> {
+fn roles_grants_and_statuses_are_spelled(_rt: HostRuntime) -> Result<(), Fail> {
     for (text, wanted) in &ROLES {
-        same(*text, role(text), *wanted)?;
+        same(*text, Role::named(text), *wanted)?;
     }
-    for (text, wanted) in &LEVELS {
-        same(*text, level(text), *wanted)?;
+    for (text, wanted) in &GRANTS {
+        same(*text, Grant::named(text), *wanted)?;
     }
     for (text, wanted) in &STATUSES {
-        same(*text, status(text), *wanted)?;
+        same(*text, Status::named(text), *wanted)?;
     }
-    Ok(())
+    same(Role::Admin, Role::Admin.text(), "admin")?;
+    same(Grant::ReadWrite, Grant::ReadWrite.text(), "read-write")
 }
