@@ -8,9 +8,9 @@ use Rattle.registry_rules.specs.declared.request.Action.TheVariants as action
 use Rattle.registry_rules.specs.declared.request.Credential.{Credential}
 use Rattle.registry_rules.specs.declared.request.Credential.TheVariants as credential
 use Rattle.registry_cli.specs.Lines.{word_at}
-use Rattle.registry_cli.specs.Parts.{Reading, four, gives, one, read_then, reads_asked, reads_ident, reads_level, reads_name, reads_role, reads_status, reads_tag, reads_token, reads_version, three, two}
+use Rattle.registry_cli.specs.Parts.{Reading, four, gives, one, read_then, reads_asked, reads_ident, reads_level, reads_message, reads_name, reads_role, reads_selector, reads_status, reads_tag, reads_token, reads_version, three, two}
 use Rattle.registry_cli.specs.declared.action.Verb.{Verb}
-use Rattle.registry_cli.specs.declared.action.Verb.TheVariants.{UserAdd, TokenAdd, OrgCreate, OrgSet, OrgRemove, TeamCreate, TeamDestroy, TeamAdd, TeamRemove, Grant, Revoke, SetAccess, OwnerAdd, OwnerRemove, Publish, TagSet, TagRemove, Packument, VersionDoc, Archive, Tags, Members, Teams, TeamMembers, TeamPackages}
+use Rattle.registry_cli.specs.declared.action.Verb.TheVariants.{UserAdd, TokenAdd, OrgCreate, OrgSet, OrgRemove, TeamCreate, TeamDestroy, TeamAdd, TeamRemove, Grant, Revoke, SetAccess, OwnerAdd, OwnerRemove, Publish, TagSet, TagRemove, Deprecate, Withdraw, Packument, VersionDoc, Archive, Tags, Members, Teams, TeamMembers, TeamPackages}
 use Rattle.registry_cli.specs.declared.meaning.Line.{Line}
 use Rattle.registry_cli.specs.declared.meaning.Who.{Who}
 use Rattle.registry_cli.specs.declared.meaning.Who.TheVariants as who
@@ -43,6 +43,8 @@ verb_of name =
     if bytes_eq name (codes "publish") then Some Publish else (
     if bytes_eq name (codes "tag-set") then Some TagSet else (
     if bytes_eq name (codes "tag-rm") then Some TagRemove else (
+    if bytes_eq name (codes "deprecate") then Some Deprecate else (
+    if bytes_eq name (codes "withdraw") then Some Withdraw else (
     if bytes_eq name (codes "packument") then Some Packument else (
     if bytes_eq name (codes "version-doc") then Some VersionDoc else (
     if bytes_eq name (codes "archive") then Some Archive else (
@@ -51,7 +53,7 @@ verb_of name =
     if bytes_eq name (codes "teams") then Some Teams else (
     if bytes_eq name (codes "team-members") then Some TeamMembers else (
     if bytes_eq name (codes "team-packages") then Some TeamPackages else (
-    None)))))))))))))))))))))))))
+    None)))))))))))))))))))))))))))
 
 abbrev pub reads_form : List ℕ → Reading FormParts
 reads_form body result = MatchResult result (IsFormOf body) (StopsForm body)
@@ -75,6 +77,8 @@ asked OwnerRemove words body = read_then (two reads_name reads_ident words) (λ 
 asked Publish words body = read_then (reads_form body) (λ form. gives (action.Publish form))
 asked TagSet words body = read_then (three reads_name reads_tag reads_version words) (λ p. gives (action.TagSet p.0 p.1 p.2))
 asked TagRemove words body = read_then (two reads_name reads_tag words) (λ p. gives (action.TagRemove p.0 p.1))
+asked Deprecate words body = read_then (three reads_name reads_selector reads_message words) (λ p. gives (action.Deprecate p.0 p.1 p.2))
+asked Withdraw words body = read_then (two reads_name reads_version words) (λ p. gives (action.Withdraw p.0 p.1))
 asked Packument words body = read_then (one reads_name words) (λ p. gives (action.Packument p))
 asked VersionDoc words body = read_then (two reads_name reads_asked words) (λ p. gives (action.VersionDoc p.0 p.1))
 asked Archive words body = read_then (two reads_name reads_version words) (λ p. gives (action.Archive p.0 p.1))

@@ -1,8 +1,8 @@
 -- What the program prints of an answer, and the status with which it ends.
-use Rattle.std.specs.Prelude.{ℕ, List, [], ◌++◌, codes}
+use Rattle.std.specs.Prelude.{ℕ, List, [], ◌++◌, codes, decimal}
 use Rattle.registry_names.specs.Refusals.{refusal_text}
 use Rattle.registry_rules.specs.declared.reply.Reply.{Reply}
-use Rattle.registry_rules.specs.declared.reply.Reply.TheVariants.{Created, Done, Doc, Bytes, Refused}
+use Rattle.registry_rules.specs.declared.reply.Reply.TheVariants.{Created, Done, Count, Doc, Bytes, Refused}
 use Rattle.registry_cli.specs.declared.printed.Printed.{Printed}
 
 abbrev pub newline : List ℕ
@@ -22,6 +22,7 @@ done = codes "{\"ok\":true}"
 abbrev pub printed : Reply → Printed
 printed Created = on_output (done ++ newline)
 printed Done = on_output (done ++ newline)
+printed (Count n) = on_output (codes "{\"count\":" ++ decimal n ++ codes ",\"ok\":true}" ++ newline)
 printed (Doc text) = on_output (text ++ newline)
 printed (Bytes archive) = on_output archive
 printed (Refused refusal) = on_errors (codes "refused: " ++ refusal_text refusal ++ newline)

@@ -88,6 +88,12 @@ tag = required (codes "TAG")
 abbrev pub version : Rule
 version = required (codes "VERSION")
 
+abbrev pub selector : Rule
+selector = required (codes "SELECTOR")
+
+abbrev pub message : Rule
+message = required (codes "MESSAGE")
+
 abbrev pub port : Rule
 port = with_default (codes "8080") (number (codes "PORT") (codes "port") (numbers 1 65535))
 
@@ -115,6 +121,8 @@ subcommands =
     ∷ (codes "publish", file ∷ [])
     ∷ (codes "tag-set", name ∷ tag ∷ version ∷ [])
     ∷ (codes "tag-rm", name ∷ tag ∷ [])
+    ∷ (codes "deprecate", name ∷ selector ∷ message ∷ [])
+    ∷ (codes "withdraw", name ∷ version ∷ [])
     ∷ (codes "packument", name ∷ [])
     ∷ (codes "version-doc", name ∷ version ∷ [])
     ∷ (codes "archive", name ∷ version ∷ [])

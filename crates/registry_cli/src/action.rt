@@ -32,6 +32,8 @@ pub(crate) enum Verb {
     Publish,
     TagSet,
     TagRemove,
+    Deprecate,
+    Withdraw,
     Packument,
     VersionDoc,
     Archive,
@@ -98,6 +100,8 @@ fn verb_of(name: &str) -> Option<Verb>
         "publish" => Some(Verb::Publish),
         "tag-set" => Some(Verb::TagSet),
         "tag-rm" => Some(Verb::TagRemove),
+        "deprecate" => Some(Verb::Deprecate),
+        "withdraw" => Some(Verb::Withdraw),
         "packument" => Some(Verb::Packument),
         "version-doc" => Some(Verb::VersionDoc),
         "archive" => Some(Verb::Archive),
@@ -131,6 +135,8 @@ fn asked(alloc: Global, verb: Verb, words: &[Text], body: &[u8]) -> Result<Actio
         Verb::Publish => publish(alloc, body),
         Verb::TagSet => tag_set(alloc, words),
         Verb::TagRemove => tag_remove(alloc, words),
+        Verb::Deprecate => deprecate(alloc, words),
+        Verb::Withdraw => withdraw(alloc, words),
         Verb::Packument => packument(alloc, words),
         Verb::VersionDoc => version_doc(alloc, words),
         Verb::Archive => archive(alloc, words),
@@ -283,6 +289,24 @@ fn tag_remove(alloc: Global, words: &[Text]) -> Result<Action, Stop>
 {
     let (name, tag) = two(alloc, words)?;
     Ok(Action::TagRemove { name, tag })
+}
+
+fn deprecate(alloc: Global, words: &[Text]) -> Result<Action, Stop>
+    ensures { spec.asked verbs.Deprecate words.now [] result }
+{
+    let (name, selector, message) = three(alloc, words)?;
+    Ok(Action::Deprecate {
+        name,
+        selector,
+        message,
+    })
+}
+
+fn withdraw(alloc: Global, words: &[Text]) -> Result<Action, Stop>
+    ensures { spec.asked verbs.Withdraw words.now [] result }
+{
+    let (name, version) = two(alloc, words)?;
+    Ok(Action::Withdraw { name, version })
 }
 
 fn packument(alloc: Global, words: &[Text]) -> Result<Action, Stop>

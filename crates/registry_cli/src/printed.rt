@@ -1,6 +1,6 @@
 //! What is printed of an answer.
 
-ghost use Rattle.std.specs.Prelude.{◌≡◌, ◌++◌, codes, IfErr, IfOk};
+ghost use Rattle.std.specs.Prelude.{◌≡◌, ◌++◌, codes, decimal, IfErr, IfOk};
 ghost use Rattle.registry_names.specs.declared.stop.Fault.TheVariants.{Memory};
 ghost use Rattle.registry_names.specs.Refusals.{refusal_text};
 ghost use Rattle.registry_cli.specs.Prints.{newline, on_errors, on_output, printed};
@@ -21,8 +21,8 @@ pub struct Printed {
 }
 
 /// What is printed of an answer: on standard output, with status 0, a document and a newline, the
-/// bytes of an archive as they are, or `{"ok":true}` and a newline for a command that was done; on
-/// standard error, with status 1, `refused: ` and the refusal, and a newline.
+/// bytes of an archive as they are, `{"ok":true}` and a newline for a command that was done, or
+/// `{"count":2,"ok":true}` and a newline for a deprecation of 2 versions; on standard error, with status 1, `refused: ` and the refusal, and a newline.
 ///
 /// `Memory` comes where no memory is left.
 pub fn render(alloc: Global, reply: &Reply) -> Result<Printed, Fault>
@@ -31,6 +31,7 @@ pub fn render(alloc: Global, reply: &Reply) -> Result<Printed, Fault>
 {
     let rendered = match reply {
         Reply::Created | Reply::Done => answer(alloc, "{\"ok\":true}".as_bytes(), "\n"),
+        Reply::Count(count) => counted(alloc, *count),
         Reply::Doc(text) => answer(alloc, text.as_str().as_bytes(), "\n"),
         Reply::Bytes(archive) => answer(alloc, archive.as_slice(), ""),
         Reply::Refused(refusal) => refused(alloc, *refusal),
@@ -49,6 +50,15 @@ fn answer(alloc: Global, bytes: &[u8], end: &str) -> Result<Printed, AllocError>
         err: Text::from_str(alloc, "")?,
         status: 0,
     })
+}
+
+// An answer of so many.
+fn counted(alloc: Global, count: u64) -> Result<Printed, AllocError>
+    ensures { IfOk result (λ p. p ≡ on_output
+        (codes "{\"count\":" ++ decimal count ++ codes ",\"ok\":true}" ++ newline)) }
+{
+    let text = format!(in alloc; "{{\"count\":{count},\"ok\":true}}")?;
+    answer(alloc, text.as_bytes(), "\n")
 }
 
 fn refused(alloc: Global, refusal: Refusal) -> Result<Printed, AllocError>

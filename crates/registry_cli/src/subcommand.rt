@@ -119,6 +119,18 @@ const VERSION_OR_LATEST: Word = Word {
     need: Need::Required,
 };
 
+const SELECTOR: Word = Word {
+    id: "SELECTOR",
+    help: "Versions, as 1.x or \">=1.0.0 <2.0.0\"",
+    need: Need::Required,
+};
+
+const MESSAGE: Word = Word {
+    id: "MESSAGE",
+    help: "At most 1,024 bytes; the empty text takes a deprecation back",
+    need: Need::Required,
+};
+
 const PORT: Word = Word {
     id: "PORT",
     help: "The port of 127.0.0.1, from 1 to 65535",
@@ -139,7 +151,7 @@ const CONNECTIONS: Word = Word {
     },
 };
 
-static SUBCOMMANDS: [Subcommand; 26] = [
+static SUBCOMMANDS: [Subcommand; 28] = [
     Subcommand {
         name: "user-add",
         words: &[USER],
@@ -241,6 +253,18 @@ static SUBCOMMANDS: [Subcommand; 26] = [
         words: &[PACKAGE, TAG],
         about: "Remove a dist-tag other than latest (who may write the package)",
         example: "Example: registry --as bob tag-rm @lab/kit next",
+    },
+    Subcommand {
+        name: "deprecate",
+        words: &[PACKAGE, SELECTOR, MESSAGE],
+        about: "Deprecate versions of a package with a message (who may write it)",
+        example: "Example: registry --as bob deprecate @lab/kit 1.x \"use 2.x\"",
+    },
+    Subcommand {
+        name: "withdraw",
+        words: &[PACKAGE, VERSION],
+        about: "Withdraw a version within 72 hours, for good (who may write the package)",
+        example: "Example: registry --as bob withdraw @lab/kit 1.0.0",
     },
     Subcommand {
         name: "packument",

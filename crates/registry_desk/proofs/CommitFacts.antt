@@ -1,5 +1,5 @@
 -- The first tables, and what a commit leaves.
-use Rattle.std.proofs.Common.{◌≡◌, ◌⊎◌, ◌∙◌, ◌+◌, ◌-◌, ◌^◌, ◌≤◌, Bool, min, arith, inl, inr, IsTrue, true, false, true≢false, sym, ap, subst}
+use Rattle.std.proofs.Common.{◌≡◌, ◌⊎◌, ◌∙◌, ◌+◌, ◌-◌, ◌^◌, ◌≤◌, Bool, min, arith, inl, inr, IsTrue, true, false, true≢false, refl, sym, ap, subst}
 use Rattle.std.specs.List.{AllByRecursion}
 use Rattle.sqlite.specs.Effect.{Database, IsDatabase}
 use Rattle.sqlite.specs.Held.{Held, state}
@@ -16,8 +16,8 @@ use Rattle.registry_tables.specs.Schema.{schema}
 use Rattle.registry_desk.specs.Resting.{Rests}
 
 -- an empty database has no tables, also once a transaction is begun
-pub empty_begun : {S : Type 0} (store : Ghosts S) (h : Held S) → IsEmpty (state store h) → Ready no_tables (state store (record h { in_transaction = true }))
-empty_begun store h empty clean on = record { schema_is = empty.2; sound = (empty.1 on).0; rowids = tt }
+pub empty_begun : {S : Type 0} (store : Ghosts S) (h : Held S) → (HasCleanDisk (state store h) → IsEmpty (state store h)) → Ready no_tables (state store (record h { in_transaction = true }))
+empty_begun store h empty clean on = record { schema_is = (empty clean).2; sound = ((empty clean).1 on).0; rowids = tt }
 
 ready_again : (mid new : Shown) → new.now ≡ mid.now → IsReady schema mid → IsReady schema new
 ready_again mid new same ready = record {
@@ -26,6 +26,10 @@ ready_again mid new same ready = record {
   rowids = subst (λ (d : Database). AllByRecursion (λ t. HasRowids (d.trees t.tree)) schema.tables) (sym same) ready.rowids;
 }
 
+-- a transaction that is begun finds the tables in form
+pub begun_in_form : {S : Type 0} (store : Ghosts S) (h : Held S) → Ready schema (state store h) → Ready schema (state store (record h { in_transaction = true }))
+begun_in_form store h ready clean on = ready_again (state store h) (state store (record h { in_transaction = true })) refl (ready clean on)
+
 -- what a commit leaves, however the disk is
 pub commit_rests : (left : Contents) (mid new : Shown) → new.in_transaction ≡ false → (HasCleanDisk new → Leaves schema contents left mid) → (HasCleanDisk new → Shows mid new mid.now mid.now false) → Rests new
 commit_rests left mid new ended leaves shows = record {
@@ -33,9 +37,6 @@ commit_rests left mid new ended leaves shows = record {
   in_form = λ clean _. ready_again mid new (shows clean).now_is (leaves clean).ready;
   settled = λ clean _. (shows clean).now_is ∙ sym (shows clean).committed_is;
 }
-
-pub committed_rests : (left : Contents) (mid new : Shown) → Leaves schema contents left mid → Shows mid new mid.now mid.now false → Rests new
-committed_rests left mid new leaves shows = commit_rests left mid new shows.mode (λ _. leaves) (λ _. shows)
 
 -- ---- what is left where nothing was committed
 

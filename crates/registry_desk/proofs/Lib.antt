@@ -1,6 +1,7 @@
 mod CommitFacts
 mod KeepingFacts
 mod MakingFacts
+mod OpenedFacts
 mod SettlingFacts
 pub mod AnswerFacts
 pub mod StoredFacts

@@ -85,7 +85,7 @@ has_run_none s = record {
   ran = λ sound clean. ran_none (registry_in s) s.is_open;
   stored = λ sound clean on. refl;
   sound = λ sound clean on. sound;
-  form = λ clean on kept. kept;
+  form = λ needs clean on kept. kept;
   needs = λ sound clean on holds. holds;
   archives = λ sound clean on holds. holds;
   survives = record { clean = omega arith; shield = λ h. h; counts = omega arith; limit = refl; closes = λ _ on. inl on; crash = λ _ db left. inl left };
@@ -107,7 +107,8 @@ has_run_more old mid new rs os r o run made =
       stored = λ sound clean on. made.step (still sound clean (made.opened clean on)) clean on ∙ ap (next_stored r o) (run.stored sound (before clean) (made.opened clean on))
           ∙ sym (end_stored_push (registry_in old) (stored old) rs os r o (run.ran sound (before clean)).answers);
       sound = λ sound clean on. made.sound (still sound clean (made.opened clean on)) clean on;
-      form = λ clean on kept. made.form clean on (run.form (before clean) (made.opened clean on) kept);
+      form = λ needs clean on kept.
+          made.form (still (record { refers = kept.sound; needs = needs }) clean (made.opened clean on)).needs clean on (run.form needs (before clean) (made.opened clean on) kept);
       needs = λ sound clean on holds. made.needs (still sound clean (made.opened clean on)) clean on (run.needs sound (before clean) (made.opened clean on) holds);
       archives = λ sound clean on holds. made.archives (still sound clean (made.opened clean on)) clean on (run.archives sound (before clean) (made.opened clean on) holds);
       survives = survives_then old mid new _ _ (λ db. HoldsSound old → SettlesOne (rs ++ r ∷ []) (os ++ o ∷ []) (stored old) (contents db))

@@ -2,7 +2,7 @@
 use Rattle.std.specs.Prelude.{◌≡◌, true, Some, map, filter, option_map}
 use Rattle.registry_names.specs.Maps.{at, keys, of, pairs_of, parts, seen}
 use Rattle.registry_names.specs.Texts.{Text}
-use Rattle.registry_names.specs.Versions.{text_of_version}
+use Rattle.registry_names.specs.Versions.{VersionParts, text_of_version}
 use Rattle.registry_names.specs.Tags.{latest}
 use Rattle.registry_access.specs.Levels.{reads}
 use Rattle.registry_access.specs.Positions.{level_in}
@@ -11,9 +11,10 @@ use Rattle.registry_access.specs.declared.grant.Grant.{Grant}
 use Rattle.registry_publish.specs.Form.{FormParts}
 use Rattle.registry_rules.specs.Actions.{is_command, version_of}
 use Rattle.registry_rules.specs.Callers.{caller_of}
-use Rattle.registry_rules.specs.State.{State, Release, has_grant, has_other_maintainer, has_other_owner, has_team, has_user, is_in_team, is_live, is_member, is_owned_by, is_published, is_spent, stands}
+use Rattle.registry_rules.specs.State.{State, Release, has_grant, has_live, has_other_maintainer, has_other_owner, has_team, has_user, is_in_team, is_live, is_member, is_owned_by, is_published, is_spent, stands}
+use Rattle.registry_rules.specs.Withdrawals.{is_depended, last_withdrawal, live_versions, published_at, tags_of}
 use Rattle.registry_rules.specs.declared.request.Action.{Action}
-use Rattle.registry_rules.specs.declared.request.Action.TheVariants.{Packument, VersionDoc, Archive, Tags, Members, Teams, TeamMembers, TeamPackages}
+use Rattle.registry_rules.specs.declared.request.Action.TheVariants.{Deprecate, Packument, VersionDoc, Archive, Tags, Members, Teams, TeamMembers, TeamPackages}
 use Rattle.registry_rules.specs.declared.request.Request.{Request}
 use Rattle.registry_tables.specs.Contents.{Contents, registry_of}
 use Rattle.registry_tables.specs.Spelled.{document, document_entry, member_entry, row_entry, tag_entry}
@@ -25,10 +26,11 @@ use Rattle.registry_desk.specs.declared.maintainers.Newcomer.{Newcomer}
 use Rattle.registry_desk.specs.declared.organisations.Candidate.{Candidate}
 use Rattle.registry_desk.specs.declared.packages.Taken.{Taken}
 use Rattle.registry_desk.specs.declared.teams.Place.{Place}
+use Rattle.registry_desk.specs.declared.withdrawals.Life.{Life}
 use Rattle.registry_desk.specs.declared.rows.Rows.{Rows}
 use Rattle.registry_desk.specs.declared.rows.Rows.TheVariants as rows
 
--- The rows are those that answer the caller's action. A command is answered by none
+-- The rows are those that answer the caller's action. A command is answered by none, but a deprecation by the live versions
 abbrev pub AreRowsOf : Rows → State → Caller → Action → Type 0
 AreRowsOf (rows.Packument versions tags) S who (Packument p) =
     (map row_entry versions.items ≡ map (seen document) (of S.live p)) × (map tag_entry tags.items ≡ of S.tags p)
@@ -40,6 +42,7 @@ AreRowsOf (rows.Names names) S who (Teams o) = names.items ≡ keys (of S.access
 AreRowsOf (rows.Names names) S who (TeamMembers o t) = names.items ≡ keys (parts (pairs_of S.access.team_members o) t)
 AreRowsOf (rows.Grants granted) S who (TeamPackages o t) =
     map granted_entry granted.items ≡ filter (λ (e : Text × Grant). reads (level_in S.access who e.0)) (parts (pairs_of S.access.grants o) t)
+AreRowsOf (rows.Live live) S who (Deprecate p selector message) = map text_of_version live.items ≡ live_versions S p
 AreRowsOf rows.Nothing S who what = is_command what ≡ true
 AreRowsOf _ S who _ = ⊥
 
@@ -67,12 +70,21 @@ pub record IsGrantable (grantable : Grantable) (S : State) (o t p : Text) : Type
   pub is_published : grantable.is_published ≡ is_published S p
   pub stands : grantable.stands ≡ has_grant S o t p
 
--- the version lives or not, was withdrawn or not, and its tag and `latest` stand or not
+-- the version lives or not, was withdrawn or not, its tag and `latest` stand or not, a version of its package lives or none, and one was withdrawn last or none
 pub record AreTaken (taken : Taken) (S : State) (f : FormParts) : Type 0 where
   pub version_lives : taken.version_lives ≡ is_live S f.name (version_of f)
   pub version_spent : taken.version_spent ≡ is_spent S f.name (version_of f)
   pub tag_stands : taken.tag_stands ≡ stands S f.name f.tag
   pub latest_stands : taken.latest_stands ≡ stands S f.name latest
+  pub lives : taken.lives ≡ has_live S f.name
+  pub last_withdrawal : taken.last_withdrawal ≡ last_withdrawal S f.name
+
+-- when the version was published, if it lives, whether another package needs it, the tags that name it, and the live versions
+pub record IsLife (life : Life) (S : State) (p : Text) (v : VersionParts) : Type 0 where
+  pub published : life.published ≡ published_at S p (text_of_version v)
+  pub depended : life.depended ≡ is_depended S p v
+  pub tags : life.tags.items ≡ tags_of S p (text_of_version v)
+  pub live : map text_of_version life.live.items ≡ live_versions S p
 
 -- the user is there or not, and a maintainer already or not
 pub record IsNewcomer (newcomer : Newcomer) (S : State) (p u : Text) : Type 0 where

@@ -1,3 +1,4 @@
 pub mod Found
+pub mod Opened
 pub mod Promises
 pub mod Resting

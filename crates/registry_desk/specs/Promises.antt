@@ -1,5 +1,5 @@
 -- What is promised of a request, and of a run, as long as the disk returns what was written to it. `old` and `new` are what the connection shows at the entry and at the exit.
--- What decides a request is read from rows that refer to others. So it is promised where those are there (`IsSound`): of a new registry that is so, and every request keeps it.
+-- What decides a request is read from rows that refer to others, and from the needs that are stored. So it is promised where those are there, and these are the needs of live versions (`HoldsSound`): of a new registry that is so, and every request keeps it.
 use Rattle.std.specs.Prelude.{◌≡◌, List, OnOk, IsTrue}
 use Rattle.sqlite_trees.specs.Tree.{Trees}
 use Rattle.sqlite.specs.State.{State as Shown, HasCleanDisk, Survives}
@@ -8,6 +8,7 @@ use Rattle.registry_rules.specs.State.{nothing}
 use Rattle.registry_rules.specs.declared.request.Request.{Request}
 use Rattle.registry_tables.specs.Contents.{Contents, contents}
 use Rattle.registry_tables.specs.Effects.{registry_in, stored}
+use Rattle.registry_tables.specs.Needs.{HoldsNeeds}
 use Rattle.registry_history.specs.Headline.{Headline}
 use Rattle.registry_history.specs.History.{Entry, Legal, after}
 use Rattle.registry_history.specs.Says.{Says}
@@ -26,16 +27,17 @@ Stays new o = HasCleanDisk new → OnOk o (IsSure new)
 abbrev pub StaysRun : Shown → List Outcome → Type 0
 StaysRun new os = HasCleanDisk new → IsTrue (ends_replied os) → IsSure new
 
--- what stands refers to what is there
-abbrev pub HoldsSound : Shown → Type 0
-HoldsSound s = IsSound (registry_in s).access
+-- what stands refers to what is there, and the needs that are stored are those of live versions
+pub record HoldsSound (s : Shown) : Type 0 where
+  pub refers : IsSound (registry_in s).access
+  pub needs : HoldsNeeds (stored s)
 
 module _ (old new : Shown) where
   -- it was open where it is open
   abbrev pub WasOpen : Type 0
   WasOpen = HasCleanDisk new → IsTrue new.is_open → IsTrue old.is_open
 
-  -- what stands goes on to refer to what is there
+  -- what stands goes on to refer to what is there, and the needs that are stored go on to be those of live versions
   abbrev pub KeepsSound : Type 0
   KeepsSound = HoldsSound old → HasCleanDisk new → IsTrue new.is_open → HoldsSound new
 
@@ -45,7 +47,7 @@ module _ (old new : Shown) where
 
   -- what the registry holds stays in form
   abbrev pub KeepsForm : Type 0
-  KeepsForm = HasCleanDisk new → IsTrue new.is_open → IsKept (registry_in old) → IsKept (registry_in new)
+  KeepsForm = HoldsNeeds (stored old) → HasCleanDisk new → IsTrue new.is_open → IsKept (registry_in old) → IsKept (registry_in new)
 
   -- ---- one request
 
@@ -67,7 +69,7 @@ module _ (old new : Shown) where
 
   -- a legal history of what is held goes on with the request where it was accepted
   abbrev pub GrowsHistory : Request → Outcome → Type 0
-  GrowsHistory r o = HasCleanDisk new → IsTrue new.is_open → (h : List Entry) → Legal h → registry_in old ≡ after h
+  GrowsHistory r o = HoldsNeeds (stored old) → HasCleanDisk new → IsTrue new.is_open → (h : List Entry) → Legal h → registry_in old ≡ after h
       → Says (grown h (registry_in old) r o) (registry_in new)
 
   -- a crash leaves what it could have left before, or what an open registry makes of the request
@@ -86,11 +88,11 @@ module _ (old new : Shown) where
 
   -- of a registry of which nothing was asked yet
   abbrev pub HasHeadline : List Request → List Outcome → Type 0
-  HasHeadline rs os = HasCleanDisk new → IsTrue new.is_open → registry_in old ≡ nothing → Headline rs os (registry_in new)
+  HasHeadline rs os = HoldsNeeds (stored old) → HasCleanDisk new → IsTrue new.is_open → registry_in old ≡ nothing → Headline rs os (registry_in new)
 
   -- a legal history of what was held goes on with the requests that were accepted
   abbrev pub WritesHistory : List Request → List Outcome → Type 0
-  WritesHistory rs os = HasCleanDisk new → IsTrue new.is_open → (h : List Entry) → Legal h → registry_in old ≡ after h
+  WritesHistory rs os = HoldsNeeds (stored old) → HasCleanDisk new → IsTrue new.is_open → (h : List Entry) → Legal h → registry_in old ≡ after h
       → Says (history h (registry_in old) rs os) (registry_in new)
 
   -- a crash leaves what it could have left before, or what one of the requests settles on what the earlier ones left

@@ -3,6 +3,7 @@
 ghost use Rattle.registry_rows.specs.Frames.{Stays};
 ghost use Rattle.registry_tables.specs.Contents.{registry_of};
 ghost use Rattle.registry_tables.specs.Effects.{InForm, Tells};
+ghost use Rattle.registry_tables.specs.Needs.{HoldsNeeds};
 ghost use Rattle.registry_tables.specs.Teams.{AreTeamsSound};
 ghost use Rattle.registry_rules.specs.Facts.{StandsAbout};
 
@@ -14,6 +15,7 @@ use crate::packages::{
 };
 use crate::people::{new_token, new_user};
 use crate::teams::{new_team, new_team_member, old_team, old_team_member, seen_team};
+use crate::withdrawals::{live_versions, old_version};
 use registry_access::Caller;
 use registry_names::Fault;
 use registry_rules::{About, Action};
@@ -30,7 +32,8 @@ pub(crate) fn facts<S: Alter>(
     requires in_form { InForm S.Store tx.old }
     ensures stays { Stays S.Store tx.old tx.new }
     ensures tells { Tells S.Store tx.old tx.new result
-        (λ about c. AreTeamsSound c → StandsAbout about (registry_of c) caller.now what.now) }
+        (λ about c. AreTeamsSound c → HoldsNeeds c
+        → StandsAbout about (registry_of c) caller.now what.now) }
 {
     match what {
         Action::UserAdd { user } => new_user(tx, user),
@@ -80,6 +83,8 @@ pub(crate) fn facts<S: Alter>(
         Action::Publish { form } => new_version(alloc, tx, caller, form),
         Action::TagSet { name, tag, version } => new_tag(alloc, tx, caller, name, tag, version),
         Action::TagRemove { name, tag } => old_tag(alloc, tx, caller, name, tag),
+        Action::Withdraw { name, version } => old_version(alloc, tx, caller, name, version),
+        Action::Deprecate { name, .. } => live_versions(alloc, tx, caller, name),
         Action::Packument { name } | Action::Tags { name } => {
             seen_package(alloc, tx, caller, name)
         }

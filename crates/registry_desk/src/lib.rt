@@ -8,12 +8,16 @@ mod answer;
 mod facts;
 mod grants;
 mod maintainers;
+mod open;
 mod organisations;
 mod packages;
 mod people;
 mod registry;
 mod reply;
 mod rows;
+mod same;
 mod teams;
+mod withdrawals;
 
+pub use crate::open::Left;
 pub use crate::registry::Registry;

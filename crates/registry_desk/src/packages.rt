@@ -13,10 +13,12 @@ ghost use Rattle.registry_rules.specs.declared.request.Action.TheVariants as ask
 ghost use Rattle.registry_rules.specs.declared.request.Asked.TheVariants as which;
 
 use registry_access::Caller;
-use registry_names::{Fault, LATEST, Name, TagText, Ver};
+use registry_names::{Fault, LATEST, Moment, Name, TagText, Ver};
 use registry_publish::PublishForm;
 use registry_rules::{About, Asked, PublishFacts};
-use registry_tables::{has_live, has_tag, has_version, is_spent, load_standing, load_tag};
+use registry_tables::{
+    has_live, has_tag, has_version, is_spent, load_last_withdrawal, load_standing, load_tag,
+};
 use sqlite::{Alter, Transaction};
 use std::alloc::Global;
 
@@ -58,16 +60,20 @@ pub(crate) fn new_version<S: Alter>(
         version_spent: taken.version_spent,
         tag_stands: taken.tag_stands,
         latest_stands: taken.latest_stands,
+        lives: taken.lives,
+        last_withdrawal: taken.last_withdrawal,
     }))
 }
 
-// What stands already of what is to be published.
+// What stands already of what is to be published, and of its package.
 #[derive(Drop)]
 struct Taken {
     version_lives: bool,
     version_spent: bool,
     tag_stands: bool,
     latest_stands: bool,
+    lives: bool,
+    last_withdrawal: Option<Moment>,
 }
 
 fn find_taken<S: Alter>(tx: &mut Transaction<'_, S>, form: &PublishForm) -> Result<Taken, Fault>
@@ -82,6 +88,8 @@ fn find_taken<S: Alter>(tx: &mut Transaction<'_, S>, form: &PublishForm) -> Resu
         version_spent: is_spent(tx, name, version)?,
         tag_stands: has_tag(tx, name, form.tag().text())?,
         latest_stands: has_tag(tx, name, LATEST)?,
+        lives: has_live(tx, name)?,
+        last_withdrawal: load_last_withdrawal(tx, name)?,
     })
 }
 

@@ -1,6 +1,6 @@
 //! A registry over a connection to its tables.
 
-ghost use Rattle.std.specs.Prelude.{◌≡◌, IfErr, IfOk, IsTrue, OnErr, OnOk};
+ghost use Rattle.std.specs.Prelude.{◌≡◌, false, IfErr, IfOk, IsTrue, OnErr, OnOk};
 ghost use Rattle.sqlite.specs.Held.{state};
 ghost use Rattle.sqlite.specs.State.{HasCleanDisk, Survives};
 ghost use Rattle.sqlite.specs.Steps.{IsEmpty, over_memory};
@@ -29,7 +29,7 @@ use std::marker::Model;
 /// Between requests it has no transaction, its tables are in form, and all that it sees was
 /// committed. A fault of the disk may shut it for good: then every request is answered by a fault.
 pub struct Registry<S: Alter> {
-    conn: Connection<S>,
+    pub(crate) conn: Connection<S>,
 }
 
 // Written out, so that to drop a registry is one call and not one for each part.
@@ -89,8 +89,8 @@ impl<S: Alter> Registry<S> {
     /// has changed.
     ///
     /// What is said here holds as long as the disk returns what was written to it, which memory
-    /// always does; and of a registry where what stands refers to what is there, as in a new one:
-    /// every request keeps that. A crash leaves what it could have left before, or, once the
+    /// always does; and of a registry where what stands refers to what is there, and the needs that
+    /// are stored are those of live versions, as in a new one: every request keeps that. A crash leaves what it could have left before, or, once the
     /// commit was reached, what the request makes; after a reply that alone.
     pub fn apply(&mut self, alloc: Global, request: &Request) -> Result<Reply, Fault>
         ensures answer { Answered (state S.Store self.old) (state S.Store self.new)
@@ -154,13 +154,23 @@ impl<S: Alter> Registry<S> {
         }
         Ok(outcomes)
     }
+
+    /// Gives the connection, which stands between requests. Over files, its `close` copies the log
+    /// into the database file.
+    pub fn release(self) -> Connection<S>
+        ensures same { result ≡ self }
+        ensures rests { Rests (state S.Store result) }
+    {
+        let Registry { conn } = self;
+        conn
+    }
 }
 
 // Makes the tables of an empty database, in one transaction.
-fn create_tables<S: Alter>(conn: &mut Connection<S>) -> Result<(), Fault>
-    requires empty { IsEmpty (state S.Store conn.old) }
-    ensures rests { HasCleanDisk (state S.Store conn.new)
-        → OnOk result (Rests (state S.Store conn.new)) }
+pub(crate) fn create_tables<S: Alter>(conn: &mut Connection<S>) -> Result<(), Fault>
+    requires idle { conn.old.in_transaction ≡ false }
+    requires empty { HasCleanDisk (state S.Store conn.old) → IsEmpty (state S.Store conn.old) }
+    ensures rests { OnOk result (Rests (state S.Store conn.new)) }
     ensures made { HasCleanDisk (state S.Store conn.new)
         → OnOk result (stored (state S.Store conn.new) ≡ fresh) }
     ensures served { HasCleanDisk (state S.Store conn.new)

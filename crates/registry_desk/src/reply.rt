@@ -1,13 +1,16 @@
 //! The reply to a request that isn't turned away.
 
-ghost use Rattle.std.specs.Prelude.{◌≡◌, ℕ, List as Sequence, Some, IfOk, filter, map};
+ghost use Rattle.std.specs.Prelude.{◌≡◌, ℕ, List as Sequence, Some, IfOk, filter, length, map};
 ghost use Rattle.registry_names.specs.Maps.{of, pairs_of, parts, seen};
+ghost use Rattle.registry_names.specs.Versions.{text_of_version};
 ghost use Rattle.registry_packument.specs.Documents.{document_text};
 ghost use Rattle.registry_access.specs.Levels.{reads};
 ghost use Rattle.registry_access.specs.Positions.{level_in};
 ghost use Rattle.registry_access.specs.declared.caller.Caller.{Caller};
 ghost use Rattle.registry_access.specs.declared.grant.Grant.{Grant as Right};
 ghost use Rattle.registry_rules.specs.State.{State};
+ghost use Rattle.registry_rules.specs.Withdrawals as words;
+ghost use Rattle.registry_rules.specs.Withdrawals.{selected};
 ghost use Rattle.registry_tables.specs.Spelled.{document, member_entry, row_entry, tag_entry};
 ghost use Rattle.registry_tables.specs.Teams.{granted_entry};
 ghost use Rattle.registry_history.specs.Answers as answers;
@@ -15,11 +18,12 @@ ghost use Rattle.registry_history.specs.Answers.{members_in, packument_in, tags_
 ghost use Rattle.registry_desk.specs.Found.{AreRowsOf};
 
 use crate::rows::Rows;
-use registry_names::{DistTag, Fault, Name, Text};
+use registry_names::{DistTag, Fault, Name, Text, Ver};
 use registry_packument::{
     Granted, List, Member, PackHead, VersionRow, VersionRows, list_text, packument_text,
     version_text,
 };
+use registry_ranges::Selector;
 use registry_rules::{Action, Reply};
 use registry_tables::DocumentRow;
 use std::alloc::Global;
@@ -47,9 +51,13 @@ pub(crate) fn reply(alloc: Global, what: &Action, rows: Rows) -> Result<Reply, F
             | Action::OwnerAdd { .. }
             | Action::OwnerRemove { .. }
             | Action::TagSet { .. }
-            | Action::TagRemove { .. },
+            | Action::TagRemove { .. }
+            | Action::Withdraw { .. },
             _,
         ) => Ok(Reply::Done),
+        (Action::Deprecate { selector, .. }, Rows::Live(live)) => {
+            Ok(Reply::Count(count(selector, &live)))
+        }
         (Action::Packument { name }, Rows::Packument { versions, tags }) => {
             Ok(Reply::Doc(packument(alloc, name, versions, tags)?))
         }
@@ -69,6 +77,26 @@ pub(crate) fn reply(alloc: Global, what: &Action, rows: Rows) -> Result<Reply, F
         }
         _ => Err(Fault::Database),
     }
+}
+
+// How many of the versions the selector selects.
+fn count(selector: &Selector, live: &[Ver]) -> u64
+    ensures { result ≡ length (selected (map text_of_version live.now) selector.now) }
+{
+    let mut count = 0;
+    for version in live {
+        if selects(selector, version) {
+            count += 1;
+        }
+    }
+    count
+}
+
+fn selects(selector: &Selector, version: &Ver) -> bool
+    ensures { result ≡ words.selects selector.now (text_of_version version.now) }
+{
+    version.text();
+    selector.selects(version)
 }
 
 // The packument of a package, whose versions and tags these are. A database gives its rows in

@@ -1,8 +1,10 @@
 //! The rows that answer an action which nothing refuses. Nothing is changed.
 
-ghost use Rattle.std.specs.Prelude.{◌≡◌, option_map};
+ghost use Rattle.std.specs.Prelude.{◌≡◌, List, option_map};
 ghost use Rattle.registry_access.specs.declared.caller.Caller.{Caller};
 ghost use Rattle.registry_history.specs.Answers.{asked_release};
+ghost use Rattle.registry_names.specs.Texts.{Text as Word};
+ghost use Rattle.registry_ranges.specs.Selectors.{Condition};
 ghost use Rattle.registry_rows.specs.Frames.{Stays};
 ghost use Rattle.registry_tables.specs.Contents.{registry_of};
 ghost use Rattle.registry_tables.specs.Effects.{InForm, Knows, Tells};
@@ -17,7 +19,7 @@ use registry_names::{Blob, DistTag, Fault, Ident, LATEST, Name, Text, Ver};
 use registry_packument::{Granted, Member, VersionRow};
 use registry_rules::{Action, Asked};
 use registry_tables::{
-    DocumentRow, load_archive, load_document, load_members, load_tag, load_tags,
+    DocumentRow, load_archive, load_document, load_live, load_members, load_tag, load_tags,
     load_team_packages, load_team_users, load_teams, load_versions,
 };
 use sqlite::{Alter, Transaction};
@@ -26,8 +28,10 @@ use std::alloc::Global;
 /// The rows that answer an action.
 #[derive(Drop)]
 pub(crate) enum Rows {
-    /// Of a command, which needs none.
+    /// Of a command that needs none.
     Nothing,
+    /// Of a deprecation: the live versions, in byte order of their texts.
+    Live(Vec<Ver>),
     /// Of a packument.
     Packument {
         /// The live versions, in byte order.
@@ -78,7 +82,9 @@ pub(crate) fn rows_for<S: Alter>(
         | Action::OwnerRemove { .. }
         | Action::Publish { .. }
         | Action::TagSet { .. }
-        | Action::TagRemove { .. } => Ok(Rows::Nothing),
+        | Action::TagRemove { .. }
+        | Action::Withdraw { .. } => Ok(Rows::Nothing),
+        Action::Deprecate { name, .. } => live_rows(alloc, tx, name),
         Action::Packument { name } => packument_rows(alloc, tx, name),
         Action::VersionDoc { name, version } => document_row(tx, name, version),
         Action::Archive { name, version } => archive_row(tx, name, version),
@@ -92,6 +98,20 @@ pub(crate) fn rows_for<S: Alter>(
             grant_rows(alloc, tx, caller, organisation, team)
         }
     }
+}
+
+fn live_rows<S: Alter>(
+    alloc: Global,
+    tx: &mut Transaction<'_, S>,
+    name: &Name,
+) -> Result<Rows, Fault>
+    requires in_form { InForm S.Store tx.old }
+    ensures stays { Stays S.Store tx.old tx.new }
+    ensures tells { Tells S.Store tx.old tx.new result (λ rows c. (who : Caller)
+        (selector : List (List Condition)) (message : Word)
+        → AreRowsOf rows (registry_of c) who (asked.Deprecate name.now selector message)) }
+{
+    Ok(Rows::Live(load_live(alloc, tx, name)?))
 }
 
 fn packument_rows<S: Alter>(

@@ -2,6 +2,7 @@
 //! long lists, and calls on the tables and on rows alone.
 
 mod body;
+mod files;
 mod hidden;
 mod limits;
 mod outcome;

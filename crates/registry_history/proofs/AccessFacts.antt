@@ -1,6 +1,6 @@
 -- Users, tokens, organisations, roles, teams, members of teams, grants and maintainers are the history's.
-use Rattle.std.proofs.Common.{◌≡◌, ℕ, Bool, true, false, cond, not, ◌&&◌, ◌||◌, List, [], ◌∷◌, Option, Some, None, is_some, is_none, refl, sym, ap, ap₂, ◌∙◌, subst, true≢false, Ordering}
-use Rattle.registry_names.specs.Keys.{IsKey, Pair, triple_is}
+use Rattle.std.proofs.Common.{◌≡◌, ℕ, Bool, true, false, cond, not, ◌&&◌, ◌||◌, List, [], ◌∷◌, Option, Some, None, is_some, is_none, refl, sym, ap, ◌∙◌, subst, true≢false, Ordering}
+use Rattle.registry_names.specs.Keys.{IsKey, Pair}
 use Rattle.registry_names.specs.Maps.{MapBy, PairMap, TripleMap, at}
 use Rattle.registry_names.specs.Names.{scope_of}
 use Rattle.registry_names.specs.declared.status.Status.{Status}
@@ -14,7 +14,7 @@ use Rattle.registry_access.specs.declared.grant.Grant.{Grant}
 use Rattle.registry_access.specs.declared.grant.Grant.TheVariants.{ReadWrite}
 use Rattle.registry_access.specs.declared.role.Role.{Role}
 use Rattle.registry_access.specs.declared.role.Role.TheVariants.{Owner}
-use Rattle.registry_rules.specs.State.{State, developers, is_in_team, is_owned_by}
+use Rattle.registry_rules.specs.State.{State, developers, is_owned_by}
 use Rattle.registry_rules.specs.declared.request.Action.{Action}
 use Rattle.registry_rules.specs.declared.request.Action.TheVariants as command
 use Rattle.registry_rules.specs.declared.request.Action.TheVariants.{UserAdd, TokenAdd, OrgCreate, OrgSet, OrgRemove, TeamCreate, TeamDestroy, TeamAdd, TeamRemove, Revoke, OwnerAdd, OwnerRemove, Publish}

@@ -1,6 +1,8 @@
 -- What an action leaves, each map by itself.
 use Rattle.std.proofs.Common.{◌≡◌, ℕ, Bool, true, false, cond, ◌||◌, Option, Some, None, refl, ap, is_some, Ordering}
-use Rattle.registry_names.specs.Maps.{MapBy, at, put}
+use Rattle.registry_names.specs.Maps.{MapBy, PairMap, at, put, erase}
+use Rattle.registry_names.specs.Greatest.{greatest}
+use Rattle.registry_names.specs.Keys.{Pair}
 use Rattle.registry_names.specs.Tags.{latest}
 use Rattle.registry_names.specs.Texts.{Text, is}
 use Rattle.registry_names.specs.Versions.{text_of_version}
@@ -10,16 +12,38 @@ use Rattle.registry_rules.specs.Actions.{version_of}
 use Rattle.registry_rules.specs.Changes.{all_made, release_of}
 use Rattle.registry_rules.specs.Effects.{joining, membership, owning, step_by}
 use Rattle.registry_rules.specs.Operations.{with_grant, with_status, with_tag}
-use Rattle.registry_rules.specs.State.{State, developers, has_grant, is_in_team, is_owned_by, is_published, stands}
+use Rattle.registry_rules.specs.State.{State, Release, Withdrawal, developers, has_grant, is_in_team, is_owned_by, is_published, stands}
+use Rattle.registry_rules.specs.Withdrawals.{live_versions, others, selected, tags_of}
 use Rattle.registry_rules.specs.declared.request.Action.{Action}
 use Rattle.registry_rules.specs.declared.request.Action.TheVariants as command
-use Rattle.registry_rules.specs.declared.request.Action.TheVariants.{OrgSet, TeamAdd, SetAccess, OwnerAdd, Publish, TagSet}
+use Rattle.registry_rules.specs.declared.request.Action.TheVariants.{OrgSet, TeamAdd, SetAccess, OwnerAdd, Publish, TagSet, Withdraw, Deprecate}
 use Rattle.registry_rules.proofs.MadeFacts.{grant_put, role_put, status_put, tag_put}
+use Rattle.registry_rules.proofs.WithdrawnFacts.{deprecated_is, freed_tags, marked_all, withdrawal_of, withdrawn_is}
 use Rattle.registry_rules.proofs.PublishedFacts.{after_publish, published_is, status_of}
 
 -- the entry at a key, which was there already or is put
 abbrev pub joined : {K : Type 0} {cmp : K → K → Ordering} → MapBy cmp (Unit {0}) → Bool → K → MapBy cmp (Unit {0})
 joined m there k = cond there m (put m k tt)
+
+-- what a withdrawal leaves of each map, of a version that lives, if it does
+abbrev pub live_taken : PairMap Release → Pair → Option Release → PairMap Release
+live_taken m k None = m
+live_taken m k (Some r) = erase m k
+
+abbrev pub spent_taken : PairMap Withdrawal → ℕ → Pair → Option Release → PairMap Withdrawal
+spent_taken m now k None = m
+spent_taken m now k (Some r) = put m k (record { published = r.at; withdrawn = now })
+
+abbrev pub tags_taken : State → Text → Text → Option Release → PairMap Text
+tags_taken S p v None = S.tags
+tags_taken S p v (Some r) = freed_tags S.tags p (greatest (others (live_versions S p) v)) (tags_of S p v)
+
+abbrev pub taken : State → ℕ → Text → Text → Option Release → State
+taken S now p v old = record S { live = live_taken S.live (p, v) old; spent = spent_taken S.spent now (p, v) old; tags = tags_taken S p v old }
+
+taken_is : (S : State) (now : ℕ) (p v : Text) (old : Option Release) → all_made S (withdrawal_of S now p v old) ≡ taken S now p v old
+taken_is S now p v None = refl
+taken_is S now p v (Some r) = withdrawn_is S now p v r.at (greatest (others (live_versions S p) v)) (tags_of S p v)
 
 -- what an action leaves, whether what it puts stood before or not
 abbrev pub left_by : State → ℕ → Caller → Action → State
@@ -35,6 +59,8 @@ left_by S now who (SetAccess p status) = with_status S p status
 left_by S now who (OwnerAdd p u) = record S { access = record S.access { maintainers = joined S.access.maintainers (is_owned_by S p u) (p, u) } }
 left_by S now who (Publish f) = after_publish S who f.name (version_of f) f.tag (release_of f now) (status_of S f) (stands S f.name latest || is f.tag latest)
 left_by S now who (TagSet p t v) = with_tag S p t (text_of_version v)
+left_by S now who (Withdraw p v) = taken S now p (text_of_version v) (at S.live (p, text_of_version v))
+left_by S now who (Deprecate p conditions message) = record S { live = marked_all S.live p message (selected (live_versions S p) conditions) }
 left_by S now who what = step_by S now who what
 
 role_left : (S : State) (o u : Text) (role : Role) (old : Option Role) → at S.access.roles (o, u) ≡ old → all_made S (membership o u role old) ≡ record S {
@@ -61,4 +87,6 @@ left_is S now who (SetAccess p status) = status_put S p status (is_published S p
 left_is S now who (OwnerAdd p u) = owner_left S p u (is_owned_by S p u)
 left_is S now who (Publish f) = published_is S who f now
 left_is S now who (TagSet p t v) = tag_put S p t (text_of_version v) (stands S p t) (λ there. there)
+left_is S now who (Withdraw p v) = taken_is S now p (text_of_version v) (at S.live (p, text_of_version v))
+left_is S now who (Deprecate p conditions message) = deprecated_is S p message (selected (live_versions S p) conditions)
 left_is S now who what = refl

@@ -1,4 +1,5 @@
 mod AccessFacts
+pub mod FreedFacts
 mod LegalFacts
 pub mod LeftFacts
 pub mod PublishFacts

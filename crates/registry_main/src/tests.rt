@@ -1,6 +1,7 @@
 //! The program over ends in memory, and over ends that fail.
 
 mod lines;
+mod team;
 
 use crate::program::program;
 use registry_names::{FromRead, Text, ToWrite};

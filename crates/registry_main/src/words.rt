@@ -17,8 +17,8 @@ use std::io::ErrorKind;
 /// Answers what the words ask for, prints the answer, and gives the exit status: 0, or 1 where
 /// it is turned away.
 ///
-/// The moment is read first, where the words say none, then the file that they name, and then the
-/// texts in their order.
+/// The moment is read first, where the words say none, then the file of a publish, then the texts
+/// in their order, and last the registry's file is opened.
 pub fn answer_words<O: ByteOut, E: ByteOut>(
     rt: &HostRuntime,
     alloc: Global,
@@ -31,7 +31,7 @@ pub fn answer_words<O: ByteOut, E: ByteOut>(
         return Err(Ending::CantServe);
     }
     let request = request(rt, alloc, &line)?;
-    let reply = reply(alloc, &request)?;
+    let reply = reply(rt, alloc, line.db.as_str(), &request)?;
     print(&render(alloc, &reply)?, output, errors)
 }
 
@@ -81,9 +81,9 @@ fn file_bytes(rt: &HostRuntime, alloc: Global, path: &str) -> Result<Vec<u8>, En
     }
 }
 
-// The reply of a registry that is empty, and in memory.
-fn reply(alloc: Global, request: &Request) -> Result<Reply, Fault> {
-    let mut registry = Registry::in_memory(alloc)?;
+// The reply of the registry in the file at the path.
+fn reply(rt: &HostRuntime, alloc: Global, path: &str, request: &Request) -> Result<Reply, Fault> {
+    let mut registry = Registry::open(rt, path)?;
     registry.apply(alloc, request)
 }
 

@@ -2,6 +2,7 @@ pub mod Grammar
 pub mod Values
 pub mod Reading
 pub mod Steps
+pub mod Texts
 pub mod Prefixes
 pub mod Comparators
 pub mod Bounds

@@ -6,6 +6,7 @@ ghost use Rattle.std.specs.Ordering.{is_eq, is_lt, is_le, is_gt, is_ge};
 ghost use Rattle.registry_ranges.specs.Laws.{OfPartials, OfTwo, AllowsCompared, AllowsCaret, AllowsTilde, AllowsHyphened};
 ghost use Rattle.registry_ranges.specs.Laws.{IsOpenAbove, IsOpenBelow, IsBetween, AllowsItself, AllowsReleases, WildcardsAllowReleases, AllowsNothing};
 ghost use Rattle.registry_ranges.specs.Laws.{BarsAreUnions, EndsAreSpaced, OfSpaced, ReleasesMeet, PrereleasesMeet, PrereleasesAreNamed, SelectorsAgree};
+ghost use Rattle.registry_ranges.specs.Texts.{TextsAreRead};
 
 /// A partial version, alone or behind an operator, allows a version by how the version compares
 /// with the numbers that it says; of prereleases those alone that it names.
@@ -58,6 +59,11 @@ pub fn bars_and_spaces_combine()
     ensures releases { OfSpaced ReleasesMeet }
     ensures prereleases { OfSpaced PrereleasesMeet }
     ensures spaces { EndsAreSpaced }
+{}
+
+/// What a text says as a range is a function of the text, which gives just what the grammar does.
+pub fn texts_are_read()
+    ensures { TextsAreRead }
 {}
 
 /// A prerelease is allowed only where some partial version of the range has a prerelease and the

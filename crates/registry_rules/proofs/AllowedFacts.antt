@@ -7,7 +7,7 @@ use Rattle.registry_names.specs.Tags.{is_tag}
 use Rattle.registry_names.specs.Texts.{Text}
 use Rattle.std.specs.Option.{option_or}
 use Rattle.registry_names.specs.declared.refusal.Refusal.{Refusal}
-use Rattle.registry_names.specs.declared.refusal.Refusal.TheVariants.{NotFound, Published, Spent, KeepsLatest, OtherScope, AlwaysPublic}
+use Rattle.registry_names.specs.declared.refusal.Refusal.TheVariants.{NotFound, Published, Spent, KeepsLatest, OtherScope, AlwaysPublic, Waiting}
 use Rattle.registry_names.specs.declared.status.Status.{Status}
 use Rattle.registry_names.specs.declared.status.Status.TheVariants.{Public, Restricted}
 use Rattle.registry_names.proofs.KeyFacts.{text_key, same_true}
@@ -47,11 +47,12 @@ has_new_status m p None (Some s) e = ap is_some e
 has_new_status m p None None e = put_there text_key m p _
 
 -- a version that may be published was never withdrawn, and its package isn't restricted where it has no scope
-publish_passed : (live spent closed : Bool) → refuse live Published (refuse spent Spent (refuse closed AlwaysPublic None)) ≡ None → (spent ≡ false) × (closed ≡ false)
-publish_passed true b c h = cc
-publish_passed false true c h = cc
-publish_passed false false true h = cc
-publish_passed false false false h = (refl, refl)
+publish_passed : (live spent closed waits : Bool) → refuse live Published (refuse spent Spent (refuse closed AlwaysPublic (refuse waits Waiting None))) ≡ None → (spent ≡ false) × (closed ≡ false)
+publish_passed true b c d h = cc
+publish_passed false true c d h = cc
+publish_passed false false true d h = cc
+publish_passed false false false true h = cc
+publish_passed false false false false h = (refl, refl)
 
 new_is_public : (p : Text) (asked old : Option Status) → (is_restricted asked && is_none (scope_of p)) ≡ false → scope_of p ≡ None → new_status asked old p ≢ Some Restricted
 new_is_public p (Some Restricted) old may u e = true≢false (sym (ap is_none u) ∙ may)
@@ -67,17 +68,17 @@ new_is_public p None None may u e = public (scope_of p) u e
 pub published_has_status : (S : State) (f : FormParts) → IsSome (at (statuses_after S.access.statuses f.name (status_of S f)) f.name)
 published_has_status S f = has_new_status S.access.statuses f.name f.access _ refl
 
-pub may_be_public : (S : State) (f : FormParts) → publish_refusal S f ≡ None → scope_of f.name ≡ None → status_of S f ≢ Some Restricted
-may_be_public S f may = new_is_public f.name f.access _ (publish_passed _ (is_spent S f.name (version_of f)) _ may).1
+pub may_be_public : (S : State) (now : ℕ) (f : FormParts) → publish_refusal S now f ≡ None → scope_of f.name ≡ None → status_of S f ≢ Some Restricted
+may_be_public S now f may = new_is_public f.name f.access _ (publish_passed _ (is_spent S f.name (version_of f)) _ _ may).1
 
-pub allowed_publish : (S : State) (f : FormParts) (now : ℕ) → ArePartsInForm f → now ≤ last_second → publish_refusal S f ≡ None
+pub allowed_publish : (S : State) (f : FormParts) (now : ℕ) → ArePartsInForm f → now ≤ last_second → publish_refusal S now f ≡ None
     → IsAllowed S f.name (version_of f) f.tag (release_of f now) (status_of S f)
-allowed_publish S f now form moment may = let passed = publish_passed _ (is_spent S f.name (version_of f)) _ may in record {
+allowed_publish S f now form moment may = let passed = publish_passed _ (is_spent S f.name (version_of f)) _ _ may in record {
   is_release = record { name = form.name; version = f.version; is_version = form.version; manifest = form.manifest; at = moment; message = refl };
   is_tagged = form.tag;
   is_new = passed.0;
   has_status = published_has_status S f;
-  is_public = may_be_public S f may;
+  is_public = may_be_public S now f may;
 }
 
 -- what is asked for is there

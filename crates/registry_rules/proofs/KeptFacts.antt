@@ -27,9 +27,10 @@ use Rattle.registry_rules.specs.Operations.{with_tag, without_tag}
 use Rattle.registry_rules.specs.Refusals.{publish_refusal, refusal, refusal_by, refusal_for}
 use Rattle.registry_rules.specs.Requests.{ArePartsInForm, IsInForm, IsActionInForm}
 use Rattle.registry_rules.specs.State.{State, Release, Withdrawal, nothing, developers, is_in_team, has_grant, is_published, is_owned_by, is_live, stands}
+use Rattle.registry_rules.specs.Withdrawals.{live_versions, selected}
 use Rattle.registry_rules.specs.declared.request.Action.{Action}
 use Rattle.registry_rules.specs.declared.request.Action.TheVariants as asked
-use Rattle.registry_rules.specs.declared.request.Action.TheVariants.{UserAdd, TokenAdd, OrgCreate, OrgSet, OrgRemove, TeamCreate, TeamDestroy, TeamAdd, TeamRemove, Revoke, SetAccess, OwnerAdd, OwnerRemove, Publish, TagSet, TagRemove}
+use Rattle.registry_rules.specs.declared.request.Action.TheVariants.{UserAdd, TokenAdd, OrgCreate, OrgSet, OrgRemove, TeamCreate, TeamDestroy, TeamAdd, TeamRemove, Revoke, SetAccess, OwnerAdd, OwnerRemove, Publish, TagSet, TagRemove, Withdraw, Deprecate}
 use Rattle.registry_rules.specs.declared.request.Request.{Request}
 use Rattle.registry_rules.proofs.AllowedFacts.{IsAllowed, allowed_publish, is_there, isnt_kept, state_passed}
 use Rattle.registry_rules.proofs.MadeFacts.{latest_put, role_put, tag_put}
@@ -38,6 +39,8 @@ use Rattle.registry_rules.proofs.CallerFacts.{caller_known}
 use Rattle.registry_rules.proofs.SoundFacts.{created, destroyed, was_left}
 use Rattle.registry_rules.proofs.SoundSteps.{none_there, nothing_sound, step_sound}
 use Rattle.registry_rules.proofs.PublishedFacts.{statuses_after, status_of, after_publish, published_is}
+use Rattle.registry_rules.proofs.WithdrawnFacts.{deprecated_is}
+use Rattle.registry_rules.proofs.WithdrawnKept.{deprecated_kept, withdrawal_kept}
 use Rattle.registry_names.proofs.PutFacts.{each_put, each_left, some_before, put_there, still_there}
 
 -- ---- nothing
@@ -152,7 +155,7 @@ module _ (S : State) (who : Caller) (p v t : Text) (release : Release) (status :
     sound = sound;
   }
 
-publish_kept : (S : State) (who : Caller) (f : FormParts) (now : ℕ) → ArePartsInForm f → now ≤ last_second → publish_refusal S f ≡ None → IsSound (all_made S (publication S now who f)).access
+publish_kept : (S : State) (who : Caller) (f : FormParts) (now : ℕ) → ArePartsInForm f → now ≤ last_second → publish_refusal S now f ≡ None → IsSound (all_made S (publication S now who f)).access
     → IsKept S → IsKept (all_made S (publication S now who f))
 publish_kept S who f now form moment may sound kept =
     subst (λ (T : State). IsSound T.access → IsKept T) (sym (published_is S who f now))
@@ -347,6 +350,9 @@ action_kept S now who (TagSet p t v) moment form known may kept =
     (tag_set_kept S p t (text_of_version v) form.0 form.1 (is_there _ (state_passed S now who (TagSet p t v) may)) kept)
 action_kept S now who (TagRemove p t) moment form known may kept =
     tag_removed_kept S p t (isnt_kept (stands S p t) (is t latest) (state_passed S now who (TagRemove p t) may)) kept
+action_kept S now who (Withdraw p v) moment form known may kept = withdrawal_kept S now p v (at S.live (p, text_of_version v)) refl moment form.0 form.1 kept
+action_kept S now who (Deprecate p selector message) moment form known may kept =
+    subst IsKept (sym (deprecated_is S p message (selected (live_versions S p) selector))) (deprecated_kept S p message (selected (live_versions S p) selector) form.1 kept)
 action_kept S now who _ moment form known may kept = kept
 
 pub step_kept : (S : State) (r : Request) → IsInForm r → refusal S r ≡ None → IsKept S → IsKept (step S r)

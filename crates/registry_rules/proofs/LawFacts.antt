@@ -1,17 +1,20 @@
 -- The laws of what commands make.
-use Rattle.std.proofs.Common.{◌≡◌, ◌≢◌, ℕ, Bool, true, false, cond, not, ◌&&◌, ◌||◌, is_some, Option, Some, None, refl, sym, ap, ◌∙◌, subst, true≢false, if◌then◌else◌, Ordering}
+use Rattle.std.proofs.Common.{◌≡◌, ◌≢◌, ℕ, Bool, true, false, cond, not, ◌&&◌, ◌||◌, List, is_some, Option, Some, None, refl, sym, ap, ◌∙◌, subst, true≢false, if◌then◌else◌, Ordering}
 use Rattle.std.proofs.lemmas.Bool.{and_right}
 use Rattle.std.specs.Prelude.{IsSome}
 use Rattle.registry_names.specs.Keys.{IsKey, Pair, Triple, pair_is, triple_is}
-use Rattle.registry_names.specs.Maps.{TextMap, PairMap, TripleMap, at, put, keep}
+use Rattle.registry_names.specs.Maps.{TextMap, PairMap, TripleMap, among, at, put, keep}
+use Rattle.registry_names.specs.Greatest.{greatest}
 use Rattle.registry_names.specs.Tags.{latest}
 use Rattle.registry_names.specs.Texts.{Text, is}
-use Rattle.registry_names.specs.Versions.{text_of_version}
+use Rattle.registry_names.specs.Versions.{VersionParts, text_of_version}
 use Rattle.registry_names.specs.declared.status.Status.{Status}
 use Rattle.registry_names.specs.declared.status.Status.TheVariants.{Public, Restricted}
 use Rattle.registry_names.proofs.KeyFacts.{text_key, pair_key, triple_key, same_true, same_self}
 use Rattle.registry_names.proofs.MapFacts.{at-put, at-put_same, at-put_other, at-erase_same, at-erase_other, at-keep}
+use Rattle.registry_names.proofs.PartFacts.{any-part}
 use Rattle.registry_names.proofs.PutFacts.{put_there}
+use Rattle.registry_ranges.specs.Selectors.{Condition}
 use Rattle.registry_access.specs.Access.{Access}
 use Rattle.registry_access.specs.declared.caller.Caller.{Caller}
 use Rattle.registry_access.specs.declared.caller.Caller.TheVariants.{Operator, User, Anonymous}
@@ -23,14 +26,16 @@ use Rattle.registry_names.specs.Names.{scope_of}
 use Rattle.registry_publish.specs.Form.{FormParts}
 use Rattle.registry_rules.specs.Actions.{version_of, ends_team}
 use Rattle.registry_rules.specs.Changes.{all_made, release_of}
-use Rattle.registry_rules.specs.Effects.{first_status, joining, membership, owning, new_status}
-use Rattle.registry_rules.specs.Laws.{GivesFirstRight, IsGrantChange, IsMaintainerChange, SetsAccess, GrantsAreGiven, GrantsAreRevoked, StatusesAreSet, MaintainersAreAdded, MaintainersAreRemoved, PublishesGiveFirstRights, SetsRole, OrganisationsAreCreated, RolesAreSet, MembersAreRemoved, UsersAreAdded, TokensAreAdded, AddsVersion, SetsTags, SetsStatus, IsTagChange, IsApart, DestroysTeam, IsTeamMemberChange, TeamsAreCreated, NewTeamsAreEmpty, TeamsAreDestroyed, TeamMembersAreAdded, TeamMembersAreRemoved, PublishesAddVersions, PublishesSetTags, PublishesSetStatuses, SetTagsName, RemovedTagsAreGone, QueriesChangeNothing, PackagesStandApart}
+use Rattle.registry_rules.specs.Effects.{deprecation, first_status, joining, membership, owning, new_status}
+use Rattle.registry_rules.specs.Laws.{SpendsVersion, FreesTags, WithdrawalsSpend, WithdrawalsFreeTags, Deprecates, DeprecationsMark, GivesFirstRight, IsGrantChange, IsMaintainerChange, SetsAccess, GrantsAreGiven, GrantsAreRevoked, StatusesAreSet, MaintainersAreAdded, MaintainersAreRemoved, PublishesGiveFirstRights, SetsRole, OrganisationsAreCreated, RolesAreSet, MembersAreRemoved, UsersAreAdded, TokensAreAdded, AddsVersion, SetsTags, SetsStatus, IsTagChange, IsApart, DestroysTeam, IsTeamMemberChange, TeamsAreCreated, NewTeamsAreEmpty, TeamsAreDestroyed, TeamMembersAreAdded, TeamMembersAreRemoved, PublishesAddVersions, PublishesSetTags, PublishesSetStatuses, SetTagsName, RemovedTagsAreGone, QueriesChangeNothing, PackagesStandApart}
 use Rattle.registry_rules.specs.Operations.{without_team, with_grant, with_status, with_tag, without_tag}
-use Rattle.registry_rules.specs.State.{State, developers, is_in_team, has_grant, is_published, is_owned_by, stands}
+use Rattle.registry_rules.specs.State.{State, Release, developers, is_in_team, has_grant, is_published, is_owned_by, stands}
 use Rattle.registry_rules.specs.declared.request.Action.{Action}
 use Rattle.registry_rules.specs.declared.request.Action.TheVariants as asked
-use Rattle.registry_rules.specs.declared.request.Action.TheVariants.{UserAdd, TokenAdd, OrgCreate, OrgSet, OrgRemove, TeamCreate, TeamDestroy, TeamAdd, TeamRemove, Revoke, SetAccess, OwnerAdd, OwnerRemove, Publish, TagSet, TagRemove}
+use Rattle.registry_rules.specs.declared.request.Action.TheVariants.{UserAdd, TokenAdd, OrgCreate, OrgSet, OrgRemove, TeamCreate, TeamDestroy, TeamAdd, TeamRemove, Revoke, SetAccess, OwnerAdd, OwnerRemove, Publish, TagSet, TagRemove, Withdraw, Deprecate}
 use Rattle.registry_rules.proofs.MadeFacts.{grant_put, latest_put, role_put, status_put, tag_put}
+use Rattle.registry_rules.specs.Withdrawals.{live_versions, others, selected, selects, tags_of}
+use Rattle.registry_rules.proofs.WithdrawnFacts.{among_passing, among_where_names, apart_where_others, at-freed, at-marked, deprecated_is, freed_gone, freed_latest, marked_value, withdrawal_of, withdrawn_is}
 use Rattle.registry_rules.proofs.PublishedFacts.{statuses_after, granted_first, grants_after, maintained_first, maintainers_after, status_of, after_publish, published_is}
 
 -- keys that differ fail the test
@@ -132,14 +137,14 @@ new_teams_are_empty S now who o t sound none = record {
 }
 
 module _ (S : State) (o t : Text) where
-  abbrev others : Triple → Bool
-  others k = not (is o k.0 && is t k.1.0)
+  abbrev other_entries : Triple → Bool
+  other_entries k = not (is o k.0 && is t k.1.0)
 
-  dropped : {X : Type 0} (m : TripleMap X) (x : Text) → at (keep m others) (o, (t, x)) ≡ None
-  dropped m x = at-keep triple_key m others (o, (t, x)) ∙ ap (λ b. cond (not b) (at m (o, (t, x))) None) (same_self pair_key (o, t))
+  dropped : {X : Type 0} (m : TripleMap X) (x : Text) → at (keep m other_entries) (o, (t, x)) ≡ None
+  dropped m x = at-keep triple_key m other_entries (o, (t, x)) ∙ ap (λ b. cond (not b) (at m (o, (t, x))) None) (same_self pair_key (o, t))
 
-  undropped : {X : Type 0} (m : TripleMap X) (p s x : Text) → ◌≢◌ {A = Pair} (p, s) (o, t) → at (keep m others) (p, (s, x)) ≡ at m (p, (s, x))
-  undropped m p s x differ = at-keep triple_key m others (p, (s, x)) ∙ ap (λ b. cond (not b) (at m (p, (s, x))) None) (unlike pair_key (o, t) (p, s) differ)
+  undropped : {X : Type 0} (m : TripleMap X) (p s x : Text) → ◌≢◌ {A = Pair} (p, s) (o, t) → at (keep m other_entries) (p, (s, x)) ≡ at m (p, (s, x))
+  undropped m p s x differ = at-keep triple_key m other_entries (p, (s, x)) ∙ ap (λ b. cond (not b) (at m (p, (s, x))) None) (unlike pair_key (o, t) (p, s) differ)
 
   team_destroyed : DestroysTeam S (without_team S o t) o t
   team_destroyed = record {
@@ -362,6 +367,79 @@ pub removed_tags_are_gone : RemovedTagsAreGone
 removed_tags_are_gone S now who p t =
     (at-erase_same pair_key S.tags (p, t), record { tags = λ k differ. at-erase_other pair_key S.tags (p, t) k (unlike pair_key _ k differ); live = refl; spent = refl; access = refl })
 
+-- ---- a withdrawal
+
+pub withdrawals_spend : WithdrawalsSpend
+withdrawals_spend S now who p v release e =
+    let w = text_of_version v in
+    subst (λ (o : Option Release). SpendsVersion S (all_made S (withdrawal_of S now p w o)) now p w release) (sym e)
+    (subst (λ T. SpendsVersion S T now p w release) (sym (withdrawn_is S now p w release.at (greatest (others (live_versions S p) w)) (tags_of S p w))) (record {
+      gone = at-erase_same pair_key S.live (p, w);
+      spent = at-put_same pair_key S.spent (p, w) _;
+      live = λ k differ. at-erase_other pair_key S.live (p, w) k (unlike pair_key _ k differ);
+      others = λ k differ. at-put_other pair_key S.spent (p, w) _ k (unlike pair_key _ k differ);
+      access = refl;
+    }))
+
+is_here : {X : Type 0} (here b : Bool) (x y : X) → here ≡ true → b ≡ true → cond (here && b) x y ≡ x
+is_here true true x y e f = refl
+is_here true false x y e f = absurd (true≢false (sym f))
+is_here false b x y e f = absurd (true≢false (sym e))
+
+among_others : {X : Type 0} (here b : Bool) (x y : X) → b ≡ false → cond (here && b) x y ≡ y
+among_others true true x y f = absurd (true≢false f)
+among_others true false x y f = refl
+among_others false b x y f = refl
+
+tags_free : (S : State) (now : ℕ) (p w : Text) (release : Release) → FreesTags S (all_made S (withdrawal_of S now p w (Some release))) p w
+tags_free S now p w release =
+    let next = greatest (others (live_versions S p) w) in
+    let ts = tags_of S p w in
+    let self = same_self text_key p in
+    subst (λ T. FreesTags S T p w) (sym (withdrawn_is S now p w release.at next ts)) (record {
+      moved = λ e. at-freed S.tags p next ts p latest ∙ is_here (is p p) (among is ts latest) _ _ self (among_where_names S p w latest e) ∙ freed_latest next _ w e;
+      gone = λ t differ e. at-freed S.tags p next ts p t ∙ is_here (is p p) (among is ts t) _ _ self (among_where_names S p w t e) ∙ freed_gone next _ t (unlike text_key t latest (λ same. differ (sym same)));
+      stays = λ t differ. at-freed S.tags p next ts p t ∙ among_others (is p p) (among is ts t) _ _ (apart_where_others S p w t differ);
+      tags = λ q t differ. at-freed S.tags p next ts q t ∙ none_of (is p q) (among is ts t) _ _ (unlike text_key p q differ);
+    })
+  where
+    none_of : {X : Type 0} (here b : Bool) (x y : X) → here ≡ false → cond (here && b) x y ≡ y
+    none_of true b x y e = absurd (true≢false e)
+    none_of false b x y e = refl
+
+pub withdrawals_free_tags : WithdrawalsFreeTags
+withdrawals_free_tags S now who p v there = by_release (at S.live (p, text_of_version v)) there
+  where
+    by_release : (o : Option Release) → IsSome o → FreesTags S (all_made S (withdrawal_of S now p (text_of_version v) o)) p (text_of_version v)
+    by_release None there = absurd (true≢false (sym there))
+    by_release (Some release) there = tags_free S now p (text_of_version v) release
+
+-- ---- a deprecation
+
+pub deprecations_mark : DeprecationsMark
+deprecations_mark S now who p conditions message =
+    let vs = selected (live_versions S p) conditions in
+    subst (λ T. Deprecates S T p conditions message) (sym (deprecated_is S p message vs)) (record {
+      selected = λ v release chosen e. at-marked S.live p message vs p v
+          ∙ is_here (is p p) (among is vs v) _ _ (same_self text_key p) (among_passing (selects conditions) (live_versions S p) v ∙ ap (λ b. b && among is (live_versions S p) v) chosen ∙ lives v release e)
+          ∙ ap (marked_value message) e;
+      unselected = λ v other. at-marked S.live p message vs p v ∙ among_others (is p p) (among is vs v) _ _ (among_passing (selects conditions) (live_versions S p) v ∙ ap (λ b. b && among is (live_versions S p) v) other);
+      live = λ q v differ. at-marked S.live p message vs q v ∙ none_of (is p q) (among is vs v) _ _ (unlike text_key p q differ);
+      gone = λ k e. at-marked S.live p message vs k.0 k.1 ∙ ap (λ o. cond (is p k.0 && among is vs k.1) (marked_value message o) o) e ∙ either_none (is p k.0 && among is vs k.1);
+      rest = refl;
+    })
+  where
+    lives : (v : Text) (release : Release) → at S.live (p, v) ≡ Some release → among is (live_versions S p) v ≡ true
+    lives v release e = any-part text_key S.live p v ∙ ap is_some e
+
+    none_of : {X : Type 0} (here b : Bool) (x y : X) → here ≡ false → cond (here && b) x y ≡ y
+    none_of true b x y e = absurd (true≢false e)
+    none_of false b x y e = refl
+
+    either_none : (b : Bool) → cond b (marked_value message None) None ≡ None
+    either_none true = refl
+    either_none false = refl
+
 -- ---- all actions
 
 pub queries_change_nothing : QueriesChangeNothing
@@ -382,6 +460,8 @@ queries_change_nothing S now who (OwnerRemove p u) e = absurd (true≢false e)
 queries_change_nothing S now who (Publish f) e = absurd (true≢false e)
 queries_change_nothing S now who (TagSet p t v) e = absurd (true≢false e)
 queries_change_nothing S now who (TagRemove p t) e = absurd (true≢false e)
+queries_change_nothing S now who (Withdraw p v) e = absurd (true≢false e)
+queries_change_nothing S now who (Deprecate p selector message) e = absurd (true≢false e)
 queries_change_nothing S now who _ e = refl
 
 -- the grants on a package, but those of a team that is ended
@@ -456,8 +536,40 @@ apart_from_destroying S o t p = record {
   tags = λ t. refl;
   status = refl;
   maintainers = λ u. refl;
-  grants = λ q s. at-keep triple_key S.access.grants (others S o t) (q, (s, p)) ∙ unless_ended (is o q && is t s) (at S.access.grants (q, (s, p)));
+  grants = λ q s. at-keep triple_key S.access.grants (other_entries S o t) (q, (s, p)) ∙ unless_ended (is o q && is t s) (at S.access.grants (q, (s, p)));
 }
+
+not_here : {X : Type 0} (here b : Bool) (x y : X) → here ≡ false → cond (here && b) x y ≡ y
+not_here true b x y e = absurd (true≢false e)
+not_here false b x y e = refl
+
+apart_from_withdrawal : (S : State) (now : ℕ) (q : Text) (v : VersionParts) (old : Option Release) (p : Text) → is q p ≡ false
+    → IsApart S (all_made S (withdrawal_of S now q (text_of_version v) old)) (Withdraw q v) p
+apart_from_withdrawal S now q v None p other = same_of_itself S (Withdraw q v) p (λ o t. refl)
+apart_from_withdrawal S now q v (Some r) p other =
+    let w = text_of_version v in
+    let next = greatest (others (live_versions S q) w) in
+    subst (λ T. IsApart S T (Withdraw q v) p) (sym (withdrawn_is S now q w r.at next (tags_of S q w))) (record {
+      live = λ u. at-erase_other pair_key S.live (q, w) (p, u) (elsewhere q p w u other);
+      spent = λ u. at-put_other pair_key S.spent (q, w) (record { published = r.at; withdrawn = now }) (p, u) (elsewhere q p w u other);
+      tags = λ u. at-freed S.tags q next (tags_of S q w) p u ∙ not_here (is q p) (among is (tags_of S q w) u) _ _ other;
+      status = refl;
+      maintainers = λ u. refl;
+      grants = λ o t. refl;
+    })
+
+apart_from_deprecation : (S : State) (q : Text) (selector : List (List Condition)) (message : Text) (p : Text) → is q p ≡ false
+    → IsApart S (all_made S (deprecation q message (selected (live_versions S q) selector))) (Deprecate q selector message) p
+apart_from_deprecation S q selector message p other =
+    let vs = selected (live_versions S q) selector in
+    subst (λ T. IsApart S T (Deprecate q selector message) p) (sym (deprecated_is S q message vs)) (record {
+      live = λ u. at-marked S.live q message vs p u ∙ not_here (is q p) (among is vs u) _ _ other;
+      spent = λ u. refl;
+      tags = λ u. refl;
+      status = refl;
+      maintainers = λ u. refl;
+      grants = λ o t. refl;
+    })
 
 pub packages_stand_apart : PackagesStandApart
 packages_stand_apart S now who (UserAdd u) p other = apart_in_access S _ (UserAdd u) p refl (λ w. refl) (λ o t. refl)
@@ -487,4 +599,6 @@ packages_stand_apart S now who (TagSet q t v) p other =
     (λ u. at-put_other pair_key S.tags (q, t) (text_of_version v) (p, u) (elsewhere q p t u other)) (λ o s. refl))
 packages_stand_apart S now who (TagRemove q t) p other =
     apart_from_tag S (without_tag S q t) (TagRemove q t) p refl refl refl (λ u. at-erase_other pair_key S.tags (q, t) (p, u) (elsewhere q p t u other)) (λ o s. refl)
+packages_stand_apart S now who (Withdraw q v) p other = apart_from_withdrawal S now q v (at S.live (q, text_of_version v)) p other
+packages_stand_apart S now who (Deprecate q selector message) p other = apart_from_deprecation S q selector message p other
 packages_stand_apart S now who _ p other = same_of_itself S _ p (λ o t. refl)

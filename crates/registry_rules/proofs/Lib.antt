@@ -1,9 +1,12 @@
 pub mod AllowedFacts
 pub mod CallerFacts
 pub mod KeptFacts
+pub mod ListedFacts
 pub mod LawFacts
 pub mod MadeFacts
 pub mod OtherFacts
 pub mod PublishedFacts
 pub mod SoundFacts
 pub mod SoundSteps
+pub mod WithdrawnFacts
+pub mod WithdrawnKept

@@ -30,13 +30,15 @@ use Rattle.registry_rules.specs.Refusals.{grant_refusal, is_restricted, publish_
 use Rattle.registry_rules.specs.State.{State, nothing, developers, has_grant, has_other_maintainer, has_team, has_user, is_in_team, is_last_owner, is_member, is_owned_by, is_published, stands}
 use Rattle.registry_rules.specs.declared.request.Action.{Action}
 use Rattle.registry_rules.specs.declared.request.Action.TheVariants as asked
-use Rattle.registry_rules.specs.declared.request.Action.TheVariants.{UserAdd, TokenAdd, OrgCreate, OrgSet, OrgRemove, TeamCreate, TeamDestroy, TeamAdd, TeamRemove, Revoke, SetAccess, OwnerAdd, OwnerRemove, Publish, TagSet}
+use Rattle.registry_rules.specs.declared.request.Action.TheVariants.{UserAdd, TokenAdd, OrgCreate, OrgSet, OrgRemove, TeamCreate, TeamDestroy, TeamAdd, TeamRemove, Revoke, SetAccess, OwnerAdd, OwnerRemove, Publish, TagSet, Withdraw, Deprecate}
 use Rattle.registry_rules.proofs.AllowedFacts.{found_there, is_there, may_be_public, may_grant, not_false, passed, policy_passed, publisher_is_user, published_has_status, published_where_read, scope_there, state_passed, status_allowed, user_there}
 use Rattle.registry_rules.proofs.MadeFacts as made
 use Rattle.registry_rules.proofs.MadeFacts.{role_put, tag_put}
 use Rattle.registry_rules.proofs.OtherFacts.{not_the_last, other_maintainer}
 use Rattle.registry_rules.proofs.PublishedFacts.{status_of, published_is}
+use Rattle.registry_rules.specs.Withdrawals.{live_versions, selected}
 use Rattle.registry_rules.proofs.SoundFacts as change
+use Rattle.registry_rules.proofs.WithdrawnFacts.{deprecated_is, withdrawn_access}
 use Rattle.registry_rules.proofs.SoundFacts.{HasOwner, HasPublisher, user_added, token_added, organisation_created, role_given, member_joined, member_removed, team_created, team_destroyed, team_joined, team_left}
 
 -- ---- nothing
@@ -144,11 +146,11 @@ publisher_there S who p known policy sound = record {
   user = λ none unscoped. let user = publisher_is_user S.access who p unscoped none policy in (user.0, user.1, sym (ap (is_known S) user.1) ∙ known);
 }
 
-publish_sound : (S : State) (who : Caller) (f : FormParts) (now : ℕ) → is_known S who ≡ true → unless_allowed (permission S.access who (Publish f)) ≡ None → publish_refusal S f ≡ None
+publish_sound : (S : State) (who : Caller) (f : FormParts) (now : ℕ) → is_known S who ≡ true → unless_allowed (permission S.access who (Publish f)) ≡ None → publish_refusal S now f ≡ None
     → IsSound S.access → IsSound (all_made S (publication S now who f)).access
 publish_sound S who f now known policy may sound =
     subst (λ (T : State). IsSound T.access) (sym (published_is S who f now))
-    (change.published S.access who f.name (status_of S f) (published_has_status S f) (may_be_public S f may) (publisher_there S who f.name known policy sound) sound)
+    (change.published S.access who f.name (status_of S f) (published_has_status S f) (may_be_public S now f may) (publisher_there S who f.name known policy sound) sound)
 
 -- ---- all actions
 
@@ -174,4 +176,7 @@ step_sound S now who (OwnerRemove p u) known may sound = disowned_sound S p u (s
 step_sound S now who (Publish f) known may sound =
     publish_sound S who f now known (policy_passed S now who (Publish f) may) (state_passed S now who (Publish f) may) sound
 step_sound S now who (TagSet p t v) known may sound = subst (λ (T : State). IsSound T.access) (sym (tag_put S p t (text_of_version v) (stands S p t) (λ there. there))) sound
+step_sound S now who (Withdraw p v) known may sound = subst IsSound (sym (withdrawn_access S now p (text_of_version v) (at S.live (p, text_of_version v)))) sound
+step_sound S now who (Deprecate p selector message) known may sound =
+    subst (λ (T : State). IsSound T.access) (sym (deprecated_is S p message (selected (live_versions S p) selector))) sound
 step_sound S now who _ known may sound = sound

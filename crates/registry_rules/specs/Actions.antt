@@ -4,7 +4,7 @@ use Rattle.registry_names.specs.Texts.{Text, is}
 use Rattle.registry_names.specs.Versions.{text_of_version}
 use Rattle.registry_publish.specs.Form.{FormParts}
 use Rattle.registry_rules.specs.declared.request.Action.{Action}
-use Rattle.registry_rules.specs.declared.request.Action.TheVariants.{UserAdd, TokenAdd, OrgCreate, OrgSet, OrgRemove, TeamCreate, TeamDestroy, TeamAdd, TeamRemove, Grant, Revoke, SetAccess, OwnerAdd, OwnerRemove, Publish, TagSet, TagRemove}
+use Rattle.registry_rules.specs.declared.request.Action.TheVariants.{UserAdd, TokenAdd, OrgCreate, OrgSet, OrgRemove, TeamCreate, TeamDestroy, TeamAdd, TeamRemove, Grant, Revoke, SetAccess, OwnerAdd, OwnerRemove, Publish, TagSet, TagRemove, Withdraw, Deprecate}
 
 -- whether it may change the registry
 abbrev pub is_command : Action → Bool
@@ -25,6 +25,8 @@ is_command (OwnerRemove p u) = true
 is_command (Publish f) = true
 is_command (TagSet p t v) = true
 is_command (TagRemove p t) = true
+is_command (Withdraw p v) = true
+is_command (Deprecate p selector message) = true
 is_command _ = false
 
 -- the text of the version that a form publishes
@@ -41,6 +43,8 @@ names (OwnerRemove q u) p = is q p
 names (Publish f) p = is f.name p
 names (TagSet q t v) p = is q p
 names (TagRemove q t) p = is q p
+names (Withdraw q v) p = is q p
+names (Deprecate q selector message) p = is q p
 names _ p = false
 
 -- whether it is the command that ends this team

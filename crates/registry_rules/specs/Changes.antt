@@ -7,7 +7,7 @@ use Rattle.registry_access.specs.declared.grant.Grant.{Grant}
 use Rattle.registry_access.specs.declared.role.Role.{Role}
 use Rattle.registry_publish.specs.Form.{FormParts}
 use Rattle.registry_rules.specs.Actions.{version_of}
-use Rattle.registry_rules.specs.Operations.{with_user, with_token, with_organisation, with_member, with_role, without_member, with_team, without_team, with_team_member, without_team_member, with_grant, regranted, without_grant, with_maintainer, without_maintainer, with_status, restated, with_version, with_tag, moved, without_tag}
+use Rattle.registry_rules.specs.Operations.{with_user, with_token, with_organisation, with_member, with_role, without_member, with_team, without_team, with_team_member, without_team_member, with_grant, regranted, without_grant, with_maintainer, without_maintainer, with_status, restated, with_version, retired, with_message, with_tag, moved, without_tag}
 use Rattle.registry_rules.specs.State.{State, Release}
 use Rattle.registry_rules.specs.declared.change.Change as declared
 use Rattle.registry_rules.specs.declared.change.Change.TheVariants as change
@@ -35,6 +35,10 @@ pub data Change : Type 0 where
   PutStatus : (name : Text) (status : Status) (stands : Bool) → Change
   -- the form that is published, and when, in seconds
   AddVersion : (form : FormParts) (at : ℕ) → Change
+  -- a version, and when it was published and is withdrawn, in seconds
+  RetireVersion : (name version : Text) (published withdrawn : ℕ) → Change
+  -- a version, and the message of its deprecation
+  PutDeprecation : (name version message : Text) → Change
   -- a package, a tag, the version that it is to name, and whether the tag stands already
   PutTag : (name tag version : Text) (stands : Bool) → Change
   DropTag : (name tag : Text) → Change
@@ -60,6 +64,8 @@ made S (PutOwner p u) = with_maintainer S p u
 made S (DropOwner p u) = without_maintainer S p u
 made S (PutStatus p status stands) = if stands then restated S p status else with_status S p status
 made S (AddVersion f now) = with_version S f.name (version_of f) (release_of f now)
+made S (RetireVersion p v published withdrawn) = retired S p v published withdrawn
+made S (PutDeprecation p v message) = with_message S p v message
 made S (PutTag p t v stands) = if stands then moved S p t v else with_tag S p t v
 made S (DropTag p t) = without_tag S p t
 
@@ -85,5 +91,7 @@ change_of (change.PutOwner p u) = PutOwner p.now u.now
 change_of (change.DropOwner p u) = DropOwner p.now u.now
 change_of (change.PutStatus p status stands) = PutStatus p.now status stands
 change_of (change.AddVersion f now) = AddVersion f.now now.now
+change_of (change.RetireVersion p v published withdrawn) = RetireVersion p.now (text_of_version v.now) published.now withdrawn.now
+change_of (change.PutDeprecation p v message) = PutDeprecation p.now (text_of_version v.now) message.now
 change_of (change.PutTag p t v stands) = PutTag p.now t.now (text_of_version v.now) stands
 change_of (change.DropTag p t) = DropTag p.now t.now

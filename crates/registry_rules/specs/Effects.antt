@@ -1,6 +1,7 @@
 -- What each command changes where nothing refuses it: one equation a command. A query changes nothing.
-use Rattle.std.specs.Prelude.{ℕ, Bool, List, [], ◌∷◌, ◌++◌, ◌||◌, true, false, is_some, Option, Some, None, if◌then◌else◌}
+use Rattle.std.specs.Prelude.{ℕ, Bool, List, [], ◌∷◌, ◌++◌, map, ◌||◌, true, false, is_some, Option, Some, None, if◌then◌else◌}
 use Rattle.std.specs.Option.{option_to_list}
+use Rattle.registry_names.specs.Greatest.{greatest}
 use Rattle.registry_names.specs.Tags.{latest}
 use Rattle.registry_names.specs.Texts.{Text, is}
 use Rattle.registry_names.specs.Maps.{at}
@@ -16,10 +17,11 @@ use Rattle.registry_access.specs.declared.role.Role.TheVariants.{Owner}
 use Rattle.registry_publish.specs.Form.{FormParts}
 use Rattle.registry_rules.specs.Actions.{version_of}
 use Rattle.registry_rules.specs.Callers.{caller_of}
-use Rattle.registry_rules.specs.Changes.{Change, AddUser, AddToken, AddOrg, PutMember, DropMember, AddTeam, PutTeamMember, DropTeamMember, DropTeam, PutGrant, DropGrant, PutOwner, DropOwner, PutStatus, AddVersion, PutTag, DropTag, all_made}
+use Rattle.registry_rules.specs.Changes.{Change, AddUser, AddToken, AddOrg, PutMember, DropMember, AddTeam, PutTeamMember, DropTeamMember, DropTeam, PutGrant, DropGrant, PutOwner, DropOwner, PutStatus, AddVersion, RetireVersion, PutDeprecation, PutTag, DropTag, all_made}
 use Rattle.registry_rules.specs.State.{State, developers, is_in_team, has_grant, is_published, is_owned_by, stands}
+use Rattle.registry_rules.specs.Withdrawals.{live_versions, others, published_at, selected, tags_of}
 use Rattle.registry_rules.specs.declared.request.Action.{Action}
-use Rattle.registry_rules.specs.declared.request.Action.TheVariants.{UserAdd, TokenAdd, OrgCreate, OrgSet, OrgRemove, TeamCreate, TeamDestroy, TeamAdd, TeamRemove, Grant, Revoke, SetAccess, OwnerAdd, OwnerRemove, Publish, TagSet, TagRemove}
+use Rattle.registry_rules.specs.declared.request.Action.TheVariants.{UserAdd, TokenAdd, OrgCreate, OrgSet, OrgRemove, TeamCreate, TeamDestroy, TeamAdd, TeamRemove, Grant, Revoke, SetAccess, OwnerAdd, OwnerRemove, Publish, TagSet, TagRemove, Withdraw, Deprecate}
 use Rattle.registry_rules.specs.declared.request.Request.{Request}
 
 -- ---- organisations
@@ -76,6 +78,24 @@ abbrev pub publication : State → ℕ → Caller → FormParts → List Change
 publication S now who f = put_status f.name (new_status f.access (at S.access.statuses f.name) f.name) (at S.access.statuses f.name)
     ++ option_to_list (first_right who f.name (at S.access.statuses f.name)) ++ AddVersion f now ∷ put_tags S f.name f.tag (version_of f)
 
+-- ---- a withdrawal
+
+-- A tag that names a version that goes: `latest` is to name the other version, if there is one, and each other tag goes
+abbrev pub freed : Text → Option Text → Text → Change
+freed p None t = DropTag p t
+freed p (Some other) t = if is t latest then PutTag p t other true else DropTag p t
+
+-- Of a version that lives since a moment, if it does: the tags that name it first, of which `latest` is to name the greatest of the others that live, and then itself
+abbrev pub withdrawal : ℕ → Text → Text → Option ℕ → List Text → List Text → List Change
+withdrawal now p v None live tags = []
+withdrawal now p v (Some published) live tags = map (freed p (greatest (others live v))) tags ++ RetireVersion p v published now ∷ []
+
+-- ---- a deprecation
+
+-- each of these versions has the message
+abbrev pub deprecation : Text → Text → List Text → List Change
+deprecation p message vs = map (λ v. PutDeprecation p v message) vs
+
 -- ---- rights to a package
 
 -- who is a maintainer already stays one
@@ -102,6 +122,8 @@ effects S now who (OwnerRemove p u) = DropOwner p u ∷ []
 effects S now who (Publish f) = publication S now who f
 effects S now who (TagSet p t v) = PutTag p t (text_of_version v) (stands S p t) ∷ []
 effects S now who (TagRemove p t) = DropTag p t ∷ []
+effects S now who (Withdraw p v) = withdrawal now p (text_of_version v) (published_at S p (text_of_version v)) (live_versions S p) (tags_of S p (text_of_version v))
+effects S now who (Deprecate p selector message) = deprecation p message (selected (live_versions S p) selector)
 effects S now who _ = []
 
 -- what a caller's action makes of what the registry holds

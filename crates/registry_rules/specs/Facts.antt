@@ -1,8 +1,8 @@
 -- When what a decision rests on is what the registry holds of a request.
-use Rattle.std.specs.Prelude.{◌≡◌, Bool, Option, Some}
+use Rattle.std.specs.Prelude.{◌≡◌, ℕ, Bool, List, map, Option, Some}
 use Rattle.registry_names.specs.Maps.{at}
 use Rattle.registry_names.specs.Tags.{latest}
-use Rattle.registry_names.specs.Versions.{text_of_version}
+use Rattle.registry_names.specs.Versions.{VersionParts, text_of_version}
 use Rattle.registry_names.specs.Texts.{Text}
 use Rattle.registry_access.specs.Agreement.{SameOrganisation}
 use Rattle.registry_access.specs.Positions.{has_organisation}
@@ -16,12 +16,13 @@ use Rattle.registry_publish.specs.Form.{FormParts}
 use Rattle.registry_rules.specs.Actions.{version_of}
 use Rattle.registry_rules.specs.Callers.{caller_of}
 use Rattle.registry_rules.specs.State.{State, has_user, has_team, is_member, is_in_team, has_grant, is_published, is_owned_by, has_other_maintainer, has_other_owner, has_token, is_live, is_spent, has_live, stands, asked_version, lives}
+use Rattle.registry_rules.specs.Withdrawals.{is_depended, last_withdrawal, live_versions, published_at, tags_of}
 use Rattle.registry_rules.specs.declared.facts.About.{About}
 use Rattle.registry_rules.specs.declared.facts.About.TheVariants as about
 use Rattle.registry_rules.specs.declared.facts.Facts.{Facts}
 use Rattle.registry_rules.specs.declared.facts.PublishFacts.{PublishFacts}
 use Rattle.registry_rules.specs.declared.request.Action.{Action}
-use Rattle.registry_rules.specs.declared.request.Action.TheVariants.{UserAdd, TokenAdd, OrgCreate, OrgSet, OrgRemove, TeamCreate, TeamDestroy, TeamAdd, TeamRemove, Grant, Revoke, SetAccess, OwnerAdd, OwnerRemove, Publish, TagSet, TagRemove, Packument, VersionDoc, Archive, Tags, Members, Teams, TeamMembers, TeamPackages}
+use Rattle.registry_rules.specs.declared.request.Action.TheVariants.{UserAdd, TokenAdd, OrgCreate, OrgSet, OrgRemove, TeamCreate, TeamDestroy, TeamAdd, TeamRemove, Grant, Revoke, SetAccess, OwnerAdd, OwnerRemove, Publish, TagSet, TagRemove, Withdraw, Deprecate, Packument, VersionDoc, Archive, Tags, Members, Teams, TeamMembers, TeamPackages}
 use Rattle.registry_rules.specs.declared.request.Request.{Request}
 
 -- the standing says of the caller and the package what the registry holds
@@ -34,6 +35,8 @@ pub record ArePublishFacts (facts : PublishFacts) (S : State) (who : Caller) (f 
   pub version_spent : facts.version_spent ≡ is_spent S f.name (version_of f)
   pub tag_stands : facts.tag_stands ≡ stands S f.name f.tag
   pub latest_stands : facts.latest_stands ≡ stands S f.name latest
+  pub lives : facts.lives ≡ has_live S f.name
+  pub last_withdrawal : facts.last_withdrawal ≡ last_withdrawal S f.name
 
 -- the rows say of the organisation, and of the caller's role in it, what the registry holds
 abbrev pub SayOf : AccessRows → State → Caller → Text → Type 0
@@ -82,6 +85,13 @@ pub record AreTagSetFacts (standing : Standing) (lives stood : Bool) (S : State)
   pub version_lives : lives ≡ is_live S p v
   pub tag_stands : stood ≡ stands S p t
 
+pub record AreWithdrawFacts (standing : Standing) (since : Option ℕ) (needed : Bool) (named : List Text) (living : List VersionParts) (S : State) (who : Caller) (p : Text) (v : VersionParts) : Type 0 where
+  pub standing_tells : TellsOf standing S who p
+  pub published : since ≡ published_at S p (text_of_version v)
+  pub depended : needed ≡ is_depended S p v
+  pub tags : named ≡ tags_of S p (text_of_version v)
+  pub live : map text_of_version living ≡ live_versions S p
+
 -- What is told of a caller's action is so. What is told of another kind of action stands for no state
 abbrev pub StandsAbout : About → State → Caller → Action → Type 0
 StandsAbout (about.UserAdd exists) S who (UserAdd u) = exists ≡ has_user S u
@@ -101,6 +111,8 @@ StandsAbout (about.OwnerRemove standing owner other_owner) S who (OwnerRemove p 
 StandsAbout (about.Publish facts) S who (Publish f) = ArePublishFacts facts S who f
 StandsAbout (about.TagSet standing version_lives tag_stands) S who (TagSet p t v) = AreTagSetFacts standing version_lives tag_stands S who p t (text_of_version v)
 StandsAbout (about.TagRemove standing tag_stands) S who (TagRemove p t) = TellsOf standing S who p × (tag_stands ≡ stands S p t)
+StandsAbout (about.Withdraw standing published depended tags live) S who (Withdraw p v) = AreWithdrawFacts standing published depended tags.items live.items S who p v
+StandsAbout (about.Deprecate standing live) S who (Deprecate p selector message) = TellsOf standing S who p × (map text_of_version live.items ≡ live_versions S p)
 StandsAbout (about.Version standing found) S who (VersionDoc p asked) = TellsOf standing S who p × (found ≡ lives S p (asked_version S p asked))
 StandsAbout (about.Version standing found) S who (Archive p v) = TellsOf standing S who p × (found ≡ is_live S p (text_of_version v))
 StandsAbout (about.Package standing found) S who (Packument p) = TellsOf standing S who p × (found ≡ has_live S p)

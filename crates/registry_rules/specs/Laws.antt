@@ -1,7 +1,8 @@
 -- What commands make of what the registry holds, told of each map apart.
-use Rattle.std.specs.Prelude.{◌≡◌, ◌≢◌, ◌↔◌, ℕ, true, false, [], Some, None, IsSome, if◌then◌else◌}
+use Rattle.std.specs.Prelude.{◌≡◌, ◌≢◌, ◌↔◌, ℕ, List, true, false, [], Some, None, IsSome, if◌then◌else◌}
 use Rattle.registry_names.specs.Keys.{Pair, Triple}
 use Rattle.registry_names.specs.Maps.{at}
+use Rattle.registry_names.specs.Greatest.{greatest}
 use Rattle.registry_names.specs.Tags.{latest}
 use Rattle.registry_names.specs.Texts.{Text}
 use Rattle.registry_names.specs.Versions.{VersionParts, text_of_version}
@@ -18,9 +19,11 @@ use Rattle.registry_publish.specs.Form.{FormParts}
 use Rattle.registry_rules.specs.Actions.{is_command, version_of, names, ends_team}
 use Rattle.registry_rules.specs.Effects.{step_by}
 use Rattle.registry_rules.specs.Kept.{IsSound}
-use Rattle.registry_rules.specs.State.{State, developers, has_other_owner, has_other_maintainer}
+use Rattle.registry_rules.specs.State.{State, Release, developers, has_other_owner, has_other_maintainer}
+use Rattle.registry_rules.specs.Withdrawals.{live_versions, others, selects}
+use Rattle.registry_ranges.specs.Selectors.{Condition}
 use Rattle.registry_rules.specs.declared.request.Action.{Action}
-use Rattle.registry_rules.specs.declared.request.Action.TheVariants.{UserAdd, TokenAdd, OrgCreate, OrgSet, OrgRemove, TeamCreate, TeamDestroy, TeamAdd, TeamRemove, Grant, Revoke, SetAccess, OwnerAdd, OwnerRemove, Publish, TagSet, TagRemove}
+use Rattle.registry_rules.specs.declared.request.Action.TheVariants.{UserAdd, TokenAdd, OrgCreate, OrgSet, OrgRemove, TeamCreate, TeamDestroy, TeamAdd, TeamRemove, Grant, Revoke, SetAccess, OwnerAdd, OwnerRemove, Publish, TagSet, TagRemove, Withdraw, Deprecate}
 
 -- ---- users and tokens
 
@@ -241,6 +244,44 @@ SetTagsName = (S : State) (now : ℕ) (who : Caller) (p t : Text) (v : VersionPa
 abbrev pub RemovedTagsAreGone : Type 0
 RemovedTagsAreGone = (S : State) (now : ℕ) (who : Caller) (p t : Text) → let T = step_by S now who (TagRemove p t) in
     (at T.tags (p, t) ≡ None) × IsTagChange S T p t
+
+-- ---- a withdrawal
+
+-- The version lives no more and is spent, with both moments; no other version has changed
+pub record SpendsVersion (S T : State) (now : ℕ) (p v : Text) (release : Release) : Type 0 where
+  pub gone : at T.live (p, v) ≡ None
+  pub spent : at T.spent (p, v) ≡ Some (record { published = release.at; withdrawn = now })
+  pub live : (k : Pair) → k ≢ (p, v) → at T.live k ≡ at S.live k
+  pub others : (k : Pair) → k ≢ (p, v) → at T.spent k ≡ at S.spent k
+  pub access : T.access ≡ S.access
+
+-- No tag names it: `latest`, where it did, names the greatest other live version, or is gone where there is none, and each other tag that did is gone. All that named another version stay
+pub record FreesTags (S T : State) (p v : Text) : Type 0 where
+  pub moved : at S.tags (p, latest) ≡ Some v → at T.tags (p, latest) ≡ greatest (others (live_versions S p) v)
+  pub gone : (t : Text) → t ≢ latest → at S.tags (p, t) ≡ Some v → at T.tags (p, t) ≡ None
+  pub stays : (t : Text) → at S.tags (p, t) ≢ Some v → at T.tags (p, t) ≡ at S.tags (p, t)
+  pub tags : (q t : Text) → q ≢ p → at T.tags (q, t) ≡ at S.tags (q, t)
+
+abbrev pub WithdrawalsSpend : Type 0
+WithdrawalsSpend = (S : State) (now : ℕ) (who : Caller) (p : Text) (v : VersionParts) (release : Release) → at S.live (p, text_of_version v) ≡ Some release
+    → SpendsVersion S (step_by S now who (Withdraw p v)) now p (text_of_version v) release
+
+abbrev pub WithdrawalsFreeTags : Type 0
+WithdrawalsFreeTags = (S : State) (now : ℕ) (who : Caller) (p : Text) (v : VersionParts) → IsSome (at S.live (p, text_of_version v))
+    → FreesTags S (step_by S now who (Withdraw p v)) p (text_of_version v)
+
+-- ---- a deprecation
+
+-- each live version of the package that the conditions select has the message, and nothing else has changed
+pub record Deprecates (S T : State) (p : Text) (conditions : List (List Condition)) (message : Text) : Type 0 where
+  pub selected : (v : Text) (release : Release) → selects conditions v ≡ true → at S.live (p, v) ≡ Some release → at T.live (p, v) ≡ Some (record release { message = message })
+  pub unselected : (v : Text) → selects conditions v ≡ false → at T.live (p, v) ≡ at S.live (p, v)
+  pub live : (q v : Text) → q ≢ p → at T.live (q, v) ≡ at S.live (q, v)
+  pub gone : (k : Pair) → at S.live k ≡ None → at T.live k ≡ None
+  pub rest : T ≡ record S { live = T.live }
+
+abbrev pub DeprecationsMark : Type 0
+DeprecationsMark = (S : State) (now : ℕ) (who : Caller) (p : Text) (conditions : List (List Condition)) (message : Text) → Deprecates S (step_by S now who (Deprecate p conditions message)) p conditions message
 
 -- ---- all actions
 

@@ -10,3 +10,4 @@ pub mod Permissions
 pub mod Refusals
 pub mod Requests
 pub mod State
+pub mod Withdrawals

@@ -1,7 +1,8 @@
 -- The operations on what the registry holds. Each change is one of them.
-use Rattle.std.specs.Prelude.{not, ◌&&◌, is_some, if◌then◌else◌}
+use Rattle.std.specs.Prelude.{ℕ, not, ◌&&◌, is_some, if◌then◌else◌}
+use Rattle.registry_names.specs.Keys.{pair_is}
 use Rattle.registry_names.specs.Texts.{Text, is}
-use Rattle.registry_names.specs.Maps.{at, put, erase, keep}
+use Rattle.registry_names.specs.Maps.{at, put, erase, keep, revise}
 use Rattle.registry_names.specs.declared.status.Status.{Status}
 use Rattle.registry_access.specs.declared.grant.Grant.{Grant}
 use Rattle.registry_access.specs.declared.role.Role.{Role}
@@ -89,6 +90,17 @@ restated S p status = if is_some (at S.access.statuses p) then with_status S p s
 -- the version lives
 abbrev pub with_version : State → Text → Text → Release → State
 with_version S p v release = record S { live = put S.live (p, v) release }
+
+-- the version was published and withdrawn at these moments, and lives no more
+abbrev pub retired : State → Text → Text → ℕ → ℕ → State
+retired S p v published withdrawn = record S {
+  live = erase S.live (p, v);
+  spent = put S.spent (p, v) (record { published = published; withdrawn = withdrawn });
+}
+
+-- a version that lives has this message
+abbrev pub with_message : State → Text → Text → Text → State
+with_message S p v message = record S { live = revise S.live (λ k (r : Release). if pair_is (p, v) k then record r { message = message } else r) }
 
 -- the tag names the version
 abbrev pub with_tag : State → Text → Text → Text → State

@@ -7,7 +7,7 @@ use Rattle.registry_access.specs.Policy.{Verdict, may_operate, may_manage_member
 use Rattle.registry_access.specs.Positions.{has_organisation, position_in}
 use Rattle.registry_access.specs.declared.caller.Caller.{Caller}
 use Rattle.registry_rules.specs.declared.request.Action.{Action}
-use Rattle.registry_rules.specs.declared.request.Action.TheVariants.{UserAdd, TokenAdd, OrgCreate, OrgSet, OrgRemove, TeamCreate, TeamDestroy, TeamAdd, TeamRemove, Grant, Revoke, SetAccess, OwnerAdd, OwnerRemove, Publish, TagSet, TagRemove, Packument, VersionDoc, Archive, Tags, Members, Teams, TeamMembers, TeamPackages}
+use Rattle.registry_rules.specs.declared.request.Action.TheVariants.{UserAdd, TokenAdd, OrgCreate, OrgSet, OrgRemove, TeamCreate, TeamDestroy, TeamAdd, TeamRemove, Grant, Revoke, SetAccess, OwnerAdd, OwnerRemove, Publish, TagSet, TagRemove, Withdraw, Deprecate, Packument, VersionDoc, Archive, Tags, Members, Teams, TeamMembers, TeamPackages}
 
 abbrev pub permission : Access → Caller → Action → Verdict
 permission A who (UserAdd u) = may_operate who
@@ -27,6 +27,8 @@ permission A who (OwnerRemove p u) = may_manage_maintainers who (position_in A w
 permission A who (Publish f) = may_publish who (is_some (scope_of f.name)) (position_in A who f.name)
 permission A who (TagSet p t v) = may_write who (position_in A who p)
 permission A who (TagRemove p t) = may_write who (position_in A who p)
+permission A who (Withdraw p v) = may_write who (position_in A who p)
+permission A who (Deprecate p selector message) = may_write who (position_in A who p)
 permission A who (Packument p) = may_read (position_in A who p)
 permission A who (VersionDoc p asked) = may_read (position_in A who p)
 permission A who (Archive p v) = may_read (position_in A who p)

@@ -6,7 +6,7 @@ use Rattle.registry_names.specs.Texts.{Text, is}
 use Rattle.registry_names.specs.Maps.{at}
 use Rattle.registry_names.specs.Versions.{text_of_version}
 use Rattle.registry_names.specs.declared.refusal.Refusal.{Refusal}
-use Rattle.registry_names.specs.declared.refusal.Refusal.TheVariants.{NoCaller, NotFound, LastOwner, KeepsDevelopers, Exists, Published, Spent, KeepsLatest, OtherScope, AlwaysPublic}
+use Rattle.registry_names.specs.declared.refusal.Refusal.TheVariants.{NoCaller, NotFound, LastOwner, KeepsDevelopers, Exists, Published, Spent, TooLate, Depended, KeepsLatest, OtherScope, AlwaysPublic, Waiting}
 use Rattle.registry_names.specs.declared.status.Status.{Status}
 use Rattle.registry_names.specs.declared.status.Status.TheVariants.{Public, Restricted}
 use Rattle.registry_names.specs.Names.{scope_of}
@@ -19,8 +19,9 @@ use Rattle.registry_rules.specs.Actions.{version_of}
 use Rattle.registry_rules.specs.Callers.{caller_of}
 use Rattle.registry_rules.specs.Permissions.{permission}
 use Rattle.registry_rules.specs.State.{State, developers, has_user, has_token, is_member, has_team, is_in_team, has_grant, is_published, is_owned_by, has_other_maintainer, is_last_owner, is_live, is_spent, has_live, stands, asked_version, lives}
+use Rattle.registry_rules.specs.Withdrawals.{is_depended, is_too_old, is_waiting, published_at}
 use Rattle.registry_rules.specs.declared.request.Action.{Action}
-use Rattle.registry_rules.specs.declared.request.Action.TheVariants.{UserAdd, TokenAdd, OrgCreate, OrgSet, OrgRemove, TeamCreate, TeamDestroy, TeamAdd, TeamRemove, Grant, Revoke, SetAccess, OwnerAdd, OwnerRemove, Publish, TagSet, TagRemove, Packument, VersionDoc, Archive, Tags, Members, Teams, TeamMembers, TeamPackages}
+use Rattle.registry_rules.specs.declared.request.Action.TheVariants.{UserAdd, TokenAdd, OrgCreate, OrgSet, OrgRemove, TeamCreate, TeamDestroy, TeamAdd, TeamRemove, Grant, Revoke, SetAccess, OwnerAdd, OwnerRemove, Publish, TagSet, TagRemove, Withdraw, Deprecate, Packument, VersionDoc, Archive, Tags, Members, Teams, TeamMembers, TeamPackages}
 use Rattle.registry_rules.specs.declared.request.Request.{Request}
 
 abbrev pub refuse : Bool → Refusal → Option Refusal → Option Refusal
@@ -46,11 +47,17 @@ unless_allowed (Err r) = Some r
 
 -- ---- what stands in the way of an action
 
--- A live version is never published again, and neither is one that was withdrawn; a package without a scope is never restricted
-abbrev pub publish_refusal : State → FormParts → Option Refusal
-publish_refusal S f = refuse (is_live S f.name (version_of f)) Published
+-- A live version is never published again, and neither is one that was withdrawn; a package without a scope is never restricted; and one of which all versions were withdrawn waits a day
+abbrev pub publish_refusal : State → ℕ → FormParts → Option Refusal
+publish_refusal S now f = refuse (is_live S f.name (version_of f)) Published
     (refuse (is_spent S f.name (version_of f)) Spent
-    (refuse (is_restricted f.access && is_none (scope_of f.name)) AlwaysPublic None))
+    (refuse (is_restricted f.access && is_none (scope_of f.name)) AlwaysPublic
+    (refuse (is_waiting S now f.name) Waiting None)))
+
+-- Of a version that lives since a moment, if it does: it isn't withdrawn later than three days from then, nor while another package needs it
+abbrev pub withdraw_refusal : ℕ → Option ℕ → Bool → Option Refusal
+withdraw_refusal now None depended = Some NotFound
+withdraw_refusal now (Some published) depended = refuse (is_too_old now published) TooLate (refuse depended Depended None)
 
 -- a tag that isn't there can't go, and `latest` never goes
 abbrev pub tag_refusal : Bool → Text → Option Refusal
@@ -81,9 +88,11 @@ state_refusal S now (Revoke o t p) = unless_there (has_grant S o t p)
 state_refusal S now (SetAccess p status) = refuse (is_restricted (Some status) && is_none (scope_of p)) AlwaysPublic None
 state_refusal S now (OwnerAdd p u) = unless_there (has_user S u)
 state_refusal S now (OwnerRemove p u) = refuse (not (is_owned_by S p u)) NotFound (refuse (not (has_other_maintainer S p u)) LastOwner None)
-state_refusal S now (Publish f) = publish_refusal S f
+state_refusal S now (Publish f) = publish_refusal S now f
 state_refusal S now (TagSet p t v) = unless_there (is_live S p (text_of_version v))
 state_refusal S now (TagRemove p t) = tag_refusal (stands S p t) t
+state_refusal S now (Withdraw p v) = withdraw_refusal now (published_at S p (text_of_version v)) (is_depended S p v)
+state_refusal S now (Deprecate p selector message) = None
 state_refusal S now (Packument p) = unless_there (has_live S p)
 state_refusal S now (VersionDoc p asked) = unless_there (lives S p (asked_version S p asked))
 state_refusal S now (Archive p v) = unless_there (is_live S p (text_of_version v))

@@ -1,14 +1,14 @@
 //! What a decision changes.
 
 use registry_access::{Grant, Role};
-use registry_names::{Ident, Moment, Name, Status, Ver};
+use registry_names::{Ident, Message, Moment, Name, Status, Ver};
 use registry_publish::{PublishForm, TokenDigest};
 
 /// Changes, which are made in their order.
 pub type Changes<'a> = Vec<Change<'a>>;
 
 /// One change to what the registry holds. It says all that it does, and borrows what it says of
-/// the request, or of the caller.
+/// the request, of the caller, or of the facts.
 #[derive(Clone, Copy)]
 pub enum Change<'a> {
     /// There is this user.
@@ -129,6 +129,26 @@ pub enum Change<'a> {
         form: &'a PublishForm,
         /// When it is published.
         at: &'a Moment,
+    },
+    /// The version lives no more, and is never published again.
+    RetireVersion {
+        /// The package.
+        package: &'a Name,
+        /// The version.
+        version: &'a Ver,
+        /// When it was published.
+        published: &'a Moment,
+        /// When it is withdrawn.
+        withdrawn: &'a Moment,
+    },
+    /// The live version has this message of deprecation, or none where it is empty.
+    PutDeprecation {
+        /// The package.
+        package: &'a Name,
+        /// The version.
+        version: &'a Ver,
+        /// The message.
+        message: &'a Message,
     },
     /// The tag names the version.
     PutTag {

@@ -20,8 +20,9 @@ use crate::request::{Action, Request};
 use crate::tags::tag_remove_refusal;
 use crate::teams::{team_destroy_refusal, team_joined};
 use crate::users::{added_to_refusal, unless_new};
+use crate::withdrawals::{deprecation, withdraw_refusal, withdrawal};
 use registry_access::Caller;
-use registry_names::{Fault, Refusal, Rule, Stop};
+use registry_names::{Fault, Moment, Refusal, Rule, Stop};
 use std::alloc::{AllocError, Global};
 
 /// Whether a request may be asked, or why it is turned away. It takes no memory.
@@ -33,7 +34,7 @@ pub fn may_ask(facts: &Facts, request: &Request) -> Result<(), Refusal>
 {
     match &facts.caller {
         None => Err(Refusal::NoCaller),
-        Some(caller) => permitted(refusal_by(caller, &facts.about, &request.what)),
+        Some(caller) => { permitted(refusal_by(caller, &facts.about, &request.what, &request.at)) }
     }
 }
 
@@ -73,11 +74,11 @@ fn permitted(refusal: Option<Refusal>) -> Result<(), Refusal>
 }
 
 // Why this caller's action is turned away, if it is.
-fn refusal_by(caller: &Caller, about: &About, action: &Action) -> Option<Refusal>
-    ensures { (S : State) (now : ℕ) → StandsAbout about.now S caller.now action.now
-        → result ≡ spec.refusal_by S now caller.now action.now }
+fn refusal_by(caller: &Caller, about: &About, action: &Action, now: &Moment) -> Option<Refusal>
+    ensures { (S : State) → StandsAbout about.now S caller.now action.now
+        → result ≡ spec.refusal_by S now.now caller.now action.now }
 {
-    unless_allowed(permission(caller, about, action)).or(state_refusal(about, action))
+    unless_allowed(permission(caller, about, action)).or(state_refusal(about, action, now))
 }
 
 fn unless_allowed(verdict: Result<Rule, Refusal>) -> Option<Refusal>
@@ -87,9 +88,9 @@ fn unless_allowed(verdict: Result<Rule, Refusal>) -> Option<Refusal>
 }
 
 // Why what an action asks for can't be had, whoever asks.
-fn state_refusal(about: &About, action: &Action) -> Option<Refusal>
-    ensures { (S : State) (who : Caller) (now : ℕ) → StandsAbout about.now S who action.now
-        → result ≡ spec.state_refusal S now action.now }
+fn state_refusal(about: &About, action: &Action, now: &Moment) -> Option<Refusal>
+    ensures { (S : State) (who : Caller) → StandsAbout about.now S who action.now
+        → result ≡ spec.state_refusal S now.now action.now }
 {
     match (about, action) {
         (About::UserAdd { exists }, Action::UserAdd { .. }) => unless_new(*exists),
@@ -175,13 +176,22 @@ fn state_refusal(about: &About, action: &Action) -> Option<Refusal>
             },
             Action::OwnerRemove { .. },
         ) => { owner_remove_refusal(*is_owner, *other_owner) }
-        (About::Publish(facts), Action::Publish { form }) => publish_refusal(facts, form),
+        (About::Publish(facts), Action::Publish { form }) => publish_refusal(facts, form, now),
         (About::TagSet { version_lives, .. }, Action::TagSet { .. }) => unless_there(
             *version_lives,
         ),
         (About::TagRemove { tag_stands, .. }, Action::TagRemove { tag, .. }) => {
             tag_remove_refusal(*tag_stands, tag)
         }
+        (
+            About::Withdraw {
+                published,
+                depended,
+                ..
+            },
+            Action::Withdraw { .. },
+        ) => { withdraw_refusal(*published, *depended, now) }
+        (About::Deprecate { .. }, Action::Deprecate { .. }) => None,
         (About::Version { lives, .. }, Action::VersionDoc { .. } | Action::Archive { .. })
         | (About::Package { lives, .. }, Action::Packument { .. } | Action::Tags { .. }) => {
             unless_there(*lives)
@@ -200,7 +210,7 @@ fn unless_there(found: bool) -> Option<Refusal>
 fn changes_for<'a>(
     alloc: Global,
     caller: &'a Option<Caller>,
-    about: &About,
+    about: &'a About,
     request: &'a Request,
 ) -> Result<Changes<'a>, AllocError>
     ensures command { IfOk result (λ changes. (S : State) (who : Caller) → caller.now ≡ Some who
@@ -219,7 +229,7 @@ fn changes_for<'a>(
 fn changes<'a>(
     alloc: Global,
     caller: &'a Caller,
-    about: &About,
+    about: &'a About,
     request: &'a Request,
 ) -> Result<Changes<'a>, AllocError>
     ensures command { IfOk result (λ changes. (S : State)
@@ -360,6 +370,23 @@ fn changes<'a>(
             };
             Ok(vec![in alloc; change]?)
         }
+        (
+            About::Withdraw {
+                published,
+                tags,
+                live,
+                ..
+            },
+            Action::Withdraw { name, version },
+        ) => { withdrawal(alloc, name, version, published, live, tags, &request.at) }
+        (
+            About::Deprecate { live, .. },
+            Action::Deprecate {
+                name,
+                selector,
+                message,
+            },
+        ) => { deprecation(alloc, name, live, selector, message) }
         _ => Ok(Vec::new(alloc)),
     }
 }

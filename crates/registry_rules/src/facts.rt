@@ -1,6 +1,7 @@
 //! The facts that a decision rests on.
 
 use registry_access::{AccessRows, Caller, Role, Standing};
+use registry_names::{Moment, Text, Ver};
 
 /// What the registry holds of a request: who asks, and what stands of what he asks.
 #[derive(Drop)]
@@ -162,6 +163,26 @@ pub enum About {
         /// Whether the tag stands.
         tag_stands: bool,
     },
+    /// Of a version that is to be withdrawn.
+    Withdraw {
+        /// The caller and the package.
+        standing: Standing,
+        /// When it was published, if it lives.
+        published: Option<Moment>,
+        /// Whether a live version of another package needs it.
+        depended: bool,
+        /// The tags that name it, in byte order.
+        tags: Vec<Text>,
+        /// The live versions of the package, in byte order of their texts.
+        live: Vec<Ver>,
+    },
+    /// Of versions that are to be deprecated.
+    Deprecate {
+        /// The caller and the package.
+        standing: Standing,
+        /// The live versions of the package, in byte order of their texts.
+        live: Vec<Ver>,
+    },
     /// Of a query about one version.
     Version {
         /// The caller and the package.
@@ -191,4 +212,8 @@ pub struct PublishFacts {
     pub tag_stands: bool,
     /// Whether the tag `latest` stands.
     pub latest_stands: bool,
+    /// Whether a version of the package lives.
+    pub lives: bool,
+    /// When a version of it was withdrawn last, if one ever was.
+    pub last_withdrawal: Option<Moment>,
 }

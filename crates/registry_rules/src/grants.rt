@@ -52,12 +52,19 @@ pub(crate) fn grant_refusal(
     None
 }
 
+/// Whether the package would be restricted, and is nobody's.
+pub(crate) fn is_closed(status: Option<Status>, name: &Name) -> bool
+    ensures { result ≡ (spec.is_restricted status && is_none (scope_of name.now)) }
+{
+    status == Some(Status::Restricted) && name.scope().is_none()
+}
+
 /// A package without a scope is never restricted.
 pub(crate) fn status_refusal(status: Option<Status>, name: &Name) -> Option<Refusal>
     ensures { result ≡ spec.refuse (spec.is_restricted status && is_none (scope_of name.now))
         refusal.AlwaysPublic None }
 {
-    if status == Some(Status::Restricted) && name.scope().is_none() {
+    if is_closed(status, name) {
         return Some(Refusal::AlwaysPublic);
     }
     None

@@ -3,7 +3,7 @@
 
 ghost use Rattle.std.specs.Prelude.{◌≡◌, None};
 ghost use Rattle.registry_rules.specs.Kept.{IsKept};
-ghost use Rattle.registry_rules.specs.Laws.{GrantsAreGiven, GrantsAreRevoked, MaintainersAreAdded, MaintainersAreRemoved, OtherMaintainersAreMaintainers, PublishesGiveFirstRights, StatusesAreSet, NewTeamsAreEmpty, TeamMembersAreAdded, TeamMembersAreRemoved, TeamsAreCreated, TeamsAreDestroyed, MembersAreRemoved, OrganisationsAreCreated, OtherOwnersAreOwners, RolesAreSet, PackagesStandApart, PublishesAddVersions, PublishesSetStatuses, PublishesSetTags, QueriesChangeNothing, RemovedTagsAreGone, SetTagsName, TokensAreAdded, UsersAreAdded};
+ghost use Rattle.registry_rules.specs.Laws.{GrantsAreGiven, GrantsAreRevoked, MaintainersAreAdded, MaintainersAreRemoved, OtherMaintainersAreMaintainers, PublishesGiveFirstRights, StatusesAreSet, NewTeamsAreEmpty, TeamMembersAreAdded, TeamMembersAreRemoved, TeamsAreCreated, TeamsAreDestroyed, MembersAreRemoved, OrganisationsAreCreated, OtherOwnersAreOwners, RolesAreSet, PackagesStandApart, PublishesAddVersions, PublishesSetStatuses, PublishesSetTags, QueriesChangeNothing, RemovedTagsAreGone, SetTagsName, TokensAreAdded, UsersAreAdded, WithdrawalsSpend, WithdrawalsFreeTags, DeprecationsMark};
 ghost use Rattle.registry_rules.specs.Refusals.{refusal};
 ghost use Rattle.registry_rules.specs.Requests.{ArePartsInForm, IsActionInForm, IsAskedInForm, IsInForm};
 ghost use Rattle.registry_rules.specs.State.{State, nothing};
@@ -75,6 +75,20 @@ pub fn other_maintainers_are_maintainers()
 pub fn tags_are_set_and_removed()
     ensures set { SetTagsName }
     ensures removed { RemovedTagsAreGone }
+{}
+
+/// A version that is withdrawn lives no more and is spent, with the moments of its publish and of its
+/// withdrawal. No tag names it then: `latest` names the greatest other live version, or is gone where
+/// there is none. Nothing else changes.
+pub fn withdrawals_spend()
+    ensures versions { WithdrawalsSpend }
+    ensures tags { WithdrawalsFreeTags }
+{}
+
+/// Each live version of the package that a deprecation's selector selects has its message, and
+/// nothing else changes.
+pub fn deprecations_mark()
+    ensures { DeprecationsMark }
 {}
 
 /// A query changes nothing, and a command nothing of a package that it doesn't name, but that a
@@ -179,6 +193,14 @@ fn action_is_in_form(what: &Action)
         Action::TagRemove { name, tag } => {
             name.text();
             tag.text();
+        }
+        Action::Withdraw { name, version } => {
+            name.text();
+            version.text();
+        }
+        Action::Deprecate { name, message, .. } => {
+            name.text();
+            message.text();
         }
         Action::VersionDoc { name, version } => {
             name.text();

@@ -19,6 +19,7 @@ mod request;
 mod tags;
 mod teams;
 mod users;
+mod withdrawals;
 
 pub use crate::change::{Change, Changes};
 pub use crate::decision::{decide, may_ask};

@@ -81,6 +81,12 @@ pub(crate) fn permission(caller: &Caller, about: &About, action: &Action) -> Res
         (About::TagRemove { standing, .. }, Action::TagRemove { name, .. }) => {
             may_write(standing, caller, name)
         }
+        (About::Withdraw { standing, .. }, Action::Withdraw { name, .. }) => {
+            may_write(standing, caller, name)
+        }
+        (About::Deprecate { standing, .. }, Action::Deprecate { name, .. }) => {
+            may_write(standing, caller, name)
+        }
         (About::Version { standing, .. }, Action::VersionDoc { name, .. }) => {
             may_read(standing, caller, name)
         }

@@ -8,22 +8,30 @@ ghost use Rattle.registry_rules.specs.Effects.{publication};
 ghost use Rattle.registry_rules.specs.Facts.{ArePublishFacts};
 ghost use Rattle.registry_rules.specs.Refusals as spec;
 ghost use Rattle.registry_rules.specs.State.{State};
+ghost use Rattle.registry_rules.specs.Withdrawals as words;
+ghost use Rattle.registry_publish.specs.Form.{FormParts};
 ghost use Rattle.registry_access.specs.declared.caller.Caller.{Caller};
 
 use crate::change::{Change, Changes};
 use crate::facts::PublishFacts;
-use crate::grants::{first_right, status_refusal};
+use crate::grants::{first_right, is_closed};
 use crate::tags::is_latest;
+use crate::withdrawals::is_less_than_a_day_ago;
 use registry_access::Caller;
 use registry_names::{LATEST, Moment, Name, Refusal, Status};
 use registry_publish::PublishForm;
 use std::alloc::{AllocError, Global};
 
 /// Why the publish is turned away, if it is: a live version is never published again, and neither
-/// is one that was withdrawn; a package without a scope is never restricted.
-pub(crate) fn publish_refusal(facts: &PublishFacts, form: &PublishForm) -> Option<Refusal>
+/// is one that was withdrawn; a package without a scope is never restricted; and one of which all
+/// versions were withdrawn waits a day.
+pub(crate) fn publish_refusal(
+    facts: &PublishFacts,
+    form: &PublishForm,
+    now: &Moment,
+) -> Option<Refusal>
     ensures { (S : State) (who : Caller) → ArePublishFacts facts.now S who form.now
-        → result ≡ spec.publish_refusal S form.now }
+        → result ≡ spec.publish_refusal S now.now form.now }
 {
     if facts.version_lives {
         return Some(Refusal::Published);
@@ -31,7 +39,21 @@ pub(crate) fn publish_refusal(facts: &PublishFacts, form: &PublishForm) -> Optio
     if facts.version_spent {
         return Some(Refusal::Spent);
     }
-    status_refusal(form.access(), form.name())
+    if is_closed(form.access(), form.name()) {
+        return Some(Refusal::AlwaysPublic);
+    }
+    if is_waiting(facts, now) {
+        return Some(Refusal::Waiting);
+    }
+    None
+}
+
+// Whether no version of the package lives, and its last withdrawal was less than a day ago.
+fn is_waiting(facts: &PublishFacts, now: &Moment) -> bool
+    ensures { (S : State) (who : Caller) (form : FormParts) → ArePublishFacts facts.now S who form
+        → result ≡ words.is_waiting S now.now form.name }
+{
+    !facts.lives && is_less_than_a_day_ago(now, facts.last_withdrawal)
 }
 
 /// What a publish that isn't turned away changes. Its tag names the version, and so does `latest`

@@ -9,6 +9,8 @@ pub enum Reply {
     Created,
     /// The command was done.
     Done,
+    /// So many versions were deprecated, or aren't any more.
+    Count(u64),
     /// A document in JSON (RFC 8259).
     Doc(Text),
     /// The bytes of an archive.

@@ -1,8 +1,9 @@
 //! What can be asked of the registry.
 
 use registry_access::{Grant, Role};
-use registry_names::{Ident, Moment, Name, Status, TagText, Ver};
+use registry_names::{Ident, Message, Moment, Name, Status, TagText, Ver};
 use registry_publish::{PublishForm, TokenDigest};
+use registry_ranges::Selector;
 
 /// One thing that is asked of the registry.
 pub struct Request {
@@ -176,6 +177,24 @@ pub enum Action {
         name: Name,
         /// The tag.
         tag: TagText,
+    },
+    /// The command to withdraw a live version, which is never published again. It is taken for three
+    /// days after the publish, and while no live version of another package needs the version.
+    Withdraw {
+        /// The package's name.
+        name: Name,
+        /// The version that is to go.
+        version: Ver,
+    },
+    /// The command to deprecate the live versions that a selector selects, prereleases included, or
+    /// by the empty message to take that back. Versions that are published later aren't touched.
+    Deprecate {
+        /// The package's name.
+        name: Name,
+        /// Which versions it is about.
+        selector: Selector,
+        /// What is to be said of them.
+        message: Message,
     },
     /// The query for the packument of a package: its tags, and its live versions with their
     /// manifests.

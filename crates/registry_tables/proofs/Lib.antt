@@ -1,8 +1,10 @@
 pub mod AccessFacts
 pub mod ArchiveFacts
+pub mod BindingFacts
 pub mod CatalogFacts
 pub mod ContentsFacts
 pub mod CreationFacts
+pub mod DependentFacts
 pub mod EffectFacts
 pub mod FoundFacts
 pub mod GrantFacts
@@ -15,11 +17,13 @@ pub mod MaintainerFacts
 pub mod MappedFacts
 pub mod MemberFacts
 pub mod MetaFacts
+pub mod NamingFacts
 pub mod NeedFacts
 pub mod OpeningFacts
 pub mod OrganisationFacts
 pub mod ReadableFacts
 pub mod ReferenceFacts
+pub mod RetiredFacts
 pub mod ReviseFacts
 pub mod SchemaFacts
 pub mod SpentFacts
@@ -33,3 +37,4 @@ pub mod TeamMemberFacts
 pub mod TokenFacts
 pub mod UserFacts
 pub mod VersionFacts
+pub mod WithdrawalFacts

@@ -1,10 +1,11 @@
 -- The live versions, each read from three tables.
 use Rattle.std.proofs.Common.{◌≡◌, ◌==◌, ℕ, ℤ, true≢false, Bool, true, false, not, cond, List, [], ◌∷◌, map, length, Option, None, Some, is_some, option_map, arith, ne_eqb, refl, sym, ap, ◌∙◌}
+use Rattle.std.proofs.lemmas.Simd.{map-map}
 use Rattle.std.specs.Prelude.{option_and_then, unwrap_or}
 use Rattle.sqlite_value.specs.Order.{Row}
 use Rattle.registry_names.specs.Keys.{Pair}
 use Rattle.registry_names.specs.Texts.{Text, is}
-use Rattle.registry_names.specs.Maps.{PairMap, at, empty, of, entries, part, parts, seen}
+use Rattle.registry_names.specs.Maps.{PairMap, at, empty, of, entries, keys, part, parts, seen}
 use Rattle.registry_names.proofs.KeyFacts.{pair_key}
 use Rattle.registry_names.proofs.MapFacts.{at-empty, at-revise, same_map}
 use Rattle.registry_names.proofs.EntryFacts.{entries-revise}
@@ -23,6 +24,14 @@ pub document_as_row : (c : Contents) (k : Pair) → option_map document (at (liv
 document_as_row c k = ap (option_map document) (at-revise pair_key c.versions (with_bytes c) k) ∙ each (at c.versions k)
   where
     each : (o : Option Release) → option_map document (option_map (with_bytes c k) o) ≡ option_map document o
+    each None = refl
+    each (Some release) = refl
+
+-- and so is when it was published
+pub published_as_row : (c : Contents) (k : Pair) → option_map (λ (r : Release). r.at) (at (live_of c) k) ≡ option_map (λ (r : Release). r.at) (at c.versions k)
+published_as_row c k = ap (option_map (λ (r : Release). r.at)) (at-revise pair_key c.versions (with_bytes c) k) ∙ each (at c.versions k)
+  where
+    each : (o : Option Release) → option_map (λ (r : Release). r.at) (option_map (with_bytes c k) o) ≡ option_map (λ (r : Release). r.at) o
     each None = refl
     each (Some release) = refl
 
@@ -45,6 +54,13 @@ part_seen g keeps c p = ap (λ es. map (seen g) (parts es p)) (entries-revise pa
 -- what a packument shows of them is in their rows
 pub documents_as_rows : (c : Contents) (p : Text) → map (seen document) (of (live_of c) p) ≡ map (seen document) (of c.versions p)
 documents_as_rows = part_seen document (λ c k x. refl)
+
+-- their versions are those of their rows
+pub versions_as_rows : (c : Contents) (p : Text) → keys (of (live_of c) p) ≡ keys (of c.versions p)
+versions_as_rows c p =
+    sym (map-map (λ (e : Text × Unit {0}). e.0) (seen (λ (r : Release). tt)) (of (live_of c) p))
+    ∙ ap keys (part_seen (λ (r : Release). tt) (λ c k x. refl) c p)
+    ∙ map-map (λ (e : Text × Unit {0}). e.0) (seen (λ (r : Release). tt)) (of c.versions p)
 
 empty_seen : {X Y : Type 0} (g : X → Y) (es : List (Text × X)) → is_empty (map (seen g) es) ≡ is_empty es
 empty_seen g [] = refl

@@ -41,6 +41,9 @@ versions_mapped = record { found = refl; shape = refl; indexed = refl; plain = r
 pub tags_mapped : IsMapped schema contents 11 table.tags 1 named_in (λ c m. record c { tags = m })
 tags_mapped = record { found = refl; shape = refl; indexed = refl; plain = refl; texts = refl; depends = contents_depend; alone = λ db rows. refl }
 
+pub needs_mapped : IsMapped schema contents 12 table.needs 2 nothing_in (λ c m. record c { needs = m })
+needs_mapped = record { found = refl; shape = refl; indexed = refl; plain = refl; texts = refl; depends = contents_depend; alone = λ db rows. refl }
+
 pub need_ranges_mapped : IsMapped schema contents 14 table.need_ranges 3 nothing_in (λ c m. record c { need_ranges = m })
 need_ranges_mapped = record { found = refl; shape = refl; indexed = refl; plain = refl; texts = refl; depends = contents_depend; alone = λ db rows. refl }
 

@@ -1,21 +1,28 @@
 -- What the statements on withdrawn versions show.
-use Rattle.std.proofs.Common.{◌≡◌, ◌==◌, List, [], ◌∷◌, not, is_some, length, refl, ◌∙◌, codes, ℕ}
+use Rattle.std.proofs.Common.{◌≡◌, ◌==◌, ◌+◌, ◌<◌, List, [], ◌∷◌, ◌++◌, map, take, not, Option, Some, is_some, length, arith, refl, sym, ap, ◌∙◌, codes, ℕ}
+use Rattle.std.specs.Prelude.{max, slice_index_or, unwrap_or}
+use Rattle.std.proofs.lemmas.Simd.{map-map}
 use Rattle.sqlite.specs.declared.types.Value.TheVariants.{Text as Stored}
 use Rattle.sqlite.specs.Command.TheVariants.{Select}
 use Rattle.sqlite.specs.Listing.{understood}
 use Rattle.sqlite.specs.State.{State as Shown, HasCleanDisk}
 use Rattle.sqlite_tied.specs.Compute.{everything}
-use Rattle.sqlite_value.specs.Order.{Row}
+use Rattle.sqlite_value.specs.Order.{Row, column}
 use Rattle.sqlite_sql.specs.Term.{col}
 use Rattle.registry_names.specs.Texts.{Text}
-use Rattle.registry_names.specs.Maps.{at}
+use Rattle.registry_names.specs.Maps.{at, of, seen}
 use Rattle.registry_rules.specs.State.{Withdrawal}
+use Rattle.registry_rules.specs.Withdrawals.{last_of, last_withdrawal}
+use Rattle.registry_rules.proofs.ListedFacts.{mapped_more}
+use Rattle.registry_rows.specs.Columns.{text_in}
 use Rattle.registry_rows.specs.Ready.{Ready, Reads, Queried}
-use Rattle.registry_rows.specs.Statements.{MeansQuery, scan, by_texts}
-use Rattle.registry_rows.proofs.LookUpFacts.{select_finds}
+use Rattle.registry_rows.specs.Statements.{MeansQuery, scan, by_texts, in_order}
+use Rattle.registry_rows.proofs.LookUpFacts.{select_finds, select_lists}
 use Rattle.registry_tables.specs.Schema.{schema}
+use Rattle.registry_tables.specs.Contents.{registry_of}
 use Rattle.registry_tables.specs.Effects.{stored}
 use Rattle.registry_tables.specs.Spelled.{number_spelled}
+use Rattle.registry_tables.specs.Withdrawals.{last_number}
 use Rattle.registry_tables.proofs.FoundFacts.{some_found, some_seen}
 use Rattle.registry_tables.proofs.MappedFacts.{spent_mapped}
 
@@ -31,3 +38,40 @@ pub withdrawal_found : (p v : Text) (old new : Shown) (rows : List Row) → Read
 withdrawal_found p v old new rows form call clean =
     let it = select_finds spent_mapped find_text (col 1 4 ∷ []) _ find_means (p, v) number_spelled (λ (w : Withdrawal). w.withdrawn) (λ id vs. refl) old new rows form call clean in
     (it.0, some_found number_spelled rows _ it.1 ∙ some_seen (λ (w : Withdrawal). w.withdrawn) (at (stored old).spent (p, v)))
+
+-- ---- SELECT by package
+
+abbrev last_text : List ℕ
+last_text = codes "SELECT withdrawn, version FROM spent WHERE package = ?1 ORDER BY version"
+
+last_means : MeansQuery schema last_text (Select (record { lets = []; body = scan 20 (by_texts 0 1 0) (col 1 4 ∷ col 1 2 ∷ []) (in_order 0 2) }) (codes "withdrawn" ∷ codes "version" ∷ []))
+unfolding understood everything
+last_means = ((refl, (refl, refl)), refl)
+
+-- a version, and when it was withdrawn
+abbrev withdrawn_entry : Row → Text × ℕ
+withdrawn_entry r = (text_in (column r 1), number_spelled r)
+
+-- the last of some withdrawals is that of their moments
+last_as_number : (es : List (Text × Withdrawal)) → last_number (map (λ (e : Text × ℕ). e.1) (map (seen (λ (w : Withdrawal). w.withdrawn)) es)) ≡ last_of es
+last_as_number [] = refl
+last_as_number (e ∷ es) = ap (λ (o : Option ℕ). Some (max e.1.withdrawn (unwrap_or o 0))) (last_as_number es)
+
+pub last_found : (p : Text) (old new : Shown) (rows : List Row) → Ready schema old → Queried last_text (Stored p ∷ []) old new rows → HasCleanDisk new
+    → Reads schema old new × (last_number (map number_spelled rows) ≡ last_withdrawal (registry_of (stored old)) p)
+last_found p old new rows form call clean =
+    let it = select_lists spent_mapped last_text (col 1 4 ∷ col 1 2 ∷ []) _ last_means p withdrawn_entry (λ (w : Withdrawal). w.withdrawn) (λ id vs. refl) old new rows form call clean in
+    (it.0, ap last_number (sym (map-map (λ (e : Text × ℕ). e.1) withdrawn_entry rows) ∙ ap (map (λ (e : Text × ℕ). e.1)) it.1) ∙ last_as_number (of (stored old).spent p))
+
+-- ---- one moment after another
+
+max_step : (a b c : ℕ) → max a (max b c) ≡ max b (max a c)
+max_step a b c = omega arith
+
+-- the last of moments, with one more
+last_more : (ns : List ℕ) (n : ℕ) → last_number (ns ++ n ∷ []) ≡ Some (max n (unwrap_or (last_number ns) 0))
+last_more [] n = refl
+last_more (m ∷ ns) n = ap (λ (o : Option ℕ). Some (max m (unwrap_or o 0))) (last_more ns n) ∙ ap (λ (k : ℕ). Some k) (max_step m n (unwrap_or (last_number ns) 0))
+
+pub last_next : (rows : List Row) (i : ℕ) (r : Row) → i < length rows → last_number (map number_spelled (take (i + 1) rows)) ≡ Some (max (number_spelled (slice_index_or rows i r)) (unwrap_or (last_number (map number_spelled (take i rows))) 0))
+last_next rows i r within = ap last_number (mapped_more number_spelled rows i r within) ∙ last_more (map number_spelled (take i rows)) (number_spelled (slice_index_or rows i r))

@@ -5,12 +5,13 @@ use Rattle.registry_names.specs.Maps.{at, put}
 use Rattle.registry_names.specs.declared.status.Status.{Status}
 use Rattle.registry_access.specs.declared.grant.Grant.{Grant}
 use Rattle.registry_access.specs.declared.role.Role.{Role}
-use Rattle.registry_rules.specs.Changes.{Change, AddUser, AddToken, AddOrg, PutMember, DropMember, AddTeam, PutTeamMember, DropTeamMember, DropTeam, PutGrant, DropGrant, PutOwner, DropOwner, PutStatus, AddVersion, PutTag, DropTag, made, all_made}
-use Rattle.registry_rules.specs.Operations.{with_member, with_grant, with_status, with_tag}
+use Rattle.registry_rules.specs.Changes.{Change, AddUser, AddToken, AddOrg, PutMember, DropMember, AddTeam, PutTeamMember, DropTeamMember, DropTeam, PutGrant, DropGrant, PutOwner, DropOwner, PutStatus, AddVersion, RetireVersion, PutDeprecation, PutTag, DropTag, made, all_made}
+use Rattle.registry_rules.specs.Operations.{with_member, with_grant, with_status, retired, with_tag}
 use Rattle.registry_tables.specs.Archives.{HeldAreStored}
 use Rattle.registry_tables.specs.Changes.{stored_by, all_stored}
 use Rattle.registry_tables.specs.Contents.{Contents, registry_of}
 use Rattle.registry_tables.proofs.KeptArchiveFacts.{live_put, put_held_stored}
+use Rattle.registry_tables.proofs.RetiredFacts.{live_retired, live_messaged, retired_held_stored}
 
 role_either : (c : Contents) (o u : Text) (role : Role) (there : Bool)
     → registry_of (record c { members = if there then put c.members (o, u) role else c.members }) ≡ (if there then with_member (registry_of c) o u role else registry_of c)
@@ -51,6 +52,8 @@ change_makes (DropOwner p u) c held = refl
 change_makes (PutStatus p status true) c held = status_either c p status (is_some (at c.packages p))
 change_makes (PutStatus p status false) c held = refl
 change_makes (AddVersion f now) c held = ap (λ live. record (registry_of c) { live = live }) (live_put f now c held)
+change_makes (RetireVersion p v published withdrawn) c held = ap (λ live. record (retired (registry_of c) p v published withdrawn) { live = live }) (live_retired p v published withdrawn c)
+change_makes (PutDeprecation p v message) c held = ap (λ live. record (registry_of c) { live = live }) (live_messaged p v message c)
 change_makes (PutTag p t v true) c held = tag_either c p t v (is_some (at c.tags (p, t)))
 change_makes (PutTag p t v false) c held = refl
 change_makes (DropTag p t) c held = refl
@@ -72,6 +75,8 @@ change_keeps (PutOwner p u) c held = held
 change_keeps (DropOwner p u) c held = held
 change_keeps (PutStatus p status stands) c held = held
 change_keeps (AddVersion f now) c held = put_held_stored f now c held
+change_keeps (RetireVersion p v published withdrawn) c held = retired_held_stored p v published withdrawn c held
+change_keeps (PutDeprecation p v message) c held = held
 change_keeps (PutTag p t v stands) c held = held
 change_keeps (DropTag p t) c held = held
 

@@ -1,7 +1,8 @@
 -- What the statements on versions make and show.
-use Rattle.std.proofs.Common.{◌≡◌, ◌==◌, ℕ, List, [], ◌∷◌, pos, map, not, is_some, length, option_map, slice_get, None, Ok, refl, sym, ◌∙◌, codes}
+use Rattle.std.proofs.Common.{◌≡◌, ◌==◌, ℕ, List, [], ◌∷◌, pos, map, not, is_some, length, option_map, slice_get, Option, None, Some, Ok, refl, sym, ap, ◌∙◌, codes}
+use Rattle.std.proofs.lemmas.Simd.{map-map}
 use Rattle.sqlite.specs.declared.types.Value.TheVariants.{Null, Int, Text as Stored, Blob}
-use Rattle.sqlite.specs.Command.TheVariants.{Insert, Select}
+use Rattle.sqlite.specs.Command.TheVariants.{Insert, Update, Select}
 use Rattle.sqlite.specs.Source.TheVariants.{Values}
 use Rattle.sqlite.specs.Listing.{understood}
 use Rattle.sqlite.specs.State.{State as Shown, HasCleanDisk}
@@ -14,14 +15,17 @@ use Rattle.registry_rows.specs.Ready.{Ready, Leaves, Reads, Queried}
 use Rattle.registry_tables.specs.Schema.{schema}
 use Rattle.registry_tables.specs.Contents.{contents, live_of, registry_of}
 use Rattle.registry_tables.specs.Effects.{stored}
-use Rattle.registry_names.specs.Maps.{at, of, put, seen}
+use Rattle.registry_names.specs.Maps.{at, keys, of, put, seen}
 use Rattle.registry_rules.specs.State.{Release, has_live}
-use Rattle.registry_rows.specs.Statements.{Means, MeansQuery, scan, by_texts, in_order}
-use Rattle.registry_rows.proofs.StatementFacts.{insert_puts, insert_meets_none}
+use Rattle.registry_rules.specs.Withdrawals.{live_versions, published_at}
+use Rattle.registry_rows.specs.Statements.{Means, MeansQuery, scan, by_texts, in_order, set_terms}
+use Rattle.registry_rows.proofs.StatementFacts.{insert_puts, insert_meets_none, update_revises}
 use Rattle.registry_rows.proofs.LookUpFacts.{select_finds, select_lists, first_listed}
+use Rattle.registry_tables.specs.Teams.{text_spelled}
+use Rattle.registry_tables.specs.Withdrawals.{with_message}
 use Rattle.registry_tables.specs.Spelled.{number_spelled, document, document_spelled, row_spelled, version_spelled}
 use Rattle.registry_tables.proofs.FoundFacts.{some_found, some_seen}
-use Rattle.registry_tables.proofs.LiveFacts.{document_as_row, documents_as_rows, lives_as_row, lives_as_rows, some_listed}
+use Rattle.registry_tables.proofs.LiveFacts.{document_as_row, documents_as_rows, lives_as_row, lives_as_rows, published_as_row, some_listed, versions_as_rows}
 use Rattle.registry_tables.proofs.MappedFacts.{versions_mapped}
 
 -- ---- INSERT
@@ -46,6 +50,24 @@ pub version_is_new : (p v : Text) (published : ℕ) (manifest : Text) (old new :
     → Wrote put_text (Stored p ∷ Stored v ∷ Int (pos published) ∷ Stored manifest ∷ []) old new → HasCleanDisk new → at (stored old).versions (p, v) ≡ None
 version_is_new p v published manifest old new form call = insert_meets_none versions_mapped put_text put_cells put_means (Stored p ∷ Stored v ∷ Int (pos published) ∷ Stored manifest ∷ []) refl old new (Ok call.0) form call.1
 
+-- ---- UPDATE
+
+abbrev set_text : List ℕ
+set_text = codes "UPDATE versions SET deprecated = ?3 WHERE package = ?1 AND version = ?2"
+
+-- all stays but the message, which is the third parameter
+abbrev sets : List (Option ℕ)
+sets = None ∷ None ∷ None ∷ None ∷ Some 2 ∷ None ∷ []
+
+set_means : Means schema set_text (Update 9 (record { lets = []; body = scan 18 (by_texts 1 1 0) (col 1 0 ∷ col 1 0 ∷ set_terms 1 sets) [] }))
+unfolding understood everything
+set_means = (refl, (refl, refl))
+
+pub message_set : (p v message : Text) (old new : Shown) → Ready schema old → Wrote set_text (Stored p ∷ Stored v ∷ Stored message ∷ []) old new → HasCleanDisk new
+    → Leaves schema contents (record (stored old) { versions = with_message (stored old).versions (p, v) message }) new
+message_set p v message old new form call =
+    update_revises versions_mapped set_text sets set_means refl (p, v) (Stored message ∷ []) refl (λ (r : Release). record r { message = message }) (λ vs. refl) (λ vs. refl) old new (Ok call.0) form call.1
+
 -- ---- SELECT by package and version
 
 abbrev find_text : List ℕ
@@ -60,6 +82,12 @@ pub version_found : (p v : Text) (old new : Shown) (rows : List Row) → Ready s
 version_found p v old new rows form call clean =
     let it = select_finds versions_mapped find_text (col 1 3 ∷ []) _ find_means (p, v) number_spelled (λ (r : Release). r.at) (λ id vs. refl) old new rows form call clean in
     (it.0, some_found number_spelled rows _ it.1 ∙ some_seen (λ (r : Release). r.at) (at (stored old).versions (p, v)) ∙ sym (lives_as_row (stored old) (p, v)))
+
+pub published_found : (p v : Text) (old new : Shown) (rows : List Row) → Ready schema old → Queried find_text (Stored p ∷ Stored v ∷ []) old new rows → HasCleanDisk new
+    → Reads schema old new × (option_map number_spelled (slice_get rows 0) ≡ published_at (registry_of (stored old)) p v)
+published_found p v old new rows form call clean =
+    let it = select_finds versions_mapped find_text (col 1 3 ∷ []) _ find_means (p, v) number_spelled (λ (r : Release). r.at) (λ id vs. refl) old new rows form call clean in
+    (it.0, first_listed number_spelled rows _ it.1 ∙ sym (published_as_row (stored old) (p, v)))
 
 abbrev document_text : List ℕ
 document_text = codes "SELECT manifest, deprecated FROM versions WHERE package = ?1 AND version = ?2"
@@ -105,3 +133,13 @@ pub live_found : (p : Text) (old new : Shown) (rows : List Row) → Ready schema
 live_found p old new rows form call clean =
     let it = select_lists versions_mapped live_text (col 1 2 ∷ []) _ live_means p version_spelled (λ (r : Release). tt) (λ id vs. refl) old new rows form call clean in
     (it.0, some_listed version_spelled rows (λ (r : Release). tt) (of (stored old).versions p) it.1 ∙ sym (lives_as_rows (stored old) p))
+
+-- and they show which
+pub live_listed : (p : Text) (old new : Shown) (rows : List Row) → Ready schema old → Queried live_text (Stored p ∷ []) old new rows → HasCleanDisk new
+    → Reads schema old new × (map text_spelled rows ≡ live_versions (registry_of (stored old)) p)
+live_listed p old new rows form call clean =
+    let it = select_lists versions_mapped live_text (col 1 2 ∷ []) _ live_means p version_spelled (λ (r : Release). tt) (λ id vs. refl) old new rows form call clean in (
+      it.0,
+      sym (map-map (λ (e : Text × Unit {0}). e.0) version_spelled rows) ∙ ap keys it.1
+          ∙ map-map (λ (e : Text × Unit {0}). e.0) (seen (λ (r : Release). tt)) (of (stored old).versions p) ∙ sym (versions_as_rows (stored old) p),
+    )

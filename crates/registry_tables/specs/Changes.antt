@@ -4,12 +4,13 @@ use Rattle.std.specs.declared.cmp.Ordering.{Ordering}
 use Rattle.registry_names.specs.Maps.{MapBy, at, put, erase}
 use Rattle.registry_publish.specs.Form.{FormParts}
 use Rattle.registry_rules.specs.Actions.{version_of}
-use Rattle.registry_rules.specs.Changes.{Change, AddUser, AddToken, AddOrg, PutMember, DropMember, AddTeam, PutTeamMember, DropTeamMember, DropTeam, PutGrant, DropGrant, PutOwner, DropOwner, PutStatus, AddVersion, PutTag, DropTag, release_of}
+use Rattle.registry_rules.specs.Changes.{Change, AddUser, AddToken, AddOrg, PutMember, DropMember, AddTeam, PutTeamMember, DropTeamMember, DropTeam, PutGrant, DropGrant, PutOwner, DropOwner, PutStatus, AddVersion, RetireVersion, PutDeprecation, PutTag, DropTag, release_of}
 use Rattle.registry_rules.specs.State.{Release}
 use Rattle.registry_tables.specs.Archives.{archive_number, with_archive}
 use Rattle.registry_tables.specs.Contents.{Contents}
 use Rattle.registry_tables.specs.Needs.{with_needs}
 use Rattle.registry_tables.specs.Teams.{without_member, without_team}
+use Rattle.registry_tables.specs.Withdrawals.{version_retired, with_message}
 
 -- a key that is there has this value
 abbrev pub amended : {K X : Type 0} {cmp : K → K → Ordering} → MapBy cmp X → K → X → MapBy cmp X
@@ -47,6 +48,8 @@ stored_by (PutOwner p u) c = record c { owners = put c.owners (p, u) tt }
 stored_by (DropOwner p u) c = record c { owners = erase c.owners (p, u) }
 stored_by (PutStatus p status stands) c = record c { packages = with_row c.packages p status stands }
 stored_by (AddVersion f now) c = version_put f now c
+stored_by (RetireVersion p v published withdrawn) c = version_retired p v published withdrawn c
+stored_by (PutDeprecation p v message) c = record c { versions = with_message c.versions (p, v) message }
 stored_by (PutTag p t v stands) c = record c { tags = with_row c.tags (p, t) v stands }
 stored_by (DropTag p t) c = record c { tags = erase c.tags (p, t) }
 

@@ -9,3 +9,4 @@ pub mod Opening
 pub mod Schema
 pub mod Spelled
 pub mod Teams
+pub mod Withdrawals

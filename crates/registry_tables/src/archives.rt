@@ -4,7 +4,7 @@
 ghost use Rattle.std.specs.Prelude.{◌≡◌, ℕ, List, IfOk, Some, map, option_map, slice_get};
 ghost use Rattle.sqlite.specs.State.{HasCleanDisk};
 ghost use Rattle.sqlite_value.specs.Order.{column};
-ghost use Rattle.registry_names.specs.Maps.{at, put};
+ghost use Rattle.registry_names.specs.Maps.{at, erase, put};
 ghost use Rattle.registry_names.specs.Texts.{is};
 ghost use Rattle.registry_rows.specs.Columns.{blob_in, int_in};
 ghost use Rattle.registry_rows.specs.Frames.{Stays};
@@ -13,6 +13,7 @@ ghost use Rattle.registry_tables.specs.Archives.{archive_number, next_archive, n
 ghost use Rattle.registry_tables.specs.Contents.{live_of};
 ghost use Rattle.registry_tables.specs.Effects.{InForm, IsUnderWay, Makes, Tells, shown, stored_in};
 ghost use Rattle.registry_tables.specs.Spelled.{archive_spelled, bytes_spelled, held_spelled, number_among};
+ghost use Rattle.registry_tables.specs.Withdrawals as withdrawals;
 
 use crate::versions::has_version;
 use registry_names::{Blob, Fault, Name};
@@ -42,8 +43,8 @@ pub fn load_archive<S: Alter>(
     Ok(None)
 }
 
-// The number of the archive that a version has.
-fn held_archive<S: Alter>(
+/// The number of the archive that a version has, if it has one.
+pub(crate) fn held_archive<S: Alter>(
     tx: &mut Transaction<'_, S>,
     name: &Name,
     version: &str,
@@ -198,6 +199,49 @@ fn hold<S: Alter>(
         "INSERT INTO held VALUES (?1, ?2, ?3)",
         params![name, version, number],
     )
+}
+
+/// Drops the archive of this number, unless a version has it.
+pub(crate) fn free_archive<S: Alter>(
+    tx: &mut Transaction<'_, S>,
+    number: Option<i64>,
+) -> Result<(), Fault>
+    requires under_way { IsUnderWay S.Store tx.old }
+    ensures stays { Stays S.Store tx.old tx.new }
+    ensures makes { Makes S.Store tx.old tx.new result
+        (λ c. record c { archives = withdrawals.archives_left number c }) }
+{
+    let Some(number) = number else {
+        return Ok(());
+    };
+    if is_held(tx, number)? {
+        return Ok(());
+    }
+    drop_archive(tx, number)
+}
+
+// Whether a version has the archive with this number.
+fn is_held<S: Alter>(tx: &mut Transaction<'_, S>, number: i64) -> Result<bool, Fault>
+    requires in_form { InForm S.Store tx.old }
+    ensures stays { Stays S.Store tx.old tx.new }
+    ensures tells { Tells S.Store tx.old tx.new result (λ held c. held ≡ withdrawals.is_held number c) }
+{
+    let rows = read(
+        tx,
+        "SELECT package, version FROM held WHERE archive = ?1 ORDER BY package, version",
+        params![number],
+    )?;
+    Ok(!rows.is_empty())
+}
+
+// Drops the archive with this number.
+fn drop_archive<S: Alter>(tx: &mut Transaction<'_, S>, number: i64) -> Result<(), Fault>
+    requires in_form { InForm S.Store tx.old }
+    ensures stays { Stays S.Store tx.old tx.new }
+    ensures makes { Makes S.Store tx.old tx.new result
+        (λ c. record c { archives = erase c.archives number }) }
+{
+    write(tx, "DELETE FROM archives WHERE id = ?1", params![number])
 }
 
 #[derive(Drop)]

@@ -15,7 +15,8 @@ use crate::team_members::{drop_team_member, put_team_member};
 use crate::teams::{add_team, drop_team};
 use crate::tokens::add_token;
 use crate::users::add_user;
-use crate::versions::put_version;
+use crate::versions::{put_message, put_version};
+use crate::withdrawals::retire_version;
 use registry_names::Fault;
 use registry_rules::Change;
 use sqlite::{Alter, Transaction};
@@ -25,7 +26,7 @@ use sqlite::{Alter, Transaction};
 /// A new row of a key that is there already is a fault, and so is a row of which the tables lack
 /// what it refers to: a version of a package without a status, or a tag of a version that doesn't
 /// live. A grant refers to its team and its package's status, a maintainer to the user and to that
-/// status.
+/// status. A version doesn't go before each tag that names it is gone, or names another.
 pub fn make<S: Alter>(tx: &mut Transaction<'_, S>, change: &Change<'_>) -> Result<(), Fault>
     requires in_form { InForm S.Store tx.old }
     ensures stays { Stays S.Store tx.old tx.new }
@@ -74,6 +75,17 @@ pub fn make<S: Alter>(tx: &mut Transaction<'_, S>, change: &Change<'_>) -> Resul
             stands,
         } => put_status(tx, package.text(), status, stands),
         Change::AddVersion { form, at } => put_version(tx, form, *at),
+        Change::RetireVersion {
+            package,
+            version,
+            published,
+            withdrawn,
+        } => retire_version(tx, package, version.text(), *published, *withdrawn),
+        Change::PutDeprecation {
+            package,
+            version,
+            message,
+        } => put_message(tx, package.text(), version.text(), message.text()),
         Change::PutTag {
             package,
             tag,

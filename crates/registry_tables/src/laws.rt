@@ -13,7 +13,7 @@ ghost use Rattle.registry_publish.specs.Form.{FormParts};
 ghost use Rattle.registry_publish.specs.Integrity.{integrity_text};
 ghost use Rattle.registry_publish.specs.Needs.{needs_of};
 ghost use Rattle.registry_rules.specs.Actions.{version_of};
-ghost use Rattle.registry_rules.specs.Changes.{Change, all_made, made};
+ghost use Rattle.registry_rules.specs.Changes.{Change, PutDeprecation, RetireVersion, all_made, made};
 ghost use Rattle.registry_rules.specs.Kept.{IsSound};
 ghost use Rattle.registry_tables.specs.Archives.{HeldAreStored, HoldsArchives};
 ghost use Rattle.registry_tables.specs.Changes.{all_stored, stored_by, version_put};
@@ -38,20 +38,29 @@ pub fn changes_make_operations<S: Alter>()
 /// The archives that are stored are those of live versions, each once, with the integrity of their
 /// bytes, and no row of a version has bytes: there are none at first, what leaves the three tables
 /// keeps it so, and so does a form's version, where it didn't live and the form has its archive's
-/// integrity, as each form has.
+/// integrity, as each form has. A withdrawal keeps it so, too, and a deprecation.
 pub fn archives_are_kept()
     ensures fresh { HoldsArchives fresh }
     ensures others { (c d : Contents) → d.versions ≡ c.versions → d.held ≡ c.held → d.archives ≡ c.archives → HoldsArchives c → HoldsArchives d }
     ensures versions { (f : FormParts) (now : ℕ) (c : Contents) → f.integrity ≡ integrity_text f.archive → is_some (at c.versions (f.name, version_of f)) ≡ false → HoldsArchives c → HoldsArchives (version_put f now c) }
+    ensures withdrawals { (p v : Text) (published withdrawn : ℕ) (c : Contents)
+        → HoldsArchives c → HoldsArchives (stored_by (RetireVersion p v published withdrawn) c) }
+    ensures deprecations { (p v message : Text) (c : Contents)
+        → HoldsArchives c → HoldsArchives (stored_by (PutDeprecation p v message) c) }
 {}
 
 /// The needs that are stored are exactly those that live manifests name: there are none at first,
 /// what leaves the live versions and the needs keeps it so, and so does a form's version, where it
-/// didn't live and the form has its manifest's needs, as each form has.
+/// didn't live and the form has its manifest's needs, as each form has. A withdrawal keeps it so,
+/// too, and a deprecation.
 pub fn needs_are_kept()
     ensures fresh { HoldsNeeds fresh }
     ensures others { (c d : Contents) → d.versions ≡ c.versions → d.need_ranges ≡ c.need_ranges → HoldsNeeds c → HoldsNeeds d }
     ensures versions { (f : FormParts) (now : ℕ) (c : Contents) → needs_of f.manifest ≡ Some f.needs → is_some (at c.versions (f.name, version_of f)) ≡ false → HoldsNeeds c → HoldsNeeds (version_put f now c) }
+    ensures withdrawals { (p v : Text) (published withdrawn : ℕ) (c : Contents)
+        → HoldsNeeds c → HoldsNeeds (stored_by (RetireVersion p v published withdrawn) c) }
+    ensures deprecations { (p v message : Text) (c : Contents)
+        → HoldsNeeds c → HoldsNeeds (stored_by (PutDeprecation p v message) c) }
 {}
 
 /// Whatever a database holds: it is answered to have no tables only where it has nothing, and it

@@ -10,12 +10,14 @@ mod access;
 mod archives;
 mod callers;
 mod change;
+mod dependents;
 mod grants;
 mod idents;
 pub mod laws;
 mod maintainers;
 mod members;
 mod meta;
+mod moments;
 mod needs;
 mod organisations;
 mod schema;
@@ -29,26 +31,30 @@ mod teams;
 mod tokens;
 mod users;
 mod versions;
+mod withdrawals;
 
 pub use crate::access::load_access;
 pub use crate::archives::load_archive;
 pub use crate::callers::load_caller;
 pub use crate::change::make;
+pub use crate::dependents::is_depended;
 pub use crate::grants::{has_grant, load_grants};
 pub use crate::maintainers::{has_other_maintainer, is_maintainer};
 pub use crate::members::{has_other_owner, load_members, load_role};
 pub use crate::meta::opened;
+pub use crate::needs::load_dependents;
 pub use crate::organisations::has_organisation;
 pub use crate::schema::create;
-pub use crate::spent::is_spent;
+pub use crate::spent::{is_spent, load_last_withdrawal};
 pub use crate::standing::load_standing;
 pub use crate::statuses::load_status;
-pub use crate::tags::{has_tag, load_tag, load_tags};
+pub use crate::tags::{has_tag, load_tag, load_tags, load_version_tags};
 pub use crate::team_members::{is_in_team, load_team_users, load_user_teams};
 pub use crate::team_packages::load_team_packages;
 pub use crate::teams::{has_team, load_teams};
 pub use crate::tokens::load_token_user;
 pub use crate::users::has_user;
 pub use crate::versions::{
-    DocumentRow, has_live, has_version, load_document, load_versions, put_version,
+    DocumentRow, has_live, has_version, load_document, load_live, load_published, load_versions,
+    put_version,
 };

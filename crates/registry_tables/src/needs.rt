@@ -1,15 +1,24 @@
 //! The table `need_ranges`: what every live version depends on.
 
-ghost use Rattle.std.specs.Prelude.{◌≡◌, is_some};
+ghost use Rattle.std.specs.Prelude.{◌≡◌, IfOk, is_some};
+ghost use Rattle.std.specs.List.{list_any};
+ghost use Rattle.sqlite.specs.State.{HasCleanDisk};
 ghost use Rattle.registry_names.specs.Maps.{at};
+ghost use Rattle.registry_names.specs.Versions.{VersionParts};
+ghost use Rattle.registry_ranges.specs.Texts.{binds};
+ghost use Rattle.registry_rules.specs.Withdrawals.{is_depended};
 ghost use Rattle.registry_rows.specs.Frames.{Stays};
-ghost use Rattle.registry_tables.specs.Needs.{need_key, with_need, with_needs};
-ghost use Rattle.registry_tables.specs.Effects.{InForm, IsUnderWay, Makes, Tells};
+ghost use Rattle.registry_tables.specs.Contents.{registry_of};
+ghost use Rattle.registry_tables.specs.Effects.{InForm, IsUnderWay, Makes, Tells, shown, stored_in};
+ghost use Rattle.registry_tables.specs.Needs.{HoldsNeeds, need_key, with_need, with_needs};
+ghost use Rattle.registry_tables.specs.Withdrawals.{ranges_on};
 
-use registry_names::Fault;
+use crate::team_members::texts_in;
+use registry_names::{Fault, Name, Text};
 use registry_publish::Need;
 use registry_rows::{read, write};
 use sqlite::{Alter, Transaction, params};
+use std::alloc::Global;
 
 /// Puts what a version depends on. A pair of a target and a range that is named twice is put once.
 ///
@@ -80,4 +89,29 @@ fn has_need<S: Alter>(
         params![name, version, need.target.as_str(), need.range.as_str()],
     )?;
     Ok(!rows.is_empty())
+}
+
+/// The ranges in which live versions of other packages need this one, one for each that needs it.
+///
+/// Where the needs that are stored are those of live manifests, these are all: a version of the
+/// package is needed by another exactly where one of the texts is no range, or allows it.
+pub fn load_dependents<S: Alter>(
+    alloc: Global,
+    tx: &mut Transaction<'_, S>,
+    name: &Name,
+) -> Result<Vec<Text>, Fault>
+    requires in_form { InForm S.Store tx.old }
+    ensures stays { Stays S.Store tx.old tx.new }
+    ensures tells { Tells S.Store tx.old tx.new result
+        (λ texts c. texts.items ≡ ranges_on c name.now) }
+    ensures depended { HasCleanDisk (shown S.Store tx.new) → HoldsNeeds (stored_in S.Store tx.old)
+        → IfOk result (λ texts. (v : VersionParts) → list_any (λ text. binds text v) texts.items
+        ≡ is_depended (registry_of (stored_in S.Store tx.old)) name.now v) }
+{
+    let rows = read(
+        tx,
+        "SELECT range, package, version FROM need_ranges WHERE target = ?1 AND package <> ?1 ORDER BY package, version, target, range",
+        params![name.text()],
+    )?;
+    texts_in(alloc, &rows)
 }

@@ -1,12 +1,15 @@
 //! The table `spent`: the versions that were withdrawn, which are never published again.
 
 ghost use Rattle.std.specs.Prelude.{◌≡◌, is_some};
-ghost use Rattle.registry_names.specs.Maps.{at};
+ghost use Rattle.registry_names.specs.Maps.{at, put};
 ghost use Rattle.registry_rows.specs.Frames.{Stays};
-ghost use Rattle.registry_tables.specs.Effects.{InForm, Tells};
+ghost use Rattle.registry_rules.specs.Withdrawals.{last_withdrawal};
+ghost use Rattle.registry_tables.specs.Contents.{registry_of};
+ghost use Rattle.registry_tables.specs.Effects.{InForm, Makes, Tells};
 
-use registry_names::{Fault, Name};
-use registry_rows::read;
+use crate::moments::last_moment;
+use registry_names::{Fault, Moment, Name};
+use registry_rows::{read, write};
 use sqlite::{Alter, Transaction, params};
 
 /// Whether the version of the package was withdrawn.
@@ -25,4 +28,48 @@ pub fn is_spent<S: Alter>(
         params![name.text(), version],
     )?;
     Ok(!rows.is_empty())
+}
+
+/// When a version of the package was withdrawn last. None where none ever was.
+pub fn load_last_withdrawal<S: Alter>(
+    tx: &mut Transaction<'_, S>,
+    name: &Name,
+) -> Result<Option<Moment>, Fault>
+    requires in_form { InForm S.Store tx.old }
+    ensures stays { Stays S.Store tx.old tx.new }
+    ensures tells { Tells S.Store tx.old tx.new result
+        (λ last c. last ≡ last_withdrawal (registry_of c) name.now) }
+{
+    let rows = read(
+        tx,
+        "SELECT withdrawn, version FROM spent WHERE package = ?1 ORDER BY version",
+        params![name.text()],
+    )?;
+    last_moment(&rows)
+}
+
+/// Puts the version among those that were withdrawn, with the moments at which it was published and
+/// withdrawn.
+///
+/// One that was withdrawn already is a fault, and so is a package without a status.
+pub(crate) fn put_withdrawal<S: Alter>(
+    tx: &mut Transaction<'_, S>,
+    name: &str,
+    version: &str,
+    published: Moment,
+    withdrawn: Moment,
+) -> Result<(), Fault>
+    requires in_form { InForm S.Store tx.old }
+    ensures stays { Stays S.Store tx.old tx.new }
+    ensures makes { Makes S.Store tx.old tx.new result
+        (λ c. record c {
+          spent = put c.spent (name.now, version.now)
+              (record { published = published; withdrawn = withdrawn });
+        }) }
+{
+    write(
+        tx,
+        "INSERT INTO spent VALUES (?1, ?2, ?3, ?4)",
+        params![name, version, published.seconds(), withdrawn.seconds()],
+    )
 }

@@ -4,10 +4,13 @@ ghost use Rattle.std.specs.Prelude.{◌≡◌, IfOk, is_some, map, option_map, s
 ghost use Rattle.registry_names.specs.Maps.{at, erase, of, put};
 ghost use Rattle.registry_names.specs.Texts.{Text as Bytes};
 ghost use Rattle.registry_rows.specs.Frames.{Stays};
+ghost use Rattle.registry_rules.specs.Withdrawals.{tags_of};
 ghost use Rattle.registry_tables.specs.Changes.{amended, with_row};
+ghost use Rattle.registry_tables.specs.Contents.{registry_of};
 ghost use Rattle.registry_tables.specs.Effects.{InForm, Makes, Tells};
 ghost use Rattle.registry_tables.specs.Spelled.{named_spelled, tag_entry, tag_spelled};
 
+use crate::team_members::texts_in;
 use registry_names::{DistTag, Fault, Name, Text};
 use registry_rows::{FromRow, first_in, read, values_in, write};
 use sqlite::{Alter, Error, Row, Transaction, params};
@@ -76,6 +79,26 @@ fn tags_in(alloc: Global, rows: &[Row]) -> Result<Vec<DistTag>, Fault>
     let rows: Vec<TagRow> = values_in(alloc, rows)?;
     let tags = rows.into_iter().map(|row| row.tag).collect(alloc)?;
     Ok(tags)
+}
+
+/// The tags of a package that name this version, in byte order.
+pub fn load_version_tags<S: Alter>(
+    alloc: Global,
+    tx: &mut Transaction<'_, S>,
+    name: &Name,
+    version: &str,
+) -> Result<Vec<Text>, Fault>
+    requires in_form { InForm S.Store tx.old }
+    ensures stays { Stays S.Store tx.old tx.new }
+    ensures tells { Tells S.Store tx.old tx.new result
+        (λ tags c. tags.items ≡ tags_of (registry_of c) name.now version.now) }
+{
+    let rows = read(
+        tx,
+        "SELECT tag FROM tags WHERE package = ?1 AND version = ?2 ORDER BY package, tag",
+        params![name.text(), version],
+    )?;
+    texts_in(alloc, &rows)
 }
 
 /// Lets a tag of a package name this version. `stands` says whether the tag is there already.

@@ -4,19 +4,25 @@ ghost use Rattle.std.specs.Prelude.{◌≡◌, IfOk, None, OnOk, is_some, map, o
 ghost use Rattle.sqlite.specs.State.{HasCleanDisk};
 ghost use Rattle.registry_names.specs.Maps.{at, of, put, seen};
 ghost use Rattle.registry_names.specs.Texts.{Text as Bytes};
+ghost use Rattle.registry_names.specs.Versions.{text_of_version};
 ghost use Rattle.registry_rows.specs.Frames.{Stays};
-ghost use Rattle.registry_rules.specs.Actions.{version_of};
+ghost use Rattle.registry_rules.specs.Actions as actions;
 ghost use Rattle.registry_rules.specs.State as state;
+ghost use Rattle.registry_rules.specs.Withdrawals.{live_versions, published_at};
 ghost use Rattle.registry_tables.specs.Changes.{IsNew, is_unspent, row_of, version_put};
 ghost use Rattle.registry_tables.specs.Contents.{live_of, registry_of};
 ghost use Rattle.registry_tables.specs.Effects.{InForm, Makes, Tells, shown, stored_in};
 ghost use Rattle.registry_tables.specs.Spelled.{document, document_entry, document_spelled, row_entry, row_spelled};
+ghost use Rattle.registry_tables.specs.Withdrawals.{with_message};
 
 use crate::archives::put_archive;
+use crate::idents::version_of;
+use crate::moments::first_moment;
 use crate::needs::put_needs;
 use crate::spent::is_spent;
 use crate::statuses::load_status;
-use registry_names::{Fault, Moment, Name, Text};
+use crate::team_members::texts_in;
+use registry_names::{Fault, Moment, Name, Text, Ver};
 use registry_packument::VersionRow;
 use registry_publish::PublishForm;
 use registry_rows::{FromRow, first_in, read, values_in, write};
@@ -39,6 +45,70 @@ pub fn has_version<S: Alter>(
         params![name.text(), version],
     )?;
     Ok(!rows.is_empty())
+}
+
+/// When a version of the package was published. None where it doesn't live.
+pub fn load_published<S: Alter>(
+    tx: &mut Transaction<'_, S>,
+    name: &Name,
+    version: &str,
+) -> Result<Option<Moment>, Fault>
+    requires in_form { InForm S.Store tx.old }
+    ensures stays { Stays S.Store tx.old tx.new }
+    ensures tells { Tells S.Store tx.old tx.new result
+        (λ published c. published ≡ published_at (registry_of c) name.now version.now) }
+{
+    let rows = read(
+        tx,
+        "SELECT published FROM versions WHERE package = ?1 AND version = ?2",
+        params![name.text(), version],
+    )?;
+    first_moment(&rows)
+}
+
+/// The live versions of a package, in byte order of their texts.
+pub fn load_live<S: Alter>(
+    alloc: Global,
+    tx: &mut Transaction<'_, S>,
+    name: &Name,
+) -> Result<Vec<Ver>, Fault>
+    requires in_form { InForm S.Store tx.old }
+    ensures stays { Stays S.Store tx.old tx.new }
+    ensures tells { Tells S.Store tx.old tx.new result
+        (λ live c. map text_of_version live.items ≡ live_versions (registry_of c) name.now) }
+{
+    let texts = load_live_texts(alloc, tx, name)?;
+    all_parsed(alloc, &texts)
+}
+
+fn load_live_texts<S: Alter>(
+    alloc: Global,
+    tx: &mut Transaction<'_, S>,
+    name: &Name,
+) -> Result<Vec<Text>, Fault>
+    requires in_form { InForm S.Store tx.old }
+    ensures stays { Stays S.Store tx.old tx.new }
+    ensures tells { Tells S.Store tx.old tx.new result
+        (λ live c. live.items ≡ live_versions (registry_of c) name.now) }
+{
+    let rows = read(
+        tx,
+        "SELECT version FROM versions WHERE package = ?1 ORDER BY version",
+        params![name.text()],
+    )?;
+    texts_in(alloc, &rows)
+}
+
+// The versions of these texts.
+fn all_parsed(alloc: Global, texts: &[Text]) -> Result<Vec<Ver>, Fault>
+    ensures { IfOk result (λ versions. map text_of_version versions.items ≡ texts.now) }
+{
+    let mut versions = Vec::new(alloc);
+    for text in texts {
+        let version = version_of(alloc, text.as_str())?;
+        versions.push(version)?;
+    }
+    Ok(versions)
 }
 
 /// Whether a version of the package lives.
@@ -149,8 +219,8 @@ fn insert_version<S: Alter>(
 ) -> Result<(), Fault>
     requires in_form { InForm S.Store tx.old }
     ensures stays { Stays S.Store tx.old tx.new }
-    ensures makes { Makes S.Store tx.old tx.new result (λ c. record c { versions = put c.versions (form.now.name, version_of form.now) (row_of form.now published) }) }
-    ensures was_new { HasCleanDisk (shown S.Store tx.new) → OnOk result (at (stored_in S.Store tx.old).versions (form.now.name, version_of form.now) ≡ None) }
+    ensures makes { Makes S.Store tx.old tx.new result (λ c. record c { versions = put c.versions (form.now.name, actions.version_of form.now) (row_of form.now published) }) }
+    ensures was_new { HasCleanDisk (shown S.Store tx.new) → OnOk result (at (stored_in S.Store tx.old).versions (form.now.name, actions.version_of form.now) ≡ None) }
 {
     write(
         tx,
@@ -161,6 +231,25 @@ fn insert_version<S: Alter>(
             published.seconds(),
             form.manifest_text()
         ],
+    )
+}
+
+/// Gives a version this message of deprecation, if it lives. Its manifest stays as it is.
+pub(crate) fn put_message<S: Alter>(
+    tx: &mut Transaction<'_, S>,
+    name: &str,
+    version: &str,
+    message: &str,
+) -> Result<(), Fault>
+    requires in_form { InForm S.Store tx.old }
+    ensures stays { Stays S.Store tx.old tx.new }
+    ensures makes { Makes S.Store tx.old tx.new result (λ c. record c
+        { versions = with_message c.versions (name.now, version.now) message.now }) }
+{
+    write(
+        tx,
+        "UPDATE versions SET deprecated = ?3 WHERE package = ?1 AND version = ?2",
+        params![name, version, message],
     )
 }
 

@@ -26,6 +26,10 @@ mod routes;
 #[cfg(test)]
 mod rules;
 #[cfg(test)]
+mod server;
+#[cfg(test)]
+mod talk;
+#[cfg(test)]
 mod wire;
 #[cfg(test)]
 mod words;

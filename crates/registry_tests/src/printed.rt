@@ -28,6 +28,8 @@ fn answers_are_printed(rt: HostRuntime) -> Result<(), Fail> {
     let ok = "{\"ok\":true}\n".as_bytes();
     is_printed(alloc, Reply::Created, printed(alloc, ok, "", 0)?)?;
     is_printed(alloc, Reply::Done, printed(alloc, ok, "", 0)?)?;
+    let counted = "{\"count\":12,\"ok\":true}\n".as_bytes();
+    is_printed(alloc, Reply::Count(12), printed(alloc, counted, "", 0)?)?;
     let document = Text::from_str(alloc, "{\"latest\":\"1.0.0\"}")?;
     is_printed(
         alloc,

@@ -8,3 +8,4 @@ mod organisations;
 mod packages;
 mod people;
 mod shown;
+mod withdrawals;

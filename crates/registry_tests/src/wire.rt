@@ -1,5 +1,5 @@
 //! Requests and responses as bytes.
 
-mod reader;
+pub mod reader;
 mod requests;
 mod responses;

@@ -97,7 +97,7 @@ fn is_meant(alloc: Global, case: &Case) -> Result<(), Fail> {
 }
 
 /// Lines that have no options and leave no word out, one of each subcommand: they mean themselves.
-static WHOLE: [&'static [&'static str]; 25] = [
+static WHOLE: [&'static [&'static str]; 27] = [
     &["user-add", "ann"],
     &["token-add", "ann", "npm_ann_000000001"],
     &["org-create", "lab", "ann"],
@@ -115,6 +115,8 @@ static WHOLE: [&'static [&'static str]; 25] = [
     &["publish", "body.json"],
     &["tag-set", "@lab/kit", "next", "1.1.0"],
     &["tag-rm", "@lab/kit", "next"],
+    &["deprecate", "@lab/kit", "1.x", "use 2.x"],
+    &["withdraw", "@lab/kit", "1.0.0"],
     &["packument", "@lab/kit"],
     &["version-doc", "@lab/kit", "latest"],
     &["archive", "@lab/kit", "1.0.0"],
@@ -242,18 +244,18 @@ static LINES: [Case; 18] = [
         what: &["serve", "8080", "1000000"],
     },
     Case {
-        words: &["archive", "kit", ""],
+        words: &["deprecate", "kit", "<2.0.0", ""],
         db: "registry.db",
         who: "nobody",
         at: None,
-        what: &["archive", "kit", ""],
+        what: &["deprecate", "kit", "<2.0.0", ""],
     },
     Case {
-        words: &["version-doc", "kit", "--", "-- old --"],
+        words: &["deprecate", "kit", "1.x", "--", "-- old --"],
         db: "registry.db",
         who: "nobody",
         at: None,
-        what: &["version-doc", "kit", "-- old --"],
+        what: &["deprecate", "kit", "1.x", "-- old --"],
     },
     Case {
         words: &["token-add", "--", "ann", "-npm_ann_000000001"],

@@ -7,7 +7,7 @@ use std::test::Fail;
 use std::{env, fs, process};
 
 /// What is shown, the words, and the status, the output and the errors that they leave.
-type Row = (
+pub type Row = (
     &'static str,
     &'static [&'static str],
     u8,
@@ -15,7 +15,7 @@ type Row = (
     &'static str,
 );
 
-fn case(row: &Row, failing: Failing) -> Case {
+pub fn case(row: &Row, failing: Failing) -> Case {
     let (shows, words, status, output, errors) = *row;
     Case {
         shows,
@@ -137,14 +137,21 @@ static ROWS_OF_NO_OUTPUT: [Row; 2] = [
 ];
 
 // The path of a file that no other process has.
-fn path(rt: &HostRuntime, end: &str) -> Result<String, Fail> {
+pub fn path(rt: &HostRuntime, end: &str) -> Result<String, Fail> {
     let folder = env::temp_dir(rt)?;
     let id = process::id(rt.process());
     Ok(format!(in rt.alloc(); "{}/registry-{id}{end}", folder.as_str())?)
 }
 
+/// Removes the registry's file and its log.
+pub fn forget(rt: &HostRuntime, db: &str) -> Result<(), Fail> {
+    let log = format!(in rt.alloc(); "{db}-wal")?;
+    fs::remove_file(rt, db)?;
+    Ok(fs::remove_file(rt, log.as_str())?)
+}
+
 // The words behind those that name the registry's file.
-fn line(alloc: Global, db: &str, given: &[&str]) -> Result<Vec<Text>, Fail> {
+pub fn line(alloc: Global, db: &str, given: &[&str]) -> Result<Vec<Text>, Fail> {
     let mut line = words(alloc, &["--db", db])?;
     for word in given {
         line.push(Text::from_str(alloc, word)?)?;
@@ -165,7 +172,8 @@ fn leave_it(rt: &HostRuntime, db: &str, rows: &[Row], failing: Failing) -> Resul
 fn lines_leave_what_they_should(rt: HostRuntime) -> Result<(), Fail> {
     let db = path(&rt, "-lines.db")?;
     leave_it(&rt, db.as_str(), &ROWS, Failing::None)?;
-    leave_it(&rt, db.as_str(), &ROWS_OF_NO_OUTPUT, Failing::Output)
+    leave_it(&rt, db.as_str(), &ROWS_OF_NO_OUTPUT, Failing::Output)?;
+    forget(&rt, db.as_str())
 }
 
 static FILES: [(&'static str, &'static str); 3] = [
@@ -190,5 +198,6 @@ fn files_are_read(rt: HostRuntime) -> Result<(), Fail> {
         )?;
         leaves_it(&rt, alloc, &words, &case(&row, Failing::None))?;
     }
-    Ok(fs::remove_file(&rt, file.as_str())?)
+    fs::remove_file(&rt, file.as_str())?;
+    forget(&rt, db.as_str())
 }

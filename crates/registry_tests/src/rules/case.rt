@@ -14,7 +14,7 @@ const BODY: &str =
     r#"{"name":"NAME","versions":{"1.0.0":{"name":"NAME","version":"1.0.0"}},"dist-tags":TAGS,"access":ACCESS,"_attachments":{"kit.tgz":{"data":"YWJj"}}}"#;
 
 /// When it is asked.
-const NOW: i64 = 100;
+pub const NOW: i64 = 100;
 
 /// What a case shows, who asks, what is held, what is asked, and what is told.
 pub type Case = (&'static str, By, Held, Ask, Told);
@@ -96,13 +96,19 @@ fn is_told(alloc: Global, by: &By, held: &Held, ask: &Ask, told: &Told) -> Resul
         caller: by.caller(alloc)?,
         about: about(alloc, by, held, ask)?,
     };
-    Ok(tells(alloc, &facts, action(alloc, ask)?, told)?)
+    Ok(tells(alloc, &facts, NOW, action(alloc, ask)?, told)?)
 }
 
-/// Whether both calls tell this of an action.
-pub fn tells(alloc: Global, facts: &Facts, what: Action, told: &Told) -> Result<bool, AllocError> {
+/// Whether both calls tell this of an action at a moment.
+pub fn tells(
+    alloc: Global,
+    facts: &Facts,
+    now: i64,
+    what: Action,
+    told: &Told,
+) -> Result<bool, AllocError> {
     let request = Request {
-        at: Moment::clamped(NOW),
+        at: Moment::clamped(now),
         who: Credential::Anonymous,
         what,
     };
@@ -300,6 +306,8 @@ fn about_publish(standing: Standing, held: &Held, tag: &str) -> About {
         version_spent: matches!(held, Held::Withdrawn),
         tag_stands: held.has_tag(tag),
         latest_stands: held.has_tag("latest"),
+        lives: matches!(held, Held::Version(..)),
+        last_withdrawal: held.last_withdrawal(),
     })
 }
 
@@ -309,6 +317,13 @@ impl Held {
             Held::Nothing => None,
             Held::Version(status, _, _) => Some(*status),
             Held::Withdrawn => Some(Status::Public),
+        }
+    }
+
+    fn last_withdrawal(&self) -> Option<Moment> {
+        match self {
+            Held::Withdrawn => Some(Moment::clamped(0)),
+            Held::Nothing | Held::Version(..) => None,
         }
     }
 

@@ -1,6 +1,6 @@
 //! A case about users, tokens, the organisation `lab` and its teams.
 
-use crate::rules::case::{Told, tells, user};
+use crate::rules::case::{NOW, Told, tells, user};
 use registry_access::{AccessRows, Caller, Grant, MemberRow, Role};
 use registry_names::{Ident, Name, Refusal, Stop, Text};
 use registry_publish::TokenDigest;
@@ -77,7 +77,7 @@ fn is_told(alloc: Global, by: &By, ask: &Ask, told: &Told) -> Result<bool, Stop>
         caller: by.caller(alloc)?,
         about: about(alloc, by, ask)?,
     };
-    Ok(tells(alloc, &facts, action(alloc, ask)?, told)?)
+    Ok(tells(alloc, &facts, NOW, action(alloc, ask)?, told)?)
 }
 
 impl By {

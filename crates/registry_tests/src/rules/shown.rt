@@ -75,6 +75,24 @@ fn shown_of_package(alloc: Global, change: &Change<'_>) -> Result<String, AllocE
             let (name, version) = (form.name().text(), form.version().text());
             format!(in alloc; "AddVersion {name} {version} {}", at.seconds())
         }
+        Change::RetireVersion {
+            package,
+            version,
+            published,
+            withdrawn,
+        } => {
+            let (name, version) = (package.text(), version.text());
+            let (from, to) = (published.seconds(), withdrawn.seconds());
+            format!(in alloc; "RetireVersion {name} {version} {from} {to}")
+        }
+        Change::PutDeprecation {
+            package,
+            version,
+            message,
+        } => {
+            let (name, version) = (package.text(), version.text());
+            format!(in alloc; "PutDeprecation {name} {version} {}", message.text())
+        }
         Change::PutTag {
             package,
             tag,

@@ -1,7 +1,5 @@
 //! What lines of words ask for, and the first refusal of those that ask for nothing.
 
-ghost use Rattle.registry_cli.specs.Lines.{IsWhole};
-
 use super::texts;
 use crate::outcome::same;
 use registry_cli::{Line, action_of, line};
@@ -133,6 +131,12 @@ fn shown_of_package(alloc: Global, what: &Action) -> Result<String, AllocError> 
         Action::TagRemove { name, tag } => {
             format!(in alloc; "TagRemove {} {}", name.text(), tag.text())
         }
+        Action::Deprecate { name, message, .. } => {
+            format!(in alloc; "Deprecate {} {}", name.text(), message.text())
+        }
+        Action::Withdraw { name, version } => {
+            format!(in alloc; "Withdraw {} {}", name.text(), version.text())
+        }
         Action::Packument { name } => format!(in alloc; "Packument {}", name.text()),
         Action::VersionDoc { name, version } => {
             let version = match version {
@@ -150,28 +154,18 @@ fn shown_of_package(alloc: Global, what: &Action) -> Result<String, AllocError> 
 }
 
 // Who asks for what, or the refusal's name.
-fn asked(alloc: Global, line: &Line, body: &str) -> Result<String, AllocError>
-    requires whole { IsWhole line.now.what }
-{
+fn asked(alloc: Global, line: &Line, body: &str) -> Result<String, AllocError> {
     if line.asks_to_serve() {
         return String::from_str(alloc, "serve");
     }
     match action_of(alloc, line, body.as_bytes()) {
-        Ok((who, what)) => said(alloc, &who, &what),
-        Err(stop) => stopped(alloc, stop),
-    }
-}
-
-fn said(alloc: Global, who: &Credential, what: &Action) -> Result<String, AllocError> {
-    let who = caller(alloc, who)?;
-    let what = shown(alloc, what)?;
-    format!(in alloc; "{who}: {what}")
-}
-
-fn stopped(alloc: Global, stop: Stop) -> Result<String, AllocError> {
-    match stop {
-        Stop::Refused(refusal) => String::from_str(alloc, refusal.text()),
-        Stop::Fault(fault) => String::from_str(alloc, fault.text()),
+        Ok((who, what)) => {
+            let who = caller(alloc, &who)?;
+            let what = shown(alloc, &what)?;
+            format!(in alloc; "{who}: {what}")
+        }
+        Err(Stop::Refused(refusal)) => String::from_str(alloc, refusal.text()),
+        Err(Stop::Fault(fault)) => String::from_str(alloc, fault.text()),
     }
 }
 
@@ -199,7 +193,7 @@ fn ask(alloc: Global, rows: &[Row]) -> Result<(), Fail> {
 }
 
 /// One line of each subcommand but `publish`, whose texts are in form.
-static IN_FORM: [Row; 27] = [
+static IN_FORM: [Row; 29] = [
     (
         &["--operator", "user-add", "ann"],
         "the operator: UserAdd ann",
@@ -276,6 +270,14 @@ static IN_FORM: [Row; 27] = [
         &["--as", "bob", "tag-rm", "@lab/kit", "next"],
         "bob: TagRemove @lab/kit next",
     ),
+    (
+        &["--as", "bob", "deprecate", "@lab/kit", "1.x", "old"],
+        "bob: Deprecate @lab/kit old",
+    ),
+    (
+        &["--as", "bob", "withdraw", "@lab/kit", "1.0.0"],
+        "bob: Withdraw @lab/kit 1.0.0",
+    ),
     (&["packument", "@lab/kit"], "nobody: Packument @lab/kit"),
     (
         &["version-doc", "@lab/kit", "1.0.0"],
@@ -304,7 +306,7 @@ static IN_FORM: [Row; 27] = [
 ];
 
 /// One line of each subcommand, of which one text isn't in form.
-static OUT_OF_FORM: [Row; 25] = [
+static OUT_OF_FORM: [Row; 28] = [
     (&["user-add", "Ann"], "BadName"),
     (&["token-add", "ann", "npm_ann"], "BadBody"),
     (&["org-create", "@lab", "ann"], "BadName"),
@@ -322,6 +324,9 @@ static OUT_OF_FORM: [Row; 25] = [
     (&["publish", "body.json"], "BadBody"),
     (&["tag-set", "@lab/kit", "next", "1.1"], "BadVersion"),
     (&["tag-rm", "@lab/kit", "1.x"], "RangeTag"),
+    (&["deprecate", "@lab/kit", "next", "old"], "BadSelector"),
+    (&["withdraw", "@lab/kit", "1.x"], "BadVersion"),
+    (&["withdraw", "@lab/kit", "latest"], "BadVersion"),
     (&["packument", "@lab"], "BadName"),
     (&["version-doc", "@lab/kit", "next"], "BadVersion"),
     (&["archive", "@lab/kit", "latest"], "BadVersion"),

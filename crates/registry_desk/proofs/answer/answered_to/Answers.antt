@@ -26,12 +26,12 @@ accepted-requires g c = record {
 }
 
 pub returns-in-Ok-clause-answers : goal.returns-in-Ok-clause-answers
-returns-in-Ok-clause-answers g c known sound clean =
+returns-in-Ok-clause-answers g c known sound needs clean =
     let was = stored_in g.S.Store c.args.tx.now in
     let S = registry_of was in
     let were : HasCleanDisk (shown g.S.Store c.facts.new.tx) = omega (arith, c.accepted.ensures.stays.survives.clean, clean) in
     let told = c.in_ok-about.ensures.tells were in
-    let stands : StandsFor (record { caller = Some c.args.caller; about = c.in_ok-about.about }) S c.args.request.now = record { caller = known; about = λ who e. let same : c.args.caller ≡ who = cc in subst (λ (w : Caller). StandsAbout c.in_ok-about.about S w c.args.request.now.what) same (told.1 sound) } in
+    let stands : StandsFor (record { caller = Some c.args.caller; about = c.in_ok-about.about }) S c.args.request.now = record { caller = known; about = λ who e. let same : c.args.caller ≡ who = cc in subst (λ (w : Caller). StandsAbout c.in_ok-about.about S w c.args.request.now.what) same (told.1 sound needs) } in
     let same_rows : stored_in g.S.Store c.facts.new.tx ≡ was = ap (λ (d : Database). contents d.trees) told.0.same in
     IfOk-weaker c.accepted.result _ _
     (λ _ is. is ∙ ap (λ (d : Contents). reply_to (registry_of d) (Some c.args.caller) c.args.request.now.what) same_rows
@@ -39,12 +39,12 @@ returns-in-Ok-clause-answers g c known sound clean =
     (c.accepted.ensures.answers (subst AreTeamsSound (sym same_rows) sound) clean)
 
 pub returns-in-Ok-clause-settles : goal.returns-in-Ok-clause-settles
-returns-in-Ok-clause-settles g c known sound clean =
+returns-in-Ok-clause-settles g c known sound needs clean =
     let was = stored_in g.S.Store c.args.tx.now in
     let S = registry_of was in
     let were : HasCleanDisk (shown g.S.Store c.facts.new.tx) = omega (arith, c.accepted.ensures.stays.survives.clean, clean) in
     let told = c.in_ok-about.ensures.tells were in
-    let stands : StandsFor (record { caller = Some c.args.caller; about = c.in_ok-about.about }) S c.args.request.now = record { caller = known; about = λ who e. let same : c.args.caller ≡ who = cc in subst (λ (w : Caller). StandsAbout c.in_ok-about.about S w c.args.request.now.what) same (told.1 sound) } in
+    let stands : StandsFor (record { caller = Some c.args.caller; about = c.in_ok-about.about }) S c.args.request.now = record { caller = known; about = λ who e. let same : c.args.caller ≡ who = cc in subst (λ (w : Caller). StandsAbout c.in_ok-about.about S w c.args.request.now.what) same (told.1 sound needs) } in
     let decided = c.in-Ok.ensures.makes S stands in
     on_answer c.accepted.result
     (λ left. record {
@@ -55,21 +55,21 @@ returns-in-Ok-clause-settles g c known sound clean =
     (c.accepted.ensures.makes clean)
 
 pub returns-in-Err-Refused-clause-answers : goal.returns-in-Err-Refused-clause-answers
-returns-in-Err-Refused-clause-answers g c known sound clean =
+returns-in-Err-Refused-clause-answers g c known sound needs clean =
     let S = registry_of (stored_in g.S.Store c.args.tx.now) in
     let found = (c.in_ok-about.ensures.tells clean).1 in
-    let stands : StandsFor (record { caller = Some c.args.caller; about = c.in_ok-about.about }) S c.args.request.now = record { caller = known; about = λ who e. let same : c.args.caller ≡ who = cc in subst (λ (w : Caller). StandsAbout c.in_ok-about.about S w c.args.request.now.what) same (found sound) } in
+    let stands : StandsFor (record { caller = Some c.args.caller; about = c.in_ok-about.about }) S c.args.request.now = record { caller = known; about = λ who e. let same : c.args.caller ≡ who = cc in subst (λ (w : Caller). StandsAbout c.in_ok-about.about S w c.args.request.now.what) same (found sound needs) } in
     ap (λ (why : Refusal). Refused why) c.in-Err-Refused.refusal-is
     ∙ sym (refused S c.args.request.now c.in-Err-Refused.refusal
     ((c.decide.ensures.refused S stands c.in-Err-Refused.refusal).1 (c.in-Err-Refused.is ∙ ap (λ (stop : Stop). Err stop) c.in-Err-Refused.field-0-is)))
 
 pub returns-in-Err-Refused-clause-settles : goal.returns-in-Err-Refused-clause-settles
-returns-in-Err-Refused-clause-settles g c known sound clean =
+returns-in-Err-Refused-clause-settles g c known sound needs clean =
     let was = stored_in g.S.Store c.args.tx.now in
     let S = registry_of was in
     let reads = (c.in_ok-about.ensures.tells clean).0 in
     let found = (c.in_ok-about.ensures.tells clean).1 in
-    let stands : StandsFor (record { caller = Some c.args.caller; about = c.in_ok-about.about }) S c.args.request.now = record { caller = known; about = λ who e. let same : c.args.caller ≡ who = cc in subst (λ (w : Caller). StandsAbout c.in_ok-about.about S w c.args.request.now.what) same (found sound) } in
+    let stands : StandsFor (record { caller = Some c.args.caller; about = c.in_ok-about.about }) S c.args.request.now = record { caller = known; about = λ who e. let same : c.args.caller ≡ who = cc in subst (λ (w : Caller). StandsAbout c.in_ok-about.about S w c.args.request.now.what) same (found sound needs) } in
     let refused_so = (c.decide.ensures.refused S stands c.in-Err-Refused.refusal).1 (c.in-Err-Refused.is ∙ ap (λ (stop : Stop). Err stop) c.in-Err-Refused.field-0-is) in
     record {
       holds = ap (λ (d : Database). contents d.trees) reads.same ∙ sym (refused_settles was c.args.request.now c.in-Err-Refused.refusal refused_so);

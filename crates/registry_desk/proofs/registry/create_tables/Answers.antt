@@ -1,6 +1,6 @@
 use Rattle.std.proofs.Common.{◌≡◌, ◌∙◌, arith, rules, ap, subst}
 use Rattle.sqlite.specs.Held.{state}
-use Rattle.sqlite.specs.State.{HasCleanDisk, Survives}
+use Rattle.sqlite.specs.State.{Survives}
 use Rattle.sqlite.proofs.StateLemmas.{survives_then}
 use Rattle.sqlite.proofs.Callers.{survives_begin}
 use Rattle.sqlite_trees.specs.Tree.{Trees}
@@ -8,7 +8,7 @@ use Rattle.registry_tables.specs.Contents.{contents}
 use Rattle.registry_tables.specs.Effects.{HasNoTables}
 use Rattle.registry_tables.specs.Fresh.{fresh}
 use Rattle.registry_desk.specs.Resting.{Rests}
-use Rattle.registry_desk.proofs.CommitFacts.{empty_begun, committed_rests}
+use Rattle.registry_desk.proofs.CommitFacts.{commit_rests, empty_begun}
 use Rattle.registry_desk.proofs.registry.create_tables.Goals as goal
 
 pub returns-in-Ok-clause-rests : goal.returns-in-Ok-clause-rests
@@ -16,10 +16,10 @@ returns-in-Ok-clause-rests g c =
     let old = c.args.conn.now in
     let mid = state g.S.Store c.create.new.tx.conn.now in
     let begun : HasNoTables g.S.Store c.transaction-tx.result = rw c.transaction-tx.ensures.begun (empty_begun g.S.Store old c.requires.empty) in
-    let rests : HasCleanDisk (state g.S.Store c.commit.new.self.0) → Rests (state g.S.Store c.commit.new.self.0) = λ clean.
-    committed_rests fresh mid (state g.S.Store c.commit.new.self.0) (c.in_ok-create.ensures.made begun (omega (arith, c.commit.ensures.survives.clean, clean))) (c.in-Ok.ensures.ok clean).1 in
+    let new = state g.S.Store c.commit.new.self.0 in
+    let rests : Rests new = commit_rests fresh mid new c.commit.ensures.ended (λ clean. c.in_ok-create.ensures.made begun (omega (arith, c.commit.ensures.survives.clean, clean))) (λ clean. (c.in-Ok.ensures.ok clean).1) in
     let same : c.commit.new.self.0 ≡ c.conn-2-1.given.0 = search rules in
-    subst (λ h. HasCleanDisk (state g.S.Store h) → Rests (state g.S.Store h)) same rests
+    subst (λ h. Rests (state g.S.Store h)) same rests
 
 pub returns-in-Ok-clause-survives : goal.returns-in-Ok-clause-survives
 returns-in-Ok-clause-survives g c =

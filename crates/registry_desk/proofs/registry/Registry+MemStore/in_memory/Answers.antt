@@ -12,7 +12,7 @@ use Rattle.registry_tables.proofs.KeptArchiveFacts.{fresh_archives}
 use Rattle.registry_desk.proofs.registry.Registry+MemStore.in_memory.Goals as goal
 
 pub invariant_of-result : goal.invariant_of-result
-invariant_of-result c = c.in_ok-create_tables.ensures.rests (memory_is_clean c.create_tables.new.conn)
+invariant_of-result c = c.in_ok-create_tables.ensures.rests
 
 pub returns-clause-fresh : goal.returns-clause-fresh
 returns-clause-fresh c = c.in_ok-create_tables.ensures.made (memory_is_clean c.create_tables.new.conn)

@@ -9,5 +9,5 @@ pub returns : goal.returns
 returns c =
     let ran = c.in_ok-outcomes.ensures in
     record {
-      headline = ran.headline (memory_is_clean c.run.new.self) (stays_open _ (ran.survives.closes (memory_is_clean c.run.new.self) c.in_ok-registry.ensures.served)) (ap registry_of c.in_ok-registry.ensures.fresh ∙ fresh_is_nothing);
+      headline = ran.headline c.in_ok-registry.ensures.needs (memory_is_clean c.run.new.self) (stays_open _ (ran.survives.closes (memory_is_clean c.run.new.self) c.in_ok-registry.ensures.served)) (ap registry_of c.in_ok-registry.ensures.fresh ∙ fresh_is_nothing);
     }

@@ -1,0 +1,135 @@
+-- What an open finds in files: rows whose rowids rise.
+use Rattle.std.proofs.Common.{◌≡◌, ℕ, filter, true, List, [], inl, inr, ap, sym, subst, IsTrue, OnOk, Result, Ok, Err, length, refl, arith}
+use Rattle.std.proofs.Math.Logic.{∥∥₁_elim}
+use Rattle.std.specs.List.{AllByRecursion}
+use Rattle.sqlite_rules.specs.Lists.{Has}
+use Rattle.sqlite_rules.proofs.ListLemmas.{all_from}
+use Rattle.sqlite_schema.specs.declared.schema.Schema.{Schema}
+use Rattle.sqlite_schema.specs.declared.schema.Table.{Table}
+use Rattle.sqlite_catalog.specs.Listing.{IsSound, IsTableRow, is_table_row}
+use Rattle.sqlite_catalog.proofs.LayoutLemmas.{table_shape, zipped_left}
+use Rattle.sqlite_trees.specs.Tree.{Trees}
+use Rattle.sqlite_trees.specs.Objects.{IsListed, catalog_tree}
+use Rattle.sqlite_trees.specs.View.{IsOrdered, IsShaped}
+use Rattle.sqlite_trees.specs.Props.{IsOrdered-prop}
+use Rattle.sqlite_store.specs.Listing.{IsOurs, all_reals, all_shapes, file_trees}
+use Rattle.sqlite_store.specs.Listed.{catalog_rows, is_listed}
+use Rattle.sqlite_store.specs.declared.catalog.Wanted.{Wanted}
+use Rattle.sqlite_store.proofs.ListingLemmas.{all_ordered}
+use Rattle.sqlite_pages.specs.PageMap.{PageMap}
+use Rattle.sqlite_pool.specs.File.{in_use, version_in}
+use Rattle.sqlite_wal.specs.Recovery.{Image}
+use Rattle.sqlite.specs.Files.{AreFoundIn, Finds, file_state, image_of}
+use Rattle.sqlite.specs.Held.{Held}
+use Rattle.sqlite_disk.specs.declared.Disk as disk
+use Rattle.sqlite_disk.specs.declared.Files.{Files}
+use Rattle.sqlite_store.specs.declared.store.FileStore.{FileStore}
+use Rattle.sqlite.specs.Effect.{Database, IsDatabase}
+use Rattle.sqlite.specs.Start.{FindsIn}
+use Rattle.sqlite.specs.State.{State as Shown, HasCleanDisk, IsLive, Opens}
+use Rattle.registry_rows.specs.Ready.{IsReady}
+use Rattle.registry_rows.specs.Rows.{HasRowids}
+use Rattle.registry_rows.specs.Tables.{no_tables}
+use Rattle.registry_tables.specs.Contents.{Contents}
+use Rattle.registry_tables.specs.Effects.{stored}
+use Rattle.registry_tables.specs.Fresh.{fresh}
+use Rattle.registry_tables.specs.Schema as ours
+use Rattle.registry_desk.specs.Opened.{GivesFound, HoldsEach, HoldsFound, IsFreshIfEmpty, IsJustOpened, IsLeftOf, IsMadeOf, LeavesFound}
+
+-- ---- rowids
+
+-- the pages of a sound file list a schema: its tables' rows rise
+rises_in : (size : ℕ) (pages : PageMap) (wanted : List Wanted) (schema : Schema) → ∥ IsOurs size true wanted pages ∥₁ → IsSound schema (file_trees size wanted pages)
+    → (t : Table) → Has schema.tables t → HasRowids (file_trees size wanted pages t.tree)
+rises_in size pages wanted schema ours sound t here =
+    let trees : Trees = file_trees size wanted pages in
+    let told : IsListed (trees catalog_tree) (all_shapes wanted) (all_reals wanted) = rw (catalog_rows size wanted (in_use size pages)) (is_listed wanted) in
+    let ordered : IsOrdered (all_shapes wanted) trees = ∥∥₁_elim ours (IsOrdered-prop _ _) (λ o. all_ordered o.file.db (version_in pages)) in
+    let rising = subst (λ s. IsShaped s (trees catalog_tree)) told.itself.0 (ordered catalog_tree) in
+    subst (λ s. IsShaped s (trees t.tree)) (table_shape told rising.0 sound.lists.listed t here).0 (ordered t.tree)
+
+-- a database without a list of objects has no tables
+no_table : (db : Trees) (schema : Schema) → db catalog_tree ≡ [] → IsSound schema db → (t : Table) → ¬ Has schema.tables t
+no_table db schema none sound t here =
+    let row = zipped_left IsTableRow _ schema.tables t sound.lists.listed.tables here in
+    subst (λ rows. Has (filter is_table_row rows) row.0) none row.1
+
+pub found_rises : (image : Image) (db : Trees) (schema : Schema) → AreFoundIn image db → IsSound schema db → AllByRecursion (λ t. HasRowids (db t.tree)) schema.tables
+found_rises image db schema (inl found) sound = all_from (λ t. HasRowids (db t.tree)) schema.tables
+    (λ t here. subst (λ d. HasRowids (d t.tree)) (sym found.5) (rises_in found.0 found.1 found.2 schema found.4 (subst (IsSound schema) found.5 sound) t here))
+found_rises image db schema (inr (nothing, empty)) sound = all_from (λ t. HasRowids (db t.tree)) schema.tables (λ t here. absurd (no_table db schema empty.1 sound t here))
+
+-- ---- what is seen at first
+
+-- where the schema is ours, the tables are in form
+pub ours_ready : (s : Shown) → IsJustOpened s → s.now.schema ≡ ours.schema → HasCleanDisk s → IsTrue s.is_open → IsReady ours.schema s
+ours_ready s opened is clean on =
+    let it = opened clean in
+    record {
+      schema_is = is;
+      sound = (it.1 on).0;
+      rowids = subst (λ (schema : Schema). AllByRecursion (λ t. HasRowids (s.now.trees t.tree)) schema.tables) is it.2;
+    }
+
+-- two facts of an answer
+pub both_ok : {A E : Type 0} {P Q R : Type 0} (r : Result A E) → (P → Q → R) → OnOk r P → OnOk r Q → OnOk r R
+both_ok (Ok a) f p q = f p q
+both_ok (Err e) f p q = tt
+
+-- ---- of the trees that the files hold
+
+sound_as : (schema : Schema) (seen : Database) → seen.schema ≡ schema → IsDatabase seen → IsSound schema seen.trees
+sound_as schema seen is sound = subst (λ s. IsSound s seen.trees) is sound
+
+-- what is made of the database that was seen is given of the trees that the files hold
+pub gives_found : (seen : Database) (c : Contents) → IsMadeOf seen c → IsDatabase seen → GivesFound seen.trees c
+gives_found seen c (inl (schema_is, number, is)) sound = inl (sound_as ours.schema seen schema_is sound, number, is)
+gives_found seen c (inr (none, is)) sound = inr (sound_as no_tables seen none sound, is)
+
+pub leaves_found : (seen : Database) (left : Trees) → IsDatabase seen → IsLeftOf seen left → LeavesFound seen.trees left
+leaves_found seen left sound (inl same) = inl same
+leaves_found seen left sound (inr (none, is)) = inr (sound_as no_tables seen none sound, is)
+
+pub empty_gives_fresh : (image : Image) (db : Trees) (c : Contents) → image.db ≡ [] → AreFoundIn image db → GivesFound db c → c ≡ fresh
+empty_gives_fresh image db c none (inl found) gives = absurd (let some = found.3.found.present in let bytes = ap length none in omega (arith, some, bytes))
+empty_gives_fresh image db c none (inr (nothing, empty)) (inl (sound, number, is)) = absurd (no_table db ours.schema empty.1 sound ours.users (inl refl))
+empty_gives_fresh image db c none (inr (nothing, empty)) (inr (sound, is)) = is
+
+-- ---- of an open
+
+-- what an open of two files finds, by what they hold
+pub finds_in : {D : Type 0} {g : disk.Ghosts D} (files : Files D) (c : Held (FileStore D g)) → (HasCleanDisk (file_state c) → Finds files c) → HasCleanDisk (file_state c) → FindsIn (image_of g files) (file_state c)
+finds_in files c finds clean = record { holds = (finds clean).holds; reads = (finds clean).reads }
+
+module _ (image : Image) (seen later : Shown) (opened : HasCleanDisk seen → Opens seen × IsLive seen) (finds : HasCleanDisk seen → FindsIn image seen) where
+  pub just_opened : IsJustOpened seen
+  just_opened clean =
+      let now = opened clean in
+      let same = ap (λ (d : Database). d.trees) now.0.clean in
+      (now.0, now.1, found_rises image seen.now.trees seen.now.schema (subst (AreFoundIn image) (sym same) (finds clean).reads) (now.1 now.0.is_open).0)
+
+  module _ (made : HasCleanDisk later → HasCleanDisk seen × IsMadeOf seen.now (stored later)) where
+    given : (clean : HasCleanDisk later) → GivesFound seen.committed.trees (stored later)
+    given clean =
+        let it = made clean in
+        let now = opened it.0 in
+        subst (λ d. GivesFound d (stored later)) (ap (λ (d : Database). d.trees) now.0.clean) (gives_found seen.now (stored later) it.1 (now.1 now.0.is_open).0)
+
+    pub holds_found : HoldsFound image later
+    holds_found clean = (seen.committed.trees, (finds (made clean).0).reads, given clean)
+
+    pub holds_each : HoldsEach image later
+    holds_each clean db holds = subst (λ d. GivesFound d (stored later)) ((finds (made clean).0).holds db holds) (given clean)
+
+    pub fresh_if_empty : IsFreshIfEmpty image later
+    fresh_if_empty clean none = empty_gives_fresh image seen.committed.trees (stored later) none (finds (made clean).0).reads (given clean)
+
+  pub leaves_at_most : (HasCleanDisk later → HasCleanDisk seen × ((db : Trees) → later.may_leave db → IsLeftOf seen.now db))
+      → HasCleanDisk later → (db : Trees) × AreFoundIn image db × ((left : Trees) → later.may_leave left → LeavesFound db left)
+  leaves_at_most leaves clean =
+      let it = leaves clean in
+      let now = opened it.0 in (
+        seen.committed.trees,
+        (finds it.0).reads,
+        λ left may. subst (λ d. LeavesFound d left) (ap (λ (d : Database). d.trees) now.0.clean) (leaves_found seen.now left (now.1 now.0.is_open).0 (it.1 left may)),
+      )

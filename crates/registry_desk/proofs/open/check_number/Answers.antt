@@ -1,0 +1,23 @@
+use Rattle.std.proofs.Common.{◌≡◌, ◌∙◌, arith, rules, refl, subst, true}
+use Rattle.sqlite.specs.Held.{state}
+use Rattle.sqlite.specs.State.{HasCleanDisk}
+use Rattle.registry_rows.specs.Ready.{Leaves}
+use Rattle.registry_tables.specs.Contents.{contents}
+use Rattle.registry_tables.specs.Effects.{InForm, stored}
+use Rattle.registry_tables.specs.Schema.{schema}
+use Rattle.registry_desk.specs.Resting.{Rests}
+use Rattle.registry_desk.proofs.CommitFacts.{begun_in_form, commit_rests}
+use Rattle.registry_desk.proofs.open.check_number.Goals as goal
+
+pub returns-in-Ok-clause-rests : goal.returns-in-Ok-clause-rests
+returns-in-Ok-clause-rests g c =
+    let mid = state g.S.Store c.opened.new.tx.conn.now in
+    let new = state g.S.Store c.commit.new.self.0 in
+    let begun : InForm g.S.Store c.transaction-tx.result = rw c.transaction-tx.ensures.begun (begun_in_form g.S.Store c.args.conn.now c.requires.ready) in
+    let mode : c.transaction-tx.result.conn.now.in_transaction ≡ true = rw c.transaction-tx.ensures.begun refl in
+    let leaves : HasCleanDisk new → Leaves schema contents (stored mid) mid = λ clean.
+    let reads = (c.in_ok-opened.ensures.ours begun (omega (arith, c.commit.ensures.survives.clean, clean))).0 in
+    record { holds = refl; ready = reads.ready; mode = reads.mode ∙ mode } in
+    let rests : Rests new = commit_rests (stored mid) mid new c.commit.ensures.ended leaves (λ clean. (c.in-Ok.ensures.ok clean).1) in
+    let same : c.commit.new.self.0 ≡ c.conn-2-1.given.0 = search rules in
+    subst (λ h. Rests (state g.S.Store h)) same rests

@@ -1,0 +1,9 @@
+use Rattle.std.proofs.Common.{◌∙◌, sym}
+use Rattle.sqlite.proofs.Callers.{memory_is_clean}
+use Rattle.registry_desk.proofs.open.has_our_tables.Goals as goal
+
+pub returns : goal.returns
+returns c same =
+    let clean = memory_is_clean c.create_tables.new.conn in
+    let form = c.in_ok-create_tables.ensures.rests.in_form clean (c.in_ok-create_tables.ensures.served clean) in
+    sym (c.is_same_schema.ensures same) ∙ c.schema.ensures.value ∙ form.schema_is

@@ -1,0 +1,23 @@
+use Rattle.std.proofs.Common.{◌∙◌, arith, ap, inl, inr, sym}
+use Rattle.sqlite.specs.Effect.{Database}
+use Rattle.sqlite.specs.Held.{state}
+use Rattle.sqlite.specs.State.{HasCleanDisk}
+use Rattle.registry_tables.specs.Contents.{contents}
+use Rattle.registry_desk.proofs.open.held.Goals as goal
+
+pub returns-in-Ok-clause-stays : goal.returns-in-Ok-clause-stays
+returns-in-Ok-clause-stays g c clean db left =
+    let on = c.in-Ok.ensures.served clean in
+    ap contents (g.met.S.Store.settled c.settle.new.conn.store db on left) ∙ ap (λ (d : Database). contents d.trees) (sym (c.in-Ok.ensures.rests.settled clean on))
+
+-- what a crash could leave before is what was found
+pub returns-in-Err-clause-left : goal.returns-in-Err-clause-left
+returns-in-Err-clause-left g c clean =
+    let before : HasCleanDisk (state g.S.Store c.args.conn) = omega (arith, c.settle.ensures.survives.clean, clean) in
+    let opened = (c.requires.opened before).0 in (
+      before,
+      λ db may. elim (c.settle.ensures.survives.crash clean db may) [
+        | inl earlier ↦ inl (g.met.S.Store.settled c.args.conn.store db opened.is_open earlier ∙ ap (λ (d : Database). d.trees) (sym opened.clean))
+        | inr made ↦ made
+      ],
+    )

@@ -1,0 +1,37 @@
+use Rattle.std.proofs.Common.{◌≡◌, ◌∙◌, arith, ap}
+use Rattle.sqlite.specs.Effect.{Database}
+use Rattle.sqlite.specs.State.{HasCleanDisk}
+use Rattle.registry_names.specs.Versions.{text_of_version}
+use Rattle.registry_rows.proofs.QuietFacts.{reads_then}
+use Rattle.registry_rules.specs.Withdrawals.{live_versions, published_at, tags_of}
+use Rattle.registry_tables.specs.Contents.{contents, registry_of}
+use Rattle.registry_tables.specs.Effects.{shown}
+use Rattle.registry_tables.specs.Schema.{schema}
+use Rattle.registry_desk.proofs.withdrawals.find_life.Goals as goal
+
+pub returns-clause-tells : goal.returns-clause-tells
+returns-clause-tells g c clean =
+    let p = c.args.name.now in
+    let v = text_of_version c.args.version.now in
+    let was = shown g.S.Store c.args.tx.now in
+    let one = shown g.S.Store c.is_depended.new.tx in
+    let two = shown g.S.Store c.load_published.new.tx in
+    let three = shown g.S.Store c.load_version_tags.new.tx in
+    let four = shown g.S.Store c.load_live.new.tx in
+    let clean_three : HasCleanDisk three = omega (arith, c.load_live.ensures.stays.survives.clean, clean) in
+    let clean_two : HasCleanDisk two = omega (arith, c.load_version_tags.ensures.stays.survives.clean, clean_three) in
+    let clean_one : HasCleanDisk one = omega (arith, c.load_published.ensures.stays.survives.clean, clean_two) in
+    let depended = c.in_ok-depended.ensures.tells clean_one in
+    let published = c.in_ok-published.ensures.tells clean_two in
+    let tags = c.in_ok-tags.ensures.tells clean_three in
+    let live = c.in_ok-live.ensures.tells clean in
+    let to_two = reads_then schema was one two depended.0 published.0 in
+    let to_three = reads_then schema was two three to_two tags.0 in (
+      reads_then schema was three four to_three live.0,
+      λ needs. record {
+        published = published.1 ∙ ap (published_at (registry_of (contents one.now.trees)) p) c.text.ensures.text ∙ ap (λ (d : Database). published_at (registry_of (contents d.trees)) p v) depended.0.same;
+        depended = depended.1 needs;
+        tags = tags.1 ∙ ap (tags_of (registry_of (contents two.now.trees)) p) c.text-2.ensures.text ∙ ap (λ (d : Database). tags_of (registry_of (contents d.trees)) p v) to_two.same;
+        live = live.1 ∙ ap (λ (d : Database). live_versions (registry_of (contents d.trees)) p) to_three.same;
+      },
+    )

@@ -1,0 +1,224 @@
+//! A registry in a file.
+
+ghost use Rattle.std.specs.Prelude.{◌≡◌, false, IfErr, IfOk, IfSome, IsTrue, OnOk};
+ghost use Rattle.sqlite.specs.Files.{file_state, image_of};
+ghost use Rattle.sqlite.specs.Held.{state};
+ghost use Rattle.sqlite.specs.State.{HasCleanDisk, Survives};
+ghost use Rattle.sqlite_trees.specs.Tree.{Trees};
+ghost use Rattle.sqlite_wal.specs.Files.{image_at};
+ghost use Rattle.registry_rows.specs.Ready.{Ready};
+ghost use Rattle.registry_rows.specs.Tables.{no_tables};
+ghost use Rattle.registry_tables.specs.Effects.{stored};
+ghost use Rattle.registry_tables.specs.Schema as tables;
+ghost use Rattle.registry_desk.specs.Opened.{HoldsEach, HoldsFound, IsFreshIfEmpty, IsJustOpened, IsLeftOf, IsMadeOf, IsNumbered, LeavesAtMost};
+ghost use Rattle.registry_desk.specs.Promises.{IsSure};
+ghost use Rattle.registry_desk.specs.Resting.{Rests};
+
+use crate::registry::{Registry, create_tables};
+use crate::same::is_same_schema;
+use registry_names::Fault;
+use registry_rows::fault_of;
+use registry_tables::opened;
+use sqlite::{
+    Alter, Connection, File, FileFrom, FileStore, Files, Leftover, Options, Start, Unknown,
+};
+use sqlite_disk::Disk;
+use sqlite_schema::schema::Schema;
+use std::alloc::Global;
+
+/// The number of the schema that a registry's tables have.
+const SCHEMA: u32 = 3;
+
+/// What is left of the files after an open that failed.
+pub enum Left<D: Disk> {
+    /// They hold no database that can be opened.
+    Files(Leftover<D>),
+    /// They hold a database, and it is no registry or a fault came.
+    Database(Connection<FileStore<D>>),
+}
+
+// Written out, so that to drop it is one call and not one for each part.
+impl<D: Disk + Drop> Drop for Left<D> {
+    fn drop(self) {
+        match self {
+            Left::Files(_files) => {}
+            Left::Database(_conn) => {}
+        }
+    }
+}
+
+impl Registry<FileStore<File>> {
+    /// The registry in the file at the path, with its log beside it. A file that isn't there or is
+    /// empty becomes a fresh registry, whose pages end in sums, so that a byte changed later is
+    /// refused. `Database` is answered where the file can't be opened, is another program's, has
+    /// the tables of another schema, or is held by another process; its bytes are kept.
+    ///
+    /// What is said here holds as long as the disk returns what was written to it, and nobody
+    /// else writes the file. A torn write is supposed to leave each byte old or new:
+    /// [`open_from`](Registry::open_from) may suppose less.
+    pub fn open(rt: &HostRuntime, path: &str) -> Result<Registry<FileStore<File>>, Fault>
+        ensures served { IfOk result (λ r. HasCleanDisk (file_state r)
+            → IsTrue (file_state r).is_open) }
+        ensures stays { IfOk result (λ r. HasCleanDisk (file_state r) → IsSure (file_state r)) }
+    {
+        Registry::open_from(rt, path, Unknown)
+    }
+}
+
+impl<S: Start> Registry<FileStore<FileFrom<S>>> {
+    /// The same, where `start` stands for what the files held, and for how a crash is read.
+    pub fn open_from(
+        rt: &HostRuntime,
+        path: &str,
+        start: S,
+    ) -> Result<Registry<FileStore<FileFrom<S>>>, Fault>
+        ensures found { IfOk result (λ r. HoldsFound (image_at S.Start) (file_state r)) }
+        ensures each { IfOk result (λ r. HoldsEach (image_at S.Start) (file_state r)) }
+        ensures empty { IfOk result (λ r. IsFreshIfEmpty (image_at S.Start) (file_state r)) }
+        ensures served { IfOk result (λ r. HasCleanDisk (file_state r)
+            → IsTrue (file_state r).is_open) }
+        ensures stays { IfOk result (λ r. HasCleanDisk (file_state r) → IsSure (file_state r)) }
+    {
+        match opened_from(rt, path, start) {
+            Ok(registry) => Ok(registry),
+            Err((fault, _)) => Err(fault),
+        }
+    }
+}
+
+impl<D: Disk + Drop> Registry<FileStore<D>> {
+    /// The registry in these files, which need not be the machine's, as
+    /// [`open`](Registry::open) opens it. A fault hands back what is left of them.
+    pub fn open_files(
+        alloc: Global,
+        files: Files<D>,
+        options: Options,
+    ) -> Result<Registry<FileStore<D>>, (Fault, Left<D>)>
+        requires log { IsTrue (D.Disk.is_usable files.log) }
+        requires db { IsTrue (D.Disk.is_usable files.db) }
+        ensures found { IfOk result (λ r. HoldsFound (image_of D.Disk files) (file_state r)) }
+        ensures each { IfOk result (λ r. HoldsEach (image_of D.Disk files) (file_state r)) }
+        ensures empty { IfOk result (λ r. IsFreshIfEmpty (image_of D.Disk files) (file_state r)) }
+        ensures served { IfOk result (λ r. HasCleanDisk (file_state r)
+            → IsTrue (file_state r).is_open) }
+        ensures stays { IfOk result (λ r. HasCleanDisk (file_state r) → IsSure (file_state r)) }
+        ensures left { IfErr result (λ e. LeavesAtMost (image_of D.Disk files) e.1) }
+    {
+        match Connection::open_files_with(alloc, files, options, true) {
+            Ok(conn) => match held(alloc, conn) {
+                Ok(registry) => Ok(registry),
+                Err((fault, conn)) => Err((fault, Left::Database(conn))),
+            },
+            Err((error, left)) => Err((fault_of(error), Left::Files(left))),
+        }
+    }
+}
+
+// Opens the files at the path, and hands back what is left of them at a fault: nothing where they
+// weren't reached.
+fn opened_from<S: Start>(
+    rt: &HostRuntime,
+    path: &str,
+    start: S,
+) -> Result<Registry<FileStore<FileFrom<S>>>, (Fault, Option<Left<FileFrom<S>>>)>
+    ensures found { IfOk result (λ r. HoldsFound (image_at S.Start) (file_state r)) }
+    ensures each { IfOk result (λ r. HoldsEach (image_at S.Start) (file_state r)) }
+    ensures empty { IfOk result (λ r. IsFreshIfEmpty (image_at S.Start) (file_state r)) }
+    ensures served { IfOk result (λ r. HasCleanDisk (file_state r)
+        → IsTrue (file_state r).is_open) }
+    ensures stays { IfOk result (λ r. HasCleanDisk (file_state r) → IsSure (file_state r)) }
+    ensures left { IfErr result (λ e. IfSome e.1 (LeavesAtMost (image_at S.Start))) }
+{
+    match Connection::open_from(rt, path, true, start) {
+        Ok(conn) => match held(rt.alloc(), conn) {
+            Ok(registry) => Ok(registry),
+            Err((fault, conn)) => Err((fault, Some(Left::Database(conn)))),
+        },
+        Err((error, Some(left))) => Err((fault_of(error), Some(Left::Files(left)))),
+        Err((error, None)) => Err((fault_of(error), None)),
+    }
+}
+
+// The registry of a connection that was just opened. A fault hands the connection back.
+fn held<S: Alter>(alloc: Global, conn: Connection<S>) -> Result<Registry<S>, (Fault, Connection<S>)>
+    requires idle { conn.in_transaction ≡ false }
+    requires opened { IsJustOpened (state S.Store conn) }
+    ensures made { IfOk result (λ r. HasCleanDisk (state S.Store r)
+        → HasCleanDisk (state S.Store conn)
+        × IsMadeOf (state S.Store conn).now (stored (state S.Store r))) }
+    ensures served { IfOk result (λ r. HasCleanDisk (state S.Store r)
+        → IsTrue (state S.Store r).is_open) }
+    ensures stays { IfOk result (λ r. HasCleanDisk (state S.Store r) → IsSure (state S.Store r)) }
+    ensures left { IfErr result (λ e. HasCleanDisk (state S.Store e.1)
+        → HasCleanDisk (state S.Store conn)
+        × ((db : Trees) → (state S.Store e.1).may_leave db
+        → IsLeftOf (state S.Store conn).now db)) }
+{
+    let mut conn = conn;
+    match settle(alloc, &mut conn) {
+        Ok(()) => Ok(Registry { conn }),
+        Err(fault) => Err((fault, conn)),
+    }
+}
+
+// Makes the tables where the database has none, and else tests that they are ours.
+fn settle<S: Alter>(alloc: Global, conn: &mut Connection<S>) -> Result<(), Fault>
+    requires idle { conn.old.in_transaction ≡ false }
+    requires opened { IsJustOpened (state S.Store conn.old) }
+    ensures rests { OnOk result (Rests (state S.Store conn.new)) }
+    ensures made { HasCleanDisk (state S.Store conn.new)
+        → OnOk result (IsMadeOf (state S.Store conn.old).now (stored (state S.Store conn.new))) }
+    ensures served { HasCleanDisk (state S.Store conn.new)
+        → OnOk result (IsTrue (state S.Store conn.new).is_open) }
+    ensures survives { Survives (state S.Store conn.old) (state S.Store conn.new)
+        (IsLeftOf (state S.Store conn.old).now) }
+{
+    if has_nothing(conn.schema()) {
+        return create_tables(conn);
+    }
+    if !has_our_tables(alloc, conn.schema())? {
+        return Err(Fault::Database);
+    }
+    check_number(conn)
+}
+
+fn has_nothing(schema: &Schema) -> bool
+    ensures { IsTrue result → schema.now ≡ no_tables }
+{
+    schema.tables.is_empty() && schema.indexes.is_empty() && schema.views.is_empty()
+}
+
+// Whether the schema is that of a registry, as a fresh one in memory has it.
+fn has_our_tables(alloc: Global, schema: &Schema) -> Result<bool, Fault>
+    ensures { IfOk result (λ ours. IsTrue ours → schema.now ≡ tables.schema) }
+{
+    let Ok(mut conn) = Connection::open_in_memory(alloc) else {
+        return Err(Fault::Memory);
+    };
+    create_tables(&mut conn)?;
+    Ok(is_same_schema(conn.schema(), schema))
+}
+
+// Another number of the schema is `Database`.
+fn check_number<S: Alter>(conn: &mut Connection<S>) -> Result<(), Fault>
+    requires idle { conn.old.in_transaction ≡ false }
+    requires ready { Ready tables.schema (state S.Store conn.old) }
+    ensures rests { OnOk result (Rests (state S.Store conn.new)) }
+    ensures numbered { HasCleanDisk (state S.Store conn.new)
+        → OnOk result (IsNumbered (stored (state S.Store conn.old))) }
+    ensures same { HasCleanDisk (state S.Store conn.new)
+        → OnOk result ((state S.Store conn.new).now ≡ (state S.Store conn.old).now) }
+    ensures served { HasCleanDisk (state S.Store conn.new)
+        → OnOk result (IsTrue (state S.Store conn.new).is_open) }
+    ensures survives { Survives (state S.Store conn.old) (state S.Store conn.new)
+        (λ db. db ≡ (state S.Store conn.old).now.trees) }
+{
+    let mut tx = conn.transaction();
+    if opened(&mut tx)? != Some(SCHEMA) {
+        return Err(Fault::Database);
+    }
+    match tx.commit() {
+        Ok(()) => Ok(()),
+        Err(error) => Err(fault_of(error)),
+    }
+}

@@ -1,0 +1,70 @@
+-- Packages that a caller doesn't read.
+use Rattle.std.proofs.Common.{◌≡◌, ◌||◌, ◌∙◌, ℕ, Bool, true, false, Option, Some, None, Ok, Err, refl, sym, ap, true≢false}
+use Rattle.std.specs.Option.{option_or}
+use Rattle.registry_names.specs.Maps.{at}
+use Rattle.registry_names.specs.Texts.{Text}
+use Rattle.registry_names.specs.declared.refusal.Refusal.{Refusal}
+use Rattle.registry_names.specs.declared.refusal.Refusal.TheVariants.{NotFound}
+use Rattle.registry_names.specs.declared.refusal.Rule.TheVariants.{A8}
+use Rattle.registry_names.specs.declared.status.Status.{Status}
+use Rattle.registry_access.specs.Levels.{is_owner_or_admin, reads}
+use Rattle.registry_access.specs.Policy.{where_found}
+use Rattle.registry_access.specs.Positions.{level_by, level_in, position_in}
+use Rattle.registry_access.specs.declared.caller.Caller.{Caller}
+use Rattle.registry_rules.specs.Callers.{caller_of}
+use Rattle.registry_rules.specs.Refusals.{refusal_by, refusal_for, unless_allowed}
+use Rattle.registry_rules.specs.State.{State}
+use Rattle.registry_rules.specs.declared.reply.Reply.{Reply}
+use Rattle.registry_rules.specs.declared.reply.Reply.TheVariants.{Refused}
+use Rattle.registry_rules.specs.declared.request.Action.{Action}
+use Rattle.registry_rules.specs.declared.request.Action.TheVariants.{UserAdd, TokenAdd, OrgCreate, OrgSet, OrgRemove, TeamCreate, TeamDestroy, TeamAdd, TeamRemove, Grant, Revoke, SetAccess, OwnerAdd, OwnerRemove, Publish, TagSet, TagRemove, Packument, VersionDoc, Archive, Tags, Members, Teams, TeamMembers, TeamPackages}
+use Rattle.registry_rules.specs.declared.request.Request.{Request}
+use Rattle.registry_history.specs.Answers.{answer, reply, reply_to, unless_refused}
+use Rattle.registry_talk.specs.Answers.{response_to}
+use Rattle.registry_http.specs.Hiding.{HiddenAreUnheardOf, IsHidden, IsQueryOf, IsUnheardOf}
+
+unread : (b : Bool) (rest : Option Refusal) → b ≡ false → option_or (unless_allowed (where_found b (Ok A8))) rest ≡ Some NotFound
+unread true rest e = absurd (true≢false e)
+unread false rest e = refl
+
+refused-by : (S : State) (now : ℕ) (who : Caller) (what : Action) (p : Text) → IsQueryOf p what → reads (level_in S.access who p) ≡ false → refusal_by S now who what ≡ Some NotFound
+refused-by S now who (Packument q) p is hidden = unread (reads (level_in S.access who q)) _ (ap (λ (q : Text). reads (level_in S.access who q)) is ∙ hidden)
+refused-by S now who (VersionDoc q asked) p is hidden = unread (reads (level_in S.access who q)) _ (ap (λ (q : Text). reads (level_in S.access who q)) is ∙ hidden)
+refused-by S now who (Archive q v) p is hidden = unread (reads (level_in S.access who q)) _ (ap (λ (q : Text). reads (level_in S.access who q)) is ∙ hidden)
+refused-by S now who (Tags q) p is hidden = unread (reads (level_in S.access who q)) _ (ap (λ (q : Text). reads (level_in S.access who q)) is ∙ hidden)
+refused-by S now who (UserAdd u) p is hidden = absurd is
+refused-by S now who (TokenAdd u digest) p is hidden = absurd is
+refused-by S now who (OrgCreate o u) p is hidden = absurd is
+refused-by S now who (OrgSet o u role) p is hidden = absurd is
+refused-by S now who (OrgRemove o u) p is hidden = absurd is
+refused-by S now who (TeamCreate o t) p is hidden = absurd is
+refused-by S now who (TeamDestroy o t) p is hidden = absurd is
+refused-by S now who (TeamAdd o t u) p is hidden = absurd is
+refused-by S now who (TeamRemove o t u) p is hidden = absurd is
+refused-by S now who (Grant o t q grant) p is hidden = absurd is
+refused-by S now who (Revoke o t q) p is hidden = absurd is
+refused-by S now who (SetAccess q status) p is hidden = absurd is
+refused-by S now who (OwnerAdd q u) p is hidden = absurd is
+refused-by S now who (OwnerRemove q u) p is hidden = absurd is
+refused-by S now who (Publish f) p is hidden = absurd is
+refused-by S now who (TagSet q t v) p is hidden = absurd is
+refused-by S now who (TagRemove q t) p is hidden = absurd is
+refused-by S now who (Members o) p is hidden = absurd is
+refused-by S now who (Teams o) p is hidden = absurd is
+refused-by S now who (TeamMembers o t) p is hidden = absurd is
+refused-by S now who (TeamPackages o t) p is hidden = absurd is
+
+not-found : (S : State) (r : Request) (p : Text) → IsQueryOf p r.what → IsHidden S r.who p → answer S r ≡ Refused NotFound
+not-found S r p is (who, known, hidden) =
+    ap (λ (o : Option Caller). unless_refused (refusal_for S r.at o r.what) (reply_to S o r.what)) known
+    ∙ ap (λ (o : Option Refusal). unless_refused o (reply S who r.what)) (refused-by S r.at who r.what p is hidden)
+
+-- what was never published is read by nobody
+unheard-hidden : (S : State) (r : Request) (p : Text) → IsUnheardOf S r.who p → IsHidden S r.who p
+unheard-hidden S r p (who, known, new) =
+    let stands = position_in S.access who p in
+    (who, known, ap (λ (o : Option Status). reads (level_by o (is_owner_or_admin stands.role || stands.maintainer) stands.grant)) new)
+
+pub hidden-unheard_of : HiddenAreUnheardOf
+hidden-unheard_of S T r p closes is hidden new =
+    ap (λ (reply : Reply). response_to (Ok reply) closes) (not-found S r p is hidden ∙ sym (not-found T r p is (unheard-hidden T r p new)))

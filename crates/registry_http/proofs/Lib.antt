@@ -1,0 +1,2 @@
+pub mod HidingFacts
+pub mod RunningFacts

@@ -1,0 +1,36 @@
+-- What a package that a caller doesn't read looks like over HTTP.
+use Rattle.std.specs.Prelude.{◌≡◌, Bool, false, Option, Some, None, Ok}
+use Rattle.registry_names.specs.Maps.{at}
+use Rattle.registry_names.specs.Texts.{Text}
+use Rattle.registry_access.specs.Levels.{reads}
+use Rattle.registry_access.specs.Positions.{level_in}
+use Rattle.registry_access.specs.declared.caller.Caller.{Caller}
+use Rattle.registry_rules.specs.Callers.{caller_of}
+use Rattle.registry_rules.specs.State.{State}
+use Rattle.registry_rules.specs.declared.request.Action.{Action}
+use Rattle.registry_rules.specs.declared.request.Action.TheVariants.{Packument, VersionDoc, Archive, Tags}
+use Rattle.registry_rules.specs.declared.request.Credential.{Credential}
+use Rattle.registry_rules.specs.declared.request.Request.{Request}
+use Rattle.registry_history.specs.Answers.{answer}
+use Rattle.registry_talk.specs.Answers.{response_to}
+
+-- the query is about this package
+abbrev pub IsQueryOf : Text → Action → Type 0
+IsQueryOf p (Packument q) = q ≡ p
+IsQueryOf p (VersionDoc q asked) = q ≡ p
+IsQueryOf p (Archive q v) = q ≡ p
+IsQueryOf p (Tags q) = q ≡ p
+IsQueryOf p _ = ⊥
+
+-- the credential is that of a caller, and he doesn't read the package
+abbrev pub IsHidden : State → Credential → Text → Type 0
+IsHidden S who p = (c : Caller) × (caller_of S who ≡ Some c) × (reads (level_in S.access c p) ≡ false)
+
+-- the credential is that of a caller, and the package was never published
+abbrev pub IsUnheardOf : State → Credential → Text → Type 0
+IsUnheardOf S who p = (c : Caller) × (caller_of S who ≡ Some c) × (at S.access.statuses p ≡ None)
+
+-- Of a package that he doesn't read a caller gets the response, byte for byte, that he gets where it was never published
+abbrev pub HiddenAreUnheardOf : Type 0
+HiddenAreUnheardOf = (S T : State) (r : Request) (p : Text) (closes : Bool) → IsQueryOf p r.what → IsHidden S r.who p → IsUnheardOf T r.who p
+    → response_to (Ok (answer S r)) closes ≡ response_to (Ok (answer T r)) closes

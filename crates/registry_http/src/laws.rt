@@ -1,0 +1,23 @@
+//! Laws of the registry over HTTP. Each stands as the contract of a function that does nothing.
+
+ghost use Rattle.sqlite.specs.Held.{state};
+ghost use Rattle.registry_http.specs.Desks.{LogRuns, TurnsRun};
+ghost use Rattle.registry_http.specs.Hiding.{HiddenAreUnheardOf};
+
+use sqlite::Alter;
+
+/// The turns of a connection, or of many that take turns, are one run of the registry: of the
+/// requests in form among them, in their order, with the outcomes that were answered. So what is
+/// said of a run holds of them: each outcome is the machine's answer on what the earlier ones left,
+/// a crash leaves what one of them settles, and of a registry of which nothing was asked before the
+/// headline holds.
+pub fn turns_are_one_run<S: Alter>()
+    ensures connection { TurnsRun (state S.Store) }
+    ensures all { LogRuns (state S.Store) }
+{}
+
+/// Of a package that he doesn't read a caller gets the response, byte for byte, that he gets where
+/// it was never published: of its packument, its versions, its archives and its tags.
+pub fn hidden_packages_are_unheard_of()
+    ensures { HiddenAreUnheardOf }
+{}

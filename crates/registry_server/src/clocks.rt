@@ -1,0 +1,72 @@
+//! The clocks of a server. One that can't be read gives its last reading again.
+
+ghost use Rattle.std.specs.Prelude.{◌≡◌, ◌≤◌};
+
+use registry_names::Moment;
+use registry_talk::Clock;
+use std::time::{Instant, SystemTime};
+use std::{io, time};
+
+/// The moment that it is, by the system's clock.
+#[derive(Drop)]
+pub struct WallClock<'a, R: time::Clock> {
+    source: &'a R,
+    last: Moment,
+}
+
+impl<'a, R: time::Clock> WallClock<'a, R> {
+    /// A clock that was read once.
+    pub fn new(source: &'a R, last: Moment) -> WallClock<'a, R> {
+        WallClock { source, last }
+    }
+}
+
+impl<R: time::Clock> Clock for WallClock<'_, R> {
+    ghost use Rattle.std.specs.Prelude.{None};
+
+    ghost readings = { λ _. None };
+
+    fn now(&mut self) -> Moment {
+        if let Ok(at) = moment(self.source) {
+            self.last = at;
+        }
+        self.last
+    }
+}
+
+/// The moment that it is. An error comes where the clock can't be read.
+pub fn moment<R: time::Clock>(source: &R) -> io::Result<Moment> {
+    let since = SystemTime::now(source)?.duration_since(SystemTime::UNIX_EPOCH);
+    let seconds = since.map_or(0, |passed| passed.as_secs());
+    Ok(Moment::clamped(i64::try_from(seconds).unwrap_or(i64::MAX)))
+}
+
+/// The milliseconds since a time. They never go back.
+#[derive(Drop)]
+pub struct Timer<'a, R: time::Clock> {
+    source: &'a R,
+    start: Instant,
+    last: u64,
+}
+
+impl<'a, R: time::Clock> Timer<'a, R> {
+    /// A timer that began then.
+    pub fn new(source: &'a R, start: Instant) -> Timer<'a, R> {
+        Timer {
+            source,
+            start,
+            last: 0,
+        }
+    }
+
+    pub fn now(&mut self) -> u64
+        ensures last { self.new.last ≡ result }
+        ensures forward { self.old.last ≤ result }
+    {
+        if let Ok(passed) = self.start.elapsed(self.source) {
+            let millis = u64::try_from(passed.as_millis()).unwrap_or(u64::MAX);
+            self.last = self.last.max(millis);
+        }
+        self.last
+    }
+}

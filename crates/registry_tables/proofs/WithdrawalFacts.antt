@@ -1,0 +1,149 @@
+-- What the statements make that withdraw a version, and what goes with its row.
+use Rattle.std.proofs.Common.{◌≡◌, ◌==◌, ℕ, ℤ, List, [], ◌∷◌, pos, map, filter, length, not, ◌||◌, Bool, true, false, cond, arith, ne_eqb, Ok, refl, ap, codes}
+use Rattle.std.specs.List.{list_any}
+use Rattle.std.specs.Ordering.{int_eq}
+use Rattle.sqlite.specs.declared.types.Value.TheVariants.{Null, Int, Text as Stored}
+use Rattle.sqlite.specs.Command.TheVariants.{Insert, Delete}
+use Rattle.sqlite.specs.Source.TheVariants.{Values}
+use Rattle.sqlite.specs.Listing.{understood}
+use Rattle.sqlite.specs.State.{State as Shown, HasCleanDisk}
+use Rattle.sqlite_sql.specs.Term.{Term, lit, col}
+use Rattle.sqlite_tied.specs.Compute.{everything}
+use Rattle.sqlite_value.specs.Order.{Row, column}
+use Rattle.registry_names.specs.Texts.{Text}
+use Rattle.registry_names.specs.Keys.{Pair, pair_is}
+use Rattle.registry_names.specs.Maps.{put, erase, keep, entries, seen}
+use Rattle.registry_names.proofs.ChangeFacts.{keep_but}
+use Rattle.registry_names.proofs.KeyFacts.{pair_key}
+use Rattle.registry_rows.specs.Columns.{text_in}
+use Rattle.registry_rows.specs.Frames.{Wrote}
+use Rattle.registry_rows.specs.KeyKinds.{numbers}
+use Rattle.registry_rows.specs.Ready.{Ready, Leaves, Reads, Queried}
+use Rattle.registry_rows.specs.Statements.{Means, MeansQuery, IsUncascaded, delete_where, select_where, scan, by_column, by_texts, in_order}
+use Rattle.registry_rows.proofs.KeyedFacts.{by_number_given, by_texts_given}
+use Rattle.registry_rows.proofs.LookUpFacts.{select_has_by}
+use Rattle.registry_rows.proofs.StatementFacts.{insert_puts, delete_erases_by}
+use Rattle.registry_parts.specs.Cascades.{Child, IsChild, HasChildren, links, link_of}
+use Rattle.registry_parts.proofs.CascadeFacts.{mapped_child, delete_cascades}
+use Rattle.registry_tables.specs.Contents.{Contents, contents}
+use Rattle.registry_tables.specs.Effects.{stored}
+use Rattle.registry_tables.specs.Schema as table
+use Rattle.registry_tables.specs.Schema.{schema}
+use Rattle.registry_tables.specs.Withdrawals.{is_held, without_rows}
+use Rattle.registry_tables.proofs.MappedFacts.{archives_numbered, held_mapped, need_ranges_mapped, needs_mapped, spent_mapped, versions_mapped}
+
+-- ---- what goes with a version: what it depends on, and its place among the archives
+
+abbrev pub version_in_needs : Child Contents 1
+version_in_needs = record { table = table.needs; places = (0, 1); erases = λ q c. record c { needs = keep c.needs (λ k. not (pair_is q (k.0, k.1.0))) } }
+
+abbrev pub version_in_ranges : Child Contents 1
+version_in_ranges = record { table = table.need_ranges; places = (0, 1); erases = λ q c. record c { need_ranges = keep c.need_ranges (λ k. not (pair_is q (k.0, k.1.0))) } }
+
+abbrev pub version_in_held : Child Contents 1
+version_in_held = record { table = table.held; places = (0, 1); erases = λ q c. record c { held = erase c.held q } }
+
+quiet_needs : links schema 24 ≡ []
+unfolding everything
+quiet_needs = refl
+
+quiet_ranges : links schema 28 ≡ []
+unfolding everything
+quiet_ranges = refl
+
+quiet_held : links schema 30 ≡ []
+unfolding everything
+quiet_held = refl
+
+versions_linked : links schema 18 ≡ link_of table.versions version_in_needs ∷ link_of table.versions version_in_ranges ∷ link_of table.versions version_in_held ∷ []
+unfolding everything
+versions_linked = refl
+
+version_needs : IsChild schema contents version_in_needs
+version_needs = mapped_child needs_mapped {rest = 1} (0, 1) refl quiet_needs _ (λ q db. refl)
+
+version_ranges : IsChild schema contents version_in_ranges
+version_ranges = mapped_child need_ranges_mapped {rest = 1} (0, 1) refl quiet_ranges _ (λ q db. refl)
+
+version_held : IsChild schema contents version_in_held
+version_held = mapped_child held_mapped {rest = 1} (0, 1) refl quiet_held _ (λ q db. ap (λ m. record (contents db) { held = m }) (keep_but pair_key (contents db).held q))
+
+version_children : HasChildren schema contents table.versions (version_in_needs ∷ version_in_ranges ∷ version_in_held ∷ [])
+version_children = record { linked = versions_linked; each = (version_needs, (version_ranges, (version_held, tt))) }
+
+abbrev version_text : List ℕ
+version_text = codes "DELETE FROM versions WHERE package = ?1 AND version = ?2"
+
+version_means : Means schema version_text (Delete 9 (record { lets = []; body = scan 18 (by_texts 1 1 0) (col 1 0 ∷ []) [] }))
+unfolding understood everything
+version_means = (refl, (refl, refl))
+
+pub version_dropped : (p v : Text) (old new : Shown) → Ready schema old → Wrote version_text (Stored p ∷ Stored v ∷ []) old new → HasCleanDisk new → Leaves schema contents (without_rows p v (stored old)) new
+version_dropped p v old new form call = delete_cascades versions_mapped version_text version_means _ version_children (p, v) old new (Ok call.0) form call.1
+
+-- ---- its archive
+
+abbrev archive_text : List ℕ
+archive_text = codes "DELETE FROM archives WHERE id = ?1"
+
+archive_means : Means schema archive_text (delete_where 16 table.archives numbers.wanted)
+unfolding understood everything
+archive_means = (refl, (refl, refl))
+
+-- nothing goes with an archive: a version that has it keeps it there
+nothing_goes : IsUncascaded schema table.archives
+unfolding everything
+nothing_goes olds = refl
+
+pub archive_dropped : (n : ℤ) (old new : Shown) → Ready schema old → Wrote archive_text (Int n ∷ []) old new → HasCleanDisk new
+    → Leaves schema contents (record (stored old) { archives = erase (stored old).archives n }) new
+archive_dropped n old new form call = delete_erases_by (by_number_given archives_numbered) archive_text archive_means nothing_goes n old new (Ok call.0) form call.1
+
+abbrev holders_text : List ℕ
+holders_text = codes "SELECT package, version FROM held WHERE archive = ?1 ORDER BY package, version"
+
+holders_means : MeansQuery schema holders_text (select_where table.held (col 1 1 ∷ col 1 2 ∷ []) (by_column 2) (in_order 1 1) (codes "package" ∷ codes "version" ∷ []))
+unfolding understood everything
+holders_means = ((refl, (refl, refl)), refl)
+
+-- rows that show what passes are some where something does
+some_passes : {A B : Type 0} (read : Row → B) (rows : List Row) (g : A → B) (test : A → Bool) (es : List A) → map read rows ≡ map g (filter test es) → not (length rows == 0) ≡ list_any test es
+some_passes read rows g test [] h = none rows h
+  where
+    none : (rows : List Row) → map read rows ≡ [] → not (length rows == 0) ≡ false
+    none [] h = refl
+    none (r ∷ rows) h = absurd cc
+some_passes read rows g test (e ∷ es) h = each (test e) rows h (some_passes read rows g test es)
+  where
+    each : (b : Bool) (rows : List Row) → map read rows ≡ map g (cond b (e ∷ filter test es) (filter test es)) → (map read rows ≡ map g (filter test es) → not (length rows == 0) ≡ list_any test es) → not (length rows == 0) ≡ (b || list_any test es)
+    each true [] h rest = absurd cc
+    each true (r ∷ rows) h rest = ap not (ne_eqb _ 0 (omega arith))
+    each false rows h rest = rest h
+
+-- a version that has it
+abbrev holder : Row → Pair × Unit {0}
+holder r = ((text_in (column r 0), text_in (column r 1)), tt)
+
+pub archive_had : (n : ℤ) (old new : Shown) (rows : List Row) → Ready schema old → Queried holders_text (Int n ∷ []) old new rows → HasCleanDisk new
+    → Reads schema old new × (not (length rows == 0) ≡ is_held n (stored old))
+archive_had n old new rows form call clean =
+    let it = select_has_by (by_texts_given held_mapped) 2 (Int n) refl (λ (m : ℤ). int_eq n m) (λ vs. refl) holders_text (col 1 1 ∷ col 1 2 ∷ []) _ holders_means
+    holder (λ (m : ℤ). tt) (λ id vs. refl) old new rows form call clean in
+    (it.0, some_passes holder rows (seen (λ (m : ℤ). tt)) (λ (e : Pair × ℤ). int_eq n e.1) (entries (stored old).held) it.1)
+
+-- ---- among those that were withdrawn
+
+abbrev put_text : List ℕ
+put_text = codes "INSERT INTO spent VALUES (?1, ?2, ?3, ?4)"
+
+abbrev put_cells : List Term
+put_cells = col 0 0 ∷ col 0 1 ∷ col 0 2 ∷ col 0 3 ∷ []
+
+put_means : Means schema put_text (Insert 10 (Values (lit Null ∷ put_cells) 5))
+unfolding understood everything
+put_means = (refl, (refl, refl))
+
+pub withdrawal_put : (p v : Text) (published withdrawn : ℕ) (old new : Shown) → Ready schema old
+    → Wrote put_text (Stored p ∷ Stored v ∷ Int (pos published) ∷ Int (pos withdrawn) ∷ []) old new → HasCleanDisk new
+    → Leaves schema contents (record (stored old) { spent = put (stored old).spent (p, v) (record { published = published; withdrawn = withdrawn }) }) new
+withdrawal_put p v published withdrawn old new form call = insert_puts spent_mapped put_text put_cells put_means (Stored p ∷ Stored v ∷ Int (pos published) ∷ Int (pos withdrawn) ∷ []) refl old new (Ok call.0) form call.1

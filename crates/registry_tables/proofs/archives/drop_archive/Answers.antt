@@ -1,0 +1,13 @@
+use Rattle.std.proofs.Common.{SFits, w64, rules}
+use Rattle.std.proofs.lemmas.Int.{to_z-of_z}
+use Rattle.registry_rows.proofs.QuietFacts.{on_answer}
+use Rattle.registry_tables.specs.Effects.{shown}
+use Rattle.registry_tables.proofs.WithdrawalFacts.{archive_dropped}
+use Rattle.registry_tables.proofs.archives.drop_archive.Goals as goal
+
+pub returns-clause-makes : goal.returns-clause-makes
+returns-clause-makes g c clean =
+    let fits : SFits w64 c.args.number = search rules in
+    on_answer c.write.result
+    (λ wrote. archive_dropped c.args.number (shown g.S.Store c.args.tx.now) (shown g.S.Store c.write.new.tx) c.requires.in_form wrote clean)
+    (rw (c.params-to_sql.ensures, to_z-of_z w64 c.args.number fits) at c.write.ensures.wrote)

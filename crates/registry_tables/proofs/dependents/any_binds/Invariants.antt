@@ -1,0 +1,8 @@
+use Rattle.std.proofs.Common.{◌≡◌, false, take}
+use Rattle.std.specs.List.{list_any}
+use Rattle.registry_ranges.specs.Texts.{binds}
+use Rattle.registry_tables.proofs.dependents.any_binds.Given as goal
+
+-- none of the texts so far binds the version
+abbrev pub invariant-loop-text : goal.invariant-loop-text
+invariant-loop-text l = list_any (λ text. binds text l.version) (take l.text-index l.texts) ≡ false

@@ -1,0 +1,16 @@
+use Rattle.std.proofs.Common.{◌∙◌, ap}
+use Rattle.std.specs.List.{list_any}
+use Rattle.std.proofs.lemmas.Result.{IfOk-weaker}
+use Rattle.registry_ranges.specs.Texts.{binds}
+use Rattle.registry_tables.specs.Effects.{stored_in}
+use Rattle.registry_tables.proofs.DependentFacts.{ranges_tell}
+use Rattle.registry_tables.proofs.dependents.is_depended.Goals as goal
+
+pub returns-clause-tells : goal.returns-clause-tells
+returns-clause-tells g c clean =
+    let it = c.in_ok-texts.ensures.tells clean in
+    IfOk-weaker c.any_binds.result _ _ (λ _ e. (
+      it.0,
+      λ holds. e ∙ ap (list_any (λ text. binds text c.args.version.now)) (c.deref.ensures.value ∙ it.1)
+          ∙ ranges_tell (stored_in g.S.Store c.args.tx.now) holds c.args.name.now c.args.version.now,
+    )) c.any_binds.ensures

@@ -1,0 +1,12 @@
+use Rattle.std.proofs.Common.{◌∙◌, ◌++◌, ◌∷◌, [], ap, sym, take}
+use Rattle.std.proofs.lemmas.List.{take_more}
+use Rattle.registry_names.specs.Texts.{Text}
+use Rattle.registry_names.specs.Versions.{text_of_version}
+use Rattle.registry_rules.proofs.ListedFacts.{pushed}
+use Rattle.registry_tables.proofs.versions.all_parsed.Goals as goal
+
+pub loop-text-preserved : goal.loop-text-preserved
+loop-text-preserved c =
+    pushed text_of_version _ _ _ _ c.in_ok-push.ensures.items c.loop-text.invariant
+    ∙ ap (λ (t : Text). take c.loop-text.text-index c.args.texts.now ++ t ∷ []) (c.in_ok-version.ensures ∙ c.as_str.ensures.text ∙ c.text-item.is)
+    ∙ sym (take_more c.args.texts.now c.loop-text.text-index _ c.loop-text-test.true)

@@ -1,0 +1,7 @@
+use Rattle.std.proofs.Common.{◌≡◌, map, take}
+use Rattle.registry_names.specs.Versions.{text_of_version}
+use Rattle.registry_tables.proofs.versions.all_parsed.Given as goal
+
+-- the texts so far are read
+abbrev pub invariant-loop-text : goal.invariant-loop-text
+invariant-loop-text l = map text_of_version l.versions.items ≡ take l.text-index l.texts

@@ -1,0 +1,57 @@
+//! Who needs a version.
+
+ghost use Rattle.std.specs.Prelude.{◌≡◌, IfOk};
+ghost use Rattle.std.specs.List.{list_any};
+ghost use Rattle.registry_ranges.specs.Texts as ranges;
+ghost use Rattle.registry_rows.specs.Frames.{Stays};
+ghost use Rattle.registry_rules.specs.Withdrawals as words;
+ghost use Rattle.registry_tables.specs.Contents.{registry_of};
+ghost use Rattle.registry_tables.specs.Effects.{InForm, Tells};
+ghost use Rattle.registry_tables.specs.Needs.{HoldsNeeds};
+
+use crate::needs::load_dependents;
+use registry_names::{Fault, Name, Text, Ver};
+use registry_ranges::Range;
+use sqlite::{Alter, Transaction};
+use std::alloc::Global;
+
+/// Whether a live version of another package needs this version: with a text that is no range, or
+/// with a range that allows it.
+pub fn is_depended<S: Alter>(
+    alloc: Global,
+    tx: &mut Transaction<'_, S>,
+    name: &Name,
+    version: &Ver,
+) -> Result<bool, Fault>
+    requires in_form { InForm S.Store tx.old }
+    ensures stays { Stays S.Store tx.old tx.new }
+    ensures tells { Tells S.Store tx.old tx.new result (λ depended c. HoldsNeeds c
+        → depended ≡ words.is_depended (registry_of c) name.now version.now) }
+{
+    let texts = load_dependents(alloc, tx, name)?;
+    any_binds(alloc, &texts, version)
+}
+
+// Whether one of the texts binds the version.
+fn any_binds(alloc: Global, texts: &[Text], version: &Ver) -> Result<bool, Fault>
+    ensures { IfOk result (λ any. any
+        ≡ list_any (λ text. ranges.binds text version.now) texts.now) }
+{
+    for text in texts {
+        if binds(alloc, text.as_str(), version)? {
+            return Ok(true);
+        }
+    }
+    Ok(false)
+}
+
+// Whether the text is no range, or one that allows the version.
+#[tactic(auto, using(crate::proofs::BindingFacts::binding))]
+fn binds(alloc: Global, text: &str, version: &Ver) -> Result<bool, Fault>
+    ensures { IfOk result (λ is. is ≡ ranges.binds text.now version.now) }
+{
+    match Range::parse(alloc, text)? {
+        Some(range) => Ok(range.allows(version)),
+        None => Ok(true),
+    }
+}

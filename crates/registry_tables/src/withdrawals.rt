@@ -1,0 +1,51 @@
+//! Withdrawals: what goes with a version.
+
+ghost use Rattle.registry_names.specs.Maps.{at};
+ghost use Rattle.registry_rows.specs.Frames.{Stays};
+ghost use Rattle.registry_tables.specs.Effects.{InForm, Makes};
+ghost use Rattle.registry_tables.specs.Withdrawals.{version_retired, without_rows};
+
+use crate::archives::{free_archive, held_archive};
+use crate::spent::put_withdrawal;
+use registry_names::{Fault, Moment, Name};
+use registry_rows::write;
+use sqlite::{Alter, Transaction, params};
+
+/// Ends the life of a version, which was published and is withdrawn at these moments, with what it
+/// depends on. Its archive goes with it, unless another version has it.
+///
+/// A tag that names it is a fault, and so is a version that was withdrawn already.
+pub(crate) fn retire_version<S: Alter>(
+    tx: &mut Transaction<'_, S>,
+    name: &Name,
+    version: &str,
+    published: Moment,
+    withdrawn: Moment,
+) -> Result<(), Fault>
+    requires in_form { InForm S.Store tx.old }
+    ensures stays { Stays S.Store tx.old tx.new }
+    ensures makes { Makes S.Store tx.old tx.new result
+        (version_retired name.now version.now published withdrawn) }
+{
+    let number = held_archive(tx, name, version)?;
+    drop_version(tx, name.text(), version)?;
+    free_archive(tx, number)?;
+    put_withdrawal(tx, name.text(), version, published, withdrawn)
+}
+
+// Drops the rows of a version: its own, and with it those of its needs and of its archive.
+fn drop_version<S: Alter>(
+    tx: &mut Transaction<'_, S>,
+    name: &str,
+    version: &str,
+) -> Result<(), Fault>
+    requires in_form { InForm S.Store tx.old }
+    ensures stays { Stays S.Store tx.old tx.new }
+    ensures makes { Makes S.Store tx.old tx.new result (without_rows name.now version.now) }
+{
+    write(
+        tx,
+        "DELETE FROM versions WHERE package = ?1 AND version = ?2",
+        params![name, version],
+    )
+}

@@ -1,0 +1,6 @@
+pub mod AnswerFacts
+pub mod BodyFacts
+pub mod CountFacts
+pub mod CourseFacts
+pub mod HistoryFacts
+pub mod LawFacts

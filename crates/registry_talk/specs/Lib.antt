@@ -1,0 +1,11 @@
+pub mod Actions
+pub mod Answers
+pub mod Bodies
+pub mod Callers
+pub mod Courses
+pub mod Histories
+pub mod Laws
+pub mod Parts
+pub mod Requests
+pub mod Servings
+pub mod Turns

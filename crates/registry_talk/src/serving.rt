@@ -1,0 +1,135 @@
+//! One connection, request after request.
+
+ghost use Rattle.std.specs.Prelude.{◌≡◌, ◌≤◌, ◌*◌, ◌∷◌, [], ℕ, List, Option, true, MatchResult, OnOk, OnErr};
+ghost use Rattle.registry_names.specs.Ends.{Writes, WritesFront, failures_after};
+ghost use Rattle.registry_wire.specs.Inboxes.{interruption_limit};
+ghost use Rattle.registry_wire.specs.Reading.{CountsInterrupted};
+ghost use Rattle.registry_talk.specs.Courses.{Gave, GoesTo, IsServed, ReadsFail, Rests, side};
+ghost use Rattle.registry_talk.specs.Servings.{bytes_of, written_failures};
+
+use crate::turning::{Desk, End, REQUEST_LIMIT, Turned, turn, turn_away, turn_starved};
+use registry_names::{ByteIn, ByteOut, Fault, Moment, WriteFailed};
+use registry_wire::{Inbox, Taken, write_response};
+use std::alloc::Global;
+
+/// What tells the moment of a request.
+pub trait Clock {
+    // The next readings, where the clock tells them.
+    ghost readings: { Self → Option (List ℕ) };
+
+    /// The moment that it is.
+    fn now(&mut self) -> Moment
+        ensures { Gave (readings self.old) (readings self.new) (result ∷ []) };
+}
+
+/// How a connection was served.
+#[derive(Clone, Copy, Debug, PartialEq, Eq)]
+pub struct Served {
+    /// The whole requests whose responses were written whole.
+    pub requests: u32,
+    pub end: End,
+}
+
+/// Serves a connection until it ends: takes its requests one after the other, each of them as a
+/// [`turn`], and writes their responses. What comes that is no request is answered, too, and so is
+/// want of memory while a request is read.
+///
+/// The clock is asked once for each whole request.
+pub fn serve<D: Desk, R: ByteIn, W: ByteOut, C: Clock>(
+    alloc: Global,
+    desk: &mut D,
+    inbox: &mut Inbox<R>,
+    writer: &mut W,
+    clock: &mut C,
+) -> Served
+    ensures served { IsServed D.answers
+        (side desk.old inbox.old.held (R.bytes inbox.old.reader) (R.is_silent inbox.old.reader)
+        (C.readings clock.old))
+        (side desk.new inbox.new.held (R.bytes inbox.new.reader) (R.is_silent inbox.new.reader)
+        (C.readings clock.new))
+        (W.bytes writer.old) (W.bytes writer.new) (W.is_silent writer.new) result }
+    ensures few { result.requests ≤ 1000 }
+
+    // A read fault comes where a read failed, and a write fault where a write did.
+    ensures counted { ReadsFail result.end (2 * interruption_limit)
+        inbox.old.interruptions inbox.new.interruptions
+        (R.failures inbox.old.reader) (R.failures inbox.new.reader) }
+    ensures written { W.failures writer.new ≡ written_failures result.end (W.failures writer.old) }
+{
+    let mut requests = 0;
+    'turns: loop {
+        let is_last = requests + 1 == REQUEST_LIMIT;
+        let turned = match next_turn(alloc, desk, inbox, clock, is_last) {
+            Ok(turned) => turned,
+            Err(end) => return Served { requests, end },
+        };
+        match send(&turned, writer) {
+            Ok(()) => {}
+            Err(_) => {
+                return Served {
+                    requests,
+                    end: End::WriteFault,
+                };
+            }
+        }
+        requests += u32::from(turned.is_request);
+        match turned.end {
+            Some(end) => return Served { requests, end },
+            None => {}
+        }
+    }
+}
+
+// The next turn of a connection, whose response isn't written yet; or how the connection ends
+// without one.
+fn next_turn<D: Desk, R: ByteIn, C: Clock>(
+    alloc: Global,
+    desk: &mut D,
+    inbox: &mut Inbox<R>,
+    clock: &mut C,
+    is_last: bool,
+) -> Result<Turned, End>
+    ensures turns { MatchResult result
+        (GoesTo D.answers
+        (side desk.old inbox.old.held (R.bytes inbox.old.reader)
+        (R.is_silent inbox.old.reader) (C.readings clock.old))
+        (side desk.new inbox.new.held (R.bytes inbox.new.reader)
+        (R.is_silent inbox.new.reader) (C.readings clock.new))
+        is_last)
+        (Rests D.answers
+        (side desk.old inbox.old.held (R.bytes inbox.old.reader)
+        (R.is_silent inbox.old.reader) (C.readings clock.old))
+        (side desk.new inbox.new.held (R.bytes inbox.new.reader)
+        (R.is_silent inbox.new.reader) (C.readings clock.new))) }
+    ensures counted { MatchResult result
+        (λ _. CountsInterrupted inbox.old.interruptions inbox.new.interruptions
+        (R.failures inbox.old.reader) (R.failures inbox.new.reader))
+        (λ end. ReadsFail end interruption_limit
+        inbox.old.interruptions inbox.new.interruptions
+        (R.failures inbox.old.reader) (R.failures inbox.new.reader)) }
+    ensures silent { R.is_silent inbox.old.reader ≡ true → R.is_silent inbox.new.reader ≡ true }
+{
+    match inbox.read_request(alloc) {
+        Taken::Whole(wanted) => {
+            let at = clock.now();
+            Ok(turn(alloc, desk, &wanted, at, is_last))
+        }
+        Taken::Bad(refusal) => Ok(turn_away(refusal)),
+        Taken::Faulted(_) => Ok(turn_starved()),
+        Taken::Closed => Err(End::Closed),
+        Taken::ReadFault => Err(End::ReadFault),
+    }
+}
+
+// Writes the response of a turn.
+fn send<W: ByteOut>(turned: &Turned, writer: &mut W) -> Result<(), WriteFailed>
+    ensures ok { OnOk result (Writes (W.bytes writer.old) (W.bytes writer.new)
+        (W.is_silent writer.new) (bytes_of turned.now)) }
+    ensures err { OnErr result (WritesFront (W.bytes writer.old) (W.bytes writer.new)
+        (W.is_silent writer.new) (bytes_of turned.now)) }
+    ensures counted { W.failures writer.new ≡ failures_after result (W.failures writer.old) }
+    ensures silent { W.is_silent writer.old ≡ true → W.is_silent writer.new ≡ true }
+{
+    let response = turned.answer.response(turned.end.is_some());
+    write_response(&response, writer)
+}

@@ -1,0 +1,205 @@
+//! Whole connections, at a desk that knows one package and nobody.
+
+ghost use Rattle.std.specs.Prelude.{None};
+
+use crate::outcome::same;
+use crate::wire::reader::{Drip, Faltering, Narrow};
+use registry_names::{ByteIn, Fault, FromRead, Moment, Refusal, Text, ToWrite};
+use registry_rules::{Action, Credential, Reply, Request};
+use registry_talk::{Clock, Desk, End, Served, serve};
+use registry_wire::Inbox;
+use std::alloc::Global;
+use std::io::ErrorKind;
+use std::str;
+use std::test::Fail;
+
+/// A desk that tells the tags of any package to who shows a token, and has a fault for teams.
+#[derive(Drop)]
+pub struct Shelf {
+    pub asked: Vec<i64>,
+}
+
+impl Desk for Shelf {
+    ghost answers = { λ M r o N. Unit {0} };
+
+    fn answer(&mut self, alloc: Global, request: &Request) -> Result<Reply, Fault> {
+        self.asked.push(request.at.seconds())?;
+        match (&request.what, &request.who) {
+            (Action::Tags { name: _ }, Credential::Token(_)) => {
+                Ok(Reply::Doc(Text::from_str(alloc, "{\"latest\":\"1.0.0\"}")?))
+            }
+            (Action::Teams { organisation: _ }, _) => Err(Fault::Database),
+            (Action::OrgSet { .. }, _) => Ok(Reply::Refused(Refusal::NoCaller)),
+            _ => Ok(Reply::Refused(Refusal::NotFound)),
+        }
+    }
+}
+
+/// A clock that goes on by a second each time.
+#[derive(Drop)]
+pub struct Steps {
+    pub next: i64,
+}
+
+impl Clock for Steps {
+    ghost readings = { λ s. None };
+
+    fn now(&mut self) -> Moment {
+        let at = Moment::clamped(self.next);
+        self.next = self.next.saturating_add(1);
+        at
+    }
+}
+
+// Input, what is written of it, how many requests are answered, and how it ends.
+pub type Case = (&'static str, &'static str, u32, End);
+
+fn is_served<R: ByteIn + Drop>(
+    alloc: Global,
+    case: &str,
+    reader: R,
+    written: &str,
+    served: Served,
+) -> Result<(), Fail> {
+    let mut desk = Shelf {
+        asked: Vec::new(alloc),
+    };
+    let mut clock = Steps { next: 0 };
+    let mut inbox = Inbox::new(alloc, reader);
+    let mut out = Vec::new(alloc);
+    let mut writer = ToWrite::new(&mut out);
+    let came_out = serve(alloc, &mut desk, &mut inbox, &mut writer, &mut clock);
+    same(case, came_out, served)?;
+    same(case, str::from_utf8(&out).unwrap_or("?"), written)?;
+    same(case, desk.asked.is_sorted(), true)
+}
+
+pub const TAGS: &str =
+    "GET /-/package/@lab%2fkit/dist-tags HTTP/1.1\r\nauthorization: Bearer npm_bob_000000001\r\n\r\n";
+
+pub const TAGS_OUT: &str =
+    "HTTP/1.1 200 OK\r\ncontent-type: application/json\r\ncontent-length: 18\r\n\r\n{\"latest\":\"1.0.0\"}";
+
+pub const CUT_OUT: &str =
+    "HTTP/1.1 400 Bad Request\r\ncontent-type: application/json\r\ncontent-length: 19\r\nconnection: close\r\n\r\n{\"error\":\"BadBody\"}";
+
+pub static CONNECTIONS: [Case; 8] = [
+    ("", "", 0, End::Closed),
+    (TAGS, TAGS_OUT, 1, End::Closed),
+    ("GET /kit HTTP/1.1\r\nhost: l", CUT_OUT, 0, End::BadInput),
+    (
+        "PUT /kit HTTP/1.1\r\ncontent-length: 4194305\r\n\r\n",
+        "HTTP/1.1 413 Payload Too Large\r\ncontent-type: application/json\r\ncontent-length: 20\r\nconnection: close\r\n\r\n{\"error\":\"TooLarge\"}",
+        0,
+        End::BadInput,
+    ),
+    (
+        "GET /kit HTTP/1.1\r\n\r\nPUT /-/org/lab/eve HTTP/1.1\r\nconnection: close\r\ncontent-length: 11\r\n\r\n\"developer\"GET /kit HTTP/1.1\r\n\r\n",
+        "HTTP/1.1 404 Not Found\r\ncontent-type: application/json\r\ncontent-length: 20\r\n\r\n{\"error\":\"NotFound\"}HTTP/1.1 401 Unauthorized\r\ncontent-type: application/json\r\ncontent-length: 20\r\nwww-authenticate: Bearer\r\nconnection: close\r\n\r\n{\"error\":\"NoCaller\"}",
+        2,
+        End::Closed,
+    ),
+    (
+        "HEAD /kit HTTP/1.1\r\n\r\n",
+        "HTTP/1.1 404 Not Found\r\ncontent-type: application/json\r\ncontent-length: 20\r\nconnection: close\r\n\r\n{\"error\":\"NotFound\"}",
+        1,
+        End::Closed,
+    ),
+    (
+        "GET /-/team/lab HTTP/1.1\r\n\r\nGET /kit HTTP/1.1\r\n\r\n",
+        "HTTP/1.1 500 Internal Server Error\r\ncontent-type: application/json\r\ncontent-length: 20\r\nconnection: close\r\n\r\n{\"error\":\"Database\"}",
+        1,
+        End::Faulted(Fault::Database),
+    ),
+    (
+        "PUT /-/org/lab/eve HTTP/1.1\r\ncontent-length: 12\r\n\r\n\"developer\"",
+        CUT_OUT,
+        0,
+        End::BadInput,
+    ),
+];
+
+#[test]
+fn connections_are_served(rt: HostRuntime) -> Result<(), Fail> {
+    let alloc = rt.alloc();
+    for (input, out, requests, end) in &CONNECTIONS {
+        let served = Served {
+            requests: *requests,
+            end: *end,
+        };
+        let input = *input;
+        is_served(alloc, input, FromRead::new(input.as_bytes()), out, served)?;
+        let drip = Drip {
+            text: input.as_bytes(),
+        };
+        is_served(alloc, input, FromRead::new(drip), out, served)?;
+    }
+    Ok(())
+}
+
+#[test]
+fn a_connection_has_a_thousand_requests(rt: HostRuntime) -> Result<(), Fail> {
+    let alloc = rt.alloc();
+    let input = TAGS.repeat(alloc, 1_001)?;
+    let mut wanted = TAGS_OUT.repeat(alloc, 999)?;
+    wanted.push_str(
+        "HTTP/1.1 200 OK\r\ncontent-type: application/json\r\ncontent-length: 18\r\nconnection: close\r\n\r\n{\"latest\":\"1.0.0\"}",
+    )?;
+    let served = Served {
+        requests: 1_000,
+        end: End::Limit,
+    };
+    let reader = FromRead::new(input.as_bytes());
+    is_served(alloc, "a thousand", reader, &wanted, served)
+}
+
+#[test]
+fn interrupted_reads_are_tried_again(rt: HostRuntime) -> Result<(), Fail> {
+    let alloc = rt.alloc();
+    let faltering = |kind, failures| {
+        FromRead::new(Faltering {
+            text: TAGS.as_bytes(),
+            kind,
+            failures,
+        })
+    };
+    let whole = Served {
+        requests: 1,
+        end: End::Closed,
+    };
+    let none = Served {
+        requests: 0,
+        end: End::ReadFault,
+    };
+    let kind = ErrorKind::Interrupted;
+    is_served(alloc, "999 times", faltering(kind, 999), TAGS_OUT, whole)?;
+    is_served(alloc, "1,000 times", faltering(kind, 1_000), "", none)?;
+    is_served(alloc, "broken", faltering(ErrorKind::TimedOut, 1), "", none)
+}
+
+#[test]
+fn a_failed_write_ends_a_connection(rt: HostRuntime) -> Result<(), Fail> {
+    let alloc = rt.alloc();
+    let two = TAGS.repeat(alloc, 2)?;
+    for (limit, requests) in [(0, 0), (50, 0), (TAGS_OUT.len(), 1)] {
+        let mut desk = Shelf {
+            asked: Vec::new(alloc),
+        };
+        let mut clock = Steps { next: 0 };
+        let mut inbox = Inbox::new(alloc, FromRead::new(two.as_bytes()));
+        let mut narrow = Narrow {
+            taken: Vec::new(alloc),
+            limit,
+        };
+        let mut writer = ToWrite::new(&mut narrow);
+        let served = serve(alloc, &mut desk, &mut inbox, &mut writer, &mut clock);
+        let wanted = Served {
+            requests,
+            end: End::WriteFault,
+        };
+        same(limit, served, wanted)?;
+        let (front, _) = TAGS_OUT.split_at(limit);
+        same(limit, str::from_utf8(&narrow.taken).unwrap_or("?"), front)?;
+    }
+    Ok(())
+}
