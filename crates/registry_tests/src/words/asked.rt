@@ -1,5 +1,7 @@
 //! What lines of words ask for, and the first refusal of those that ask for nothing.
 
+ghost use Rattle.registry_cli.specs.Lines.{IsWhole};
+
 use super::texts;
 use crate::outcome::same;
 use registry_cli::{Line, action_of, line};
@@ -154,18 +156,28 @@ fn shown_of_package(alloc: Global, what: &Action) -> Result<String, AllocError> 
 }
 
 // Who asks for what, or the refusal's name.
-fn asked(alloc: Global, line: &Line, body: &str) -> Result<String, AllocError> {
+fn asked(alloc: Global, line: &Line, body: &str) -> Result<String, AllocError>
+    requires whole { IsWhole line.now.what }
+{
     if line.asks_to_serve() {
         return String::from_str(alloc, "serve");
     }
     match action_of(alloc, line, body.as_bytes()) {
-        Ok((who, what)) => {
-            let who = caller(alloc, &who)?;
-            let what = shown(alloc, &what)?;
-            format!(in alloc; "{who}: {what}")
-        }
-        Err(Stop::Refused(refusal)) => String::from_str(alloc, refusal.text()),
-        Err(Stop::Fault(fault)) => String::from_str(alloc, fault.text()),
+        Ok((who, what)) => said(alloc, &who, &what),
+        Err(stop) => stopped(alloc, stop),
+    }
+}
+
+fn said(alloc: Global, who: &Credential, what: &Action) -> Result<String, AllocError> {
+    let who = caller(alloc, who)?;
+    let what = shown(alloc, what)?;
+    format!(in alloc; "{who}: {what}")
+}
+
+fn stopped(alloc: Global, stop: Stop) -> Result<String, AllocError> {
+    match stop {
+        Stop::Refused(refusal) => String::from_str(alloc, refusal.text()),
+        Stop::Fault(fault) => String::from_str(alloc, fault.text()),
     }
 }
 
