@@ -1,17 +1,14 @@
 //! What the program does, over any ends of bytes.
 
-use crate::ending::{Ending, Failure};
+use crate::ending::{Ending, Failure, Obstacle};
 use crate::publication::packument_of;
 use crate::words::answer_words;
-use registry_names::{ByteIn, ByteOut, Text, read_whole, write_whole};
+use registry_names::{ByteIn, ByteOut, Fault, Text, read_whole, write_whole};
 use registry_publish::MOST_BODY_BYTES;
 use std::alloc::Global;
 
 /// One byte more than a body may have: enough to see that it is too large.
 pub(crate) const MOST_READ: usize = MOST_BODY_BYTES + 1;
-
-/// What is printed of words that are no texts, as `clap` says it.
-const NO_TEXTS: &str = "error: invalid UTF-8 was detected in one or more arguments";
 
 /// Runs the program on the words after its name, and answers its exit status.
 ///
@@ -20,7 +17,8 @@ const NO_TEXTS: &str = "error: invalid UTF-8 was detected in one or more argumen
 /// is his), and prints the packument as he sees it and a newline on the output. With words it
 /// answers what they ask for (`docs/WORDS.md`). Then the status is 0. Otherwise nothing is printed
 /// on the output, and on the errors stands `refused: ` and the refusal, status 1; what is wrong
-/// with the words, or the help that they ask for, status 2; or `fault: ` and what failed, status 3.
+/// with the words, or the help that they ask for, status 2; or `fault: ` and what failed, status 3,
+/// and where that is the opening of the registry's file a second line that says why.
 pub fn program<I: ByteIn, O: ByteOut, E: ByteOut>(
     rt: &HostRuntime,
     alloc: Global,
@@ -45,23 +43,40 @@ pub fn report<E: ByteOut>(errors: &mut E, ending: &Ending) -> u8 {
     let (status, front, text) = match ending {
         Ending::Refused(refusal) => (1, "refused: ", refusal.text()),
         Ending::Words(said) => (2, "", said.as_str()),
-        Ending::NoTexts => (2, "", NO_TEXTS),
-        Ending::CantServe => (2, "", "serve isn't there yet"),
+        Ending::Wrong(said) => (2, "", *said),
         Ending::Fault(failure) => (3, "fault: ", failure_text(*failure)),
     };
+    print_line(errors, front, text);
+    if let Ending::Fault(Failure::Opening(obstacle)) = ending {
+        print_line(errors, "", obstacle_text(*obstacle));
+    }
+    status
+}
+
+// Prints a text behind another, and a newline where it doesn't end in one.
+fn print_line<E: ByteOut>(errors: &mut E, front: &str, text: &str) {
     let end = if text.ends_with('\n') { "" } else { "\n" };
     for text in [front, text, end] {
         let _ = write_whole(errors, text.as_bytes());
     }
-    status
 }
 
 fn failure_text(failure: Failure) -> &'static str {
     match failure {
         Failure::Registry(fault) => fault.text(),
+        Failure::Opening(_) => Fault::Database.text(),
         Failure::Read => "Read",
         Failure::File => "File",
         Failure::Write => "Write",
+    }
+}
+
+fn obstacle_text(obstacle: Obstacle) -> &'static str {
+    match obstacle {
+        Obstacle::Busy => "another process has the registry's file",
+        Obstacle::Unreachable => "the registry's file can't be opened or written",
+        Obstacle::Full => "the disk is full",
+        Obstacle::Foreign => "the file holds no registry, or was changed by another hand",
     }
 }
 

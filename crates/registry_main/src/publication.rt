@@ -63,7 +63,7 @@ fn request(who: Credential, what: Action) -> Request {
 fn document_in(outcomes: Vec<Result<Reply, Fault>>) -> Result<Text, Ending> {
     for outcome in outcomes {
         match outcome? {
-            Reply::Created | Reply::Done | Reply::Bytes(_) => {}
+            Reply::Created | Reply::Done | Reply::Count(_) | Reply::Bytes(_) => {}
             Reply::Doc(text) => return Ok(text),
             Reply::Refused(refusal) => return Err(Ending::Refused(refusal)),
         }

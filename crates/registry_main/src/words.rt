@@ -5,9 +5,10 @@ ghost use Rattle.registry_cli.specs.Lines.{IsWhole, asks_to_serve};
 
 use crate::ending::{Ending, Failure};
 use crate::moment::moment;
+use crate::opening::open;
 use crate::program::MOST_READ;
+use crate::serving::serve;
 use registry_cli::{Line, Printed, action_of, line, render};
-use registry_desk::Registry;
 use registry_names::{ByteOut, Fault, FromRead, Moment, ReadStop, Text, read_whole, write_whole};
 use registry_rules::{Reply, Request};
 use std::alloc::Global;
@@ -18,7 +19,8 @@ use std::io::ErrorKind;
 /// it is turned away.
 ///
 /// The moment is read first, where the words say none, then the file of a publish, then the texts
-/// in their order, and last the registry's file is opened.
+/// in their order, and last the registry's file is opened. Words that ask to serve are answered
+/// once the last connection has ended.
 pub fn answer_words<O: ByteOut, E: ByteOut>(
     rt: &HostRuntime,
     alloc: Global,
@@ -28,7 +30,7 @@ pub fn answer_words<O: ByteOut, E: ByteOut>(
 ) -> Result<u8, Ending> {
     let line = line(alloc, words)?;
     if line.asks_to_serve() {
-        return Err(Ending::CantServe);
+        return serve(rt, alloc, &line, output);
     }
     let request = request(rt, alloc, &line)?;
     let reply = reply(rt, alloc, line.db.as_str(), &request)?;
@@ -82,9 +84,12 @@ fn file_bytes(rt: &HostRuntime, alloc: Global, path: &str) -> Result<Vec<u8>, En
 }
 
 // The reply of the registry in the file at the path.
-fn reply(rt: &HostRuntime, alloc: Global, path: &str, request: &Request) -> Result<Reply, Fault> {
-    let mut registry = Registry::open(rt, path)?;
-    registry.apply(alloc, request)
+fn reply(rt: &HostRuntime, alloc: Global, path: &str, request: &Request) -> Result<Reply, Ending> {
+    let mut registry = open(rt, path)?;
+    match registry.apply(alloc, request) {
+        Ok(reply) => Ok(reply),
+        Err(fault) => Err(Ending::from(fault)),
+    }
 }
 
 // Prints an answer, and gives its exit status.
