@@ -7,7 +7,7 @@ EXAMPLE := examples/lab-kit-1.0.0.publish.json
 PACKUMENT := examples/lab-kit-1.0.0.packument.json
 BODY := $(EXAMPLE)
 
-.PHONY: help try run build bench test examples check fmt kit
+.PHONY: help try run build bench npm kill test examples check fmt kit
 
 help:
 	@echo 'make try    run the program before any proof: 2 minutes, and nothing is proved'
@@ -16,6 +16,8 @@ help:
 	@echo 'make build  the same, but for the publish: leave the program as out/registry'
 	@echo 'make test   the gate: prove every crate from nothing, and run every test: an hour or more'
 	@echo 'make check  prove every crate over what earlier checks kept'
+	@echo 'make npm    the stock npm client publishes and installs over out/registry: a minute'
+	@echo 'make kill   kill a server 500 times while versions are published: 15 minutes'
 	@echo 'make bench  print how long requests and the reading of bodies take'
 	@echo 'make fmt    lay out the files'
 
@@ -39,6 +41,17 @@ build: kit
 
 run: build
 	@out/registry < $(BODY)
+
+# The scripts run the program that is there, and prove nothing.
+out/registry:
+	@echo 'there is no program out/registry: make build proves and builds it' >&2
+	@exit 1
+
+npm: out/registry
+	@examples/npm.sh out/registry
+
+kill: out/registry
+	@examples/kill.sh out/registry
 
 bench: kit
 	@mkdir -p out

@@ -1,6 +1,8 @@
 //! The program over ends in memory, and over ends that fail.
 
+mod faults;
 mod lines;
+mod serving;
 mod team;
 
 use crate::program::program;
