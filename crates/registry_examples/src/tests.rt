@@ -2,6 +2,7 @@
 //! long lists, and calls on the tables and on rows alone.
 
 mod body;
+mod connections;
 mod files;
 mod hidden;
 mod limits;

@@ -1,6 +1,7 @@
 -- How many reads failed, over one turn after another.
-use Rattle.std.proofs.Common.{◌≡◌, ◌≤◌, ◌<◌, ◌+◌, ◌∙◌, ℕ, zero, suc, refl, ap, arith, ◌⊎◌, inl, inr}
+use Rattle.std.proofs.Common.{◌≡◌, ◌≤◌, ◌<◌, ◌+◌, ◌-◌, max, ◌∙◌, ℕ, zero, suc, refl, ap, arith, ◌⊎◌, inl, inr}
 use Rattle.registry_names.specs.Ends.{RisesBetween, raised, raised_by}
+use Rattle.registry_wire.specs.Inboxes.{failures_admitted}
 use Rattle.registry_wire.specs.Reading.{CountsInterrupted}
 use Rattle.registry_talk.specs.Courses.{ReadsFail}
 use Rattle.registry_talk.specs.declared.turning.End.{End}
@@ -28,16 +29,16 @@ counts-append n0 n1 n2 f0 f1 f2 first second = record {
   few = few-sum first.failed second.failed n1 n2 second.counted first.few second.few;
 }
 
-below : (failed n0 n1 : ℕ) → n1 ≡ n0 + failed → (0 < failed → n1 < 1000) → failed ≤ 1000
-below zero n0 n1 counted few = omega arith
-below (suc failed) n0 n1 counted few = let limit = few (omega arith) in omega (arith, counted, limit)
+-- those of two calls are admitted where those of the second are
+both-few : (k failed n0 n1 : ℕ) → n1 ≡ n0 + failed → (0 < failed → n1 < 1000) → k ≤ max 1 (1000 - n1) → k + failed ≤ max 1 (1000 - n0)
+both-few k zero n0 n1 counted few most = omega (arith, counted, most)
+both-few k (suc failed) n0 n1 counted few most = let limit = few (omega arith) in omega (arith, counted, limit, most)
 
-rises-append : (n0 n1 f0 f1 f2 : ℕ) → CountsInterrupted n0 n1 f0 f1 → RisesBetween 1 1000 f1 f2 → RisesBetween 1 2000 f0 f2
+rises-append : (n0 n1 f0 f1 f2 : ℕ) → CountsInterrupted n0 n1 f0 f1 → RisesBetween 1 (failures_admitted n1) f1 f2 → RisesBetween 1 (failures_admitted n0) f0 f2
 rises-append n0 n1 f0 f1 f2 first (k, some, most, rose) =
-    let limit = below first.failed n0 n1 first.counted first.few in
-    (k + first.failed, omega (arith, some), omega (arith, most, limit), rose ∙ ap (raised_by k) first.rose ∙ raised-sum k first.failed f0)
+    (k + first.failed, omega (arith, some), both-few k first.failed n0 n1 first.counted first.few most, rose ∙ ap (raised_by k) first.rose ∙ raised-sum k first.failed f0)
 
-pub fails-append : (e : End) (n0 n1 n2 f0 f1 f2 : ℕ) → CountsInterrupted n0 n1 f0 f1 → ReadsFail e 1000 n1 n2 f1 f2 → ReadsFail e 2000 n0 n2 f0 f2
+pub fails-append : (e : End) (n0 n1 n2 f0 f1 f2 : ℕ) → CountsInterrupted n0 n1 f0 f1 → ReadsFail e n1 n2 f1 f2 → ReadsFail e n0 n2 f0 f2
 fails-append Closed n0 n1 n2 f0 f1 f2 first second = counts-append n0 n1 n2 f0 f1 f2 first second
 fails-append Limit n0 n1 n2 f0 f1 f2 first second = counts-append n0 n1 n2 f0 f1 f2 first second
 fails-append BadInput n0 n1 n2 f0 f1 f2 first second = counts-append n0 n1 n2 f0 f1 f2 first second
@@ -46,7 +47,7 @@ fails-append WriteFault n0 n1 n2 f0 f1 f2 first second = counts-append n0 n1 n2 
 fails-append (Faulted fault) n0 n1 n2 f0 f1 f2 first second = counts-append n0 n1 n2 f0 f1 f2 first second
 
 -- of a connection that no read fault ends
-pub fails-none : (e : End) (n0 n2 f0 f2 : ℕ) → ¬ (e ≡ ReadFault) → CountsInterrupted n0 n2 f0 f2 → ReadsFail e 2000 n0 n2 f0 f2
+pub fails-none : (e : End) (n0 n2 f0 f2 : ℕ) → ¬ (e ≡ ReadFault) → CountsInterrupted n0 n2 f0 f2 → ReadsFail e n0 n2 f0 f2
 fails-none Closed n0 n2 f0 f2 other counts = counts
 fails-none Limit n0 n2 f0 f2 other counts = counts
 fails-none BadInput n0 n2 f0 f2 other counts = counts

@@ -3,6 +3,7 @@ use Rattle.std.specs.Prelude.{◌≡◌, ◌≤◌, ◌+◌, ◌==◌, ◌++◌,
 use Rattle.std.specs.Io.KnownBytes.{IsAtEnd}
 use Rattle.registry_names.specs.Ends.{Reads, RisesBetween, Writes, WritesFront}
 use Rattle.registry_names.specs.declared.stop.Fault.TheVariants.{Memory}
+use Rattle.registry_wire.specs.Inboxes.{failures_admitted}
 use Rattle.registry_wire.specs.Reading.{CountsInterrupted, TakenOf}
 use Rattle.registry_wire.specs.Spelling.{EndsWith, IsUnfinished}
 use Rattle.registry_wire.specs.declared.first.Ending.TheVariants as ending
@@ -96,14 +97,14 @@ EndsAs s ts (Faulted fault) = EndedBy ts (Faulted fault)
 abbrev pub EndsUnasked : {D : Type 0} → Side D → End → Type 0
 EndsUnasked s e = ((e ≡ Closed) × EndsWith s.held ending.Closed × AtEndOf s) ⊎ ((e ≡ ReadFault) × IsUnfinished s.held)
 
--- How many reads failed, and how many were interrupted: at a read fault at least one failed, and at any other end all that failed were interrupted, and tried again
-abbrev pub ReadsFail : End → ℕ → ℕ → ℕ → ℕ → ℕ → Type 0
-ReadsFail Closed most count count2 failures failures2 = CountsInterrupted count count2 failures failures2
-ReadsFail Limit most count count2 failures failures2 = CountsInterrupted count count2 failures failures2
-ReadsFail BadInput most count count2 failures failures2 = CountsInterrupted count count2 failures failures2
-ReadsFail ReadFault most count count2 failures failures2 = RisesBetween 1 most failures failures2
-ReadsFail WriteFault most count count2 failures failures2 = CountsInterrupted count count2 failures failures2
-ReadsFail (Faulted fault) most count count2 failures failures2 = CountsInterrupted count count2 failures failures2
+-- How many reads failed, and how many were interrupted: at a read fault at least one failed, and no more than the inbox admitted; at any other end all that failed were interrupted, and tried again
+abbrev pub ReadsFail : End → ℕ → ℕ → ℕ → ℕ → Type 0
+ReadsFail Closed count count2 failures failures2 = CountsInterrupted count count2 failures failures2
+ReadsFail Limit count count2 failures failures2 = CountsInterrupted count count2 failures failures2
+ReadsFail BadInput count count2 failures failures2 = CountsInterrupted count count2 failures failures2
+ReadsFail ReadFault count count2 failures failures2 = RisesBetween 1 (failures_admitted count) failures failures2
+ReadsFail WriteFault count count2 failures failures2 = CountsInterrupted count count2 failures failures2
+ReadsFail (Faulted fault) count count2 failures failures2 = CountsInterrupted count count2 failures failures2
 
 module _ {D : Type 0} (answers : Answers D) where
   -- the turns at a desk, each on what the older ones left, and the desk that they leave

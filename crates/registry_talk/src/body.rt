@@ -8,7 +8,8 @@ use registry_access::{Grant, Role};
 use registry_names::{Name, Refusal, Status, Stop, Ver};
 use registry_publish::PublishForm;
 use registry_routes::{
-    Deprecation, deprecation_of_body, grant_of_body, role_of_body, status_of_body, version_of_body, version_of_file,
+    Deprecation, deprecation_of_body, grant_of_body, role_of_body, status_of_body, version_of_body,
+    version_of_file,
 };
 use std::alloc::Global;
 

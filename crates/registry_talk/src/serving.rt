@@ -1,8 +1,7 @@
 //! One connection, request after request.
 
-ghost use Rattle.std.specs.Prelude.{◌≡◌, ◌≤◌, ◌*◌, ◌∷◌, [], ℕ, List, Option, true, MatchResult, OnOk, OnErr};
+ghost use Rattle.std.specs.Prelude.{◌≡◌, ◌≤◌, ◌∷◌, [], ℕ, List, Option, true, MatchResult, OnOk, OnErr};
 ghost use Rattle.registry_names.specs.Ends.{Writes, WritesFront, failures_after};
-ghost use Rattle.registry_wire.specs.Inboxes.{interruption_limit};
 ghost use Rattle.registry_wire.specs.Reading.{CountsInterrupted};
 ghost use Rattle.registry_talk.specs.Courses.{Gave, GoesTo, IsServed, ReadsFail, Rests, side};
 ghost use Rattle.registry_talk.specs.Servings.{bytes_of, written_failures};
@@ -50,8 +49,9 @@ pub fn serve<D: Desk, R: ByteIn, W: ByteOut, C: Clock>(
         (W.bytes writer.old) (W.bytes writer.new) (W.is_silent writer.new) result }
     ensures few { result.requests ≤ 1000 }
 
-    // A read fault comes where a read failed, and a write fault where a write did.
-    ensures counted { ReadsFail result.end (2 * interruption_limit)
+    // A read fault comes where a read failed, and a thousand at most did; a write fault comes where a
+    // write failed.
+    ensures counted { ReadsFail result.end
         inbox.old.interruptions inbox.new.interruptions
         (R.failures inbox.old.reader) (R.failures inbox.new.reader) }
     ensures written { W.failures writer.new ≡ written_failures result.end (W.failures writer.old) }
@@ -104,7 +104,7 @@ fn next_turn<D: Desk, R: ByteIn, C: Clock>(
     ensures counted { MatchResult result
         (λ _. CountsInterrupted inbox.old.interruptions inbox.new.interruptions
         (R.failures inbox.old.reader) (R.failures inbox.new.reader))
-        (λ end. ReadsFail end interruption_limit
+        (λ end. ReadsFail end
         inbox.old.interruptions inbox.new.interruptions
         (R.failures inbox.old.reader) (R.failures inbox.new.reader)) }
     ensures silent { R.is_silent inbox.old.reader ≡ true → R.is_silent inbox.new.reader ≡ true }

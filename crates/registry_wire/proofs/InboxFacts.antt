@@ -1,9 +1,9 @@
 -- Bytes that an inbox holds, one read after another.
-use Rattle.std.proofs.Common.{◌≡◌, ℕ, zero, suc, ◌+◌, ◌-◌, ◌<◌, ◌≤◌, List, [], ◌++◌, Option, Bool, true, false, refl, sym, ap, subst, ◌∙◌, append_assoc, append-nil, arith, inl, inr, length, add-one}
+use Rattle.std.proofs.Common.{◌≡◌, ℕ, zero, suc, ◌+◌, ◌-◌, ◌<◌, ◌≤◌, max, List, [], ◌++◌, Option, Bool, true, false, refl, sym, ap, subst, ◌∙◌, append_assoc, append-nil, arith, inl, inr, length, add-one}
 use Rattle.std.specs.Io.KnownBytes.{Consumes, Keeps, IsAtEnd}
 use Rattle.registry_names.specs.Ends.{RisesBetween, raised}
 use Rattle.registry_names.proofs.EndFacts.{Reads-nothing, Reads-one, Reads-append, Consumes-kept}
-use Rattle.registry_wire.specs.Inboxes.{Unread}
+use Rattle.registry_wire.specs.Inboxes.{Unread, failures_admitted}
 use Rattle.registry_wire.specs.Pieces.{Moves, GoesOn}
 use Rattle.registry_wire.specs.Reading.{TakenOf, Takes, CountsInterrupted, IsEndOf}
 use Rattle.registry_wire.specs.declared.inbox.Taken.{Taken}
@@ -59,14 +59,13 @@ pub counts-on : {R : Type 0} (old new : Unread R) (n0 f0 f1 f2 : ℕ) → Counts
 counts-on old new n0 f0 f1 f2 c (inl grew) = rw (grew.interruptions, grew.counted) c
 counts-on old new n0 f0 f1 f2 c (inr was) = counts-one n0 old.interruptions new.interruptions f0 f1 f2 c was.interruptions was.few was.counted
 
-below : (failed n0 n1 : ℕ) → n1 ≡ n0 + failed → (0 < failed → n1 < 1000) → failed < 1000
-below zero n0 n1 counted few = omega arith
-below (suc failed) n0 n1 counted few = let limit = few (omega arith) in omega (arith, counted, limit)
+-- one failure more is admitted
+one-more : (failed n0 n1 : ℕ) → n1 ≡ n0 + failed → (0 < failed → n1 < 1000) → failed + 1 ≤ max 1 (1000 - n0)
+one-more zero n0 n1 counted few = omega arith
+one-more (suc failed) n0 n1 counted few = let limit = few (omega arith) in omega (arith, counted, limit)
 
-pub rises : (n0 n1 f0 f1 f2 : ℕ) → CountsInterrupted n0 n1 f0 f1 → f2 ≡ raised f1 → RisesBetween 1 1000 f0 f2
-rises n0 n1 f0 f1 f2 c f =
-    let few = below c.failed n0 n1 c.counted c.few in
-    (c.failed + 1, omega arith, omega (arith, few), rw add-one (f ∙ ap raised c.rose))
+pub rises : (n0 n1 f0 f1 f2 : ℕ) → CountsInterrupted n0 n1 f0 f1 → f2 ≡ raised f1 → RisesBetween 1 (failures_admitted n0) f0 f2
+rises n0 n1 f0 f1 f2 c f = (c.failed + 1, omega arith, one-more c.failed n0 n1 c.counted c.few, rw add-one (f ∙ ap raised c.rose))
 
 -- the end of what an inbox holds is taken, where no more is left
 pub taken-end : (all : List ℕ) (AtEnd : Type 0) (r : Taken) → IsEndOf all r → AtEnd → TakenOf all all AtEnd r

@@ -1,10 +1,14 @@
 -- What a contract sees of an inbox.
-use Rattle.std.specs.Prelude.{ℕ, List, refl}
+use Rattle.std.specs.Prelude.{ℕ, ◌-◌, max, List, refl}
 use Rattle.std.specs.Coded.{Coded, code_by, coded×, coded_list, coded_ℕ}
 
 -- the number of interrupted reads at which an inbox gives up
 abbrev pub interruption_limit : ℕ
 interruption_limit = 1000
+
+-- how many reads may fail until an inbox with this count of interrupted ones gives up: as many as bring the count to the limit, and one at least
+abbrev pub failures_admitted : ℕ → ℕ
+failures_admitted count = max 1 (interruption_limit - count)
 
 -- a reader, the bytes that it gave and that are not used yet, and how many of its reads were interrupted
 pub record Unread (R : Type 0) : Type 0 where

@@ -4,7 +4,7 @@ ghost use Rattle.std.specs.Prelude.{◌≡◌, ◌≢◌, ◌≤◌, ◌<◌, []
 ghost use Rattle.std.specs.Io.KnownBytes.{IsAtEnd};
 ghost use Rattle.registry_names.specs.Ends.{RisesBetween};
 ghost use Rattle.registry_names.specs.declared.stop.Fault.TheVariants.{Memory};
-ghost use Rattle.registry_wire.specs.Inboxes.{interruption_limit, unread};
+ghost use Rattle.registry_wire.specs.Inboxes.{failures_admitted, unread};
 ghost use Rattle.registry_wire.specs.Pieces.{Gives, Moves};
 ghost use Rattle.registry_wire.specs.Reading.{CountsInterrupted, IsEndOf, Takes};
 ghost use Rattle.registry_wire.specs.Spelling.{IsUnfinished, Says, request_limit};
@@ -95,12 +95,13 @@ impl<R: ByteIn> Inbox<R> {
         ensures takes { Takes self.old.held (R.bytes self.old.reader)
             self.new.held (R.bytes self.new.reader) (R.is_silent self.new.reader) result }
 
-        // Only interrupted reads are tried again, and only a failed one is a fault.
+        // Only interrupted reads are tried again, and only a failed one is a fault: then no more
+        // failed than bring the number of the interrupted ones to its limit, or the first one did.
         ensures retried { result ≢ ReadFault
             → CountsInterrupted self.old.interruptions self.new.interruptions
             (R.failures self.old.reader) (R.failures self.new.reader) }
         ensures stopped { result ≡ ReadFault
-            → RisesBetween 1 interruption_limit
+            → RisesBetween 1 (failures_admitted self.old.interruptions)
             (R.failures self.old.reader) (R.failures self.new.reader) }
 
         ensures silent { R.is_silent self.old.reader ≡ true → R.is_silent self.new.reader ≡ true }
