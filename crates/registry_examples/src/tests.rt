@@ -2,6 +2,7 @@
 //! long lists, and calls on the tables and on rows alone.
 
 mod body;
+mod everything;
 mod files;
 mod hidden;
 mod limits;
@@ -10,6 +11,7 @@ mod people;
 mod rounds;
 mod rows;
 mod tables;
+mod withdrawals;
 
 use crate::example::{Ask, Example, Expected, Step, Who};
 use crate::people::{ORGANISATIONS, TEAMS, USERS};
@@ -19,7 +21,7 @@ use body::{ABC, body_of};
 use outcome::{otherwise, same};
 use people::digest_of;
 use registry_desk::Registry;
-use registry_names::{Fault, Ident, Moment, Name, Refusal, Stop, TagText, Ver};
+use registry_names::{Fault, Ident, Moment, Name, Stop, TagText, Ver};
 use registry_publish::PublishForm;
 use registry_rules::{Action, Asked, Credential, Reply, Request};
 use std::alloc::{AllocError, Global};
@@ -156,7 +158,7 @@ fn package_action_of(alloc: Global, ask: Ask) -> Result<Action, Stop> {
         Ask::LatestDoc(name) => latest_doc(alloc, name),
         Ask::Archive(name, version) => archive(alloc, name, version),
         Ask::Tags(name) => tags(alloc, name),
-        _ => Err(Stop::Refused(Refusal::BadBody)),
+        _ => withdrawals::action_of(alloc, ask),
     }
 }
 
@@ -241,6 +243,7 @@ fn is_expected(outcome: &Outcome, expected: &Expected) -> bool {
     match (outcome, expected) {
         (Ok(Reply::Created), Expected::Created) => true,
         (Ok(Reply::Done), Expected::Done) => true,
+        (Ok(Reply::Count(count)), Expected::Count(wanted)) => count == wanted,
         (Ok(Reply::Doc(text)), Expected::Doc(wanted)) => text.as_str() == *wanted,
         (Ok(Reply::Doc(_)), Expected::AnyDoc) => true,
         (Ok(Reply::Bytes(bytes)), Expected::Bytes(wanted)) => bytes.as_slice() == wanted.as_bytes(),
