@@ -84,6 +84,15 @@ pub enum Ask {
     /// The publication of a version whose manifest has its name and its version alone, with the
     /// archive `abc`.
     Publish(&'static str, &'static str),
+    /// The same, where the manifest has these members too: package, version and members.
+    PublishNeeding(&'static str, &'static str, &'static str),
+    /// The publication of a version with the body that the npm client sends, with the archive
+    /// `abc`: package, version and tag.
+    PublishUnder(&'static str, &'static str, &'static str),
+    /// To withdraw a version of a package.
+    Withdraw(&'static str, &'static str),
+    /// To deprecate versions: package, selector and message.
+    Deprecate(&'static str, &'static str, &'static str),
     /// To let a tag name a version: package, tag and version.
     TagSet(&'static str, &'static str, &'static str),
     /// To remove a tag of a package.
@@ -107,6 +116,8 @@ pub enum Expected {
     Created,
     /// The command was done.
     Done,
+    /// So many versions were deprecated, or aren't any more.
+    Count(u64),
     /// This document.
     Doc(&'static str),
     /// Some document.

@@ -7,6 +7,8 @@
 #![tactic(auto)]
 
 mod beginnings;
+mod dependents;
+mod deprecations;
 mod example;
 mod limits;
 mod people;
@@ -14,9 +16,15 @@ mod rights;
 mod table;
 #[cfg(test)]
 mod tests;
+mod waits;
+mod withdrawals;
 
+pub use crate::dependents::{DEPENDENTS, NEEDS};
+pub use crate::deprecations::{DEPRECATIONS, MESSAGES};
 pub use crate::example::{Ask, Example, Expected, Step, Who};
 pub use crate::limits::{KEEPERS, LEAVERS, PUBLISHERS, READERS};
 pub use crate::people::{ORGANISATIONS, TEAMS, USERS};
 pub use crate::rights::{GRANTS, MAINTAINERS, STATUSES};
 pub use crate::table::{PUBLISHES, QUERIES, TAGS};
+pub use crate::waits::{REASONS, WAITS};
+pub use crate::withdrawals::{FREED_TAGS, SHARED_ARCHIVES, WITHDRAWALS};

@@ -3,6 +3,7 @@
 
 mod body;
 mod connections;
+mod everything;
 mod files;
 mod hidden;
 mod limits;
@@ -11,6 +12,7 @@ mod people;
 mod rounds;
 mod rows;
 mod tables;
+mod withdrawals;
 
 use crate::example::{Ask, Example, Expected, Step, Who};
 use crate::people::{ORGANISATIONS, TEAMS, USERS};
@@ -20,7 +22,7 @@ use body::{ABC, body_of};
 use outcome::{otherwise, same};
 use people::digest_of;
 use registry_desk::Registry;
-use registry_names::{Fault, Ident, Moment, Name, Refusal, Stop, TagText, Ver};
+use registry_names::{Fault, Ident, Moment, Name, Stop, TagText, Ver};
 use registry_publish::PublishForm;
 use registry_rules::{Action, Asked, Credential, Reply, Request};
 use std::alloc::{AllocError, Global};
@@ -157,7 +159,7 @@ fn package_action_of(alloc: Global, ask: Ask) -> Result<Action, Stop> {
         Ask::LatestDoc(name) => latest_doc(alloc, name),
         Ask::Archive(name, version) => archive(alloc, name, version),
         Ask::Tags(name) => tags(alloc, name),
-        _ => Err(Stop::Refused(Refusal::BadBody)),
+        _ => withdrawals::action_of(alloc, ask),
     }
 }
 
@@ -242,6 +244,7 @@ fn is_expected(outcome: &Outcome, expected: &Expected) -> bool {
     match (outcome, expected) {
         (Ok(Reply::Created), Expected::Created) => true,
         (Ok(Reply::Done), Expected::Done) => true,
+        (Ok(Reply::Count(count)), Expected::Count(wanted)) => count == wanted,
         (Ok(Reply::Doc(text)), Expected::Doc(wanted)) => text.as_str() == *wanted,
         (Ok(Reply::Doc(_)), Expected::AnyDoc) => true,
         (Ok(Reply::Bytes(bytes)), Expected::Bytes(wanted)) => bytes.as_slice() == wanted.as_bytes(),
