@@ -59,11 +59,11 @@ for user in ann bob eve; do
 done
 registry --operator org-create lab ann
 registry --as ann org-set lab bob
-port=$(node -p 'const s = require("net").createServer().listen(0, "127.0.0.1", () => { console.log(s.address().port); s.close() }); ""' | head -n 1)
+port=$(node -e 'const s = require("net").createServer().listen(0, "127.0.0.1", () => { console.log(s.address().port); s.close() })')
 "$program" --db "$work/registry.db" serve --port "$port" > "$work/server" &
 server=$!
-for _ in $(seq 1 100); do
-    if grep -q listening "$work/server"; then break; fi
+for _ in $(seq 1 300); do
+    if grep -q listening "$work/server" || ! kill -0 "$server" 2>/dev/null; then break; fi
     sleep 0.1
 done
 grep "^listening 127.0.0.1:$port\$" "$work/server" || fail 'the server does not listen'
@@ -141,5 +141,5 @@ begin=$(milliseconds)
 # shellcheck disable=SC2086
 as ann "$work/large" install --prefer-online $names
 say "ann installed 50 packages in one command, from a clean cache, in $(($(milliseconds) - begin)) ms"
-[ "$(ls "$work/large/node_modules" | grep -c '^part-')" = 50 ] || fail 'some of the 50 are missing'
+[ "$(find "$work/large/node_modules" -maxdepth 1 -name 'part-*' | wc -l)" -eq 50 ] || fail 'some of the 50 are missing'
 say 'all of it came out as it should'
