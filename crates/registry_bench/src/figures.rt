@@ -94,6 +94,35 @@ static GROWTH: [Stage; 10] = [
     },
 ];
 
+/// Withdrawals among ten thousand packages whose versions need seven others each, by the place of
+/// the name: behind all others, between them, and before them. Nothing needs what is withdrawn.
+static WITHDRAWALS: [Stage; 4] = [
+    Stage {
+        what: "publish of 10000 packages that need seven others each",
+        ask: Ask::Publish(Archive::Shared),
+        packages: (20_000, 30_000),
+        versions: (0, 1),
+    },
+    Stage {
+        what: "withdrawal behind 10000 packages",
+        ask: Ask::Withdraw,
+        packages: (29_980, 30_000),
+        versions: (0, 1),
+    },
+    Stage {
+        what: "withdrawal amid 10000 packages",
+        ask: Ask::Withdraw,
+        packages: (25_000, 25_020),
+        versions: (0, 1),
+    },
+    Stage {
+        what: "withdrawal before 10000 packages",
+        ask: Ask::Withdraw,
+        packages: (20_000, 20_020),
+        versions: (0, 1),
+    },
+];
+
 /// Prints how long it takes to read a small body and one of almost as many bytes as it may have,
 /// and to ask requests of registries that are small and large in some way.
 pub fn print_figures<R: Print + Clock>(rt: &R, alloc: Global) -> Result<(), Failure> {
@@ -107,6 +136,7 @@ pub fn print_figures<R: Print + Clock>(rt: &R, alloc: Global) -> Result<(), Fail
     print_reading(rt, alloc, "reading a body of 4 MiB", 1_048_000, 10)?;
     print_asking(rt, alloc, &CROWD)?;
     print_asking(rt, alloc, &GROWTH)?;
+    print_asking(rt, alloc, &WITHDRAWALS)?;
     print_comparisons(rt, alloc)?;
     print_visits(rt, alloc)
 }

@@ -27,6 +27,13 @@ pub fn archive(alloc: Global, release: Release) -> Result<Request, Stop> {
     Ok(request(Credential::Anonymous, Action::Archive { name, version }))
 }
 
+/// The publisher's withdrawal of the release.
+pub fn withdraw(alloc: Global, release: Release) -> Result<Request, Stop> {
+    let name = release.name(alloc)?;
+    let version = Ver::parse(alloc, &release.version_text(alloc)?)?;
+    Ok(request(publisher(alloc)?, Action::Withdraw { name, version }))
+}
+
 /// To publish a release with this archive.
 pub fn publish_action(alloc: Global, release: Release, archive: Archive) -> Result<Action, Stop> {
     let archive = release.archive(alloc, archive)?;

@@ -3,7 +3,7 @@
 use crate::failure::Failure;
 use crate::measurement::{Measurement, start};
 use crate::release::{Archive, Release};
-use crate::requests::{Wanted, archive, ask_all, packument, publish};
+use crate::requests::{Wanted, archive, ask_all, packument, publish, withdraw};
 use crate::turns::Turns;
 use registry_desk::Registry;
 use registry_names::Stop;
@@ -13,7 +13,7 @@ use std::alloc::Global;
 use std::time::Clock;
 
 /// Requests of one kind about each of these versions of some packages. Of both, the number of the
-/// first and that behind the last. The publisher publishes, and anybody reads.
+/// first and that behind the last. The publisher publishes and withdraws, and anybody reads.
 #[derive(Clone, Copy)]
 pub struct Stage {
     /// What they are called.
@@ -35,6 +35,8 @@ pub enum Ask {
     Packument,
     /// Its archive.
     Archive,
+    /// Its withdrawal.
+    Withdraw,
 }
 
 /// Asks the requests of each stage, and prints how long those of each take.
@@ -82,7 +84,7 @@ impl Stage {
         let what = String::from_str(alloc, self.what)?;
         let requests = self.requests(alloc)?;
         match self.ask {
-            Ask::Publish(_) => Ok(Turns::shared(what, requests)),
+            Ask::Publish(_) | Ask::Withdraw => Ok(Turns::shared(what, requests)),
             Ask::Packument | Ask::Archive => Ok(Turns::repeated(what, requests, Wanted::Answered)),
         }
     }
@@ -121,6 +123,7 @@ impl Stage {
             Ask::Publish(archive) => publish(alloc, release, archive),
             Ask::Packument => packument(alloc, release),
             Ask::Archive => archive(alloc, release),
+            Ask::Withdraw => withdraw(alloc, release),
         }
     }
 }

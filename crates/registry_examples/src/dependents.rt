@@ -4,8 +4,8 @@ use crate::beginnings::{LAB, LAB_KIT};
 use crate::example::{Ask, Example, Expected, Step, Who};
 use registry_names::Refusal;
 
-/// Packages that name another, and whether they need its version 1.0.0.
-pub static NEEDS: [Example; 7] = [
+/// Packages that name another, and whether they need one of its versions.
+pub static NEEDS: [Example; 9] = [
     Example {
         shows: "a range that the version isn't in",
         before: LAB_KIT,
@@ -163,6 +163,58 @@ pub static NEEDS: [Example; 7] = [
                 who: Who::User("bob"),
                 ask: Ask::Withdraw("@lab/kit", "1.1.0-beta"),
                 expected: Expected::Done,
+            },
+        ],
+    },
+    Example {
+        shows: "a range that a prerelease is in",
+        before: LAB_KIT,
+        steps: &[
+            Step {
+                at: 110,
+                who: Who::User("bob"),
+                ask: Ask::Publish("@lab/kit", "1.1.0-beta"),
+                expected: Expected::Created,
+            },
+            Step {
+                at: 120,
+                who: Who::User("bob"),
+                ask: Ask::PublishNeeding(
+                    "@lab/app",
+                    "1.0.0",
+                    r#""dependencies":{"@lab/kit":"^1.1.0-alpha"}"#,
+                ),
+                expected: Expected::Created,
+            },
+            Step {
+                at: 130,
+                who: Who::User("bob"),
+                ask: Ask::Withdraw("@lab/kit", "1.1.0-beta"),
+                expected: Expected::Refused(Refusal::Depended),
+            },
+            Step {
+                at: 130,
+                who: Who::User("bob"),
+                ask: Ask::Withdraw("@lab/kit", "1.0.0"),
+                expected: Expected::Done,
+            },
+        ],
+    },
+    Example {
+        shows: "the empty range",
+        before: LAB_KIT,
+        steps: &[
+            Step {
+                at: 120,
+                who: Who::User("bob"),
+                ask: Ask::PublishNeeding("@lab/app", "1.0.0", r#""dependencies":{"@lab/kit":""}"#),
+                expected: Expected::Created,
+            },
+            Step {
+                at: 130,
+                who: Who::User("bob"),
+                ask: Ask::Withdraw("@lab/kit", "1.0.0"),
+                expected: Expected::Refused(Refusal::Depended),
             },
         ],
     },

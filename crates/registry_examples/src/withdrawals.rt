@@ -318,28 +318,84 @@ pub static FREED_TAGS: [Example; 3] = [
     },
 ];
 
-/// Versions with one archive, of which one is withdrawn after the other.
-pub static SHARED_ARCHIVES: [Example; 1] = [Example {
-    shows: "an archive stays with the version that is left",
-    before: LAB_KIT,
-    steps: &[
-        Step {
-            at: 101,
-            who: Who::User("bob"),
-            ask: Ask::Publish("@lab/kit", "1.1.0"),
-            expected: Expected::Created,
-        },
-        Step {
-            at: 102,
-            who: Who::User("bob"),
-            ask: Ask::Withdraw("@lab/kit", "1.0.0"),
-            expected: Expected::Done,
-        },
-        Step {
-            at: 102,
-            who: Who::User("bob"),
-            ask: Ask::Archive("@lab/kit", "1.1.0"),
-            expected: Expected::Bytes("abc"),
-        },
-    ],
-}];
+/// Two versions with one archive, of which one is withdrawn after the other.
+pub static SHARED_ARCHIVES: [Example; 3] = [
+    Example {
+        shows: "both versions give the archive",
+        before: LAB_KIT,
+        steps: &[
+            Step {
+                at: 101,
+                who: Who::User("bob"),
+                ask: Ask::Publish("@lab/kit", "1.1.0"),
+                expected: Expected::Created,
+            },
+            Step {
+                at: 101,
+                who: Who::User("bob"),
+                ask: Ask::Archive("@lab/kit", "1.0.0"),
+                expected: Expected::Bytes("abc"),
+            },
+            Step {
+                at: 101,
+                who: Who::User("bob"),
+                ask: Ask::Archive("@lab/kit", "1.1.0"),
+                expected: Expected::Bytes("abc"),
+            },
+        ],
+    },
+    Example {
+        shows: "it stays with the version that is left",
+        before: LAB_KIT,
+        steps: &[
+            Step {
+                at: 101,
+                who: Who::User("bob"),
+                ask: Ask::Publish("@lab/kit", "1.1.0"),
+                expected: Expected::Created,
+            },
+            Step {
+                at: 102,
+                who: Who::User("bob"),
+                ask: Ask::Withdraw("@lab/kit", "1.0.0"),
+                expected: Expected::Done,
+            },
+            Step {
+                at: 102,
+                who: Who::User("bob"),
+                ask: Ask::Archive("@lab/kit", "1.1.0"),
+                expected: Expected::Bytes("abc"),
+            },
+        ],
+    },
+    Example {
+        shows: "and goes with the last",
+        before: LAB_KIT,
+        steps: &[
+            Step {
+                at: 101,
+                who: Who::User("bob"),
+                ask: Ask::Publish("@lab/kit", "1.1.0"),
+                expected: Expected::Created,
+            },
+            Step {
+                at: 102,
+                who: Who::User("bob"),
+                ask: Ask::Withdraw("@lab/kit", "1.0.0"),
+                expected: Expected::Done,
+            },
+            Step {
+                at: 102,
+                who: Who::User("bob"),
+                ask: Ask::Withdraw("@lab/kit", "1.1.0"),
+                expected: Expected::Done,
+            },
+            Step {
+                at: 102,
+                who: Who::User("bob"),
+                ask: Ask::Archive("@lab/kit", "1.1.0"),
+                expected: Expected::Refused(Refusal::NotFound),
+            },
+        ],
+    },
+];

@@ -80,8 +80,9 @@ fn request_of(alloc: Global, who: Who, ask: Ask) -> Result<Request, Stop> {
 }
 
 fn every_question(alloc: Global) -> Result<Vec<(Who, Ask)>, AllocError> {
+    let asks = every_ask(alloc)?;
     let mut questions = Vec::new(alloc);
-    for ask in &every_ask(alloc)? {
+    for ask in &asks {
         push_by_all(&mut questions, *ask)?;
     }
     Ok(questions)

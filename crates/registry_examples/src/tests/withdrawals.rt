@@ -2,20 +2,19 @@
 
 ghost use Rattle.std.specs.Prelude.{◌≡◌, false};
 
-use crate::beginnings::LAB_KIT;
 use crate::dependents::{DEPENDENTS, NEEDS};
 use crate::deprecations::{DEPRECATIONS, MESSAGES};
-use crate::example::{Ask, Expected, Step, Who};
+use crate::example::{Ask, Example, Step};
 use crate::tests::body::ABC;
 use crate::tests::outcome::same;
-use crate::tests::{all_have_their_replies, are_expected, publish, requests_of};
+use crate::tests::{all_have_their_replies, are_expected, publish, requests_of, steps_of};
 use crate::waits::{REASONS, WAITS};
 use crate::withdrawals::{FREED_TAGS, SHARED_ARCHIVES, WITHDRAWALS};
 use registry_desk::Registry;
 use registry_names::{Message, Name, Refusal, Stop, Ver};
 use registry_ranges::Selector;
-use registry_rules::Action;
-use sqlite::{Alter, Connection};
+use registry_rules::{Action, Request};
+use sqlite::{Alter, Connection, MemStore};
 use std::alloc::{AllocError, Global};
 use std::test::Fail;
 
@@ -72,53 +71,35 @@ fn a_caret_selects_nothing(rt: HostRuntime) -> Result<(), Fail> {
 }
 
 #[test]
-fn an_archive_goes_with_the_last_version(rt: HostRuntime) -> Result<(), Fail> {
-    let alloc = rt.alloc();
-    same(
-        "an archive that was there",
-        archives_after(alloc, &LEFT[..1])?,
-        1,
-    )?;
-    same(
-        "a version that is left",
-        archives_after(alloc, &LEFT[..2])?,
-        1,
-    )?;
-    same("none that is left", archives_after(alloc, &LEFT)?, 0)
+fn archives_are_stored_once(rt: HostRuntime) -> Result<(), Fail> {
+    for (example, count) in SHARED_ARCHIVES.iter().zip(&STORED) {
+        stores(rt.alloc(), example, *count)?;
+    }
+    Ok(())
 }
 
-/// A version with the archive of another, which is withdrawn, and then itself.
-static LEFT: [Step; 3] = [
-    Step {
-        at: 101,
-        who: Who::User("bob"),
-        ask: Ask::Publish("@lab/kit", "1.1.0"),
-        expected: Expected::Created,
-    },
-    Step {
-        at: 102,
-        who: Who::User("bob"),
-        ask: Ask::Withdraw("@lab/kit", "1.0.0"),
-        expected: Expected::Done,
-    },
-    Step {
-        at: 102,
-        who: Who::User("bob"),
-        ask: Ask::Withdraw("@lab/kit", "1.1.0"),
-        expected: Expected::Done,
-    },
-];
+/// How many archives are stored after each of the examples of shared ones.
+static STORED: [usize; 3] = [1, 1, 0];
 
-// How many archives are stored after these steps, behind a first version.
-fn archives_after(alloc: Global, steps: &[Step]) -> Result<usize, Fail> {
-    let before = requests_of(alloc, LAB_KIT)?;
-    let requests = requests_of(alloc, steps)?;
-    let mut registry = Registry::in_memory(alloc)?;
-    registry.run(alloc, &before)?;
-    are_expected("archives", &registry.run(alloc, &requests)?, steps)?;
-    rows_of(&mut registry.release(), "SELECT id FROM archives")
+// Whether so many archives are stored after the requests of an example, which have their replies.
+fn stores(alloc: Global, example: &Example, count: usize) -> Result<(), Fail> {
+    let steps = steps_of(alloc, example)?;
+    let stored = archives_after(alloc, &requests_of(alloc, &steps)?, &steps)?;
+    same(example.shows, stored, count)
 }
 
+fn archives_after(alloc: Global, requests: &[Request], steps: &[Step]) -> Result<usize, Fail> {
+    let (registry, outcomes) = Registry::run_in_memory(alloc, requests)?;
+    are_expected("archives", &outcomes, steps)?;
+    archives_in(registry)
+}
+
+fn archives_in(registry: Registry<MemStore>) -> Result<usize, Fail> {
+    let mut conn = registry.release();
+    rows_of(&mut conn, "SELECT id FROM archives")
+}
+
+// How many rows a query gives.
 fn rows_of<S: Alter>(conn: &mut Connection<S>, text: &str) -> Result<usize, Fail>
     requires idle { conn.old.in_transaction ≡ false }
 {
