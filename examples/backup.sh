@@ -39,8 +39,8 @@ else
 fi
 cp "$file" "$copy"
 cp "$file-wal" "$copy-wal"
-sync "$copy" "$copy-wal"
 resume
 trap - EXIT
+sync "$copy" "$copy-wal"
 opens "$copy" || exit 1
 echo "$copy and $copy-wal are a registry, as $file was: $(wc -c < "$copy") and $(wc -c < "$copy-wal") bytes"

@@ -5,7 +5,8 @@
 #
 # PROGRAM is out/registry where it is left out, and TIMES 500. Each time the server is started on
 # the file that the last kill left, versions of one package are published one after the other, and
-# after up to 400 ms the server is killed by SIGKILL, wherever it is: while it opens the file, too.
+# the server is killed by SIGKILL, wherever it is: up to 400 ms behind its start, and every second
+# time behind its first word, when it takes connections.
 # Then the file must open, each version whose publish was answered must be there with the archive
 # that was sent, and no other version than one that was sent. The status is 0 where that came out.
 # A file begins anew every 50 times. It needs curl, sha512sum and base64.
@@ -141,6 +142,7 @@ for time in $(seq 1 "$times"); do
     ) &
     client=$!
     before=$(wc -l < "$work/answered")
+    if [ $((time % 2)) -eq 0 ]; then wait_for_server; fi
     sleep "0.$(printf '%03d' "$(below 400)")"
     if ! grep -q listening "$work/server"; then early=$((early + 1)); echo listening > "$work/server"; fi
     kill_server
