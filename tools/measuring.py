@@ -243,39 +243,58 @@ def manifest(name, version, archive, needs):
     }
 
 
-def profile(command, folder):
-    """Which share of a command's samples each crate's functions have, in percent, the greatest
-    first; nothing where perf isn't on the path. `command` may be the number of a process and what
-    is to be done meanwhile."""
-    if not shutil.which('perf'):
-        return []
-    data = str(pathlib.Path(folder) / 'perf.data')
-    record = ['perf', 'record', '-q', '-e', 'cpu-clock', '-F', '4000', '-o', data]
-    if isinstance(command, tuple):
-        pid, work = command
-        run = subprocess.Popen(record + ['-p', str(pid)], stdout=subprocess.DEVNULL, stderr=subprocess.DEVNULL)
-        time.sleep(0.5)
+class Profile:
+    """Which share of the samples of a piece of work each crate's functions have, in percent: a
+    column a piece. It has none where perf isn't on the path."""
+
+    def __init__(self, folder):
+        self.data, self.columns = str(folder / 'perf.data'), {}
+        self.record = ['perf', 'record', '-q', '-e', 'cpu-clock', '-F', '4000', '-o', self.data]
+        self.there = shutil.which('perf') is not None
+
+    def command(self, what, *command):
+        """Adds what a command does."""
+        if self.there:
+            subprocess.run([*self.record, *map(str, command)], stdout=subprocess.DEVNULL, stderr=subprocess.DEVNULL)
+            self.columns[what] = shares_of(self.data)
+
+    def meanwhile(self, what, process, work):
+        """Adds what a process does while the work is done."""
+        if not self.there:
+            return
+        run = subprocess.Popen([*self.record, '-p', str(process.pid)], stdout=subprocess.DEVNULL, stderr=subprocess.DEVNULL)
+        time.sleep(1)
         work()
         run.send_signal(signal.SIGINT)
         run.wait()
-    else:
-        subprocess.run(record + command, stdout=subprocess.DEVNULL, stderr=subprocess.DEVNULL)
-    report = subprocess.run(['perf', 'report', '-i', data, '--stdio', '-F', 'overhead,dso,sym', '--percent-limit', '0'],
+        self.columns[what] = shares_of(self.data)
+
+    def print(self):
+        parts = {part for shares in self.columns.values() for part, share in shares.items() if share >= 2}
+        rows = sorted(([shares.get(part, 0) for shares in self.columns.values()], part) for part in parts)[::-1]
+        if rows:
+            table(['% of the samples, in', *self.columns], [[part] + [figure(share) for share in shares] for shares, part in rows])
+        else:
+            print('perf is not on the path: no profile.\n')
+
+
+def shares_of(data):
+    report = subprocess.run(['perf', 'report', '-i', data, '--stdio', '-F', 'overhead,dso,sym'],
                             stdout=subprocess.PIPE, stderr=subprocess.DEVNULL).stdout.decode()
     shares = {}
     for share, library, where, symbol in re.findall(r'^\s*([\d.]+)%\s+(\S+)\s+\[(.)\]\s+(.*?)\s*$', report, re.MULTILINE):
         part = part_of(library, where, symbol)
         shares[part] = shares.get(part, 0) + float(share)
-    return sorted(((part, share) for part, share in shares.items() if share >= 0.5), key=lambda pair: -pair[1])
+    return shares
 
 
 def part_of(library, where, symbol):
-    """The crate of a function, ours and those of SQL as one each."""
+    """The crate of a function, those of the registry and those of SQL as one each."""
     if where == 'k':
         return 'the kernel'
     if '::' not in symbol:
-        return library
+        return library.split('.')[0]
     crate = symbol.lstrip('<&').split('::')[0]
     if crate.startswith('registry_'):
-        return 'the crates of the registry'
-    return 'sqlite' if crate.startswith('sqlite') else crate
+        return 'the registry'
+    return 'SQL' if crate.startswith('sqlite') else crate
