@@ -7,7 +7,7 @@ EXAMPLE := examples/lab-kit-1.0.0.publish.json
 PACKUMENT := examples/lab-kit-1.0.0.packument.json
 BODY := $(EXAMPLE)
 
-.PHONY: help try run build bench npm kill test examples check fmt kit
+.PHONY: help try run build bench measure npm kill test examples check fmt kit
 
 help:
 	@echo 'make try    run the program before any proof: 2 minutes, and nothing is proved'
@@ -19,6 +19,8 @@ help:
 	@echo 'make npm    the stock npm client publishes and installs over out/registry: a minute'
 	@echo 'make kill   kill a server 500 times while versions are published'
 	@echo 'make bench  print how long requests and the reading of bodies take'
+	@echo 'make measure  print how fast out/registry serves beside a server of files, and keeps'
+	@echo '            what is published beside SQLite: 10 minutes on a quiet machine'
 	@echo 'make fmt    lay out the files'
 
 kit:
@@ -52,6 +54,11 @@ npm: out/registry
 
 kill: out/registry
 	@examples/kill.sh out/registry
+
+measure: out/registry
+	@echo 'measuring the program out/registry: this is no part of the gate' >&2
+	@tools/measure_http --program out/registry
+	@tools/measure_file --program out/registry
 
 bench: kit
 	@mkdir -p out
