@@ -17,7 +17,7 @@ use Rattle.registry_rules.specs.State.{State}
 use Rattle.registry_rules.specs.declared.reply.Reply.{Reply}
 use Rattle.registry_rules.specs.declared.reply.Reply.TheVariants.{Refused}
 use Rattle.registry_rules.specs.declared.request.Action.{Action}
-use Rattle.registry_rules.specs.declared.request.Action.TheVariants.{UserAdd, TokenAdd, OrgCreate, OrgSet, OrgRemove, TeamCreate, TeamDestroy, TeamAdd, TeamRemove, Grant, Revoke, SetAccess, OwnerAdd, OwnerRemove, Publish, TagSet, TagRemove, Packument, VersionDoc, Archive, Tags, Members, Teams, TeamMembers, TeamPackages}
+use Rattle.registry_rules.specs.declared.request.Action.TheVariants.{UserAdd, TokenAdd, OrgCreate, OrgSet, OrgRemove, TeamCreate, TeamDestroy, TeamAdd, TeamRemove, Grant, Revoke, SetAccess, OwnerAdd, OwnerRemove, Publish, TagSet, TagRemove, Withdraw, Deprecate, Packument, VersionDoc, Archive, Tags, Members, Teams, TeamMembers, TeamPackages}
 use Rattle.registry_rules.specs.declared.request.Request.{Request}
 use Rattle.registry_history.specs.Answers.{answer, reply, reply_to, unless_refused}
 use Rattle.registry_talk.specs.Answers.{response_to}
@@ -49,6 +49,8 @@ refused-by S now who (OwnerRemove q u) p is hidden = absurd is
 refused-by S now who (Publish f) p is hidden = absurd is
 refused-by S now who (TagSet q t v) p is hidden = absurd is
 refused-by S now who (TagRemove q t) p is hidden = absurd is
+refused-by S now who (Withdraw q v) p is hidden = absurd is
+refused-by S now who (Deprecate q selector message) p is hidden = absurd is
 refused-by S now who (Members o) p is hidden = absurd is
 refused-by S now who (Teams o) p is hidden = absurd is
 refused-by S now who (TeamMembers o t) p is hidden = absurd is
@@ -66,5 +68,5 @@ unheard-hidden S r p (who, known, new) =
     (who, known, ap (λ (o : Option Status). reads (level_by o (is_owner_or_admin stands.role || stands.maintainer) stands.grant)) new)
 
 pub hidden-unheard_of : HiddenAreUnheardOf
-hidden-unheard_of S T r p closes is hidden new =
-    ap (λ (reply : Reply). response_to (Ok reply) closes) (not-found S r p is hidden ∙ sym (not-found T r p is (unheard-hidden T r p new)))
+hidden-unheard_of S T r s p q closes is other hidden new =
+    ap (λ (reply : Reply). response_to (Ok reply) closes) (not-found S r p is hidden ∙ sym (not-found T s q other (unheard-hidden T s q new)))

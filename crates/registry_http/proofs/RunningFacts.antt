@@ -6,7 +6,8 @@ use Rattle.registry_rules.specs.Kept.{IsSound}
 use Rattle.registry_rules.specs.State.{State}
 use Rattle.registry_rules.specs.declared.request.Request.{Request}
 use Rattle.registry_history.specs.Runs.{Outcome}
-use Rattle.registry_history.proofs.RunFacts.{headline_from}
+use Rattle.registry_history.proofs.RunFacts.{headline_from, history_says, run_says}
+use Rattle.registry_desk.specs.Promises.{HoldsSound}
 use Rattle.registry_desk.proofs.StoredFacts.{HasAnswered, HasRun, has_run_more, has_run_none}
 use Rattle.registry_wire.specs.declared.wanted.Wanted.{Wanted}
 use Rattle.registry_talk.specs.Courses.{Follow}
@@ -93,11 +94,16 @@ one-run old new ts runs = record {
   asked = runs.asked;
   ran = runs.run.ran;
   stored = runs.run.stored;
-  headline = λ clean on empty.
-      let sound = subst (λ (S : State). IsSound S.access) (sym empty) nothing_sound in
+  headline = λ needs clean on empty.
+      let sound : HoldsSound old = record { refers = subst (λ (S : State). IsSound S.access) (sym empty) nothing_sound; needs = needs } in
       headline_from _ runs.requests runs.outcomes _ _ empty (runs.run.ran sound clean) on;
+  history = λ needs clean on h legal is.
+      let sound : HoldsSound old = record { refers = subst (λ (S : State). IsSound S.access) (sym is) (history_says h legal).sound; needs = needs } in
+      run_says h _ runs.requests runs.outcomes _ _ (runs.run.ran sound clean) on legal is;
   sound = runs.run.sound;
   form = runs.run.form;
+  needs = runs.run.needs;
+  archives = runs.run.archives;
   survives = runs.run.survives;
   stays = runs.run.stays;
 }

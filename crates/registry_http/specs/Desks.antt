@@ -6,7 +6,7 @@ use Rattle.registry_rules.specs.declared.request.Request.{Request}
 use Rattle.registry_tables.specs.Archives.{HoldsArchives}
 use Rattle.registry_tables.specs.Needs.{HoldsNeeds}
 use Rattle.registry_history.specs.Runs.{Outcome}
-use Rattle.registry_desk.specs.Promises.{Answered, HasHeadline, Keeps, KeepsForm, KeepsSound, Moves, RanTo, Served, Stays, StaysRun, Stepped, Stored, SurvivesOne, SurvivesRun, WasOpen}
+use Rattle.registry_desk.specs.Promises.{Answered, GrowsHistory, HasHeadline, Keeps, KeepsForm, KeepsSound, Moves, RanTo, Served, Stays, StaysRun, Stepped, Stored, SurvivesOne, SurvivesRun, WasOpen, WritesHistory}
 use Rattle.registry_talk.specs.Courses.{Follow}
 use Rattle.registry_talk.specs.Histories.{Entry, FollowAll}
 use Rattle.registry_talk.specs.Requests.{reads_request}
@@ -19,6 +19,7 @@ pub record Applies (old new : Shown) (r : Request) (o : Outcome) : Type 0 where
   pub opened : WasOpen old new
   pub step : Stepped old new r o
   pub moves : Moves old new r o
+  pub history : GrowsHistory old new r o
   pub sound : KeepsSound old new
   pub form : KeepsForm old new
   pub needs : Keeps old new HoldsNeeds
@@ -50,7 +51,7 @@ abbrev pub AskAll : List Turn → List Request → List Outcome → Type 0
 AskAll [] rs os = (rs ≡ []) × (os ≡ [])
 AskAll (t ∷ ts) rs os = (qs : List Request) × (ps : List Outcome) × AskAll ts qs ps × AsksNext t qs ps rs os
 
--- the turns are one run of the registry
+-- the turns are one run of the registry: of it all holds that `run` says
 pub record IsOneRun (old new : Shown) (ts : List Turn) : Type 0 where
   pub requests : List Request
   pub outcomes : List Outcome
@@ -58,8 +59,11 @@ pub record IsOneRun (old new : Shown) (ts : List Turn) : Type 0 where
   pub ran : RanTo old new requests outcomes
   pub stored : Stored old new requests outcomes
   pub headline : HasHeadline old new requests outcomes
+  pub history : WritesHistory old new requests outcomes
   pub sound : KeepsSound old new
   pub form : KeepsForm old new
+  pub needs : Keeps old new HoldsNeeds
+  pub archives : Keeps old new HoldsArchives
   pub survives : SurvivesRun old new requests outcomes
   pub stays : StaysRun new outcomes
 

@@ -30,7 +30,7 @@ IsHidden S who p = (c : Caller) × (caller_of S who ≡ Some c) × (reads (level
 abbrev pub IsUnheardOf : State → Credential → Text → Type 0
 IsUnheardOf S who p = (c : Caller) × (caller_of S who ≡ Some c) × (at S.access.statuses p ≡ None)
 
--- Of a package that he doesn't read a caller gets the response, byte for byte, that he gets where it was never published
+-- Whatever query a caller makes on a package that he doesn't read, he gets the response, byte for byte, of any query on one that was never published, in the same registry or another
 abbrev pub HiddenAreUnheardOf : Type 0
-HiddenAreUnheardOf = (S T : State) (r : Request) (p : Text) (closes : Bool) → IsQueryOf p r.what → IsHidden S r.who p → IsUnheardOf T r.who p
-    → response_to (Ok (answer S r)) closes ≡ response_to (Ok (answer T r)) closes
+HiddenAreUnheardOf = (S T : State) (r s : Request) (p q : Text) (closes : Bool) → IsQueryOf p r.what → IsQueryOf q s.what → IsHidden S r.who p → IsUnheardOf T s.who q
+    → response_to (Ok (answer S r)) closes ≡ response_to (Ok (answer T s)) closes

@@ -16,8 +16,9 @@ pub fn turns_are_one_run<S: Alter>()
     ensures all { LogRuns (state S.Store) }
 {}
 
-/// Of a package that he doesn't read a caller gets the response, byte for byte, that he gets where
-/// it was never published: of its packument, its versions, its archives and its tags.
+/// Whatever a caller asks of a package that he doesn't read, its packument, a version, an archive or
+/// the tags, he gets the response, byte for byte, that is given of a package that was never
+/// published.
 pub fn hidden_packages_are_unheard_of()
     ensures { HiddenAreUnheardOf }
 {}

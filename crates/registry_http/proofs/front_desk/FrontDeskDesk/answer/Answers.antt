@@ -10,6 +10,7 @@ returns g c = subst (λ was. Applies (state g.S.Store was) (state g.S.Store c.ap
   opened = c.apply.ensures.opened;
   step = c.apply.ensures.step;
   moves = c.apply.ensures.moves;
+  history = c.apply.ensures.history;
   sound = c.apply.ensures.sound;
   form = c.apply.ensures.form;
   needs = c.apply.ensures.needs;
