@@ -10,6 +10,7 @@ mod outcome;
 mod people;
 mod rounds;
 mod rows;
+mod sizes;
 mod tables;
 mod withdrawals;
 
