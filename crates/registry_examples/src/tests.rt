@@ -11,6 +11,7 @@ mod outcome;
 mod people;
 mod rounds;
 mod rows;
+mod sizes;
 mod tables;
 mod withdrawals;
 
