@@ -1,6 +1,7 @@
 //! Connections to a registry in memory that holds `@lab/kit`. Each is served with all bytes at once,
 //! and with one byte a read.
 
+mod commands;
 mod ends;
 mod loopback;
 mod queries;
@@ -101,6 +102,16 @@ fn comes_out(alloc: Global, case: &Case<'_>, piece_len: usize) -> Result<(), Fai
 
 // The same of any reader.
 fn is_served<R: ByteIn + Drop>(alloc: Global, case: &Case<'_>, reader: R) -> Result<(), Fail> {
+    served(alloc, case, reader)?;
+    Ok(())
+}
+
+// The registry that is left where all comes out so.
+fn served<R: ByteIn + Drop>(
+    alloc: Global,
+    case: &Case<'_>,
+    reader: R,
+) -> Result<Registry<MemStore>, Fail> {
     let mut desk = kit(alloc)?;
     let mut inbox = Inbox::new(alloc, reader);
     let mut out = Vec::new(alloc);
@@ -112,7 +123,9 @@ fn is_served<R: ByteIn + Drop>(alloc: Global, case: &Case<'_>, reader: R) -> Res
     };
     same(case.shows, served, wanted)?;
     same(case.shows, desk.asked, case.asked)?;
-    same(case.shows, str::from_utf8(&out).unwrap_or("?"), case.output)
+    same(case.shows, str::from_utf8(&out).unwrap_or("?"), case.output)?;
+    let Counting { desk, asked: _ } = desk;
+    Ok(desk.into_registry())
 }
 
 // The same with all bytes at once, and with one byte a read.

@@ -1,0 +1,64 @@
+//! Connections whose requests change the registry.
+
+use super::{Case, is_served, served};
+use crate::example::{Ask, Expected, Step, Who};
+use crate::tests::{Outcome, is_expected, otherwise, request_of};
+use registry_desk::Registry;
+use registry_names::{FromRead, Stop};
+use registry_talk::End;
+use sqlite::MemStore;
+use std::alloc::Global;
+use std::test::Fail;
+
+/// A tag is set.
+const TAGGED: Case<'static> = Case {
+    shows: "a tag is set",
+    input: "PUT /-/package/@lab%2fkit/dist-tags/next HTTP/1.1\r\nauthorization: Bearer npm_bob_000000001\r\ncontent-length: 7\r\n\r\n\"1.0.0\"",
+    output: "HTTP/1.1 200 OK\r\ncontent-type: application/json\r\ncontent-length: 11\r\n\r\n{\"ok\":true}",
+    requests: 1,
+    asked: 1,
+    end: End::Closed,
+};
+
+/// A version is deprecated, and then withdrawn.
+const WITHDRAWN: Case<'static> = Case {
+    shows: "a version is deprecated, and then withdrawn",
+    input: "POST /-/package/@lab%2fkit/deprecate HTTP/1.1\r\nauthorization: Bearer npm_bob_000000001\r\ncontent-length: 34\r\n\r\n{\"selector\":\"1.x\",\"message\":\"old\"}DELETE /-/package/@lab%2fkit/versions/1.0.0 HTTP/1.1\r\nauthorization: Bearer npm_bob_000000001\r\n\r\n",
+    output: "HTTP/1.1 200 OK\r\ncontent-type: application/json\r\ncontent-length: 21\r\n\r\n{\"count\":1,\"ok\":true}HTTP/1.1 200 OK\r\ncontent-type: application/json\r\ncontent-length: 11\r\n\r\n{\"ok\":true}",
+    requests: 2,
+    asked: 2,
+    end: End::Closed,
+};
+
+const TAGS_THEN: Step = Step {
+    at: 300,
+    who: Who::User("bob"),
+    ask: Ask::Tags("@lab/kit"),
+    expected: Expected::Doc("{\"latest\":\"1.0.0\",\"next\":\"1.0.0\"}"),
+};
+
+fn outcome_of(
+    alloc: Global,
+    registry: &mut Registry<MemStore>,
+    step: &Step,
+) -> Result<Outcome, Stop> {
+    let request = request_of(alloc, step)?;
+    Ok(registry.apply(alloc, &request))
+}
+
+#[test]
+fn what_is_asked_over_http_is_there_for_others(rt: HostRuntime) -> Result<(), Fail> {
+    let reader = FromRead::new(TAGGED.input.as_bytes());
+    let mut registry = served(rt.alloc(), &TAGGED, reader)?;
+    let outcome = outcome_of(rt.alloc(), &mut registry, &TAGS_THEN)?;
+    if is_expected(&outcome, &TAGS_THEN.expected) {
+        return Ok(());
+    }
+    Err(otherwise("the tags then", outcome, TAGS_THEN.expected))
+}
+
+#[test]
+fn versions_are_deprecated_and_withdrawn_over_http(rt: HostRuntime) -> Result<(), Fail> {
+    let reader = FromRead::new(WITHDRAWN.input.as_bytes());
+    is_served(rt.alloc(), &WITHDRAWN, reader)
+}
