@@ -5,6 +5,7 @@ pub mod OtherFacts
 pub mod RefusedFacts
 pub mod ReplyFacts
 pub mod RestFacts
+pub mod RunFacts
 pub mod StandingFacts
 pub mod UnheardFacts
 pub mod UntouchedFacts

@@ -141,7 +141,7 @@ published_alike S now who f p other =
     let live = pair_put p q other S.live (version_of f) (release_of f now) in
     let tags = ap (λ m. put m (q, f.tag) (version_of f)) (latest_alike p q other S.tags (version_of f) kept) ∙ pair_put p q other (latest_put S.tags q (version_of f) kept) f.tag (version_of f) in
     let same : published_left (without S p) now who f old kept ≡ without (published_left S now who f old kept) p =
-        λ i. record (without S p) { access = record (access.without S.access p) { statuses = statuses i; grants = grants i; maintainers = maintainers i }; live = live i; tags = tags i } in
+    λ i. record (without S p) { access = record (access.without S.access p) { statuses = statuses i; grants = grants i; maintainers = maintainers i }; live = live i; tags = tags i } in
     ap₂ (published_left (without S p) now who f) (status_other p q other S.access.statuses) (ap (λ o. is_some o || is f.tag latest) (at_other p q other S.tags latest)) ∙ same
 
 taken_alike : (S : State) (now : ℕ) (p q v : Text) → is q p ≡ false → (old : Option Release) → taken (without S p) now q v old ≡ without (taken S now q v old) p

@@ -42,6 +42,9 @@ use Rattle.registry_hidden.proofs.NamedFacts.{other_triple}
 abbrev pub AreRefused : State → State → ℕ → Caller → Action → Type 0
 AreRefused S T now who what = (why : Refusal) × (refusal_by S now who what ≡ Some why) × (refusal_by T now who what ≡ Some why)
 
+refused_both : (S T : State) (now : ℕ) (who : Caller) (what : Action) (why : Refusal) → (refusal_by S now who what ≡ Some why) × (refusal_by T now who what ≡ Some why) → AreRefused S T now who what
+refused_both S T now who what why both = (why, both.0, both.1)
+
 -- what the policy turns away is turned away, whatever stands
 turned_first : (first rest : Option Refusal) (why : Refusal) → first ≡ Some why → option_or first rest ≡ Some why
 turned_first first rest why e = ap (λ o. option_or o rest) e
@@ -171,9 +174,11 @@ module _ (S : State) (now : ℕ) (who : Caller) (p o : Text) (sound : IsSound S.
   by_verdict r a b (Err why) is later =
       (why, ap (λ v. option_or (unless_allowed v) a) is, ap (λ x. option_or (unless_allowed (may_manage_teams who (has_organisation S.access r) x)) b) (same_role S.access p who r) ∙ ap (λ v. option_or (unless_allowed v) b) is)
   by_verdict r a b (Ok rule) is later =
-      let more = later rule refl in
-      (more.0, ap (λ v. option_or (unless_allowed v) a) is ∙ more.1,
-      ap (λ x. option_or (unless_allowed (may_manage_teams who (has_organisation S.access r) x)) b) (same_role S.access p who r) ∙ ap (λ v. option_or (unless_allowed v) b) is ∙ more.2)
+      let more = later rule refl in (
+        more.0,
+        ap (λ v. option_or (unless_allowed v) a) is ∙ more.1,
+        ap (λ x. option_or (unless_allowed (may_manage_teams who (has_organisation S.access r) x)) b) (same_role S.access p who r) ∙ ap (λ v. option_or (unless_allowed v) b) is ∙ more.2,
+      )
 
   grant_refused : (r t q : Text) (grant : Grant) → is q p ≡ true → AreRefused S (without S p) now who (command.Grant r t q grant)
   grant_refused r t q grant here = by_verdict r _ _ (may_manage_teams who (has_organisation S.access r) (role_of S.access who r)) refl (λ rule e.
@@ -188,31 +193,45 @@ module _ (S : State) (now : ℕ) (who : Caller) (p o : Text) (sound : IsSound S.
   none_granted r t q apart here false e = refl
 
   revoke_refused : (r t q : Text) → is q p ≡ true → AreRefused S (without S p) now who (Revoke r t q)
-  revoke_refused r t q here = by_verdict r _ _ (may_manage_teams who (has_organisation S.access r) (role_of S.access who r)) refl (λ rule e.
-      (NotFound, ap unless_there (none_granted r t q (another r rule e (is o r) refl) here (has_grant S r t q) refl),
-      ap (λ (g : Option Grant). unless_there (is_some g)) (at-unkept triple_key (other_triple p) S.access.grants (r, (t, q)) (ap not here))))
+  revoke_refused r t q here = by_verdict r _ _ (may_manage_teams who (has_organisation S.access r) (role_of S.access who r)) refl (λ rule e. (
+    NotFound,
+    ap unless_there (none_granted r t q (another r rule e (is o r) refl) here (has_grant S r t q) refl),
+    ap (λ (g : Option Grant). unless_there (is_some g)) (at-unkept triple_key (other_triple p) S.access.grants (r, (t, q)) (ap not here)),
+  ))
 
   publish_refused : (f : FormParts) → is f.name p ≡ true → publishes_as_member S who (Publish f) p ≡ false → AreRefused S (without S p) now who (Publish f)
   publish_refused f here stranger =
       let none : role_of S.access who o ≡ None = roleless (role_of S.access who o) (sym (ap (λ b. b && is_some (scope_role S.access who (scope_of p))) here ∙ ap (λ s. is_some (scope_role S.access who s)) scoped) ∙ stranger) in
-      let scope = scope_here f.name here in
-      (unjoined who (has_organisation S.access o),
-      turned_first _ (state_refusal S now (Publish f)) _ (unpublished S.access who f.name o scope none),
-      turned_first _ (state_refusal (without S p) now (Publish f)) _ (unpublished (without S p).access who f.name o scope (same_role S.access p who o ∙ none)))
+      let scope = scope_here f.name here in (
+        unjoined who (has_organisation S.access o),
+        turned_first _ (state_refusal S now (Publish f)) _ (unpublished S.access who f.name o scope none),
+        turned_first _ (state_refusal (without S p) now (Publish f)) _ (unpublished (without S p).access who f.name o scope (same_role S.access p who o ∙ none)),
+      )
 
   pub concerned_refused : (what : Action) → concerns what p ≡ true → level_in S.access who p ≡ Nothing → publishes_as_member S who what p ≡ false → AreRefused S (without S p) now who what
   concerned_refused (command.Grant r t q grant) here nothing stranger = grant_refused r t q grant here
   concerned_refused (Revoke r t q) here nothing stranger = revoke_refused r t q here
-  concerned_refused (SetAccess q status) here nothing stranger = (unread who, unwritten S now who p nothing q here _ _)
-  concerned_refused (OwnerAdd q u) here nothing stranger = (unread who, unmanaged S now who p nothing q here _ _)
-  concerned_refused (OwnerRemove q u) here nothing stranger = (unread who, unmanaged S now who p nothing q here _ _)
+  concerned_refused (SetAccess q status) here nothing stranger =
+      refused_both S (without S p) now who (SetAccess q status) (unread who) (unwritten S now who p nothing q here (state_refusal S now (SetAccess q status)) (state_refusal (without S p) now (SetAccess q status)))
+  concerned_refused (OwnerAdd q u) here nothing stranger =
+      refused_both S (without S p) now who (OwnerAdd q u) (unread who) (unmanaged S now who p nothing q here (state_refusal S now (OwnerAdd q u)) (state_refusal (without S p) now (OwnerAdd q u)))
+  concerned_refused (OwnerRemove q u) here nothing stranger =
+      refused_both S (without S p) now who (OwnerRemove q u) (unread who) (unmanaged S now who p nothing q here (state_refusal S now (OwnerRemove q u)) (state_refusal (without S p) now (OwnerRemove q u)))
   concerned_refused (Publish f) here nothing stranger = publish_refused f here stranger
-  concerned_refused (TagSet q t v) here nothing stranger = (unread who, unwritten S now who p nothing q here _ _)
-  concerned_refused (TagRemove q t) here nothing stranger = (unread who, unwritten S now who p nothing q here _ _)
-  concerned_refused (Withdraw q v) here nothing stranger = (unread who, unwritten S now who p nothing q here _ _)
-  concerned_refused (Deprecate q selector message) here nothing stranger = (unread who, unwritten S now who p nothing q here _ _)
-  concerned_refused (Packument q) here nothing stranger = (NotFound, unshown S now who p nothing q here _ _)
-  concerned_refused (VersionDoc q asked) here nothing stranger = (NotFound, unshown S now who p nothing q here _ _)
-  concerned_refused (Archive q v) here nothing stranger = (NotFound, unshown S now who p nothing q here _ _)
-  concerned_refused (Tags q) here nothing stranger = (NotFound, unshown S now who p nothing q here _ _)
+  concerned_refused (TagSet q t v) here nothing stranger =
+      refused_both S (without S p) now who (TagSet q t v) (unread who) (unwritten S now who p nothing q here (state_refusal S now (TagSet q t v)) (state_refusal (without S p) now (TagSet q t v)))
+  concerned_refused (TagRemove q t) here nothing stranger =
+      refused_both S (without S p) now who (TagRemove q t) (unread who) (unwritten S now who p nothing q here (state_refusal S now (TagRemove q t)) (state_refusal (without S p) now (TagRemove q t)))
+  concerned_refused (Withdraw q v) here nothing stranger =
+      refused_both S (without S p) now who (Withdraw q v) (unread who) (unwritten S now who p nothing q here (state_refusal S now (Withdraw q v)) (state_refusal (without S p) now (Withdraw q v)))
+  concerned_refused (Deprecate q selector message) here nothing stranger =
+      refused_both S (without S p) now who (Deprecate q selector message) (unread who) (unwritten S now who p nothing q here (state_refusal S now (Deprecate q selector message)) (state_refusal (without S p) now (Deprecate q selector message)))
+  concerned_refused (Packument q) here nothing stranger =
+      refused_both S (without S p) now who (Packument q) NotFound (unshown S now who p nothing q here (state_refusal S now (Packument q)) (state_refusal (without S p) now (Packument q)))
+  concerned_refused (VersionDoc q asked) here nothing stranger =
+      refused_both S (without S p) now who (VersionDoc q asked) NotFound (unshown S now who p nothing q here (state_refusal S now (VersionDoc q asked)) (state_refusal (without S p) now (VersionDoc q asked)))
+  concerned_refused (Archive q v) here nothing stranger =
+      refused_both S (without S p) now who (Archive q v) NotFound (unshown S now who p nothing q here (state_refusal S now (Archive q v)) (state_refusal (without S p) now (Archive q v)))
+  concerned_refused (Tags q) here nothing stranger =
+      refused_both S (without S p) now who (Tags q) NotFound (unshown S now who p nothing q here (state_refusal S now (Tags q)) (state_refusal (without S p) now (Tags q)))
   concerned_refused _ here nothing stranger = absurd (true≢false (sym here))

@@ -47,7 +47,7 @@ same_caller S p credential.Anonymous = refl
 
 -- ---- where the caller is neither an owner nor an admin of the package's scope
 
-either_false : (a b : Bool) → (a || b) ≡ false → (a ≡ false) × (b ≡ false)
+pub either_false : (a b : Bool) → (a || b) ≡ false → (a ≡ false) × (b ≡ false)
 either_false true b e = absurd (true≢false e)
 either_false false b e = (refl, e)
 

@@ -2,6 +2,7 @@
 //! themselves, and its proof is the law's.
 
 ghost use Rattle.registry_hidden.specs.Laws.{NamedLeaveTheRest, OthersAreAccepted, OthersMakeTheSame, RepliesAreAlike, RestsAreAlike, UntouchedLeaveTheRest};
+ghost use Rattle.registry_hidden.specs.Runs.{RunsAreAlike};
 
 /// A command that names a package leaves the registry without the package as it was. Any other
 /// that is accepted is accepted on the registry without the package, too, and makes of it what it
@@ -25,4 +26,12 @@ pub fn untouched_packages_are_absent()
 pub fn unread_packages_are_unheard_of()
     ensures replies { RepliesAreAlike }
     ensures rests { RestsAreAlike }
+{}
+
+/// Take two legal histories that are one list once the entries that name a package are dropped, and
+/// a caller who has no level on the package after either. Whatever list of requests he makes, but
+/// the two, at whatever moments, he is replied the same after both, up to the first fault in either.
+/// Nothing is said of the time and the memory that a reply takes.
+pub fn unread_packages_make_no_difference()
+    ensures { RunsAreAlike }
 {}
