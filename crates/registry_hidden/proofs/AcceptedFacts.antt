@@ -1,9 +1,9 @@
 -- What the registry and the registry without a package say to an action that isn't about the package.
-use Rattle.std.proofs.Common.{◌≡◌, ℕ, Bool, true, false, cond, not, ◌&&◌, ◌||◌, refl, sym, ap, ap₂, ◌∙◌, true≢false, Some, None, Option, option_map, List, [], ◌∷◌, is_some, is_none, filter, if◌then◌else◌}
+use Rattle.std.proofs.Common.{◌≡◌, ℕ, Bool, true, false, not, ◌&&◌, ◌||◌, refl, sym, ap, ap₂, ◌∙◌, true≢false, Some, None, Option, option_map, List, [], ◌∷◌, is_some, is_none, filter, if◌then◌else◌}
 use Rattle.std.specs.List.{list_any}
 use Rattle.std.specs.Option.{option_or}
 use Rattle.registry_names.specs.Keys.{Pair}
-use Rattle.registry_names.specs.Maps.{PairMap, at, entries, of}
+use Rattle.registry_names.specs.Maps.{at, entries}
 use Rattle.registry_names.specs.Names.{scope_of}
 use Rattle.registry_names.specs.Tags.{latest}
 use Rattle.registry_names.specs.Texts.{Text, is}

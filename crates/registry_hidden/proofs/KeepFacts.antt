@@ -1,9 +1,9 @@
 -- What a change of a map leaves of the entries whose keys pass a test.
-use Rattle.std.proofs.Common.{◌≡◌, Bool, true, false, cond, refl, sym, ap, ◌∙◌, true≢false, Ordering, Some, None, Option, option_map}
+use Rattle.std.proofs.Common.{◌≡◌, Bool, true, false, cond, refl, sym, ap, ◌∙◌, true≢false, Ordering, Some, None, Option}
 use Rattle.registry_names.specs.Keys.{IsKey}
-use Rattle.registry_names.specs.Maps.{MapBy, at, put, erase, keep, revise}
+use Rattle.registry_names.specs.Maps.{MapBy, at, put, erase, keep}
 use Rattle.registry_names.proofs.KeyFacts.{same_true}
-use Rattle.registry_names.proofs.MapFacts.{at-put, at-erase, at-keep, at-revise, same_map}
+use Rattle.registry_names.proofs.MapFacts.{at-put, at-erase, at-keep, same_map}
 
 -- of two keys one passes a test alone
 unlike : {K : Type 0} {cmp : K → K → Ordering} {same : K → K → Bool} → IsKey cmp same → (test : K → Bool) (q k : K) → test q ≡ false → test k ≡ true → (b : Bool) → same q k ≡ b → b ≡ false

@@ -1,14 +1,13 @@
 -- A command that doesn't name a package makes of the registry without the package what it makes of the registry.
-use Rattle.std.proofs.Common.{◌≡◌, ℕ, Bool, true, false, cond, not, ◌&&◌, ◌||◌, refl, sym, ap, ap₂, ◌∙◌, true≢false, Some, None, Option, List, is_some, filter}
+use Rattle.std.proofs.Common.{◌≡◌, ℕ, Bool, true, false, cond, not, ◌&&◌, ◌||◌, refl, sym, ap, ap₂, ◌∙◌, Some, None, Option, List, is_some, filter}
 use Rattle.registry_names.specs.Greatest.{greatest}
-use Rattle.registry_names.specs.Keys.{Pair, Triple}
 use Rattle.registry_names.specs.Maps.{TextMap, PairMap, TripleMap, among, at, put, erase, keep, keys, of}
 use Rattle.registry_names.specs.Names.{scope_of}
 use Rattle.registry_names.specs.Tags.{latest}
 use Rattle.registry_names.specs.Texts.{Text, is}
 use Rattle.registry_names.specs.Versions.{text_of_version}
 use Rattle.registry_names.specs.declared.status.Status.{Status}
-use Rattle.registry_names.proofs.KeyFacts.{text_key, pair_key, triple_key, same_true}
+use Rattle.registry_names.proofs.KeyFacts.{text_key, pair_key, triple_key}
 use Rattle.registry_names.proofs.MapFacts.{at-erase_other, at-keep, same_map}
 use Rattle.registry_names.proofs.PartFacts.{same_part}
 use Rattle.registry_names.proofs.TextFacts.{is_sym}

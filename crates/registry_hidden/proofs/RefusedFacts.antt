@@ -1,7 +1,6 @@
 -- What concerns a package that a caller doesn't read is refused to him for the same reason on the registry and on the registry without the package.
-use Rattle.std.proofs.Common.{◌≡◌, ◌≢◌, ℕ, Bool, true, false, cond, not, ◌&&◌, ◌||◌, refl, sym, ap, ◌∙◌, true≢false, Some, None, Ok, Err, Option, is_some, if◌then◌else◌}
+use Rattle.std.proofs.Common.{◌≡◌, ℕ, Bool, true, false, not, ◌&&◌, ◌||◌, refl, sym, ap, ◌∙◌, true≢false, Some, None, Ok, Err, Option, is_some, if◌then◌else◌}
 use Rattle.std.specs.Option.{option_or}
-use Rattle.std.specs.Prelude.{IsSome}
 use Rattle.registry_names.specs.Maps.{at}
 use Rattle.registry_names.specs.Names.{scope_of}
 use Rattle.registry_names.specs.Texts.{Text, is}
@@ -9,7 +8,6 @@ use Rattle.registry_names.specs.declared.refusal.Refusal.{Refusal}
 use Rattle.registry_names.specs.declared.refusal.Refusal.TheVariants.{NoCaller, NotFound, Denied, OtherScope}
 use Rattle.registry_names.specs.declared.refusal.Rule.{Rule}
 use Rattle.registry_names.specs.declared.refusal.Rule.TheVariants.{A3, A4, A6, A7, A8}
-use Rattle.registry_names.specs.declared.status.Status.{Status}
 use Rattle.registry_names.proofs.KeyFacts.{text_key, triple_key, same_true, same_self}
 use Rattle.registry_names.proofs.MapFacts.{at-erase_same}
 use Rattle.registry_access.specs.Access.{Access}
@@ -17,16 +15,15 @@ use Rattle.registry_access.specs.Callers.{role_of}
 use Rattle.registry_access.specs.Hiding as access
 use Rattle.registry_access.specs.Levels.{is_owner_or_admin, reads, writes}
 use Rattle.registry_access.specs.Policy.{Verdict, by_rule, for_known, may_manage_maintainers, may_manage_teams, may_publish, may_read, may_write, where_found}
-use Rattle.registry_access.specs.Positions.{has_organisation, has_scope, level_at, level_by, level_in, position_in, scope_role}
+use Rattle.registry_access.specs.Positions.{has_organisation, has_scope, level_at, level_in, position_in, scope_role}
 use Rattle.registry_access.specs.declared.caller.Caller.{Caller}
 use Rattle.registry_access.specs.declared.caller.Caller.TheVariants.{Operator, User, Anonymous}
 use Rattle.registry_access.specs.declared.grant.Grant.{Grant}
 use Rattle.registry_access.specs.declared.levels.Level.{Level}
-use Rattle.registry_access.specs.declared.levels.Level.TheVariants.{Nothing, Write}
+use Rattle.registry_access.specs.declared.levels.Level.TheVariants.{Nothing}
 use Rattle.registry_access.specs.declared.role.Role.{Role}
 use Rattle.registry_publish.specs.Form.{FormParts}
 use Rattle.registry_rules.specs.Kept.{IsSound}
-use Rattle.registry_rules.specs.Permissions.{permission}
 use Rattle.registry_rules.specs.Refusals.{grant_refusal, is_scope, refuse, refusal_by, state_refusal, unless_allowed, unless_there}
 use Rattle.registry_rules.specs.State.{State, has_grant, has_team, is_published}
 use Rattle.registry_rules.specs.declared.request.Action.{Action}

@@ -1,8 +1,8 @@
 -- What the registry replies to one who doesn't read a package, of all else: the same with the package and without it.
-use Rattle.std.proofs.Common.{◌≡◌, ◌≢◌, ℕ, Bool, true, false, cond, not, refl, sym, ap, ap₂, ◌∙◌, true≢false, Some, None, Option, option_map, List, [], ◌∷◌, length, map, filter, if◌then◌else◌}
+use Rattle.std.proofs.Common.{◌≡◌, Bool, true, false, cond, not, refl, sym, ap, ap₂, ◌∙◌, true≢false, Some, None, Option, option_map, List, [], ◌∷◌, length, map, filter, if◌then◌else◌}
 use Rattle.std.specs.Prelude.{option_and_then, unwrap_or}
 use Rattle.registry_names.specs.Keys.{Pair}
-use Rattle.registry_names.specs.Maps.{TripleMap, at, keys, of, pairs_of, parts}
+use Rattle.registry_names.specs.Maps.{at, keys, pairs_of, parts}
 use Rattle.registry_names.specs.Texts.{Text, is}
 use Rattle.registry_names.specs.Versions.{text_of_version}
 use Rattle.registry_names.proofs.KeyFacts.{pair_key, text_key, same_true}

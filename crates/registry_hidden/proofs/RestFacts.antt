@@ -2,7 +2,7 @@
 use Rattle.std.proofs.Common.{◌≡◌, Bool, true, false, cond, not, ◌&&◌, ◌||◌, refl, sym, ap, ◌∙◌, true≢false, Some, None, Option, List, [], ◌∷◌, is_some, Ordering}
 use Rattle.std.specs.List.{list_any}
 use Rattle.std.specs.Prelude.{IsSome}
-use Rattle.registry_names.specs.Keys.{IsKey, Pair, Triple, pair_is}
+use Rattle.registry_names.specs.Keys.{IsKey, Pair, pair_is}
 use Rattle.registry_names.specs.Maps.{MapBy, PairMap, among, at, erase, keep}
 use Rattle.registry_names.specs.Texts.{Text, is}
 use Rattle.registry_names.proofs.KeyFacts.{text_key, pair_key, triple_key, same_true}
@@ -10,7 +10,7 @@ use Rattle.registry_names.proofs.MapFacts.{at-erase, at-keep, same_map}
 use Rattle.registry_rules.specs.Kept.{IsSound}
 use Rattle.registry_rules.specs.State.{State}
 use Rattle.registry_history.specs.History.{Entry, Legal, after}
-use Rattle.registry_history.specs.Readings.{is_published, published}
+use Rattle.registry_history.specs.Readings.{published}
 use Rattle.registry_history.proofs.RunFacts.{history_says}
 use Rattle.registry_history.proofs.StatusFacts.{has_status}
 use Rattle.registry_history.proofs.TagFacts.{has_tags}

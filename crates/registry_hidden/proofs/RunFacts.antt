@@ -1,6 +1,5 @@
 -- Two runs of one caller's requests, after histories that differ in what named a package that he doesn't read.
-use Rattle.std.proofs.Common.{◌≡◌, ◌⊎◌, inl, inr, ℕ, Bool, true, false, ◌&&◌, ◌||◌, if◌then◌else◌, refl, sym, ap, ◌∙◌, subst, Some, None, Ok, Err, Option, List, [], ◌∷◌, is_some}
-use Rattle.std.proofs.lemmas.Bool.{and_parts}
+use Rattle.std.proofs.Common.{◌≡◌, ◌⊎◌, inl, inr, Bool, true, false, ◌&&◌, if◌then◌else◌, refl, sym, ap, ◌∙◌, subst, Some, None, Ok, Err, List, [], ◌∷◌, is_some}
 use Rattle.registry_names.specs.Maps.{at}
 use Rattle.registry_names.specs.Names.{scope_of}
 use Rattle.registry_names.specs.Texts.{Text, is}
@@ -9,7 +8,6 @@ use Rattle.registry_access.specs.Levels.{is_owner_or_admin}
 use Rattle.registry_access.specs.Positions.{level_in, scope_role}
 use Rattle.registry_access.specs.declared.caller.Caller.{Caller}
 use Rattle.registry_access.specs.declared.levels.Level.TheVariants.{Nothing}
-use Rattle.registry_rules.specs.Actions.{is_command}
 use Rattle.registry_rules.specs.Callers.{caller_of}
 use Rattle.registry_rules.specs.Changes.{all_made}
 use Rattle.registry_rules.specs.Effects.{effects_for, step, step_by}
@@ -24,12 +22,12 @@ use Rattle.registry_history.specs.Answers.{answer}
 use Rattle.registry_history.specs.History.{Entry, Legal, after}
 use Rattle.registry_history.specs.Runs.{Outcome, Answers, enters, grown, next}
 use Rattle.registry_history.proofs.RunFacts.{accepted, legal_grown}
-use Rattle.registry_hidden.specs.Concerns.{may_tell, publishes_as_member, withdraws_another}
+use Rattle.registry_hidden.specs.Concerns.{may_tell, withdraws_another}
 use Rattle.registry_hidden.specs.Runs.{DifferUnseen, AreAsked, AreAlike, RunsAreAlike}
 use Rattle.registry_hidden.specs.Without.{without}
 use Rattle.registry_hidden.proofs.AcceptedFacts.{same_role}
 use Rattle.registry_hidden.proofs.RestFacts.{histories_rest, without_new}
-use Rattle.registry_hidden.proofs.StandingFacts.{KeepsStanding, standing_kept}
+use Rattle.registry_hidden.proofs.StandingFacts.{standing_kept}
 use Rattle.registry_hidden.proofs.UnheardFacts.{either_false, is_apart, next_alike, same_caller, unheard}
 use Rattle.registry_hidden.proofs.UntouchedFacts.{untouched_leave_the_rest}
 

@@ -1,19 +1,16 @@
 -- Who doesn't read a package, and is neither an owner nor an admin of its scope, gains nothing by what he asks: neither a level on it nor a role in its scope.
-use Rattle.std.proofs.Common.{◌≡◌, ℕ, Bool, true, false, cond, not, ◌&&◌, ◌||◌, refl, sym, ap, ap₂, ◌∙◌, subst, true≢false, Some, None, Ok, Err, Option, option_map, is_some, if◌then◌else◌}
-use Rattle.std.specs.Option.{option_or}
+use Rattle.std.proofs.Common.{◌≡◌, ℕ, Bool, true, false, cond, not, ◌&&◌, ◌||◌, refl, sym, ap, ap₂, ◌∙◌, subst, true≢false, Some, None, Option, option_map, is_some, if◌then◌else◌}
 use Rattle.std.specs.Prelude.{IsSome}
-use Rattle.registry_names.specs.Keys.{Pair, Triple, pair_is, triple_is}
-use Rattle.registry_names.specs.Maps.{TextMap, TripleMap, at, put}
+use Rattle.registry_names.specs.Keys.{Triple, triple_is}
+use Rattle.registry_names.specs.Maps.{TripleMap, at}
 use Rattle.registry_names.specs.Names.{scope_of}
 use Rattle.registry_names.specs.Texts.{Text, is}
-use Rattle.registry_names.specs.declared.refusal.Refusal.{Refusal}
 use Rattle.registry_names.proofs.KeyFacts.{text_key, pair_key, triple_key, same_self, same_true}
 use Rattle.registry_names.proofs.MapFacts.{at-put_other, at-erase_other, at-keep}
-use Rattle.registry_names.proofs.TextFacts.{is_sym}
 use Rattle.registry_access.specs.Access.{Access}
 use Rattle.registry_access.specs.Callers.{granted, is_maintainer, is_user, role_of, team_grant}
-use Rattle.registry_access.specs.Levels.{greatest, is_owner, is_owner_or_admin}
-use Rattle.registry_access.specs.Policy.{Verdict, may_manage_members, may_manage_teams}
+use Rattle.registry_access.specs.Levels.{is_owner_or_admin}
+use Rattle.registry_access.specs.Policy.{may_manage_members, may_manage_teams}
 use Rattle.registry_access.specs.Positions.{has_organisation, level_by, level_in, scope_role}
 use Rattle.registry_access.specs.declared.caller.Caller.{Caller}
 use Rattle.registry_access.specs.declared.caller.Caller.TheVariants.{Operator, User, Anonymous}
@@ -28,10 +25,9 @@ use Rattle.registry_rules.specs.Callers.{caller_of}
 use Rattle.registry_rules.specs.Effects.{step_by}
 use Rattle.registry_rules.specs.Kept.{IsSound}
 use Rattle.registry_rules.specs.Laws.{IsApart}
-use Rattle.registry_rules.specs.Refusals.{refusal_by, state_refusal, unless_allowed}
+use Rattle.registry_rules.specs.Refusals.{refusal_by, unless_allowed}
 use Rattle.registry_rules.specs.State.{State, developers, has_user, is_in_team}
 use Rattle.registry_rules.specs.declared.request.Action.{Action}
-use Rattle.registry_rules.specs.declared.request.Action.TheVariants as command
 use Rattle.registry_rules.specs.declared.request.Action.TheVariants.{UserAdd, TokenAdd, OrgCreate, OrgSet, OrgRemove, TeamDestroy, TeamAdd, TeamRemove, Packument, VersionDoc, Archive, Tags}
 use Rattle.registry_rules.specs.declared.request.Credential.{Credential}
 use Rattle.registry_rules.specs.declared.request.Credential.TheVariants as credential
@@ -61,12 +57,6 @@ record KeepsPlace (S T : State) (what : Action) (o u : Text) : Type 0 where
   users : T.access.users ≡ S.access.users
   tokens : T.access.tokens ≡ S.access.tokens
 
-owners_manage : (role : Option Role) → is_owner role ≡ true → is_owner_or_admin role ≡ true
-owners_manage (Some Owner) e = refl
-owners_manage (Some Admin) e = refl
-owners_manage (Some Developer) e = absurd (true≢false (sym e))
-owners_manage None e = absurd (true≢false (sym e))
-
 managing_members : (u : Text) (there : Bool) (role : Option Role) → unless_allowed (may_manage_members (User u) there role) ≡ None → is_owner_or_admin role ≡ true
 managing_members u false role may = absurd cc
 managing_members u true (Some Owner) may = refl
@@ -91,9 +81,8 @@ module _ (S : State) (now : ℕ) (u o : Text) (unmanaging : is_owner_or_admin (a
   another r managing true same = absurd (true≢false (sym managing ∙ ap (λ x. is_owner_or_admin (at S.access.roles (x, u))) (same_true text_key r o same) ∙ unmanaging))
   another r managing false same = refl
 
-  managed : (r : Text) (what : Action) → refusal_by S now (User u) what ≡ None
-      → (unless_allowed (may_manage_teams (User u) (has_organisation S.access r) (at S.access.roles (r, u))) ≡ None → is r o ≡ false)
-  managed r what may passed = another r (managing_teams u (has_organisation S.access r) (at S.access.roles (r, u)) passed) (is r o) refl
+  managed : (r : Text) → unless_allowed (may_manage_teams (User u) (has_organisation S.access r) (at S.access.roles (r, u))) ≡ None → is r o ≡ false
+  managed r passed = another r (managing_teams u (has_organisation S.access r) (at S.access.roles (r, u)) passed) (is r o) refl
 
   managed_members : (r : Text) → unless_allowed (may_manage_members (User u) (has_organisation S.access r) (at S.access.roles (r, u))) ≡ None → is r o ≡ false
   managed_members r passed = another r (managing_members u (has_organisation S.access r) (at S.access.roles (r, u)) passed) (is r o) refl
@@ -121,7 +110,7 @@ module _ (S : State) (now : ℕ) (u o : Text) (unmanaging : is_owner_or_admin (a
         tokens = refl;
       }
   left_place (TeamDestroy r s) may =
-      let apart = managed r (TeamDestroy r s) may (policy_passed S now (User u) (TeamDestroy r s) may) in
+      let apart = managed r (policy_passed S now (User u) (TeamDestroy r s) may) in
       record {
         role = refl;
         teams = λ t. at-keep triple_key S.access.team_members (λ k. not (is r k.0 && is s k.1.0)) (o, (t, u)) ∙ ap (λ b. cond (not (b && is s t)) (at S.access.team_members (o, (t, u))) None) apart;
@@ -130,7 +119,7 @@ module _ (S : State) (now : ℕ) (u o : Text) (unmanaging : is_owner_or_admin (a
         tokens = refl;
       }
   left_place (TeamAdd r s w) may =
-      let apart = managed r (TeamAdd r s w) may (policy_passed S now (User u) (TeamAdd r s w) may) in
+      let apart = managed r (policy_passed S now (User u) (TeamAdd r s w) may) in
       record {
         role = refl;
         teams = λ t. joined_other S.access.team_members (is_in_team S r s w) (r, (s, w)) (o, (t, u)) (ap (λ b. b && (is s t && is w u)) apart);
@@ -139,7 +128,7 @@ module _ (S : State) (now : ℕ) (u o : Text) (unmanaging : is_owner_or_admin (a
         tokens = refl;
       }
   left_place (TeamRemove r s w) may =
-      let apart = managed r (TeamRemove r s w) may (policy_passed S now (User u) (TeamRemove r s w) may) in
+      let apart = managed r (policy_passed S now (User u) (TeamRemove r s w) may) in
       record {
         role = refl;
         teams = λ t. at-erase_other triple_key S.access.team_members (r, (s, w)) (o, (t, u)) (ap (λ b. b && (is s t && is w u)) apart);

@@ -1,20 +1,18 @@
 -- To one who doesn't read a package the registry replies as if the package had never been published.
-use Rattle.std.proofs.Common.{◌≡◌, ◌⊎◌, inl, inr, ℕ, Bool, true, false, cond, ◌||◌, refl, sym, ap, ap₂, ◌∙◌, true≢false, Some, None, Ok, Option, if◌then◌else◌}
+use Rattle.std.proofs.Common.{◌≡◌, ◌⊎◌, inl, inr, ℕ, Bool, true, false, ◌||◌, refl, sym, ap, ap₂, ◌∙◌, true≢false, Some, None, Ok, Option, if◌then◌else◌}
 use Rattle.registry_names.specs.Maps.{at}
 use Rattle.registry_names.specs.Names.{scope_of}
 use Rattle.registry_names.specs.Texts.{Text}
 use Rattle.registry_names.specs.declared.status.Status.{Status}
 use Rattle.registry_names.proofs.KeyFacts.{text_key, pair_key, triple_key}
-use Rattle.registry_access.specs.Access.{Access}
 use Rattle.registry_access.specs.Callers.{role_of}
-use Rattle.registry_access.specs.Hiding as access
 use Rattle.registry_access.specs.Levels.{is_owner_or_admin}
-use Rattle.registry_access.specs.Positions.{level_by, level_in, position_in, scope_role}
+use Rattle.registry_access.specs.Positions.{level_by, level_in, scope_role}
 use Rattle.registry_access.specs.declared.caller.Caller.{Caller}
 use Rattle.registry_access.specs.declared.grant.Grant.{Grant}
 use Rattle.registry_access.specs.declared.levels.Level.TheVariants.{Nothing}
 use Rattle.registry_access.proofs.LevelFacts.{never_published}
-use Rattle.registry_rules.specs.Actions.{is_command, names}
+use Rattle.registry_rules.specs.Actions.{names}
 use Rattle.registry_rules.specs.Callers.{caller_of}
 use Rattle.registry_rules.specs.Effects.{effects_for, step, step_by}
 use Rattle.registry_rules.specs.Changes.{all_made}
@@ -26,9 +24,9 @@ use Rattle.registry_rules.specs.declared.request.Credential.{Credential}
 use Rattle.registry_rules.specs.declared.request.Credential.TheVariants as credential
 use Rattle.registry_rules.specs.declared.request.Request.{Request}
 use Rattle.registry_history.specs.Answers.{answer, reply, reply_to, unless_refused}
-use Rattle.registry_history.specs.History.{Entry, Legal, after}
+use Rattle.registry_history.specs.History.{after}
 use Rattle.registry_history.specs.Runs.{enters, next}
-use Rattle.registry_hidden.specs.Concerns.{concerns, may_tell, publishes_as_member, withdraws_another}
+use Rattle.registry_hidden.specs.Concerns.{concerns, may_tell, withdraws_another}
 use Rattle.registry_hidden.specs.Laws.{RepliesAreAlike, RestsAreAlike}
 use Rattle.registry_hidden.specs.Without.{without}
 use Rattle.registry_hidden.proofs.AcceptedFacts.{refusal_other}

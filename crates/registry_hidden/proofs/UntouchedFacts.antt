@@ -1,7 +1,7 @@
 -- The entries of a legal history that don't name a package are legal, and leave the registry without the package.
-use Rattle.std.proofs.Common.{◌≡◌, Bool, true, false, cond, not, refl, sym, ap, ◌∙◌, subst, None, Option, List, [], ◌∷◌, if◌then◌else◌, Ordering}
+use Rattle.std.proofs.Common.{◌≡◌, Bool, true, false, cond, refl, sym, ap, ◌∙◌, subst, None, Option, List, [], ◌∷◌, if◌then◌else◌, Ordering}
 use Rattle.registry_names.specs.Keys.{IsKey}
-use Rattle.registry_names.specs.Maps.{MapBy, at, empty, erase, keep}
+use Rattle.registry_names.specs.Maps.{empty, erase, keep}
 use Rattle.registry_names.specs.Texts.{Text}
 use Rattle.registry_names.proofs.KeyFacts.{text_key, pair_key, triple_key}
 use Rattle.registry_names.proofs.MapFacts.{at-empty, at-erase, at-keep, same_map}
