@@ -1,0 +1,11 @@
+pub mod AcceptedFacts
+pub mod KeepFacts
+pub mod NamedFacts
+pub mod OtherFacts
+pub mod RefusedFacts
+pub mod ReplyFacts
+pub mod RestFacts
+pub mod RunFacts
+pub mod StandingFacts
+pub mod UnheardFacts
+pub mod UntouchedFacts
