@@ -1,2 +1,3 @@
 pub mod HidingFacts
 pub mod RunningFacts
+pub mod UnseenFacts

@@ -3,6 +3,7 @@
 ghost use Rattle.sqlite.specs.Held.{state};
 ghost use Rattle.registry_http.specs.Desks.{LogRuns, TurnsRun};
 ghost use Rattle.registry_http.specs.Hiding.{HiddenAreUnheardOf};
+ghost use Rattle.registry_http.specs.Unseen.{RunsAreAnsweredAlike};
 
 use sqlite::Alter;
 
@@ -21,4 +22,12 @@ pub fn turns_are_one_run<S: Alter>()
 /// published.
 pub fn hidden_packages_are_unheard_of()
     ensures { HiddenAreUnheardOf }
+{}
+
+/// Take two legal histories that are one list once the entries that name a package are dropped, and
+/// a caller who has no level on the package after either. Whatever list of requests he makes, but a
+/// withdrawal of another package and a publish of this one as a member of its scope, he gets the
+/// same responses after both, byte for byte, up to the first fault in either.
+pub fn unread_packages_change_no_byte()
+    ensures { RunsAreAnsweredAlike }
 {}
