@@ -104,14 +104,8 @@ static DAMAGED: [(&str, Lies); 7] = [
         Lies::Text("SQLite format 3\0 and then something else"),
     ),
     ("a folder is none", Lies::Folder),
-    (
-        "half of a registry is none",
-        Lies::Cut(100_000),
-    ),
-    (
-        "a first page alone is none",
-        Lies::Cut(4096),
-    ),
+    ("half of a registry is none", Lies::Cut(100_000)),
+    ("a first page alone is none", Lies::Cut(4096)),
     (
         "a registry with a byte changed in its head is none",
         Lies::Spoiled(24),

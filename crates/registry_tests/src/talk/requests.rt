@@ -13,7 +13,11 @@ fn of_packages(alloc: Global, action: &Action) -> Result<String, AllocError> {
     match action {
         Action::Packument { name } => format!(in alloc; "packument {}", name.text()),
         Action::VersionDoc { name, version } => match version {
-            Asked::Exact(version) => format!(in alloc; "version {} {}", name.text(), version.text()),
+            Asked::Exact(version) => format!(in alloc;
+                "version {} {}",
+                name.text(),
+                version.text()
+            ),
             Asked::Latest => format!(in alloc; "latest {}", name.text()),
         },
         Action::Archive { name, version } => {
@@ -75,12 +79,22 @@ fn of_teams(alloc: Global, action: &Action) -> Result<String, AllocError> {
             organisation,
             team,
             user,
-        } => format!(in alloc; "in {} {} {}", organisation.text(), team.text(), user.text()),
+        } => format!(in alloc;
+            "in {} {} {}",
+            organisation.text(),
+            team.text(),
+            user.text()
+        ),
         Action::TeamRemove {
             organisation,
             team,
             user,
-        } => format!(in alloc; "out {} {} {}", organisation.text(), team.text(), user.text()),
+        } => format!(in alloc;
+            "out {} {} {}",
+            organisation.text(),
+            team.text(),
+            user.text()
+        ),
         Action::TeamPackages { organisation, team } => {
             format!(in alloc; "grants {} {}", organisation.text(), team.text())
         }
@@ -90,13 +104,23 @@ fn of_teams(alloc: Global, action: &Action) -> Result<String, AllocError> {
             name,
             grant,
         } => {
-            format!(in alloc; "grant {} {} {} {grant:?}", organisation.text(), team.text(), name.text())
+            format!(in alloc;
+                "grant {} {} {} {grant:?}",
+                organisation.text(),
+                team.text(),
+                name.text()
+            )
         }
         Action::Revoke {
             organisation,
             team,
             name,
-        } => format!(in alloc; "no grant {} {} {}", organisation.text(), team.text(), name.text()),
+        } => format!(in alloc;
+            "no grant {} {} {}",
+            organisation.text(),
+            team.text(),
+            name.text()
+        ),
         _ => format!(in alloc; "another"),
     }
 }
@@ -203,12 +227,7 @@ static ROUTES: [Case; 31] = [
         "\"restricted\"",
         Ok("status kit Restricted"),
     ),
-    (
-        Put,
-        "/-/package/kit/owners/ann",
-        "",
-        Ok("owner kit ann"),
-    ),
+    (Put, "/-/package/kit/owners/ann", "", Ok("owner kit ann")),
     (
         Delete,
         "/-/package/kit/owners/ann",
@@ -228,12 +247,7 @@ static ROUTES: [Case; 31] = [
         Ok("deprecate kit old"),
     ),
     (Get, "/-/org/lab", "", Ok("members lab")),
-    (
-        Put,
-        "/-/org/lab/bob",
-        "\"admin\"",
-        Ok("role lab bob Admin"),
-    ),
+    (Put, "/-/org/lab/bob", "\"admin\"", Ok("role lab bob Admin")),
     (Delete, "/-/org/lab/bob", "", Ok("no role lab bob")),
     (Get, "/-/team/lab", "", Ok("teams lab")),
     (Get, "/-/team/lab/ops", "", Ok("team lab ops")),
