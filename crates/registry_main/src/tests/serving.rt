@@ -50,6 +50,14 @@ impl<R: Net> Caller<'_, R> {
         client.shutdown(Shutdown::Write)?;
         Ok(client)
     }
+
+    // What the client is sent, behind what the output was told.
+    fn hear(&mut self) -> io::Result<()> {
+        if let Some(mut client) = self.client.take() {
+            client.read_to_end(&mut self.told)?;
+        }
+        Ok(())
+    }
 }
 
 impl<R: Net> Write for Caller<'_, R> {
@@ -100,9 +108,7 @@ fn a_registry_in_a_file_is_served(rt: HostRuntime) -> Result<(), Fail> {
         &mut ToWrite::new(&mut errors),
     );
     let told = format!(in alloc; "listening 127.0.0.1:{port}\n{ANSWER}")?;
-    if let Some(client) = &mut caller.client {
-        client.read_to_end(&mut caller.told)?;
-    }
+    caller.hear()?;
     same_text(&caller.told, told.as_str())?;
     same_text(&errors, "")?;
     if status != 0 {
