@@ -17,7 +17,7 @@ help:
 	@echo 'make test   the gate: prove every crate from nothing, and run every test: an hour or more'
 	@echo 'make check  prove every crate over what earlier checks kept'
 	@echo 'make npm    the stock npm client publishes and installs over out/registry: a minute'
-	@echo 'make kill   kill a server 500 times while versions are published'
+	@echo 'make kill   kill a server 500 times while versions are published: 6 minutes'
 	@echo 'make bench  print how long requests and the reading of bodies take'
 	@echo 'make measure  print how fast out/registry serves beside a server of files, and keeps'
 	@echo '            what is published beside SQLite: 10 minutes on a quiet machine'
