@@ -10,7 +10,7 @@ use crate::example::{Ask, Expected, Step, Who};
 use registry_desk::Registry;
 use registry_names::{Fault, Refusal};
 use registry_rules::Reply;
-use sqlite::{Alter, Connection, Error, Files, Options};
+use sqlite::{Alter, Connection, Error, FileStore, Files, Options};
 use sqlite_disk::{Disk, Memory};
 use std::alloc::Global;
 use std::fs;
@@ -319,17 +319,26 @@ fn asked_in(
     files: Files<Memory>,
     step: &Step,
 ) -> Result<(Outcome, Files<Memory>), Fail> {
+    let mut registry = opened(alloc, files)?;
+    let outcome = asked(alloc, &mut registry, step)?;
+    Ok((outcome, closed(registry)?))
+}
+
+fn opened(alloc: Global, files: Files<Memory>) -> Result<Registry<FileStore<Memory>>, Fail> {
     if !files.may_be_used() {
         return Err(Fail::new(format_args!("the files can't be used")));
     }
-    let Ok(mut registry) = Registry::open_files(alloc, files, Options::new(1)) else {
-        return Err(Fail::new(format_args!("no registry opens from the files")));
-    };
-    let outcome = asked(alloc, &mut registry, step)?;
-    let Ok(files) = registry.release().close_files() else {
-        return Err(Fail::new(format_args!("the files don't close")));
-    };
-    Ok((outcome, files))
+    match Registry::open_files(alloc, files, Options::new(1)) {
+        Ok(registry) => Ok(registry),
+        Err(_) => Err(Fail::new(format_args!("no registry opens from the files"))),
+    }
+}
+
+fn closed(registry: Registry<FileStore<Memory>>) -> Result<Files<Memory>, Fail> {
+    match registry.release().close_files() {
+        Ok(files) => Ok(files),
+        Err(_) => Err(Fail::new(format_args!("the files don't close"))),
+    }
 }
 
 fn asked<S: Alter>(
