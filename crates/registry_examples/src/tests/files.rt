@@ -334,7 +334,7 @@ fn opened(alloc: Global, files: Files<Memory>) -> Result<Registry<FileStore<Memo
     }
 }
 
-fn closed(registry: Registry<FileStore<Memory>>) -> Result<Files<Memory>, Fail> {
+fn closed<D: Disk + Drop>(registry: Registry<FileStore<D>>) -> Result<Files<D>, Fail> {
     match registry.release().close_files() {
         Ok(files) => Ok(files),
         Err(_) => Err(Fail::new(format_args!("the files don't close"))),
