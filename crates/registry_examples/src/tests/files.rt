@@ -1,8 +1,4 @@
-//! Registries in files: in those of the machine, and in files in memory. The machine's stand in a
-//! folder of their own where the tests run.
-
-ghost use Rattle.std.specs.Prelude.{IsTrue};
-ghost use Rattle.sqlite_disk.specs.Memory.{memory_is_usable};
+//! Registries in files, in a folder of their own where the tests run.
 
 use super::outcome::same;
 use super::{Outcome, request_of};
@@ -10,8 +6,7 @@ use crate::example::{Ask, Expected, Step, Who};
 use registry_desk::Registry;
 use registry_names::{Fault, Refusal};
 use registry_rules::Reply;
-use sqlite::{Alter, Connection, Error, FileStore, Files, Options};
-use sqlite_disk::{Disk, Memory};
+use sqlite::{Alter, Connection, Error};
 use std::alloc::Global;
 use std::fs;
 use std::test::Fail;
@@ -20,23 +15,11 @@ const FOLDER: &str = "files_of_registries";
 
 const PATH: &str = "files_of_registries/registry.db";
 
-/// A place in each field of a database's head: the name of the format, the size of pages, the
-/// versions, the sums, the counter of changes, the number of pages, the free pages, the schema's
-/// cookie and format, the encoding, the version that users give, and the counter again.
-const HEAD: [usize; 12] = [0, 16, 18, 20, 24, 28, 32, 40, 44, 56, 60, 92];
-
 const ADD_ANN: Step = Step {
     at: 0,
     who: Who::Operator,
     ask: Ask::UserAdd("ann"),
     expected: Expected::Done,
-};
-
-const TAGS_OF_NONE: Step = Step {
-    at: 0,
-    who: Who::Anonymous,
-    ask: Ask::Tags("none"),
-    expected: Expected::Refused(Refusal::NotFound),
 };
 
 /// What lies at the path.
@@ -160,16 +143,6 @@ fn databases_of_others_are_kept(rt: HostRuntime) -> Result<(), Fail> {
 }
 
 #[test]
-fn a_byte_changed_in_the_head_is_refused(rt: HostRuntime) -> Result<(), Fail> {
-    let alloc = rt.alloc();
-    let (_, files) = asked_in(alloc, new_files(alloc), &ADD_ANN)?;
-    for place in &HEAD {
-        opens_none(alloc, *place, changed_at(alloc, files.db.bytes(), *place)?)?;
-    }
-    Ok(())
-}
-
-#[test]
 fn a_registry_is_held_by_one(rt: HostRuntime) -> Result<(), Fail> {
     lay(&rt, Lies::Registry)?;
     let first = Registry::open(&rt, PATH)?;
@@ -181,17 +154,6 @@ fn a_registry_is_held_by_one(rt: HostRuntime) -> Result<(), Fail> {
         Ok(Reply::Refused(Refusal::Exists)),
     )?;
     Ok(fs::remove_dir_all(&rt, FOLDER)?)
-}
-
-#[test]
-fn a_registry_in_files_in_memory_lasts(rt: HostRuntime) -> Result<(), Fail> {
-    let alloc = rt.alloc();
-    let (first, files) = asked_in(alloc, new_files(alloc), &ADD_ANN)?;
-    same("a user of a new registry", first, Ok(Reply::Done))?;
-    let (again, files) = asked_in(alloc, files, &ADD_ANN)?;
-    same("the same user", again, Ok(Reply::Refused(Refusal::Exists)))?;
-    let (tags, _files) = asked_in(alloc, files, &TAGS_OF_NONE)?;
-    same("tags of none", tags, Ok(Reply::Refused(Refusal::NotFound)))
 }
 
 // Lays this at the path, in a new folder.
@@ -278,66 +240,6 @@ fn added(rt: &HostRuntime) -> Result<Outcome, Fail> {
     match Registry::open(rt, PATH) {
         Ok(mut registry) => asked(rt.alloc(), &mut registry, &ADD_ANN),
         Err(fault) => Ok(Err(fault)),
-    }
-}
-
-fn new_files(alloc: Global) -> Files<Memory>
-    ensures { IsTrue (memory_is_usable result.db) }
-{
-    Files {
-        log: Memory::new(alloc),
-        db: Memory::new(alloc),
-    }
-}
-
-// Files of these bytes, with the one at this place changed.
-fn changed_at(alloc: Global, whole: &[u8], place: usize) -> Result<Files<Memory>, Fail> {
-    let mut bytes = Vec::new(alloc);
-    bytes.extend_from_slice(whole)?;
-    if let Some(byte) = bytes.get_mut(place) {
-        *byte ^= 0x5a;
-    }
-    let mut files = new_files(alloc);
-    files.db.write_at(0, &bytes)?;
-    Ok(files)
-}
-
-// No registry opens from these files, where the byte at this place was changed.
-fn opens_none(alloc: Global, place: usize, files: Files<Memory>) -> Result<(), Fail> {
-    if !files.may_be_used() {
-        return Err(Fail::new(format_args!("the files can't be used")));
-    }
-    match Registry::open_files(alloc, files, Options::new(1)) {
-        Ok(_) => Err(Fail::new(format_args!("a registry opens, with byte {place} changed"))),
-        Err((fault, _)) => same(place, fault, Fault::Database),
-    }
-}
-
-// Asks a registry in these files, which are closed then.
-fn asked_in(
-    alloc: Global,
-    files: Files<Memory>,
-    step: &Step,
-) -> Result<(Outcome, Files<Memory>), Fail> {
-    let mut registry = opened(alloc, files)?;
-    let outcome = asked(alloc, &mut registry, step)?;
-    Ok((outcome, closed(registry)?))
-}
-
-fn opened(alloc: Global, files: Files<Memory>) -> Result<Registry<FileStore<Memory>>, Fail> {
-    if !files.may_be_used() {
-        return Err(Fail::new(format_args!("the files can't be used")));
-    }
-    match Registry::open_files(alloc, files, Options::new(1)) {
-        Ok(registry) => Ok(registry),
-        Err(_) => Err(Fail::new(format_args!("no registry opens from the files"))),
-    }
-}
-
-fn closed<D: Disk + Drop>(registry: Registry<FileStore<D>>) -> Result<Files<D>, Fail> {
-    match registry.release().close_files() {
-        Ok(files) => Ok(files),
-        Err(_) => Err(Fail::new(format_args!("the files don't close"))),
     }
 }
 
