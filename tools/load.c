@@ -84,9 +84,9 @@ static void done(struct connection *c) {
     if (answers < MOST_TIMES) times[answers] = (float)(now() - c->asked);
     answers++;
     under_way--;
+    if (c->last || over) close(c->socket);
     if (over) return;
     if (c->last) {
-        close(c->socket);
         open_one(c);
     } else {
         ask(c);
