@@ -68,7 +68,6 @@ pub struct MaintainerRow {
 
 /// Rows of the registry's tables, all of them or those that an ask concerns. Where a key stands
 /// twice in a list, its first row counts.
-#[derive(Drop)]
 pub struct AccessRows {
     /// The names of the organisations.
     pub organisations: Vec<Text>,
@@ -84,4 +83,19 @@ pub struct AccessRows {
     pub packages: Vec<PackageRow>,
     /// The maintainers of packages.
     pub maintainers: Vec<MaintainerRow>,
+}
+
+// Written out, so that to drop the rows is one call and not one for each table.
+impl Drop for AccessRows {
+    fn drop(self) {
+        let AccessRows {
+            organisations: _,
+            members: _,
+            teams: _,
+            team_members: _,
+            grants: _,
+            packages: _,
+            maintainers: _,
+        } = self;
+    }
 }

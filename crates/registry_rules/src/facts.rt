@@ -4,12 +4,21 @@ use registry_access::{AccessRows, Caller, Role, Standing};
 use registry_names::{Moment, Text, Ver};
 
 /// What the registry holds of a request: who asks, and what stands of what he asks.
-#[derive(Drop)]
 pub struct Facts {
     /// Who asks. None where the credential names nobody.
     pub caller: Option<Caller>,
     /// What stands of it.
     pub about: About,
+}
+
+// Written out, so that to drop facts is one call and not one for each part.
+impl Drop for Facts {
+    fn drop(self) {
+        let Facts {
+            caller: _,
+            about: _,
+        } = self;
+    }
 }
 
 /// What the registry holds of what an action is about: of each kind of action what decides it, and

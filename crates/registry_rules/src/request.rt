@@ -40,7 +40,6 @@ pub enum Credential {
 }
 
 /// A command, which may change the registry, or a query, which doesn't.
-#[derive(Drop)]
 pub enum Action {
     /// The operator's command to add a user.
     UserAdd {
@@ -246,6 +245,97 @@ pub enum Action {
         /// The team's name.
         team: Ident,
     },
+}
+
+// Written out, so that to drop an action is one call wherever a function is left.
+impl Drop for Action {
+    fn drop(self) {
+        match self {
+            Action::UserAdd { user: _ } => {}
+            Action::TokenAdd { user: _, digest: _ } => {}
+            Action::OrgCreate {
+                organisation: _,
+                owner: _,
+            } => {}
+            Action::OrgSet {
+                organisation: _,
+                user: _,
+                role: _,
+            } => {}
+            Action::OrgRemove {
+                organisation: _,
+                user: _,
+            } => {}
+            Action::TeamCreate {
+                organisation: _,
+                team: _,
+            } => {}
+            Action::TeamDestroy {
+                organisation: _,
+                team: _,
+            } => {}
+            Action::TeamAdd {
+                organisation: _,
+                team: _,
+                user: _,
+            } => {}
+            Action::TeamRemove {
+                organisation: _,
+                team: _,
+                user: _,
+            } => {}
+            Action::Grant {
+                organisation: _,
+                team: _,
+                name: _,
+                grant: _,
+            } => {}
+            Action::Revoke {
+                organisation: _,
+                team: _,
+                name: _,
+            } => {}
+            Action::SetAccess { name: _, status: _ } => {}
+            Action::OwnerAdd { name: _, user: _ } => {}
+            Action::OwnerRemove { name: _, user: _ } => {}
+            Action::Publish { form: _ } => {}
+            Action::TagSet {
+                name: _,
+                tag: _,
+                version: _,
+            } => {}
+            Action::TagRemove { name: _, tag: _ } => {}
+            Action::Withdraw {
+                name: _,
+                version: _,
+            } => {}
+            Action::Deprecate {
+                name: _,
+                selector: _,
+                message: _,
+            } => {}
+            Action::Packument { name: _ } => {}
+            Action::VersionDoc {
+                name: _,
+                version: _,
+            } => {}
+            Action::Archive {
+                name: _,
+                version: _,
+            } => {}
+            Action::Tags { name: _ } => {}
+            Action::Members { organisation: _ } => {}
+            Action::Teams { organisation: _ } => {}
+            Action::TeamMembers {
+                organisation: _,
+                team: _,
+            } => {}
+            Action::TeamPackages {
+                organisation: _,
+                team: _,
+            } => {}
+        }
+    }
 }
 
 /// Which version of a package is asked for.
