@@ -1,5 +1,5 @@
 -- What a query inside a transaction keeps.
-use Rattle.std.proofs.Common.{◌≡◌, ◌⊎◌, inl, inr, ℕ, List, Option, None, Some, Result, Ok, Err, OnOk, [], sym, ap, subst, ◌∙◌, IsTrue}
+use Rattle.std.proofs.Common.{◌≡◌, ◌⊎◌, inl, inr, ℕ, List, take, Option, None, Some, Result, Ok, Err, OnOk, [], sym, ap, subst, ◌∙◌, IsTrue}
 use Rattle.std.specs.List.{AllByRecursion}
 use Rattle.sqlite_value.specs.Order.{Row}
 use Rattle.sqlite_value.specs.declared.keys.Key.{Key}
@@ -17,9 +17,9 @@ use Rattle.sqlite.specs.Listing.{understood}
 use Rattle.sqlite.specs.State.{State, KeepsCommit, IsUnchanged, IsRolledBack, IsNotRun, FailsToQuery, FailsToShow, IsTooLate, Shown, ShowsRows}
 use Rattle.sqlite.proofs.Callers.{IsPlain, reads_as}
 use Rattle.registry_rows.specs.Rows.{HasRowids}
-use Rattle.registry_rows.specs.Statements.{MeansQuery, Selects, scan}
+use Rattle.registry_rows.specs.Statements.{MeansQuery, Selects, scan, first_of}
 use Rattle.registry_rows.specs.Ready.{IsReady, Reads}
-use Rattle.registry_rows.proofs.SelectFacts.{selects}
+use Rattle.registry_rows.proofs.SelectFacts.{selects, selects_first}
 
 shown_open : (sql : List ℕ) (params : Row) (old new : State) (rows : List Row) → Shown sql params old new rows → IsTrue old.is_open
 unfolding Shown
@@ -69,6 +69,16 @@ pub query_reads : (schema : Schema) (sql : List ℕ) (tree : ℕ) (wanted projec
 query_reads schema sql tree wanted project order names means params old new rows form h =
     let it = query_answers schema sql (scan tree wanted project order) names means params old new rows form h in
     (it.0, it.1, selects tree wanted project order params old.now.trees rows it.2)
+
+-- one that reads the first of them saw these
+pub query_starts : (schema : Schema) (sql : List ℕ) (count tree : ℕ) (wanted project : List Term) (order : List (Term × Key)) (names : List (List ℕ))
+    → MeansQuery schema sql (Select (record { lets = []; body = first_of count (scan tree wanted project order) }) names)
+    → (params : Row) (old new : State) (rows : List Row) → (IsTrue old.is_open → IsReady schema old) → Shown sql params old new rows
+    → Reads schema old new × IsReady schema old × (all : List Row) × Selects wanted project order params (old.now.trees tree) all × (rows ≡ take count all)
+query_starts schema sql count tree wanted project order names means params old new rows form h =
+    let it = query_answers schema sql (first_of count (scan tree wanted project order)) names means params old new rows form h in
+    let first = selects_first count tree wanted project order params old.now.trees rows it.2 in
+    (it.0, it.1, first.0, first.1, first.2)
 
 not_run_keeps : (old new : State) (sql : List ℕ) (params : Row) (e : Error) → IsNotRun old new sql params e → KeepsCommit old new
 unfolding IsNotRun

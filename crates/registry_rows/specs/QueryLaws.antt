@@ -1,5 +1,5 @@
 -- Laws of SELECT by key, by a column, and in the order of the key.
-use Rattle.std.specs.Prelude.{◌≡◌, ℕ, suc, Bool, true, List, [], ◌∷◌, map, filter, option_map}
+use Rattle.std.specs.Prelude.{◌≡◌, ℕ, suc, Bool, true, List, [], ◌∷◌, map, filter, take, option_map}
 use Rattle.sqlite.specs.declared.types.Value.{Value}
 use Rattle.sqlite.specs.declared.types.Value.TheVariants.{Text as Stored}
 use Rattle.sqlite_value.specs.Order.{Row, column}
@@ -14,7 +14,7 @@ use Rattle.registry_rows.specs.Columns.{takes, equals}
 use Rattle.registry_rows.specs.TextKeys.{Texts, texts_cmp, texts_from}
 use Rattle.registry_rows.specs.KeyKinds.{KeyKind, map_by}
 use Rattle.registry_rows.specs.Rows.{map_of, listed}
-use Rattle.registry_rows.specs.Statements.{MeansQuery, select_where, by_texts, by_column, in_order, shown_by}
+use Rattle.registry_rows.specs.Statements.{MeansQuery, select_where, select_first, by_texts, by_column, in_order, shown_by}
 use Rattle.registry_rows.specs.Laws.{EachShows}
 
 module _ {S : Type 0} (store : Ghosts S) (Y : Type 0) {C X : Type 0} (k : KeyKind) (schema : Schema) (contents : Trees → C) (place : ℕ) (table : Table) (value : Row → X) (change : C → MapBy k.cmp X → C) where
@@ -43,6 +43,12 @@ module _ {S : Type 0} (store : Ghosts S) (Y : Type 0) {C X : Type 0} (schema : S
   SelectLists = (sql : List ℕ) (project : List Term) (names : List (List ℕ)) → MeansQuery schema sql (select_where table project (by_texts 0 1 0) (in_order more 2) names) → (p : Text)
       → (read : Row → Texts more × Y) (g : X → Y) → ((id : Value) (vs : Row) → read (shown_by project (Stored p ∷ []) (id ∷ vs)) ≡ (texts_from more 1 vs, g (value vs)))
       → EachShows store schema sql (Stored p ∷ []) read (λ db. map (seen g) (part (texts_cmp more) (map_of (suc more) value (db table.tree)) p))
+
+  -- with LIMIT it shows the first so many entries of that part
+  abbrev pub SelectListsFirst : Type 0
+  SelectListsFirst = (count : ℕ) (sql : List ℕ) (project : List Term) (names : List (List ℕ)) → MeansQuery schema sql (select_first count table project (by_texts 0 1 0) (in_order more 2) names) → (p : Text)
+      → (read : Row → Texts more × Y) (g : X → Y) → ((id : Value) (vs : Row) → read (shown_by project (Stored p ∷ []) (id ∷ vs)) ≡ (texts_from more 1 vs, g (value vs)))
+      → EachShows store schema sql (Stored p ∷ []) read (λ db. take count (map (seen g) (part (texts_cmp more) (map_of (suc more) value (db table.tree)) p)))
 
   -- SELECT .. WHERE the first two texts ORDER BY the rest of the key shows the part of that part
   abbrev pub SelectListsTwo : Type 0

@@ -4,7 +4,7 @@
 ghost use Rattle.registry_rows.specs.Laws.{OfEachTable, OfEachBytesTable, OfEachNumberedTable, OfEachPairTable, OfEachTripleTable};
 ghost use Rattle.registry_rows.specs.CreateLaws.{CreateAddsEmpty, CreateAddsCounter, IndexKeepsEmpty, IndexKeepsRows};
 ghost use Rattle.registry_rows.specs.WriteLaws.{OneRowEach, RowsTellMap, InsertPuts, InsertMeetsNone, DeleteErases, UpdateRevises, UpdatePuts};
-ghost use Rattle.registry_rows.specs.QueryLaws.{SelectFinds, SelectHas, SelectListsAll, SelectLists, SelectListsTwo};
+ghost use Rattle.registry_rows.specs.QueryLaws.{SelectFinds, SelectHas, SelectListsAll, SelectLists, SelectListsFirst, SelectListsTwo};
 ghost use Rattle.registry_rows.specs.Counting.{InsertNumbers, NextIsNew, NextIsAfter};
 
 use sqlite::Alter;
@@ -36,12 +36,13 @@ pub fn writes_change_maps<S: Alter, C, X>()
 {}
 
 /// A query by key, by a column or in the order of the key shows exactly what its table's map has,
-/// and changes nothing.
+/// or the first entries of that, as many as it asks for, and changes nothing.
 pub fn queries_show_maps<S: Alter, C, X, Y>()
     ensures find { OfEachTable C X (SelectFinds S.Store Y) }
     ensures has { OfEachTable C X (SelectHas S.Store Y) }
     ensures all { OfEachTable C X (SelectListsAll S.Store Y) }
     ensures list { OfEachPairTable C X (SelectLists S.Store Y) }
+    ensures list_first { OfEachPairTable C X (SelectListsFirst S.Store Y) }
     ensures list_two { OfEachTripleTable C X (SelectListsTwo S.Store Y) }
 {}
 
