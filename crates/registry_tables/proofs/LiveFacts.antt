@@ -1,5 +1,5 @@
 -- The live versions, each read from three tables.
-use Rattle.std.proofs.Common.{◌≡◌, ◌==◌, ℕ, ℤ, true≢false, Bool, true, false, not, cond, List, [], ◌∷◌, map, length, Option, None, Some, is_some, option_map, arith, ne_eqb, refl, sym, ap, ◌∙◌}
+use Rattle.std.proofs.Common.{◌≡◌, ◌==◌, ℕ, ℤ, true≢false, Bool, true, false, not, cond, List, [], ◌∷◌, map, take, length, Option, None, Some, is_some, option_map, arith, ne_eqb, refl, sym, ap, ◌∙◌}
 use Rattle.std.proofs.lemmas.Simd.{map-map}
 use Rattle.std.specs.Prelude.{option_and_then, unwrap_or}
 use Rattle.sqlite_value.specs.Order.{Row}
@@ -69,12 +69,12 @@ empty_seen g (e ∷ es) = refl
 pub lives_as_rows : (c : Contents) (p : Text) → has_live (registry_of c) p ≡ not (is_empty (of c.versions p))
 lives_as_rows c p = ap not (sym (empty_seen document (of (live_of c) p)) ∙ ap is_empty (documents_as_rows c p) ∙ empty_seen document (of c.versions p))
 
--- rows that show entries are some where there are entries
-pub some_listed : {X Y : Type 0} (read : Row → Text × Y) (rows : List Row) (g : X → Y) (es : List (Text × X)) → map read rows ≡ map (seen g) es → not (length rows == 0) ≡ not (is_empty es)
-some_listed read [] g [] h = refl
-some_listed read [] g (e ∷ es) h = absurd cc
-some_listed read (r ∷ rows) g [] h = absurd cc
-some_listed read (r ∷ rows) g (e ∷ es) h = ap not (ne_eqb _ 0 (omega arith))
+-- there is a row of the first entry where there are entries
+pub first_shown : {X Y : Type 0} (read : Row → Text × Y) (rows : List Row) (g : X → Y) (es : List (Text × X)) → map read rows ≡ take 1 (map (seen g) es) → not (length rows == 0) ≡ not (is_empty es)
+first_shown read [] g [] h = refl
+first_shown read [] g (e ∷ es) h = absurd cc
+first_shown read (r ∷ rows) g [] h = absurd cc
+first_shown read (r ∷ rows) g (e ∷ es) h = ap not (ne_eqb _ 0 (omega arith))
 
 -- what a live version has of the archives is its archive
 pub archive_of_held : (c : Contents) (k : Pair) (n : ℤ) (bytes : List ℕ) → at c.held k ≡ Some n → is_some (at c.versions k) ≡ true → option_map (λ (a : Archive). a.bytes) (at c.archives n) ≡ Some bytes

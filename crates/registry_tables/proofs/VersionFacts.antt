@@ -18,14 +18,14 @@ use Rattle.registry_tables.specs.Effects.{stored}
 use Rattle.registry_names.specs.Maps.{at, keys, of, put, seen}
 use Rattle.registry_rules.specs.State.{Release, has_live}
 use Rattle.registry_rules.specs.Withdrawals.{live_versions, published_at}
-use Rattle.registry_rows.specs.Statements.{Means, MeansQuery, scan, by_texts, in_order, set_terms}
+use Rattle.registry_rows.specs.Statements.{Means, MeansQuery, scan, first_of, by_texts, in_order, set_terms}
 use Rattle.registry_rows.proofs.StatementFacts.{insert_puts, insert_meets_none, update_revises}
-use Rattle.registry_rows.proofs.LookUpFacts.{select_finds, select_lists, first_listed}
+use Rattle.registry_rows.proofs.LookUpFacts.{select_finds, select_lists, select_lists_first, first_listed}
 use Rattle.registry_tables.specs.Teams.{text_spelled}
 use Rattle.registry_tables.specs.Withdrawals.{with_message}
 use Rattle.registry_tables.specs.Spelled.{number_spelled, document, document_spelled, row_spelled, version_spelled}
 use Rattle.registry_tables.proofs.FoundFacts.{some_found, some_seen}
-use Rattle.registry_tables.proofs.LiveFacts.{document_as_row, documents_as_rows, lives_as_row, lives_as_rows, published_as_row, some_listed, versions_as_rows}
+use Rattle.registry_tables.proofs.LiveFacts.{document_as_row, documents_as_rows, lives_as_row, lives_as_rows, published_as_row, first_shown, versions_as_rows}
 use Rattle.registry_tables.proofs.MappedFacts.{versions_mapped}
 
 -- ---- INSERT
@@ -127,14 +127,7 @@ live_means : MeansQuery schema live_text (Select (record { lets = []; body = sca
 unfolding understood everything
 live_means = ((refl, (refl, refl)), refl)
 
--- a version of the package lives where there are rows
-pub live_found : (p : Text) (old new : Shown) (rows : List Row) → Ready schema old → Queried live_text (Stored p ∷ []) old new rows → HasCleanDisk new
-    → Reads schema old new × (not (length rows == 0) ≡ has_live (registry_of (stored old)) p)
-live_found p old new rows form call clean =
-    let it = select_lists versions_mapped live_text (col 1 2 ∷ []) _ live_means p version_spelled (λ (r : Release). tt) (λ id vs. refl) old new rows form call clean in
-    (it.0, some_listed version_spelled rows (λ (r : Release). tt) (of (stored old).versions p) it.1 ∙ sym (lives_as_rows (stored old) p))
-
--- and they show which
+-- the rows show which versions of the package live
 pub live_listed : (p : Text) (old new : Shown) (rows : List Row) → Ready schema old → Queried live_text (Stored p ∷ []) old new rows → HasCleanDisk new
     → Reads schema old new × (map text_spelled rows ≡ live_versions (registry_of (stored old)) p)
 live_listed p old new rows form call clean =
@@ -143,3 +136,17 @@ live_listed p old new rows form call clean =
       sym (map-map (λ (e : Text × Unit {0}). e.0) version_spelled rows) ∙ ap keys it.1
           ∙ map-map (λ (e : Text × Unit {0}). e.0) (seen (λ (r : Release). tt)) (of (stored old).versions p) ∙ sym (versions_as_rows (stored old) p),
     )
+
+abbrev first_text : List ℕ
+first_text = codes "SELECT version FROM versions WHERE package = ?1 ORDER BY version LIMIT 1"
+
+first_means : MeansQuery schema first_text (Select (record { lets = []; body = first_of 1 (scan 18 (by_texts 0 1 0) (col 1 2 ∷ []) (in_order 0 2)) }) (codes "version" ∷ []))
+unfolding understood everything
+first_means = ((refl, (refl, refl)), refl)
+
+-- a version of the package lives where there is a first one
+pub live_found : (p : Text) (old new : Shown) (rows : List Row) → Ready schema old → Queried first_text (Stored p ∷ []) old new rows → HasCleanDisk new
+    → Reads schema old new × (not (length rows == 0) ≡ has_live (registry_of (stored old)) p)
+live_found p old new rows form call clean =
+    let it = select_lists_first versions_mapped 1 first_text (col 1 2 ∷ []) _ first_means p version_spelled (λ (r : Release). tt) (λ id vs. refl) old new rows form call clean in
+    (it.0, first_shown version_spelled rows (λ (r : Release). tt) (of (stored old).versions p) it.1 ∙ sym (lives_as_rows (stored old) p))

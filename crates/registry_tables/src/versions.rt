@@ -119,7 +119,7 @@ pub fn has_live<S: Alter>(tx: &mut Transaction<'_, S>, name: &Name) -> Result<bo
 {
     let rows = read(
         tx,
-        "SELECT version FROM versions WHERE package = ?1 ORDER BY version",
+        "SELECT version FROM versions WHERE package = ?1 ORDER BY version LIMIT 1",
         params![name.text()],
     )?;
     Ok(!rows.is_empty())
