@@ -317,7 +317,7 @@ static SUBCOMMANDS: [Subcommand; 28] = [
     Subcommand {
         name: "serve",
         words: &[PORT, CONNECTIONS],
-        about: "Serve npm over HTTP on 127.0.0.1, one connection after the other",
+        about: "Serve npm over HTTP on 127.0.0.1: up to 512 connections at once, a request at a time",
         example: "Example: registry serve --port 8080",
     },
 ];
