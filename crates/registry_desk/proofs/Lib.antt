@@ -4,4 +4,5 @@ mod MakingFacts
 mod OpenedFacts
 mod SettlingFacts
 pub mod AnswerFacts
+pub mod SeenFacts
 pub mod StoredFacts

@@ -2,6 +2,11 @@
 
 ghost use Rattle.std.specs.Prelude.{◌≡◌};
 ghost use Rattle.registry_names.specs.declared.status.Status.{Status};
+ghost use Rattle.registry_names.specs.Texts.{Text};
+ghost use Rattle.registry_access.specs.Access.{Access};
+ghost use Rattle.registry_access.specs.Levels as levels;
+ghost use Rattle.registry_access.specs.Positions.{level_in};
+ghost use Rattle.registry_access.specs.RowsFor.{StandsFor};
 ghost use Rattle.registry_rows.specs.Frames.{Stays};
 ghost use Rattle.registry_tables.specs.Contents.{registry_of};
 ghost use Rattle.registry_tables.specs.Effects.{InForm, Tells};
@@ -12,7 +17,7 @@ ghost use Rattle.registry_rules.specs.State as state;
 ghost use Rattle.registry_rules.specs.declared.request.Action.TheVariants as asked;
 ghost use Rattle.registry_rules.specs.declared.request.Asked.TheVariants as which;
 
-use registry_access::Caller;
+use registry_access::{Caller, Level, Standing, level_of};
 use registry_names::{Fault, LATEST, Moment, Name, TagText, Ver};
 use registry_publish::PublishForm;
 use registry_rules::{About, Asked, PublishFacts};
@@ -134,7 +139,7 @@ pub(crate) fn old_tag<S: Alter>(
     })
 }
 
-/// Of a query about a package.
+/// Of a query about a package. To one who doesn't read it no version is looked for.
 pub(crate) fn seen_package<S: Alter>(
     alloc: Global,
     tx: &mut Transaction<'_, S>,
@@ -148,13 +153,19 @@ pub(crate) fn seen_package<S: Alter>(
     ensures tags { Tells S.Store tx.old tx.new result (λ about c. AreTeamsSound c
         → StandsAbout about (registry_of c) caller.now (asked.Tags name.now)) }
 {
-    Ok(About::Package {
-        standing: load_standing(alloc, tx, caller, name)?,
-        lives: has_live(tx, name)?,
-    })
+    let standing = load_standing(alloc, tx, caller, name)?;
+    if !reads(&standing, caller) {
+        return Ok(About::Package {
+            standing,
+            lives: false,
+        });
+    }
+    let lives = has_live(tx, name)?;
+    Ok(About::Package { standing, lives })
 }
 
-/// Of a query for the document of a version.
+/// Of a query for the document of a version, which isn't looked for where the caller doesn't read
+/// the package.
 pub(crate) fn seen_document<S: Alter>(
     alloc: Global,
     tx: &mut Transaction<'_, S>,
@@ -169,6 +180,12 @@ pub(crate) fn seen_document<S: Alter>(
         (asked.VersionDoc name.now version.now)) }
 {
     let standing = load_standing(alloc, tx, caller, name)?;
+    if !reads(&standing, caller) {
+        return Ok(About::Version {
+            standing,
+            lives: false,
+        });
+    }
     let lives = asked_lives(tx, name, version)?;
     Ok(About::Version { standing, lives })
 }
@@ -206,7 +223,8 @@ fn latest_lives<S: Alter>(tx: &mut Transaction<'_, S>, name: &Name) -> Result<bo
     }
 }
 
-/// Of a query for the archive of a version.
+/// Of a query for the archive of a version, which isn't looked for where the caller doesn't read
+/// the package.
 pub(crate) fn seen_archive<S: Alter>(
     alloc: Global,
     tx: &mut Transaction<'_, S>,
@@ -219,8 +237,21 @@ pub(crate) fn seen_archive<S: Alter>(
     ensures tells { Tells S.Store tx.old tx.new result (λ about c. AreTeamsSound c
         → StandsAbout about (registry_of c) caller.now (asked.Archive name.now version.now)) }
 {
-    Ok(About::Version {
-        standing: load_standing(alloc, tx, caller, name)?,
-        lives: has_version(tx, name, version.text())?,
-    })
+    let standing = load_standing(alloc, tx, caller, name)?;
+    if !reads(&standing, caller) {
+        return Ok(About::Version {
+            standing,
+            lives: false,
+        });
+    }
+    let lives = has_version(tx, name, version.text())?;
+    Ok(About::Version { standing, lives })
+}
+
+// Whether the caller reads the package.
+fn reads(standing: &Standing, caller: &Caller) -> bool
+    ensures { (S : Access) (p : Text) → StandsFor standing.now S caller.now p
+        → result ≡ levels.reads (level_in S caller.now p) }
+{
+    level_of(standing, caller) >= Level::Read
 }

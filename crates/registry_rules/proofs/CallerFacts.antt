@@ -1,9 +1,12 @@
 -- What is answered to a caller whom the registry knows.
 use Rattle.std.proofs.Common.{◌≡◌, ℕ, Bool, true, false, List, Option, Some, None, option_map, refl, sym, ap, ◌∙◌, subst, true≢false, if◌then◌else◌}
-use Rattle.std.specs.Prelude.{is_ok, Result, Err}
+use Rattle.std.specs.Prelude.{is_ok, Result, Ok, Err}
+use Rattle.std.specs.Option.{option_or}
 use Rattle.registry_names.specs.declared.stop.Stop.{Stop}
 use Rattle.registry_names.specs.declared.stop.Stop.TheVariants.{Refused}
 use Rattle.registry_names.specs.declared.refusal.Refusal.{Refusal}
+use Rattle.registry_names.specs.declared.refusal.Rule.{Rule}
+use Rattle.registry_access.specs.Policy.{Verdict}
 use Rattle.registry_access.specs.declared.caller.Caller.{Caller}
 use Rattle.registry_names.specs.Maps.{at}
 use Rattle.registry_names.specs.Texts.{Text}
@@ -14,7 +17,7 @@ use Rattle.registry_rules.specs.Kept.{IsSound}
 use Rattle.registry_rules.specs.declared.request.Credential.{Credential}
 use Rattle.registry_rules.specs.declared.request.Credential.TheVariants as credential
 use Rattle.registry_rules.specs.Effects.{effects, effects_for}
-use Rattle.registry_rules.specs.Refusals.{refusal_for, permitted}
+use Rattle.registry_rules.specs.Refusals.{refusal_for, permitted, unless_allowed}
 use Rattle.registry_rules.specs.State.{State, has_user}
 use Rattle.registry_rules.specs.declared.request.Action.{Action}
 
@@ -34,6 +37,11 @@ pub refused_both : {X : Type 0} (o : Option Refusal) (given : Refusal) → permi
 refused_both None given e r = (λ h. cc, λ h. cc)
 refused_both (Some x) given e r = let same : x ≡ given = cc in
     (λ h. let one : x ≡ r = cc in ap (λ y. Err (Refused y)) (sym same ∙ one), λ h. let one : given ≡ r = cc in ap (λ y. Some y) (same ∙ one))
+
+-- what stands in the way counts only where the policy allows what is asked
+pub policy_first : (verdict : Verdict) (found held : Option Refusal) → ((rule : Rule) → verdict ≡ Ok rule → found ≡ held) → option_or (unless_allowed verdict) found ≡ option_or (unless_allowed verdict) held
+policy_first (Ok rule) found held same = same rule refl
+policy_first (Err r) found held same = refl
 
 -- ---- the registry knows whom a credential names
 

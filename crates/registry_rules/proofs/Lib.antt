@@ -6,6 +6,7 @@ pub mod LawFacts
 pub mod MadeFacts
 pub mod OtherFacts
 pub mod PublishedFacts
+pub mod SeenFacts
 pub mod SoundFacts
 pub mod SoundSteps
 pub mod WithdrawnFacts

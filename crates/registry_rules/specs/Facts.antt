@@ -1,11 +1,12 @@
 -- When what a decision rests on is what the registry holds of a request.
-use Rattle.std.specs.Prelude.{◌≡◌, ℕ, Bool, List, map, Option, Some}
+use Rattle.std.specs.Prelude.{◌≡◌, ℕ, Bool, true, List, map, Option, Some}
 use Rattle.registry_names.specs.Maps.{at}
 use Rattle.registry_names.specs.Tags.{latest}
 use Rattle.registry_names.specs.Versions.{VersionParts, text_of_version}
 use Rattle.registry_names.specs.Texts.{Text}
 use Rattle.registry_access.specs.Agreement.{SameOrganisation}
-use Rattle.registry_access.specs.Positions.{has_organisation}
+use Rattle.registry_access.specs.Levels.{reads}
+use Rattle.registry_access.specs.Positions.{has_organisation, level_in}
 use Rattle.registry_access.specs.RowMaps.{state_of}
 use Rattle.registry_access.specs.RowsFor as access
 use Rattle.registry_access.specs.declared.standing.Standing.{Standing}
@@ -28,6 +29,11 @@ use Rattle.registry_rules.specs.declared.request.Request.{Request}
 -- the standing says of the caller and the package what the registry holds
 abbrev pub TellsOf : Standing → State → Caller → Text → Type 0
 TellsOf standing S who p = access.StandsFor standing S.access who p
+
+-- What is told of a package to one who asks to see it: how he stands to it, and, where he reads it, what the registry holds of it. To one who doesn't read it anything may be told, since the policy turns him away
+pub record AreSeenFacts (standing : Standing) (told held : Bool) (S : State) (who : Caller) (p : Text) : Type 0 where
+  pub standing_tells : TellsOf standing S who p
+  pub found : reads (level_in S.access who p) ≡ true → told ≡ held
 
 pub record ArePublishFacts (facts : PublishFacts) (S : State) (who : Caller) (f : FormParts) : Type 0 where
   pub standing : TellsOf facts.standing S who f.name
@@ -113,10 +119,10 @@ StandsAbout (about.TagSet standing version_lives tag_stands) S who (TagSet p t v
 StandsAbout (about.TagRemove standing tag_stands) S who (TagRemove p t) = TellsOf standing S who p × (tag_stands ≡ stands S p t)
 StandsAbout (about.Withdraw standing published depended tags live) S who (Withdraw p v) = AreWithdrawFacts standing published depended tags.items live.items S who p v
 StandsAbout (about.Deprecate standing live) S who (Deprecate p selector message) = TellsOf standing S who p × (map text_of_version live.items ≡ live_versions S p)
-StandsAbout (about.Version standing found) S who (VersionDoc p asked) = TellsOf standing S who p × (found ≡ lives S p (asked_version S p asked))
-StandsAbout (about.Version standing found) S who (Archive p v) = TellsOf standing S who p × (found ≡ is_live S p (text_of_version v))
-StandsAbout (about.Package standing found) S who (Packument p) = TellsOf standing S who p × (found ≡ has_live S p)
-StandsAbout (about.Package standing found) S who (Tags p) = TellsOf standing S who p × (found ≡ has_live S p)
+StandsAbout (about.Version standing found) S who (VersionDoc p asked) = AreSeenFacts standing found (lives S p (asked_version S p asked)) S who p
+StandsAbout (about.Version standing found) S who (Archive p v) = AreSeenFacts standing found (is_live S p (text_of_version v)) S who p
+StandsAbout (about.Package standing found) S who (Packument p) = AreSeenFacts standing found (has_live S p) S who p
+StandsAbout (about.Package standing found) S who (Tags p) = AreSeenFacts standing found (has_live S p) S who p
 StandsAbout (about.Organisation rows) S who (Members o) = SayOf rows S who o
 StandsAbout (about.Organisation rows) S who (Teams o) = SayOf rows S who o
 StandsAbout (about.Team rows exists) S who (TeamMembers o t) = SayOf rows S who o × (exists ≡ has_team S o t)

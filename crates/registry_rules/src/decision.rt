@@ -5,6 +5,7 @@ ghost use Rattle.registry_rules.specs.Actions.{is_command};
 ghost use Rattle.registry_rules.specs.Changes.{change_of};
 ghost use Rattle.registry_rules.specs.Effects.{effects, effects_of};
 ghost use Rattle.registry_rules.specs.Facts.{StandsAbout, StandsFor};
+ghost use Rattle.registry_rules.specs.Permissions.{permission};
 ghost use Rattle.registry_rules.specs.Refusals as spec;
 ghost use Rattle.registry_rules.specs.Refusals.{permitted, refusal};
 ghost use Rattle.registry_rules.specs.State.{State};
@@ -87,9 +88,10 @@ fn unless_allowed(verdict: Result<Rule, Refusal>) -> Option<Refusal>
     verdict.err()
 }
 
-// Why what an action asks for can't be had, whoever asks.
+// Why what an action asks for can't be had, whoever asks of those to whom a rule allows it.
 fn state_refusal(about: &About, action: &Action, now: &Moment) -> Option<Refusal>
-    ensures { (S : State) (who : Caller) → StandsAbout about.now S who action.now
+    ensures { (S : State) (who : Caller) (rule : Rule) → StandsAbout about.now S who action.now
+        → permission S.access who action.now ≡ Ok rule
         → result ≡ spec.state_refusal S now.now action.now }
 {
     match (about, action) {
@@ -192,10 +194,10 @@ fn state_refusal(about: &About, action: &Action, now: &Moment) -> Option<Refusal
             Action::Withdraw { .. },
         ) => { withdraw_refusal(*published, *depended, now) }
         (About::Deprecate { .. }, Action::Deprecate { .. }) => None,
-        (About::Version { lives, .. }, Action::VersionDoc { .. } | Action::Archive { .. })
-        | (About::Package { lives, .. }, Action::Packument { .. } | Action::Tags { .. }) => {
-            unless_there(*lives)
-        }
+        (About::Version { lives, .. }, Action::VersionDoc { .. }) => unless_there(*lives),
+        (About::Version { lives, .. }, Action::Archive { .. }) => unless_there(*lives),
+        (About::Package { lives, .. }, Action::Packument { .. }) => unless_there(*lives),
+        (About::Package { lives, .. }, Action::Tags { .. }) => unless_there(*lives),
         _ => Some(Refusal::NotFound),
     }
 }

@@ -187,14 +187,14 @@ pub enum About {
     Version {
         /// The caller and the package.
         standing: Standing,
-        /// Whether it lives.
+        /// Whether it lives. Of what the caller doesn't read anything may be told.
         lives: bool,
     },
     /// Of a query about a package.
     Package {
         /// The caller and the package.
         standing: Standing,
-        /// Whether a version of it lives.
+        /// Whether a version of it lives. Of what the caller doesn't read anything may be told.
         lives: bool,
     },
 }

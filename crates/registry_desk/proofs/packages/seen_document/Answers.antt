@@ -4,9 +4,17 @@ use Rattle.sqlite.specs.State.{HasCleanDisk}
 use Rattle.registry_rows.proofs.QuietFacts.{reads_then}
 use Rattle.registry_rules.specs.State.{asked_version, lives}
 use Rattle.registry_tables.specs.Contents.{contents, registry_of}
-use Rattle.registry_tables.specs.Effects.{shown}
+use Rattle.registry_tables.specs.Effects.{shown, stored_in}
 use Rattle.registry_tables.specs.Schema.{schema}
+use Rattle.registry_desk.proofs.SeenFacts.{seen, unread}
 use Rattle.registry_desk.proofs.packages.seen_document.Goals as goal
+
+pub returns-then-not-reads-clause-tells : goal.returns-then-not-reads-clause-tells
+returns-then-not-reads-clause-tells g c clean =
+    let stands = c.in_ok-standing.ensures.tells clean in (
+      stands.0,
+      λ sound. unread (registry_of (stored_in g.S.Store c.args.tx.now)) c.args.caller.now c.args.name.now _ _ _ (stands.1 sound) _ (c.reads.ensures _ _ (stands.1 sound)) c.if-not-reads.true,
+    )
 
 pub returns-clause-tells : goal.returns-clause-tells
 returns-clause-tells g c clean =
@@ -16,5 +24,5 @@ returns-clause-tells g c clean =
     let stands = c.in_ok-standing.ensures.tells were in
     let found = c.in_ok-lives.ensures.tells clean in (
       reads_then schema (shown g.S.Store c.args.tx.now) mid (shown g.S.Store c.asked_lives.new.tx) stands.0 found.0,
-      λ sound. (stands.1 sound, found.1 ∙ ap (λ (d : Database). lives (registry_of (contents d.trees)) p (asked_version (registry_of (contents d.trees)) p c.args.version.now)) stands.0.same),
+      λ sound. seen (registry_of (stored_in g.S.Store c.args.tx.now)) c.args.caller.now p _ _ _ (stands.1 sound) (found.1 ∙ ap (λ (d : Database). lives (registry_of (contents d.trees)) p (asked_version (registry_of (contents d.trees)) p c.args.version.now)) stands.0.same),
     )
