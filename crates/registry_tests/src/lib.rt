@@ -30,6 +30,8 @@ mod server;
 #[cfg(test)]
 mod talk;
 #[cfg(test)]
+mod texts;
+#[cfg(test)]
 mod wire;
 #[cfg(test)]
 mod words;
