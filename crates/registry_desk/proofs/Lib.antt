@@ -3,5 +3,6 @@ mod KeepingFacts
 mod MakingFacts
 mod OpenedFacts
 mod SettlingFacts
+mod ShelfFacts
 pub mod AnswerFacts
 pub mod StoredFacts

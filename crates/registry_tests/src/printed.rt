@@ -6,6 +6,7 @@ use registry_cli::spelling::{level, role, status};
 use registry_cli::{Printed, render};
 use registry_names::{Blob, Fault, Refusal, Rule, Status, Text};
 use registry_rules::Reply;
+use registry_texts::SharedText;
 use std::alloc::Global;
 use std::test::Fail;
 
@@ -30,7 +31,7 @@ fn answers_are_printed(rt: HostRuntime) -> Result<(), Fail> {
     is_printed(alloc, Reply::Done, printed(alloc, ok, "", 0)?)?;
     let counted = "{\"count\":12,\"ok\":true}\n".as_bytes();
     is_printed(alloc, Reply::Count(12), printed(alloc, counted, "", 0)?)?;
-    let document = Text::from_str(alloc, "{\"latest\":\"1.0.0\"}")?;
+    let document = SharedText::from_str(alloc, "{\"latest\":\"1.0.0\"}")?;
     is_printed(
         alloc,
         Reply::Doc(document),

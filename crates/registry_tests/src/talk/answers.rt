@@ -1,9 +1,10 @@
 //! What outcomes are in HTTP.
 
 use crate::outcome::same;
-use registry_names::{Blob, Fault, Refusal, Rule, Text, ToWrite};
+use registry_names::{Blob, Fault, Refusal, Rule, ToWrite};
 use registry_rules::Reply;
 use registry_talk::Answer;
+use registry_texts::SharedText;
 use registry_wire::write_response;
 use std::alloc::Global;
 use std::str;
@@ -46,7 +47,7 @@ fn outcomes_are_responses(rt: HostRuntime) -> Result<(), Fail> {
     )?;
     is_sent(
         alloc,
-        Ok(Reply::Doc(Text::from_str(alloc, "{\"latest\":\"1.0.0\"}")?)),
+        Ok(Reply::Doc(SharedText::from_str(alloc, "{\"latest\":\"1.0.0\"}")?)),
         false,
         "HTTP/1.1 200 OK\r\ncontent-type: application/json\r\ncontent-length: 18\r\n\r\n{\"latest\":\"1.0.0\"}",
     )?;
