@@ -217,6 +217,14 @@ class Publication:
         }
         self.body = json.dumps(body, separators=(',', ':')).encode()
 
+    def spoiled(self):
+        """The same body with the integrity of another archive: it is read whole, and then refused."""
+        return self.body.replace(integrity_of(self.archive).encode(), integrity_of(b'').encode())
+
+
+def integrity_of(archive):
+    return 'sha512-' + base64.b64encode(hashlib.sha512(archive).digest()).decode()
+
 
 def needs_of(name):
     """Seven names, others for each package, that nobody publishes."""
@@ -236,7 +244,7 @@ def manifest(name, version, archive, needs):
         'dependencies': {need: '^1.2.0' for need in needs},
         '_id': f'{name}@{version}', '_nodeVersion': '20.20.2', '_npmVersion': '10.8.2',
         'dist': {
-            'integrity': 'sha512-' + base64.b64encode(hashlib.sha512(archive).digest()).decode(),
+            'integrity': integrity_of(archive),
             'shasum': hashlib.sha1(archive).hexdigest(),
             'tarball': f'http://localhost:8080/{name}/-/{name}-{version}.tgz',
         },
