@@ -10,9 +10,9 @@ BODY := $(EXAMPLE)
 .PHONY: help try run build bench measure npm kill test examples check fmt kit
 
 help:
-	@echo 'make try    run the program before any proof: 2 minutes, and nothing is proved'
+	@echo 'make try    run the program before any proof: some minutes, and nothing is proved'
 	@echo 'make run    prove and build the program, publish $(BODY)'
-	@echo '            to an empty registry, and print its packument: 20 minutes at first'
+	@echo '            to an empty registry, and print its packument: half an hour to an hour at first'
 	@echo 'make build  the same, but for the publish: leave the program as out/registry'
 	@echo 'make test   the gate: prove every crate from nothing, and run every test: an hour or more'
 	@echo 'make check  prove every crate over what earlier checks kept'
