@@ -7,7 +7,7 @@ EXAMPLE := examples/lab-kit-1.0.0.publish.json
 PACKUMENT := examples/lab-kit-1.0.0.packument.json
 BODY := $(EXAMPLE)
 
-.PHONY: help try run build bench measure npm kill test examples check fmt kit
+.PHONY: help try run build bench measure limits npm kill files test examples check fmt kit
 
 help:
 	@echo 'make try    run the program before any proof: some minutes, and nothing is proved'
@@ -18,6 +18,8 @@ help:
 	@echo 'make check  prove every crate over what earlier checks kept'
 	@echo 'make npm    the stock npm client publishes and installs over out/registry: a minute'
 	@echo 'make kill   kill a server 500 times while versions are published: 6 minutes'
+	@echo 'make files  fill a disk by publishes, and lay what is no registry in its place'
+	@echo 'make limits  try the limits of connections to out/registry: a minute and a half'
 	@echo 'make bench  print how long requests and the reading of bodies take'
 	@echo 'make measure  print how fast out/registry serves beside a server of files, and keeps'
 	@echo '            what is published beside SQLite: 10 minutes on a quiet machine'
@@ -54,6 +56,12 @@ npm: out/registry
 
 kill: out/registry
 	@examples/kill.sh out/registry
+
+files: out/registry
+	@examples/refused_files.sh out/registry
+
+limits: out/registry
+	@tools/measure_limits --program out/registry
 
 measure: out/registry
 	@echo 'measuring the program out/registry: this is no part of the gate' >&2

@@ -1,0 +1,273 @@
+#!/bin/sh
+# What a full disk leaves, and files from which no registry opens.
+#
+#     examples/refused_files.sh [PROGRAM]
+#
+# PROGRAM is out/registry where it is left out. A disk of 2 MB is filled by publishes until one is
+# answered by a fault, first by the program's words and then over HTTP: once there is room again the
+# file must open, and have each version whose publish was answered with its archive, and no other
+# one. Then files lie in the registry's place that are none, or may not be written: each line must
+# say so, as docs/WORDS.md has it, and leave every byte. What can't be had here is left out, with a
+# word: the disk needs root and mount, a file that may not be written setpriv or su where root runs
+# it, another program's file python3. The status is 0 where all else came out. It needs curl,
+# sha512sum and base64.
+set -eu
+
+top=$(cd "$(dirname "$0")/.." && pwd)
+program=$(realpath "${1:-$top/out/registry}")
+work=$(mktemp -d)
+disk=$work/disk
+mounted=
+server=
+
+finish() {
+    status=$?
+    if [ -n "$server" ]; then kill "$server" 2>/dev/null || true; wait "$server" 2>/dev/null || true; fi
+    if [ "$status" -ne 0 ]; then
+        echo "refused_files.sh: failed; what was said last:" >&2
+        cat "$work/out" "$work/errors" >&2 || true
+    fi
+    if [ -n "$mounted" ]; then umount "$disk"; fi
+    rm -rf "$work"
+    exit "$status"
+}
+trap finish EXIT
+trap 'exit 130' INT
+trap 'exit 143' TERM
+
+say() { printf '%s\n' "$*"; }
+fail() { say "refused_files.sh: $*" >&2; exit 1; }
+asks() { "$program" --db "$@" > "$work/out" 2> "$work/errors"; }
+must() { asks "$@" || fail "$* ended with $?"; }
+ask() { curl -s -H 'authorization: Bearer npm_bob_000000001' -H 'expect:' "$@"; }
+
+[ -x "$program" ] || fail "there is no program $program: make build proves and builds it"
+: > "$work/out"
+: > "$work/errors"
+
+# The archive of a version, of 100,000 bytes, and the body that publishes it.
+write_body() {
+    head -c 100000 /dev/urandom > "$work/$1.tgz"
+    {
+        printf '{"name":"kit","versions":{"%s":{"name":"kit","version":"%s"}},' "$1" "$1"
+        printf '"_attachments":{"kit-%s.tgz":{"data":"' "$1"
+        base64 -w 0 < "$work/$1.tgz"
+        printf '"}}}'
+    } > "$work/body"
+}
+
+# A registry with the user bob and his token.
+begin() {
+    must "$1" --operator user-add bob
+    must "$1" --operator token-add bob npm_bob_000000001
+}
+
+serve() {
+    port=$((20000 + $(od -An -N2 -tu2 /dev/urandom) % 20000))
+    : > "$work/server"
+    "$program" --db "$1" serve --port "$port" > "$work/server" 2>&1 &
+    server=$!
+    for _ in $(seq 1 300); do
+        if grep -q listening "$work/server"; then return 0; fi
+        if ! kill -0 "$server" 2>/dev/null; then break; fi
+        sleep 0.1
+    done
+    fail "the server does not listen: $(cat "$work/server")"
+}
+
+stop() {
+    kill "$server"
+    wait "$server" 2>/dev/null || true
+    server=
+}
+
+# ---- a full disk
+
+# Publishes by words until that fails.
+fill_by_words() {
+    begin "$db"
+    while :; do
+        version=1.0.$((1 + $(wc -l < "$work/answered")))
+        write_body "$version"
+        if ! asks "$db" --as bob publish "$work/body"; then break; fi
+        echo "$version" >> "$work/answered"
+    done
+    [ "$(head -n 1 "$work/errors")" = 'fault: Database' ] || fail "a full disk is told by $(cat "$work/errors")"
+    say "  $(wc -l < "$work/answered") publishes by words were answered, and then: $(paste -s -d ' ' "$work/errors")"
+    if asks "$db" tags kit; then
+        say "  the file opens on the full disk, too: $(cat "$work/out")"
+    else
+        [ "$(paste -s -d ' ' "$work/errors")" = 'fault: Database the disk is full' ] || fail "an open then is told by $(cat "$work/errors")"
+        say "  an open on the full disk: $(paste -s -d ' ' "$work/errors")"
+    fi
+}
+
+# Publishes over HTTP until that fails.
+fill_by_server() {
+    begin "$db"
+    serve "$db"
+    while :; do
+        version=1.0.$((1 + $(wc -l < "$work/answered")))
+        write_body "$version"
+        status=$(ask -o "$work/out" -w '%{http_code}' -X PUT --data-binary "@$work/body" "http://127.0.0.1:$port/kit")
+        if [ "$status" != 201 ]; then break; fi
+        echo "$version" >> "$work/answered"
+    done
+    [ "$status $(cat "$work/out")" = '500 {"error":"Database"}' ] || fail "a full disk is told by $status, $(cat "$work/out")"
+    say "  $(wc -l < "$work/answered") publishes over HTTP were answered, and then: $status $(cat "$work/out")"
+    status=$(ask -o "$work/out" -w '%{http_code}' "http://127.0.0.1:$port/-/package/kit/dist-tags")
+    say "  a query of the server behind that: $status $(cat "$work/out")"
+    stop
+}
+
+# Whether the registry has just the versions that were answered, with their archives.
+has_what_was_answered() {
+    must "$db" packument kit
+    grep -o '"version":"[^"]*"' "$work/out" | cut -d '"' -f 4 | sort > "$work/there"
+    sort "$work/answered" | cmp -s - "$work/there" || fail "answered: $(paste -s -d ' ' "$work/answered"); there: $(paste -s -d ' ' "$work/there")"
+    while read -r version; do
+        must "$db" archive kit "$version"
+        cmp -s "$work/out" "$work/$version.tgz" || fail "the archive of $version is another"
+    done < "$work/there"
+}
+
+full_disk() {
+    mkdir "$disk"
+    if ! mount -t tmpfs -o size=2m tmpfs "$disk" 2> /dev/null; then
+        rmdir "$disk"
+        say 'left out: a full disk, which only root may make, where mount is allowed'
+        return 0
+    fi
+    mounted=yes
+    say 'a disk of 2 MB'
+    db=$disk/registry.db
+    : > "$work/answered"
+    "$1"
+    mount -o remount,size=16m "$disk"
+    has_what_was_answered
+    write_body 2.0.0
+    must "$db" --as bob publish "$work/body"
+    echo 2.0.0 >> "$work/answered"
+    has_what_was_answered
+    say "  with room again all of it is there, and no more, and a publish is answered"
+    umount "$disk"
+    mounted=
+    rmdir "$disk"
+}
+
+full_disk fill_by_words
+full_disk fill_by_server
+
+# ---- files from which no registry opens
+
+mkdir "$work/lies"
+db=$work/lies/registry.db
+
+# A query, a command and a server each end in these two lines, and what lies there is as it was.
+is_refused() {
+    sum=$(sums)
+    for words in 'tags kit' '--operator user-add eve' 'serve'; do
+        # shellcheck disable=SC2086
+        if "$@" --db "$db" $words > "$work/out" 2> "$work/errors"; then status=0; else status=$?; fi
+        [ "$status" -eq 3 ] || fail "$what: $words ended with $status"
+        [ ! -s "$work/out" ] || fail "$what: $words printed something"
+        printf 'fault: Database\n%s\n' "$second" | cmp -s - "$work/errors" || fail "$what: $words said $(cat "$work/errors")"
+    done
+    [ "$(sums)" = "$sum" ] || fail "$what: its bytes are others"
+    say "$what: fault: Database, $second"
+}
+
+# The sum of the file, and of the log beside it where one lies there; of a folder what is in it.
+sums() {
+    if [ -d "$db" ]; then ls -a "$db"; else sha512sum < "$db"; fi
+    if [ "${log:-}" ]; then sha512sum < "$db-wal"; fi
+}
+
+# A registry with some versions. A query has put into the file what the log had: the file by itself
+# must open, or what is made of it below shows nothing.
+made=$work/made.db
+begin "$made"
+for number in 1 2 3 4 5; do
+    write_body "1.0.$number"
+    must "$made" --as bob publish "$work/body"
+done
+must "$made" tags kit
+cp "$made" "$db"
+must "$db" tags kit
+[ "$(cat "$work/out")" = '{"latest":"1.0.1"}' ] || [ "$(cat "$work/out")" = '{"latest":"1.0.5"}' ] || fail "the copy has the tags $(cat "$work/out")"
+
+lay() { rm -rf "$db" "$db-wal"; what=$1; second=$2; }
+foreign="the file holds no registry, or was changed by another hand"
+unreachable="the registry's file can't be opened or written"
+
+lay 'a folder' "$unreachable"
+mkdir "$db"
+is_refused "$program"
+
+lay 'a text' "$foreign"
+echo 'a text, and no registry' > "$db"
+is_refused "$program"
+
+if command -v python3 > /dev/null; then
+    lay "another program's file" "$foreign"
+    python3 -c 'import sqlite3, sys
+conn = sqlite3.connect(sys.argv[1])
+conn.execute("CREATE TABLE note (title TEXT)")
+conn.commit()
+conn.close()' "$db"
+    is_refused "$program"
+else
+    say "left out: another program's file, which python3 makes"
+fi
+
+lay 'half of a registry' "$foreign"
+head -c "$(($(wc -c < "$made") / 2))" "$made" > "$db"
+is_refused "$program"
+
+# Byte 24, which counts what was written: it is another one, whatever it was.
+lay 'a byte of its head is another' "$foreign"
+cp "$made" "$db"
+byte=$(od -An -tu1 -j 24 -N 1 "$db")
+# shellcheck disable=SC2059
+printf "\\$(printf '%03o' $((byte ^ 90)))" | dd of="$db" bs=1 seek=24 conv=notrunc 2> /dev/null
+is_refused "$program"
+
+# ---- a registry that another process has, or that may not be written
+
+lay 'a registry that a server has' "another process has the registry's file"
+cp "$made" "$db"
+serve "$db"
+log=yes
+is_refused "$program"
+log=
+stop
+
+# As nobody where root runs this, who may write any file, and else as whoever runs it.
+as_nobody=
+if [ "$(id -u)" -ne 0 ]; then
+    as_nobody='env'
+elif command -v setpriv > /dev/null; then
+    as_nobody='setpriv --reuid=65534 --regid=65534 --clear-groups --'
+elif command -v su > /dev/null; then
+    as_nobody='su -s /usr/bin/env nobody --'
+fi
+cp "$program" "$work/registry"
+chmod 755 "$work" "$work/registry" "$work/lies"
+# shellcheck disable=SC2086
+if [ -n "$as_nobody" ] && $as_nobody "$work/registry" --help < /dev/null 2>&1 | grep -q withdraw; then
+    lay 'a registry that may not be written' "$unreachable"
+    cp "$made" "$db"
+    must "$db" tags kit
+    if [ "$(id -u)" -eq 0 ]; then chown -R 65534:65534 "$work/lies"; fi
+    chmod 444 "$db"
+    log=yes
+    # shellcheck disable=SC2086
+    is_refused $as_nobody "$work/registry"
+    log=
+    chmod 644 "$db"
+    must "$db" tags kit
+    say '  once it may be written, it opens'
+else
+    say 'left out: a file that may not be written, for which root needs setpriv or su'
+fi
+say 'all of it came out as it should'
