@@ -140,6 +140,6 @@ rm -rf "$work/ann.cache"
 begin=$(milliseconds)
 # shellcheck disable=SC2086
 as ann "$work/large" install --prefer-online $names
-say "ann installed 50 packages in one command, from a clean cache, in $(($(milliseconds) - begin)) ms"
+say "ann installed 50 packages in one command, from a clean cache, in $(($(milliseconds) - begin)) ms (wanted on a quiet machine: under 3000)"
 [ "$(find "$work/large/node_modules" -maxdepth 1 -name 'part-*' | wc -l)" -eq 50 ] || fail 'some of the 50 are missing'
 say 'all of it came out as it should'
