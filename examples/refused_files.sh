@@ -10,7 +10,7 @@
 # say so, as docs/WORDS.md has it, and leave every byte. What can't be had here is left out, with a
 # word: the disk needs root and mount, a file that may not be written setpriv or su where root runs
 # it, another program's file python3. The status is 0 where all else came out. It needs curl,
-# sha512sum and base64.
+# sha512sum, base64 and timeout.
 set -eu
 
 top=$(cd "$(dirname "$0")/.." && pwd)
@@ -163,12 +163,13 @@ full_disk fill_by_server
 mkdir "$work/lies"
 db=$work/lies/registry.db
 
-# A query, a command and a server each end in these two lines, and what lies there is as it was.
+# A query, a command and a server each end in these two lines, and what lies there is as it was. A
+# server that opened it would go on, and is stopped.
 is_refused() {
     sum=$(sums)
     for words in 'tags kit' '--operator user-add eve' 'serve'; do
         # shellcheck disable=SC2086
-        if "$@" --db "$db" $words > "$work/out" 2> "$work/errors"; then status=0; else status=$?; fi
+        if timeout 60 "$@" --db "$db" $words > "$work/out" 2> "$work/errors"; then status=0; else status=$?; fi
         [ "$status" -eq 3 ] || fail "$what: $words ended with $status"
         [ ! -s "$work/out" ] || fail "$what: $words printed something"
         printf 'fault: Database\n%s\n' "$second" | cmp -s - "$work/errors" || fail "$what: $words said $(cat "$work/errors")"
@@ -194,7 +195,7 @@ done
 must "$made" tags kit
 cp "$made" "$db"
 must "$db" tags kit
-[ "$(cat "$work/out")" = '{"latest":"1.0.1"}' ] || [ "$(cat "$work/out")" = '{"latest":"1.0.5"}' ] || fail "the copy has the tags $(cat "$work/out")"
+[ "$(cat "$work/out")" = '{"latest":"1.0.5"}' ] || fail "the copy has the tags $(cat "$work/out")"
 
 lay() { rm -rf "$db" "$db-wal"; what=$1; second=$2; }
 foreign="the file holds no registry, or was changed by another hand"
