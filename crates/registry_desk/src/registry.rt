@@ -90,8 +90,9 @@ impl<S: Alter> Registry<S> {
     ///
     /// What is said here holds as long as the disk returns what was written to it, which memory
     /// always does; and of a registry where what stands refers to what is there, and the needs that
-    /// are stored are those of live versions, as in a new one: every request keeps that. A crash leaves what it could have left before, or, once the
-    /// commit was reached, what the request makes; after a reply that alone.
+    /// are stored are those of live versions, as in a new one: every request keeps that. A crash
+    /// leaves what it could have left before, or, once the commit was reached, what the request
+    /// makes; after a reply that alone.
     pub fn apply(&mut self, alloc: Global, request: &Request) -> Result<Reply, Fault>
         ensures answer { Answered (state S.Store self.old) (state S.Store self.new)
             request.now result }

@@ -53,7 +53,7 @@ created (e ∷ h) o = creates e.what o || created h o
 
 -- ---- roles
 
--- The role that a command gives a user in an organisation: who creates one is given as its owner
+-- The role that a command gives a user in an organisation: with whom it is created is its owner
 abbrev pub gives_role : Action → Text → Text → Option Role
 gives_role (OrgCreate q v) o u = if is q o && is v u then Some Owner else None
 gives_role (OrgSet q v r) o u = if is q o && is v u then Some r else None
