@@ -1,5 +1,6 @@
 mod CommitFacts
 mod KeepingFacts
+mod LoadedFacts
 mod MakingFacts
 mod OpenedFacts
 mod SettlingFacts

@@ -2,12 +2,25 @@ use Rattle.std.proofs.Common.{◌∙◌, arith, ap}
 use Rattle.sqlite.specs.Effect.{Database}
 use Rattle.sqlite.specs.State.{HasCleanDisk}
 use Rattle.registry_names.specs.Versions.{text_of_version}
-use Rattle.registry_rows.proofs.QuietFacts.{reads_then}
+use Rattle.registry_rows.proofs.QuietFacts.{reads_then, stays_then}
 use Rattle.registry_rules.specs.Withdrawals.{live_versions, published_at, tags_of}
 use Rattle.registry_tables.specs.Contents.{contents, registry_of}
 use Rattle.registry_tables.specs.Effects.{shown}
 use Rattle.registry_tables.specs.Schema.{schema}
+use Rattle.registry_desk.proofs.LoadedFacts.{three_stay, four_stay}
 use Rattle.registry_desk.proofs.withdrawals.find_life.Goals as goal
+
+pub returns-in_err-published-clause-stays : goal.returns-in_err-published-clause-stays
+returns-in_err-published-clause-stays g c = stays_then g.S.Store c.args.tx.now c.is_depended.new.tx c.load_published.new.tx c.is_depended.ensures.stays c.load_published.ensures.stays
+
+pub returns-in_err-tags-clause-stays : goal.returns-in_err-tags-clause-stays
+returns-in_err-tags-clause-stays g c = three_stay g.S.Store c.args.tx.now c.is_depended.new.tx c.load_published.new.tx c.load_version_tags.new.tx c.is_depended.ensures.stays c.load_published.ensures.stays c.load_version_tags.ensures.stays
+
+pub returns-in_err-live-clause-stays : goal.returns-in_err-live-clause-stays
+returns-in_err-live-clause-stays g c = four_stay g.S.Store c.args.tx.now c.is_depended.new.tx c.load_published.new.tx c.load_version_tags.new.tx c.load_live.new.tx c.is_depended.ensures.stays c.load_published.ensures.stays c.load_version_tags.ensures.stays c.load_live.ensures.stays
+
+pub returns-clause-stays : goal.returns-clause-stays
+returns-clause-stays g c = four_stay g.S.Store c.args.tx.now c.is_depended.new.tx c.load_published.new.tx c.load_version_tags.new.tx c.load_live.new.tx c.is_depended.ensures.stays c.load_published.ensures.stays c.load_version_tags.ensures.stays c.load_live.ensures.stays
 
 pub returns-clause-tells : goal.returns-clause-tells
 returns-clause-tells g c clean =
