@@ -5,12 +5,18 @@ use Rattle.sqlite.specs.State.{HasCleanDisk}
 use Rattle.registry_names.specs.Maps.{at}
 use Rattle.registry_names.specs.Tags.{latest}
 use Rattle.registry_names.specs.Texts.{Text}
-use Rattle.registry_rows.proofs.QuietFacts.{reads_then}
+use Rattle.registry_rows.proofs.QuietFacts.{reads_then, stays_then}
 use Rattle.registry_tables.specs.Contents.{contents, live_of}
 use Rattle.registry_tables.specs.Effects.{shown, stored_in}
 use Rattle.registry_tables.specs.Schema.{schema}
 use Rattle.registry_tables.specs.Spelled.{document}
 use Rattle.registry_desk.proofs.rows.load_latest.Goals as goal
+
+pub returns-in_err-document-in-Some-clause-stays : goal.returns-in_err-document-in-Some-clause-stays
+returns-in_err-document-in-Some-clause-stays g c = stays_then g.S.Store c.args.tx.now c.load_tag.new.tx c.load_document.new.tx c.load_tag.ensures.stays c.load_document.ensures.stays
+
+pub returns-in_ok-document-in-Some-clause-stays : goal.returns-in_ok-document-in-Some-clause-stays
+returns-in_ok-document-in-Some-clause-stays g c = stays_then g.S.Store c.args.tx.now c.load_tag.new.tx c.load_document.new.tx c.load_tag.ensures.stays c.load_document.ensures.stays
 
 pub returns-in_ok-document-in-Some-clause-tells : goal.returns-in_ok-document-in-Some-clause-tells
 returns-in_ok-document-in-Some-clause-tells g c clean =

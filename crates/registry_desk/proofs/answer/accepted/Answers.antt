@@ -1,0 +1,8 @@
+use Rattle.registry_rows.proofs.QuietFacts.{stays_then}
+use Rattle.registry_desk.proofs.answer.accepted.Goals as goal
+
+pub returns-in_err-make_all-clause-stays : goal.returns-in_err-make_all-clause-stays
+returns-in_err-make_all-clause-stays g c = stays_then g.S.Store c.args.tx.now c.reply_to.new.tx c.make_all.new.tx c.reply_to.ensures.stays c.make_all.ensures.stays
+
+pub returns-clause-stays : goal.returns-clause-stays
+returns-clause-stays g c = stays_then g.S.Store c.args.tx.now c.reply_to.new.tx c.make_all.new.tx c.reply_to.ensures.stays c.make_all.ensures.stays
