@@ -1,6 +1,19 @@
-use Rattle.registry_rows.proofs.QuietFacts.{stays_then}
+use Rattle.std.proofs.Common.{◌∙◌, arith, ap, is_some}
+use Rattle.sqlite.specs.Effect.{Database}
+use Rattle.sqlite.specs.State.{HasCleanDisk}
+use Rattle.registry_rows.proofs.QuietFacts.{stays_then, reads_then}
+use Rattle.registry_rules.specs.State.{has_grant, is_published, stands}
+use Rattle.registry_tables.specs.Contents.{contents, registry_of}
+use Rattle.registry_tables.specs.Effects.{shown}
+use Rattle.registry_tables.specs.Schema.{schema}
 use Rattle.registry_desk.proofs.LoadedFacts.{three_stay}
 use Rattle.registry_desk.proofs.grants.find_grantable.Goals as goal
+
+pub load_status-requires : goal.load_status-requires
+load_status-requires g c = record { in_form = λ clean on. (c.in_ok-has_team.ensures.tells clean).0.ready }
+
+pub has_grant-requires : goal.has_grant-requires
+has_grant-requires g c = record { in_form = λ clean on. (c.in_ok-load_status.ensures.tells clean).0.ready }
 
 pub returns-in_err-load_status-clause-stays : goal.returns-in_err-load_status-clause-stays
 returns-in_err-load_status-clause-stays g c = stays_then g.S.Store c.args.tx.now c.has_team.new.tx c.load_status.new.tx c.has_team.ensures.stays c.load_status.ensures.stays
@@ -10,3 +23,22 @@ returns-in_err-has_grant-clause-stays g c = three_stay g.S.Store c.args.tx.now c
 
 pub returns-clause-stays : goal.returns-clause-stays
 returns-clause-stays g c = three_stay g.S.Store c.args.tx.now c.has_team.new.tx c.load_status.new.tx c.has_grant.new.tx c.has_team.ensures.stays c.load_status.ensures.stays c.has_grant.ensures.stays
+
+pub returns-clause-tells : goal.returns-clause-tells
+returns-clause-tells g c clean =
+    let was = shown g.S.Store c.args.tx.now in
+    let one = shown g.S.Store c.has_team.new.tx in
+    let two = shown g.S.Store c.load_status.new.tx in
+    let clean_two : HasCleanDisk two = omega (arith, c.has_grant.ensures.stays.survives.clean, clean) in
+    let clean_one : HasCleanDisk one = omega (arith, c.load_status.ensures.stays.survives.clean, clean_two) in
+    let there = c.in_ok-has_team.ensures.tells clean_one in
+    let status = c.in_ok-load_status.ensures.tells clean_two in
+    let grant = c.in_ok-has_grant.ensures.tells clean in
+    let to_two = reads_then schema was one two there.0 status.0 in (
+      reads_then schema was two (shown g.S.Store c.has_grant.new.tx) to_two grant.0,
+      record {
+        team_exists = there.1;
+        is_published = c.is_some.ensures ∙ ap is_some status.1 ∙ ap (λ (d : Database). is_published (registry_of (contents d.trees)) c.args.name.now) there.0.same;
+        stands = grant.1 ∙ ap (λ (d : Database). has_grant (registry_of (contents d.trees)) c.args.organisation.now c.args.team.now c.args.name.now) to_two.same;
+      },
+    )

@@ -2,11 +2,15 @@ use Rattle.std.proofs.Common.{arith, subst₂}
 use Rattle.sqlite.specs.Effect.{Database}
 use Rattle.registry_names.specs.Texts.{Text}
 use Rattle.registry_rows.proofs.QuietFacts.{reads_then, stays_then}
+use Rattle.registry_rules.specs.State.{stands}
 use Rattle.registry_tables.specs.Contents.{contents, registry_of}
 use Rattle.registry_tables.specs.Effects.{shown}
 use Rattle.registry_tables.specs.Schema.{schema}
 use Rattle.registry_desk.specs.Found.{IsLeaver}
 use Rattle.registry_desk.proofs.maintainers.old_maintainer.Goals as goal
+
+pub find_leaver-requires : goal.find_leaver-requires
+find_leaver-requires g c = record { in_form = λ clean on. (c.in_ok-standing.ensures.tells clean).0.ready }
 
 pub returns-in_err-leaver-clause-stays : goal.returns-in_err-leaver-clause-stays
 returns-in_err-leaver-clause-stays g c = stays_then g.S.Store c.args.tx.now c.load_standing.new.tx c.find_leaver.new.tx c.load_standing.ensures.stays c.find_leaver.ensures.stays

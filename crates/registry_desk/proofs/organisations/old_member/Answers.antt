@@ -12,6 +12,12 @@ use Rattle.registry_tables.specs.Schema.{schema}
 use Rattle.registry_desk.proofs.LoadedFacts.{three_stay}
 use Rattle.registry_desk.proofs.organisations.old_member.Goals as goal
 
+pub load_role-requires : goal.load_role-requires
+load_role-requires g c = record { in_form = λ clean on. (c.in_ok-load_access.ensures.tells clean).0.ready }
+
+pub has_other_owner-requires : goal.has_other_owner-requires
+has_other_owner-requires g c = record { in_form = λ clean on. (c.in_ok-load_role.ensures.tells clean).0.ready }
+
 pub returns-in_err-load_role-clause-stays : goal.returns-in_err-load_role-clause-stays
 returns-in_err-load_role-clause-stays g c = stays_then g.S.Store c.args.tx.now c.load_access.new.tx c.load_role.new.tx c.load_access.ensures.stays c.load_role.ensures.stays
 

@@ -1,6 +1,32 @@
-use Rattle.registry_rows.proofs.QuietFacts.{stays_then}
+use Rattle.std.proofs.Common.{◌∙◌, arith, ap, ap₂}
+use Rattle.sqlite.specs.Effect.{Database}
+use Rattle.sqlite.specs.State.{HasCleanDisk}
+use Rattle.registry_names.specs.Tags.{latest}
+use Rattle.registry_names.specs.Texts.{Text}
+use Rattle.registry_names.specs.Versions.{text_of_version}
+use Rattle.registry_rows.proofs.QuietFacts.{stays_then, reads_then}
+use Rattle.registry_rules.specs.State.{has_live, is_live, is_spent, stands}
+use Rattle.registry_rules.specs.Withdrawals.{last_withdrawal}
+use Rattle.registry_tables.specs.Contents.{contents, registry_of}
+use Rattle.registry_tables.specs.Effects.{shown}
+use Rattle.registry_tables.specs.Schema.{schema}
 use Rattle.registry_desk.proofs.LoadedFacts.{three_stay, four_stay, six_stay}
 use Rattle.registry_desk.proofs.packages.find_taken.Goals as goal
+
+pub is_spent-requires : goal.is_spent-requires
+is_spent-requires g c = record { in_form = λ clean on. (c.in_ok-has_version.ensures.tells clean).0.ready }
+
+pub has_tag-requires : goal.has_tag-requires
+has_tag-requires g c = record { in_form = λ clean on. (c.in_ok-is_spent.ensures.tells clean).0.ready }
+
+pub has_tag-requires-2 : goal.has_tag-requires-2
+has_tag-requires-2 g c = record { in_form = λ clean on. (c.in_ok-has_tag.ensures.tells clean).0.ready }
+
+pub has_live-requires : goal.has_live-requires
+has_live-requires g c = record { in_form = λ clean on. (c.in_ok-has_tag-2.ensures.tells clean).0.ready }
+
+pub load_last_withdrawal-requires : goal.load_last_withdrawal-requires
+load_last_withdrawal-requires g c = record { in_form = λ clean on. (c.in_ok-has_live.ensures.tells clean).0.ready }
 
 pub returns-in_err-is_spent-clause-stays : goal.returns-in_err-is_spent-clause-stays
 returns-in_err-is_spent-clause-stays g c = stays_then g.S.Store c.args.tx.now c.has_version.new.tx c.is_spent.new.tx c.has_version.ensures.stays c.is_spent.ensures.stays
@@ -23,3 +49,40 @@ pub returns-clause-stays : goal.returns-clause-stays
 returns-clause-stays g c =
     six_stay g.S.Store c.args.tx.now c.has_version.new.tx c.is_spent.new.tx c.has_tag.new.tx c.has_tag-2.new.tx c.has_live.new.tx c.load_last_withdrawal.new.tx
     c.has_version.ensures.stays c.is_spent.ensures.stays c.has_tag.ensures.stays c.has_tag-2.ensures.stays c.has_live.ensures.stays c.load_last_withdrawal.ensures.stays
+
+pub returns-clause-tells : goal.returns-clause-tells
+returns-clause-tells g c clean =
+    let was = shown g.S.Store c.args.tx.now in
+    let one = shown g.S.Store c.has_version.new.tx in
+    let two = shown g.S.Store c.is_spent.new.tx in
+    let three = shown g.S.Store c.has_tag.new.tx in
+    let four = shown g.S.Store c.has_tag-2.new.tx in
+    let five = shown g.S.Store c.has_live.new.tx in
+    let clean_five : HasCleanDisk five = omega (arith, c.load_last_withdrawal.ensures.stays.survives.clean, clean) in
+    let clean_four : HasCleanDisk four = omega (arith, c.has_live.ensures.stays.survives.clean, clean_five) in
+    let clean_three : HasCleanDisk three = omega (arith, c.has_tag-2.ensures.stays.survives.clean, clean_four) in
+    let clean_two : HasCleanDisk two = omega (arith, c.has_tag.ensures.stays.survives.clean, clean_three) in
+    let clean_one : HasCleanDisk one = omega (arith, c.is_spent.ensures.stays.survives.clean, clean_two) in
+    let lives = c.in_ok-has_version.ensures.tells clean_one in
+    let spent = c.in_ok-is_spent.ensures.tells clean_two in
+    let named = c.in_ok-has_tag.ensures.tells clean_three in
+    let newest = c.in_ok-has_tag-2.ensures.tells clean_four in
+    let some = c.in_ok-has_live.ensures.tells clean_five in
+    let last = c.in_ok-load_last_withdrawal.ensures.tells clean in
+    let to_two = reads_then schema was one two lives.0 spent.0 in
+    let to_three = reads_then schema was two three to_two named.0 in
+    let to_four = reads_then schema was three four to_three newest.0 in
+    let to_five = reads_then schema was four five to_four some.0 in
+    let v = text_of_version c.args.form.now.version in
+    let name = c.name-name.ensures.value in
+    let version = c.text-version.ensures.text ∙ ap text_of_version c.version.ensures.value in (
+      reads_then schema was five (shown g.S.Store c.load_last_withdrawal.new.tx) to_five last.0,
+      record {
+        version_lives = lives.1 ∙ ap₂ (is_live (registry_of (contents was.now.trees))) name version;
+        version_spent = spent.1 ∙ ap₂ (is_spent (registry_of (contents one.now.trees))) name version ∙ ap (λ (d : Database). is_spent (registry_of (contents d.trees)) c.args.form.now.name v) lives.0.same;
+        tag_stands = named.1 ∙ ap₂ (stands (registry_of (contents two.now.trees))) name (c.text.ensures.text ∙ c.tag.ensures.value) ∙ ap (λ (d : Database). stands (registry_of (contents d.trees)) c.args.form.now.name c.args.form.now.tag) to_two.same;
+        latest_stands = newest.1 ∙ ap (λ (q : Text). stands (registry_of (contents three.now.trees)) q latest) name ∙ ap (λ (d : Database). stands (registry_of (contents d.trees)) c.args.form.now.name latest) to_three.same;
+        lives = some.1 ∙ ap (has_live (registry_of (contents four.now.trees))) name ∙ ap (λ (d : Database). has_live (registry_of (contents d.trees)) c.args.form.now.name) to_four.same;
+        last_withdrawal = last.1 ∙ ap (last_withdrawal (registry_of (contents five.now.trees))) name ∙ ap (λ (d : Database). last_withdrawal (registry_of (contents d.trees)) c.args.form.now.name) to_five.same;
+      },
+    )

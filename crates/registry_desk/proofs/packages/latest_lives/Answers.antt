@@ -11,6 +11,9 @@ use Rattle.registry_tables.specs.Effects.{shown, stored_in}
 use Rattle.registry_tables.specs.Schema.{schema}
 use Rattle.registry_desk.proofs.packages.latest_lives.Goals as goal
 
+pub has_version-requires : goal.has_version-requires
+has_version-requires g c = record { in_form = λ clean on. (c.in_ok-version.ensures.tells clean).0.ready }
+
 pub returns-in_err-lives-in-Some-clause-stays : goal.returns-in_err-lives-in-Some-clause-stays
 returns-in_err-lives-in-Some-clause-stays g c = stays_then g.S.Store c.args.tx.now c.load_tag.new.tx c.has_version.new.tx c.load_tag.ensures.stays c.has_version.ensures.stays
 

@@ -7,6 +7,9 @@ use Rattle.registry_tables.specs.Effects.{shown, stored_in}
 use Rattle.registry_tables.specs.Schema.{schema}
 use Rattle.registry_desk.proofs.packages.old_tag.Goals as goal
 
+pub has_tag-requires : goal.has_tag-requires
+has_tag-requires g c = record { in_form = λ clean on. (c.in_ok-load_standing.ensures.tells clean).0.ready }
+
 pub returns-in_err-has_tag-clause-stays : goal.returns-in_err-has_tag-clause-stays
 returns-in_err-has_tag-clause-stays g c = stays_then g.S.Store c.args.tx.now c.load_standing.new.tx c.has_tag.new.tx c.load_standing.ensures.stays c.has_tag.ensures.stays
 

@@ -8,6 +8,9 @@ use Rattle.registry_tables.specs.Effects.{shown, stored_in}
 use Rattle.registry_tables.specs.Schema.{schema}
 use Rattle.registry_desk.proofs.packages.seen_archive.Goals as goal
 
+pub has_version-requires : goal.has_version-requires
+has_version-requires g c = record { in_form = λ clean on. (c.in_ok-load_standing.ensures.tells clean).0.ready }
+
 pub returns-in_err-has_version-clause-stays : goal.returns-in_err-has_version-clause-stays
 returns-in_err-has_version-clause-stays g c = stays_then g.S.Store c.args.tx.now c.load_standing.new.tx c.has_version.new.tx c.load_standing.ensures.stays c.has_version.ensures.stays
 

@@ -12,6 +12,9 @@ use Rattle.registry_tables.specs.Schema.{schema}
 use Rattle.registry_tables.specs.Spelled.{document}
 use Rattle.registry_desk.proofs.rows.load_latest.Goals as goal
 
+pub load_document-requires : goal.load_document-requires
+load_document-requires g c = record { in_form = λ clean on. (c.in_ok-version.ensures.tells clean).0.ready }
+
 pub returns-in_err-document-in-Some-clause-stays : goal.returns-in_err-document-in-Some-clause-stays
 returns-in_err-document-in-Some-clause-stays g c = stays_then g.S.Store c.args.tx.now c.load_tag.new.tx c.load_document.new.tx c.load_tag.ensures.stays c.load_document.ensures.stays
 

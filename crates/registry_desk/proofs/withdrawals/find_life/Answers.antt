@@ -10,6 +10,15 @@ use Rattle.registry_tables.specs.Schema.{schema}
 use Rattle.registry_desk.proofs.LoadedFacts.{three_stay, four_stay}
 use Rattle.registry_desk.proofs.withdrawals.find_life.Goals as goal
 
+pub load_published-requires : goal.load_published-requires
+load_published-requires g c = record { in_form = λ clean on. (c.in_ok-depended.ensures.tells clean).0.ready }
+
+pub load_version_tags-requires : goal.load_version_tags-requires
+load_version_tags-requires g c = record { in_form = λ clean on. (c.in_ok-published.ensures.tells clean).0.ready }
+
+pub load_live-requires : goal.load_live-requires
+load_live-requires g c = record { in_form = λ clean on. (c.in_ok-tags.ensures.tells clean).0.ready }
+
 pub returns-in_err-published-clause-stays : goal.returns-in_err-published-clause-stays
 returns-in_err-published-clause-stays g c = stays_then g.S.Store c.args.tx.now c.is_depended.new.tx c.load_published.new.tx c.is_depended.ensures.stays c.load_published.ensures.stays
 

@@ -1,13 +1,17 @@
 use Rattle.std.proofs.Common.{arith, subst}
 use Rattle.sqlite.specs.Effect.{Database}
 use Rattle.sqlite.specs.State.{HasCleanDisk}
+use Rattle.registry_tables.specs.Needs.{HoldsNeeds}
 use Rattle.registry_rows.proofs.QuietFacts.{reads_then, stays_then}
+use Rattle.registry_rules.specs.State.{stands}
 use Rattle.registry_tables.specs.Contents.{contents, registry_of}
 use Rattle.registry_tables.specs.Effects.{shown}
-use Rattle.registry_tables.specs.Needs.{HoldsNeeds}
 use Rattle.registry_tables.specs.Schema.{schema}
 use Rattle.registry_desk.specs.Found.{IsLife}
 use Rattle.registry_desk.proofs.withdrawals.old_version.Goals as goal
+
+pub find_life-requires : goal.find_life-requires
+find_life-requires g c = record { in_form = λ clean on. (c.in_ok-standing.ensures.tells clean).0.ready }
 
 pub returns-in_err-life-clause-stays : goal.returns-in_err-life-clause-stays
 returns-in_err-life-clause-stays g c = stays_then g.S.Store c.args.tx.now c.load_standing.new.tx c.find_life.new.tx c.load_standing.ensures.stays c.find_life.ensures.stays
