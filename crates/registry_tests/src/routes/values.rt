@@ -1,13 +1,13 @@
 //! What is written in paths.
 
-use crate::outcome::same;
-use registry_names::{Name, Refusal, Stop};
+use crate::outcome::{is_refused, same};
+use crate::parts::name;
+use registry_names::{Refusal, Stop, Ver};
 use registry_routes::{decoded, ident_in, name_in, tag_in, version_in, version_of_file};
 use std::alloc::Global;
-use std::test::Fail;
+use std::process::Abort;
 
 /// What a text in a path is to be.
-#[derive(Clone, Copy, Debug)]
 enum Kind {
     Text,
     Name,
@@ -20,28 +20,50 @@ enum Kind {
     File,
 }
 
-// The text that is read, in form.
-fn read(alloc: Global, kind: Kind, written: &[u8]) -> Result<String, Stop> {
-    let text = match kind {
-        Kind::Text => decoded(alloc, written),
-        Kind::Name => Ok(String::from_str(alloc, name_in(alloc, written)?.text())?),
-        Kind::Ident => Ok(String::from_str(alloc, ident_in(alloc, written)?.text())?),
-        Kind::Version => Ok(String::from_str(alloc, version_in(alloc, written)?.text())?),
-        Kind::Tag => Ok(String::from_str(alloc, tag_in(alloc, written)?.text())?),
-        Kind::ScopedFile => file(alloc, "@lab/kit", written),
-        Kind::File => file(alloc, "kit", written),
-    };
-    Ok(text?)
+/// The text in form, or the refusal.
+type Outcome = Result<&'static str, Refusal>;
+
+// Sees that what is written is read as a kind.
+fn is_read(rt: &impl Abort, alloc: Global, case: &Written) {
+    let (kind, written, wanted) = case;
+    match kind {
+        Kind::Text => match decoded(alloc, written) {
+            Ok(text) => same(rt, *written, &Ok(text.as_str()), wanted),
+            Err(stop) => is_refused(rt, *written, stop, wanted),
+        },
+        Kind::Name => match name_in(alloc, written) {
+            Ok(name) => same(rt, *written, &Ok(name.text()), wanted),
+            Err(stop) => is_refused(rt, *written, stop, wanted),
+        },
+        Kind::Ident => match ident_in(alloc, written) {
+            Ok(ident) => same(rt, *written, &Ok(ident.text()), wanted),
+            Err(stop) => is_refused(rt, *written, stop, wanted),
+        },
+        Kind::Version => is_version(rt, written, version_in(alloc, written), wanted),
+        Kind::Tag => match tag_in(alloc, written) {
+            Ok(tag) => same(rt, *written, &Ok(tag.text()), wanted),
+            Err(stop) => is_refused(rt, *written, stop, wanted),
+        },
+        Kind::ScopedFile => {
+            let kit = name(rt, alloc, "@lab/kit");
+            is_version(rt, written, version_of_file(alloc, &kit, written), wanted);
+        }
+        Kind::File => {
+            let kit = name(rt, alloc, "kit");
+            is_version(rt, written, version_of_file(alloc, &kit, written), wanted);
+        }
+    }
 }
 
-fn file(alloc: Global, name: &str, written: &[u8]) -> Result<String, Stop> {
-    let name = Name::parse(alloc, name)?;
-    let version = version_of_file(alloc, &name, written)?;
-    Ok(String::from_str(alloc, version.text())?)
+fn is_version(rt: &impl Abort, written: &[u8], version: Result<Ver, Stop>, wanted: &Outcome) {
+    match version {
+        Ok(version) => same(rt, written, &Ok(version.text()), wanted),
+        Err(stop) => is_refused(rt, written, stop, wanted),
+    }
 }
 
 /// A kind of text, what is written, and the text in form or the refusal.
-type Written = (Kind, &'static [u8], Result<&'static str, Refusal>);
+type Written = (Kind, &'static [u8], Outcome);
 
 static WRITTEN: [Written; 31] = [
     (Kind::Text, b"a%20b", Ok("a b")),
@@ -101,24 +123,14 @@ static SCOPED_FILES: [Written; 9] = [
     (Kind::ScopedFile, b"kit-.tgz", Err(Refusal::NotFound)),
 ];
 
-fn are_read(alloc: Global, cases: &[Written]) -> Result<(), Fail> {
-    for (kind, written, wanted) in cases {
-        let wanted = match wanted {
-            Ok(text) => Ok(*text),
-            Err(refusal) => Err(Stop::Refused(*refusal)),
-        };
-        let came_out = read(alloc, *kind, written);
-        let came_out = match &came_out {
-            Ok(text) => Ok(text.as_str()),
-            Err(stop) => Err(*stop),
-        };
-        same((*kind, *written), came_out, wanted)?;
+fn are_read(rt: &impl Abort, alloc: Global, cases: &[Written]) {
+    for case in cases {
+        is_read(rt, alloc, case);
     }
-    Ok(())
 }
 
 #[test]
-fn values_of_paths(rt: HostRuntime) -> Result<(), Fail> {
-    are_read(rt.alloc(), &WRITTEN)?;
-    are_read(rt.alloc(), &SCOPED_FILES)
+fn values_of_paths(rt: HostRuntime) {
+    are_read(&rt, rt.alloc(), &WRITTEN);
+    are_read(&rt, rt.alloc(), &SCOPED_FILES);
 }
