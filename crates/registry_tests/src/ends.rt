@@ -1,14 +1,14 @@
 //! Ends over readers and writers in memory, and over some that fail.
 
 use crate::outcome::{is_displayed, same};
-use crate::parts::repeated;
+use crate::parts::{as_text, repeated};
 use registry_names::{
     ByteIn, ByteOut, FromRead, ReadFailed, ReadStop, ToWrite, WriteFailed, read_whole, write_whole,
 };
 use std::alloc::Global;
+use std::io;
 use std::io::{ErrorKind, Read, Write};
 use std::process::Abort;
-use std::{io, str};
 
 /// A reader whose second read is interrupted, and whose fourth fails.
 #[derive(Drop)]
@@ -65,10 +65,6 @@ impl Write for Narrow {
 
 /// What a read is to give.
 type Given = Result<&'static str, ReadFailed>;
-
-fn as_text(bytes: &[u8]) -> &str {
-    str::from_utf8(bytes).unwrap_or("no UTF-8")
-}
 
 // What the next read gives.
 fn given<'b, I: ByteIn>(end: &mut I, buf: &'b mut [u8]) -> Result<&'b str, ReadFailed> {

@@ -106,18 +106,17 @@ fn grants(rt: &impl Abort, alloc: Global, cases: &[(&str, Grant)]) -> List {
 
 fn all_told(rt: &impl Abort, alloc: Global, cases: &[Case]) {
     for (shows, asked, told) in cases {
-        is_told(rt, shows, answer(rt, alloc, asked), told);
+        match answer(rt, alloc, asked) {
+            Ok(text) => same(rt, *shows, text.as_str(), told.expect(rt, shows)),
+            Err(fault) => has_none(rt, shows, fault, told),
+        }
     }
 }
 
-fn is_told(rt: &impl Abort, shows: &str, answer: Result<Text, Fault>, told: &Option<&'static str>) {
-    match answer {
-        Ok(text) => same(rt, shows, &Some(text.as_str()), told),
-        Err(fault) => {
-            same(rt, shows, &fault, &Fault::Database);
-            same(rt, shows, &None, told);
-        }
-    }
+// Sees that there is to be no document, by the fault that tells so.
+fn has_none(rt: &impl Abort, shows: &str, fault: Fault, told: &Option<&str>) {
+    same(rt, shows, &fault, &Fault::Database);
+    same(rt, shows, &None, told);
 }
 
 fn answer(rt: &impl Abort, alloc: Global, asked: &Asked) -> Result<Text, Fault> {

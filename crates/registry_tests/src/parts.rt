@@ -4,6 +4,7 @@ use registry_names::{Blob, Ident, Name, Text, Ver};
 use std::alloc::Global;
 use std::fmt::Debug;
 use std::process::Abort;
+use std::str;
 
 pub fn text(rt: &impl Abort, alloc: Global, text: &str) -> Text {
     Text::from_str(alloc, text).expect(rt, "memory")
@@ -23,13 +24,17 @@ pub fn string(rt: &impl Abort, alloc: Global, text: &str) -> String {
 
 /// Words with a space between them.
 pub fn joined(rt: &impl Abort, alloc: Global, words: &[&str]) -> String {
-    let mut joined = String::new(alloc);
-    for (place, word) in words.iter().enumerate() {
-        let space = if place == 0 { "" } else { " " };
-        joined.push_str(space).expect(rt, "memory");
-        joined.push_str(word).expect(rt, "memory");
-    }
-    joined
+    words.join(alloc, " ").expect(rt, "memory")
+}
+
+/// Texts with nothing between them.
+pub fn concat(rt: &impl Abort, alloc: Global, texts: &[&str]) -> String {
+    texts.join(alloc, "").expect(rt, "memory")
+}
+
+/// Bytes as a text.
+pub fn as_text(bytes: &[u8]) -> &str {
+    str::from_utf8(bytes).unwrap_or("no UTF-8")
 }
 
 /// What `Debug` shows of a value.
@@ -39,6 +44,19 @@ pub fn shown<T: Debug>(rt: &impl Abort, alloc: Global, value: &T) -> String {
 
 pub fn repeated(rt: &impl Abort, alloc: Global, text: &str, times: usize) -> String {
     text.repeat(alloc, times).expect(rt, "memory")
+}
+
+/// A text, another so many times, and a last one.
+pub fn around(
+    rt: &impl Abort,
+    alloc: Global,
+    front: &str,
+    part: &str,
+    times: usize,
+    back: &str,
+) -> String {
+    let parts = repeated(rt, alloc, part, times);
+    concat(rt, alloc, &[front, parts.as_str(), back])
 }
 
 pub fn blob(rt: &impl Abort, alloc: Global, bytes: &[u8]) -> Blob {

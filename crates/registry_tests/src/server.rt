@@ -1,6 +1,7 @@
 //! Connections apart from their sockets, and a server over loopback.
 
 use crate::outcome::same;
+use crate::parts::as_text;
 use crate::talk::connections::{CONNECTIONS, CUT_OUT, Case, Shelf, Steps, TAGS, TAGS_OUT};
 use registry_server::{Line, Progress, Server};
 use registry_talk::End;
@@ -8,7 +9,6 @@ use std::alloc::Global;
 use std::io::{Read, Write};
 use std::net::{Ipv4Addr, Net, OpenStream, Shutdown, SocketAddr};
 use std::process::Abort;
-use std::str;
 
 // Puts what isn't sent of a line behind the rest, a few bytes at a time.
 fn take_all(rt: &impl Abort, line: &mut Line, out: &mut Vec<u8>) {
@@ -69,7 +69,7 @@ fn is_answered(rt: &impl Abort, alloc: Global, case: &Case, piece_len: usize) {
     let (input, wanted, _, end) = case;
     let mut out = Vec::new(alloc);
     let ended = answers(rt, alloc, input.as_bytes(), piece_len, &mut out);
-    same(rt, *input, str::from_utf8(&out).unwrap_or("?"), *wanted);
+    same(rt, *input, as_text(&out), *wanted);
     same(rt, *input, &ended, &Some(*end));
 }
 
@@ -91,15 +91,10 @@ fn client<R: Abort + Net>(rt: &R, port: u16, text: &str) -> R::Stream {
     stream
 }
 
-fn hears(rt: &impl Abort, alloc: Global, stream: &mut impl Read, wanted: &str) {
+fn hears(rt: &impl Abort, alloc: Global, shows: &str, stream: &mut impl Read, wanted: &str) {
     let mut answer = Vec::new(alloc);
     stream.read_to_end(&mut answer).expect(rt, "a read");
-    same(
-        rt,
-        "an answer",
-        str::from_utf8(&answer).unwrap_or("?"),
-        wanted,
-    );
+    same(rt, shows, as_text(&answer), wanted);
 }
 
 #[test]
@@ -113,6 +108,6 @@ fn a_server_answers_over_loopback(rt: HostRuntime) {
         asked: Vec::new(alloc),
     };
     server.run(&rt, alloc, &mut desk).expect(&rt, "a run");
-    hears(&rt, alloc, &mut whole, TAGS_OUT);
-    hears(&rt, alloc, &mut cut, CUT_OUT);
+    hears(&rt, alloc, "whole", &mut whole, TAGS_OUT);
+    hears(&rt, alloc, "cut", &mut cut, CUT_OUT);
 }

@@ -38,9 +38,12 @@ fn means(rt: &impl Abort, line: &Line, case: &Case) {
     same(rt, case.words, line.db.as_str(), case.db);
     same(rt, case.words, who, case.who);
     same(rt, case.words, &line.at.map(Moment::seconds), &case.at);
-    let what = line.what.as_slice();
-    same(rt, case.words, &what.len(), &case.what.len());
-    for (word, wanted) in what.iter().zip(case.what) {
+    are_words(rt, line.what.as_slice(), case);
+}
+
+fn are_words(rt: &impl Abort, words: &[Text], case: &Case) {
+    same(rt, case.words, &words.len(), &case.what.len());
+    for (word, wanted) in words.iter().zip(case.what) {
         same(rt, case.words, word.as_str(), *wanted);
     }
 }

@@ -3,14 +3,13 @@
 
 use crate::outcome::same;
 use crate::packument::{head, source, versions};
-use crate::parts::repeated;
+use crate::parts::{as_text, concat, repeated};
 use registry_names::{Fault, ToWrite};
 use registry_packument::{
     PackFault, PackHead, VersionRows, packument_len, packument_text, version_text, write_packument,
 };
 use std::alloc::Global;
 use std::process::Abort;
-use std::str;
 
 static NO_MANIFESTS: [&str; 17] = [
     "",
@@ -72,7 +71,11 @@ fn a_manifest_is_its_document(rt: HostRuntime) {
 fn nested(rt: &impl Abort, alloc: Global, depth: usize) -> String {
     let opened = repeated(rt, alloc, "[", depth);
     let closed = repeated(rt, alloc, "]", depth);
-    format!(in alloc; "{{\"a\":{opened}{closed}}}").expect(rt, "memory")
+    concat(
+        rt,
+        alloc,
+        &["{\"a\":", opened.as_str(), closed.as_str(), "}"],
+    )
 }
 
 static DEPTHS: [(usize, Option<Fault>); 3] = [
@@ -115,8 +118,7 @@ fn is_no_packument(
     );
     let wanted = Err(PackFault::Source(Fault::Database));
     same(rt, &(text, message), &end, &wanted);
-    let written = str::from_utf8(&out).unwrap_or("no UTF-8");
-    same(rt, &(text, message), written, FRONT);
+    same(rt, &(text, message), as_text(&out), FRONT);
 }
 
 #[test]

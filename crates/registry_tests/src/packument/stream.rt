@@ -5,14 +5,15 @@ ghost use Rattle.registry_names.specs.declared.stop.Fault.TheVariants.{Database}
 
 use crate::outcome::{is_displayed, same};
 use crate::packument::{TagCase, VersionCase, head, source};
+use crate::parts::as_text;
 use registry_names::{Fault, ToWrite};
 use registry_packument::{
     PackFault, PackHead, VersionRow, VersionRows, VersionSource, packument_len, write_packument,
 };
 use std::alloc::Global;
+use std::io;
 use std::io::{ErrorKind, Write};
 use std::process::Abort;
-use std::{io, str};
 
 /// A source that answers so many calls of another, and then with a fault.
 #[derive(Drop)]
@@ -117,13 +118,8 @@ fn is_written(rt: &impl Abort, alloc: Global, shows: &str, head: &PackHead, case
     };
     let end = write_packument(alloc, head, &mut source, &mut ToWrite::new(&mut narrow));
     same(rt, shows, &end, &case.end);
-    let written = str::from_utf8(&narrow.taken).unwrap_or("no UTF-8");
-    same(
-        rt,
-        shows,
-        written,
-        case.text.get(..case.room).unwrap_or(case.text),
-    );
+    let front = case.text.get(..case.room).unwrap_or(case.text);
+    same(rt, shows, as_text(&narrow.taken), front);
     stays(rt, alloc, shows, &mut source);
 }
 

@@ -131,15 +131,19 @@ fn made(rt: &impl Abort, alloc: Global, body: &Body) -> String {
 pub fn changed(rt: &impl Abort, alloc: Global, text: &str, changes: &[Change]) -> String {
     let mut text = string(rt, alloc, text);
     for (from, to) in changes {
-        text = text.replace(alloc, from, to).expect(rt, "memory");
+        text = replaced(rt, alloc, &text, from, to);
     }
     text
 }
 
+fn replaced(rt: &impl Abort, alloc: Global, text: &str, from: &str, to: &str) -> String {
+    text.replace(alloc, from, to).expect(rt, "memory")
+}
+
 fn nested(rt: &impl Abort, alloc: Global, depth: usize) -> String {
-    let mut text = changed(rt, alloc, KIT, &[("\"dist\":", "\"x\":[],\"dist\":")]);
+    let mut text = replaced(rt, alloc, KIT, "\"dist\":", "\"x\":[],\"dist\":");
     for _ in 1..depth {
-        text = changed(rt, alloc, &text, &[("[]", "[[]]")]);
+        text = replaced(rt, alloc, &text, "[]", "[[]]");
     }
     text
 }

@@ -10,10 +10,15 @@ use std::process::Abort;
 // Sees that these are the targets and the ranges of the needs, in their order.
 pub(super) fn are_needed(rt: &impl Abort, shows: &str, needs: &[Need], wanted: &[NeedCase]) {
     same(rt, shows, &needs.len(), &wanted.len());
-    for (need, (target, range)) in needs.iter().zip(wanted) {
-        same(rt, shows, need.target.as_str(), *target);
-        same(rt, shows, need.range.as_str(), *range);
+    for (need, case) in needs.iter().zip(wanted) {
+        is_needed(rt, shows, need, case);
     }
+}
+
+fn is_needed(rt: &impl Abort, shows: &str, need: &Need, case: &NeedCase) {
+    let (target, range) = case;
+    same(rt, shows, need.target.as_str(), *target);
+    same(rt, shows, need.range.as_str(), *range);
 }
 
 // A manifest, and its needs, or None where it is out of form.

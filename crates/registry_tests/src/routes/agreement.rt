@@ -2,6 +2,7 @@
 //! scopes of two segments, no file names of two, and knows `-` as any other name.
 
 use crate::outcome::same;
+use crate::parts::concat;
 use matchit::Router;
 use registry_routes::Endpoint::{
     Archive, Deprecate, Grant, Members, OrgRemove, OrgSet, OwnerAdd, OwnerRemove, Packument,
@@ -111,8 +112,24 @@ fn agree_behind(
     segments: &[&str],
 ) {
     for first in segments {
-        let path = format!(in alloc; "{front}/{first}").expect(rt, "memory");
+        let path = concat(rt, alloc, &[front, "/", first]);
         agree(rt, router, method, &path);
+    }
+}
+
+// Sees that they do of each path of a front and one or two segments.
+fn agree_on_two(
+    rt: &impl Abort,
+    alloc: Global,
+    router: &Router<Endpoint>,
+    method: Method,
+    front: &str,
+    segments: &[&str],
+) {
+    agree_behind(rt, alloc, router, method, front, segments);
+    for first in segments {
+        let path = concat(rt, alloc, &[front, "/", first]);
+        agree_behind(rt, alloc, router, method, &path, segments);
     }
 }
 
@@ -127,12 +144,8 @@ fn agree_on(
 ) {
     agree_behind(rt, alloc, router, method, front, segments);
     for first in segments {
-        let one = format!(in alloc; "{front}/{first}").expect(rt, "memory");
-        agree_behind(rt, alloc, router, method, &one, segments);
-        for second in segments {
-            let two = format!(in alloc; "{one}/{second}").expect(rt, "memory");
-            agree_behind(rt, alloc, router, method, &two, segments);
-        }
+        let path = concat(rt, alloc, &[front, "/", first]);
+        agree_on_two(rt, alloc, router, method, &path, segments);
     }
 }
 

@@ -1,9 +1,9 @@
 //! What bodies and authorizations say.
 
 use crate::outcome::{is_refused, same};
-use crate::parts::{repeated, version};
+use crate::parts::{around, version};
 use registry_access::{Grant, Role};
-use registry_names::{Refusal, Status, Stop};
+use registry_names::{Message, Refusal, Status, Stop};
 use registry_routes::{
     bearer_token, deprecation_of_body, grant_of_body, role_of_body, status_of_body, version_of_body,
 };
@@ -118,15 +118,30 @@ static DEPRECATIONS: [DeprecationBody; 12] = [
 fn says(rt: &impl Abort, alloc: Global, body: &str, wanted: &Result<&'static str, Refusal>) {
     match deprecation_of_body(alloc, body.as_bytes()) {
         Ok(said) => {
-            let is_meant = said.selector.selects(&version(rt, alloc, "1.0.0"));
-            let message = if is_meant {
-                said.message.text()
-            } else {
-                "another version"
-            };
-            same(rt, body, &Ok(message), wanted);
+            let version = version(rt, alloc, "1.0.0");
+            is_said(
+                rt,
+                body,
+                &said.message,
+                said.selector.selects(&version),
+                wanted,
+            );
         }
-        Err(stop) => is_refused(rt, body.as_bytes(), stop, wanted),
+        Err(stop) => is_refused(rt, body, stop, wanted),
+    }
+}
+
+fn is_said(
+    rt: &impl Abort,
+    body: &str,
+    message: &Message,
+    is_meant: bool,
+    wanted: &Result<&'static str, Refusal>,
+) {
+    if is_meant {
+        same(rt, body, &Ok(message.text()), wanted);
+    } else {
+        same(rt, body, &Ok("another version"), wanted);
     }
 }
 
@@ -140,10 +155,8 @@ fn deprecations_in_bodies(rt: HostRuntime) {
 #[test]
 fn a_message_that_is_too_long_is_refused_before_the_selector(rt: HostRuntime) {
     let alloc = rt.alloc();
-    let message = repeated(&rt, alloc, "a", 1025);
-    let body = format!(in alloc; "{{\"selector\":\"^1\",\"message\":\"{message}\"}}").expect(
-        &rt, "memory",
-    );
+    let front = "{\"selector\":\"^1\",\"message\":\"";
+    let body = around(&rt, alloc, front, "a", 1025, "\"}");
     says(&rt, alloc, &body, &Err(Refusal::BadBody));
 }
 

@@ -39,26 +39,26 @@ fn is_read(rt: &impl Abort, alloc: Global, case: &Written) {
             Ok(ident) => same(rt, *written, &Ok(ident.text()), wanted),
             Err(stop) => is_refused(rt, *written, stop, wanted),
         },
-        Kind::Version => is_version(rt, written, version_in(alloc, written), wanted),
+        Kind::Version => is_version(rt, written, &version_in(alloc, written), wanted),
         Kind::Tag => match tag_in(alloc, written) {
             Ok(tag) => same(rt, *written, &Ok(tag.text()), wanted),
             Err(stop) => is_refused(rt, *written, stop, wanted),
         },
         Kind::ScopedFile => {
             let kit = name(rt, alloc, "@lab/kit");
-            is_version(rt, written, version_of_file(alloc, &kit, written), wanted);
+            is_version(rt, written, &version_of_file(alloc, &kit, written), wanted);
         }
         Kind::File => {
             let kit = name(rt, alloc, "kit");
-            is_version(rt, written, version_of_file(alloc, &kit, written), wanted);
+            is_version(rt, written, &version_of_file(alloc, &kit, written), wanted);
         }
     }
 }
 
-fn is_version(rt: &impl Abort, written: &[u8], version: Result<Ver, Stop>, wanted: &Outcome) {
+fn is_version(rt: &impl Abort, written: &[u8], version: &Result<Ver, Stop>, wanted: &Outcome) {
     match version {
         Ok(version) => same(rt, written, &Ok(version.text()), wanted),
-        Err(stop) => is_refused(rt, written, stop, wanted),
+        Err(stop) => is_refused(rt, written, *stop, wanted),
     }
 }
 

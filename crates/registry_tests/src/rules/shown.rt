@@ -1,7 +1,7 @@
 //! What a decision changes, as texts.
 
 use crate::outcome::same;
-use crate::parts::{joined, shown};
+use crate::parts::{joined, shown, string};
 use registry_rules::Change;
 use std::alloc::Global;
 use std::process::Abort;
@@ -12,39 +12,41 @@ fn standing(stands: bool) -> &'static str {
 }
 
 /// A change as a text: its kind, and what it says, in the order of its fields.
-pub fn told(rt: &impl Abort, alloc: Global, change: &Change<'_>) -> String {
+fn told(rt: &impl Abort, alloc: Global, change: Change<'_>) -> String {
     match change {
         Change::AddUser { user } => joined(rt, alloc, &["AddUser", user.text()]),
         Change::AddToken { user, .. } => joined(rt, alloc, &["AddToken", user.text()]),
-        Change::AddOrg { organisation } => joined(rt, alloc, &["AddOrg", *organisation]),
+        Change::AddOrg { organisation } => joined(rt, alloc, &["AddOrg", organisation]),
         Change::PutMember {
             organisation,
             user,
             role,
             stands,
         } => {
-            let role = shown(rt, alloc, role);
-            let stands = standing(*stands);
-            joined(
-                rt,
-                alloc,
-                &[
-                    "PutMember",
-                    *organisation,
-                    user.text(),
-                    role.as_str(),
-                    stands,
-                ],
-            )
+            let (role, stands) = (shown(rt, alloc, &role), standing(stands));
+            let words = [
+                "PutMember",
+                organisation,
+                user.text(),
+                role.as_str(),
+                stands,
+            ];
+            joined(rt, alloc, &words)
         }
         Change::DropMember { organisation, user } => {
-            joined(rt, alloc, &["DropMember", *organisation, user.text()])
+            joined(rt, alloc, &["DropMember", organisation, user.text()])
         }
+        _ => told_of_team(rt, alloc, change),
+    }
+}
+
+fn told_of_team(rt: &impl Abort, alloc: Global, change: Change<'_>) -> String {
+    match change {
         Change::AddTeam { organisation, team } => {
-            joined(rt, alloc, &["AddTeam", *organisation, *team])
+            joined(rt, alloc, &["AddTeam", organisation, team])
         }
         Change::DropTeam { organisation, team } => {
-            joined(rt, alloc, &["DropTeam", *organisation, *team])
+            joined(rt, alloc, &["DropTeam", organisation, team])
         }
         Change::PutTeamMember {
             organisation,
@@ -53,7 +55,7 @@ pub fn told(rt: &impl Abort, alloc: Global, change: &Change<'_>) -> String {
         } => joined(
             rt,
             alloc,
-            &["PutTeamMember", *organisation, *team, user.text()],
+            &["PutTeamMember", organisation, team, user.text()],
         ),
         Change::DropTeamMember {
             organisation,
@@ -62,13 +64,13 @@ pub fn told(rt: &impl Abort, alloc: Global, change: &Change<'_>) -> String {
         } => joined(
             rt,
             alloc,
-            &["DropTeamMember", *organisation, *team, user.text()],
+            &["DropTeamMember", organisation, team, user.text()],
         ),
-        _ => told_of_right(rt, alloc, change),
+        _ => told_of_grant(rt, alloc, change),
     }
 }
 
-fn told_of_right(rt: &impl Abort, alloc: Global, change: &Change<'_>) -> String {
+fn told_of_grant(rt: &impl Abort, alloc: Global, change: Change<'_>) -> String {
     match change {
         Change::PutGrant {
             organisation,
@@ -77,19 +79,12 @@ fn told_of_right(rt: &impl Abort, alloc: Global, change: &Change<'_>) -> String 
             grant,
             stands,
         } => {
-            let grant = shown(rt, alloc, grant);
-            let (name, stands) = (package.text(), standing(*stands));
+            let (grant, stands) = (shown(rt, alloc, &grant), standing(stands));
+            let (name, grant) = (package.text(), grant.as_str());
             joined(
                 rt,
                 alloc,
-                &[
-                    "PutGrant",
-                    *organisation,
-                    *team,
-                    name,
-                    grant.as_str(),
-                    stands,
-                ],
+                &["PutGrant", organisation, team, name, grant, stands],
             )
         }
         Change::DropGrant {
@@ -99,8 +94,14 @@ fn told_of_right(rt: &impl Abort, alloc: Global, change: &Change<'_>) -> String 
         } => joined(
             rt,
             alloc,
-            &["DropGrant", *organisation, *team, package.text()],
+            &["DropGrant", organisation, team, package.text()],
         ),
+        _ => told_of_package(rt, alloc, change),
+    }
+}
+
+fn told_of_package(rt: &impl Abort, alloc: Global, change: Change<'_>) -> String {
+    match change {
         Change::PutOwner { package, user } => {
             joined(rt, alloc, &["PutOwner", package.text(), user.text()])
         }
@@ -112,19 +113,25 @@ fn told_of_right(rt: &impl Abort, alloc: Global, change: &Change<'_>) -> String 
             status,
             stands,
         } => {
-            let status = shown(rt, alloc, status);
-            let stands = standing(*stands);
-            joined(
-                rt,
-                alloc,
-                &["PutStatus", package.text(), status.as_str(), stands],
-            )
+            let (status, stands) = (shown(rt, alloc, &status), standing(stands));
+            let words = ["PutStatus", package.text(), status.as_str(), stands];
+            joined(rt, alloc, &words)
         }
+        Change::PutTag {
+            package,
+            tag,
+            version,
+            stands,
+        } => {
+            let (name, stands) = (package.text(), standing(stands));
+            joined(rt, alloc, &["PutTag", name, tag, version.text(), stands])
+        }
+        Change::DropTag { package, tag } => joined(rt, alloc, &["DropTag", package.text(), tag]),
         _ => told_of_version(rt, alloc, change),
     }
 }
 
-fn told_of_version(rt: &impl Abort, alloc: Global, change: &Change<'_>) -> String {
+fn told_of_version(rt: &impl Abort, alloc: Global, change: Change<'_>) -> String {
     match change {
         Change::AddVersion { form, at } => {
             let at = shown(rt, alloc, &at.seconds());
@@ -140,11 +147,8 @@ fn told_of_version(rt: &impl Abort, alloc: Global, change: &Change<'_>) -> Strin
             let from = shown(rt, alloc, &published.seconds());
             let to = shown(rt, alloc, &withdrawn.seconds());
             let (name, version) = (package.text(), version.text());
-            joined(
-                rt,
-                alloc,
-                &["RetireVersion", name, version, from.as_str(), to.as_str()],
-            )
+            let words = ["RetireVersion", name, version, from.as_str(), to.as_str()];
+            joined(rt, alloc, &words)
         }
         Change::PutDeprecation {
             package,
@@ -152,23 +156,10 @@ fn told_of_version(rt: &impl Abort, alloc: Global, change: &Change<'_>) -> Strin
             message,
         } => {
             let (name, version) = (package.text(), version.text());
-            joined(
-                rt,
-                alloc,
-                &["PutDeprecation", name, version, message.text()],
-            )
+            let words = ["PutDeprecation", name, version, message.text()];
+            joined(rt, alloc, &words)
         }
-        Change::PutTag {
-            package,
-            tag,
-            version,
-            stands,
-        } => {
-            let (name, stands) = (package.text(), standing(*stands));
-            joined(rt, alloc, &["PutTag", name, *tag, version.text(), stands])
-        }
-        Change::DropTag { package, tag } => joined(rt, alloc, &["DropTag", package.text(), *tag]),
-        _ => joined(rt, alloc, &["another change"]),
+        _ => string(rt, alloc, "another change"),
     }
 }
 
@@ -182,6 +173,6 @@ pub fn are_told(
 ) {
     same(rt, shows, &changes.len(), &wanted.len());
     for (change, want) in changes.iter().zip(wanted) {
-        same(rt, shows, told(rt, alloc, change).as_str(), *want);
+        same(rt, shows, told(rt, alloc, *change).as_str(), *want);
     }
 }

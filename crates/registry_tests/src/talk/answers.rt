@@ -1,14 +1,13 @@
 //! What outcomes are in HTTP.
 
 use crate::outcome::same;
-use crate::parts::{blob, text};
+use crate::parts::{as_text, blob, text};
 use registry_names::{Fault, Refusal, Rule, ToWrite};
 use registry_rules::Reply;
 use registry_talk::Answer;
 use registry_wire::write_response;
 use std::alloc::Global;
 use std::process::Abort;
-use std::str;
 
 /// An outcome.
 enum Outcome {
@@ -42,12 +41,7 @@ fn is_sent(rt: &impl Abort, alloc: Global, case: &Case) {
     let mut out = Vec::new(alloc);
     let written = write_response(&answer.response(*closes), &mut ToWrite::new(&mut out));
     same(rt, *wanted, &written, &Ok(()));
-    same(
-        rt,
-        "its bytes",
-        str::from_utf8(&out).unwrap_or("?"),
-        *wanted,
-    );
+    same(rt, "its bytes", as_text(&out), *wanted);
 }
 
 static OUTCOMES: [Case; 5] = [

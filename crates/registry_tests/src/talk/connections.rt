@@ -3,7 +3,7 @@
 ghost use Rattle.std.specs.Prelude.{None};
 
 use crate::outcome::same;
-use crate::parts::repeated;
+use crate::parts::{around, as_text, repeated};
 use crate::wire::reader::{Drip, Faltering, Narrow};
 use registry_names::{ByteIn, Fault, FromRead, Moment, Refusal, Text, ToWrite};
 use registry_rules::{Action, Credential, Reply, Request};
@@ -12,7 +12,6 @@ use registry_wire::Inbox;
 use std::alloc::Global;
 use std::io::ErrorKind;
 use std::process::Abort;
-use std::str;
 
 /// A desk that tells the tags of any package to who shows a token, and has a fault for teams.
 #[derive(Drop)]
@@ -72,7 +71,7 @@ fn is_served<R: ByteIn + Drop>(
     let mut writer = ToWrite::new(&mut out);
     let came_out = serve(alloc, &mut desk, &mut inbox, &mut writer, &mut clock);
     same(rt, case, &came_out, &served);
-    same(rt, case, str::from_utf8(&out).unwrap_or("?"), written);
+    same(rt, case, as_text(&out), written);
     assert!(rt;
         desk.asked.is_sorted(),
         "{case} is asked at moments out of order"
@@ -149,8 +148,7 @@ const LAST_OUT: &str =
 fn a_connection_has_a_thousand_requests(rt: HostRuntime) {
     let alloc = rt.alloc();
     let input = repeated(&rt, alloc, TAGS, 1_001);
-    let out = repeated(&rt, alloc, TAGS_OUT, 999);
-    let wanted = format!(in alloc; "{out}{LAST_OUT}").expect(&rt, "memory");
+    let wanted = around(&rt, alloc, "", TAGS_OUT, 999, LAST_OUT);
     let served = Served {
         requests: 1_000,
         end: End::Limit,
@@ -169,22 +167,36 @@ const NONE_SERVED: Served = Served {
     end: End::ReadFault,
 };
 
-// How reads fail, how many do, what is written, and how it ends.
-static FAILED_READS: [(ErrorKind, u32, &str, Served); 3] = [
-    (ErrorKind::Interrupted, 999, TAGS_OUT, ONE_SERVED),
-    (ErrorKind::Interrupted, 1_000, "", NONE_SERVED),
-    (ErrorKind::TimedOut, 1, "", NONE_SERVED),
+/// What is shown, how reads fail, how many do, what is written, and how it ends.
+type Failed = (&'static str, ErrorKind, u32, &'static str, Served);
+
+static FAILED_READS: [Failed; 3] = [
+    (
+        "999 times",
+        ErrorKind::Interrupted,
+        999,
+        TAGS_OUT,
+        ONE_SERVED,
+    ),
+    (
+        "1,000 times",
+        ErrorKind::Interrupted,
+        1_000,
+        "",
+        NONE_SERVED,
+    ),
+    ("broken", ErrorKind::TimedOut, 1, "", NONE_SERVED),
 ];
 
 #[test]
 fn interrupted_reads_are_tried_again(rt: HostRuntime) {
-    for (kind, failures, written, served) in &FAILED_READS {
+    for (shows, kind, failures, written, served) in &FAILED_READS {
         let reader = FromRead::new(Faltering {
             text: TAGS.as_bytes(),
             kind: *kind,
             failures: *failures,
         });
-        is_served(&rt, rt.alloc(), "failed reads", reader, written, *served);
+        is_served(&rt, rt.alloc(), shows, reader, written, *served);
     }
 }
 
@@ -204,8 +216,8 @@ fn is_cut(rt: &impl Abort, alloc: Global, limit: usize, requests: u32) {
     let served = serve(alloc, &mut desk, &mut inbox, &mut writer, &mut clock);
     let end = End::WriteFault;
     same(rt, &limit, &served, &Served { requests, end });
-    let written = str::from_utf8(&narrow.taken).unwrap_or("?");
-    same(rt, &limit, written, TAGS_OUT.get(..limit).unwrap_or("?"));
+    let front = TAGS_OUT.get(..limit).unwrap_or("?");
+    same(rt, &limit, as_text(&narrow.taken), front);
 }
 
 #[test]

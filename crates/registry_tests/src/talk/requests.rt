@@ -1,7 +1,7 @@
 //! The requests that requests of HTTP spell, and the first refusals of their form.
 
 use crate::outcome::{is_refused, same};
-use crate::parts::{blob, joined, shown};
+use crate::parts::{blob, concat, joined, shown, string};
 use registry_names::{Moment, Refusal};
 use registry_rules::{Action, Asked, Credential, Request};
 use registry_talk::request_of;
@@ -22,11 +22,8 @@ fn of_packages(rt: &impl Abort, alloc: Global, action: &Action) -> String {
         }
         Action::Tags { name } => joined(rt, alloc, &["tags", name.text()]),
         Action::Publish { form } => {
-            joined(
-                rt,
-                alloc,
-                &["publish", form.name().text(), form.version().text()],
-            )
+            let (name, version) = (form.name(), form.version());
+            joined(rt, alloc, &["publish", name.text(), version.text()])
         }
         Action::TagSet { name, tag, version } => {
             joined(rt, alloc, &["tag", name.text(), tag.text(), version.text()])
@@ -46,11 +43,11 @@ fn of_packages(rt: &impl Abort, alloc: Global, action: &Action) -> String {
         Action::OwnerRemove { name, user } => {
             joined(rt, alloc, &["no owner", name.text(), user.text()])
         }
-        _ => of_teams(rt, alloc, action),
+        _ => of_organisations(rt, alloc, action),
     }
 }
 
-fn of_teams(rt: &impl Abort, alloc: Global, action: &Action) -> String {
+fn of_organisations(rt: &impl Abort, alloc: Global, action: &Action) -> String {
     match action {
         Action::Members { organisation } => joined(rt, alloc, &["members", organisation.text()]),
         Action::OrgSet {
@@ -69,6 +66,12 @@ fn of_teams(rt: &impl Abort, alloc: Global, action: &Action) -> String {
             joined(rt, alloc, &["no role", organisation.text(), user.text()])
         }
         Action::Teams { organisation } => joined(rt, alloc, &["teams", organisation.text()]),
+        _ => of_teams(rt, alloc, action),
+    }
+}
+
+fn of_teams(rt: &impl Abort, alloc: Global, action: &Action) -> String {
+    match action {
         Action::TeamMembers { organisation, team } => {
             joined(rt, alloc, &["team", organisation.text(), team.text()])
         }
@@ -128,7 +131,7 @@ fn of_grants(rt: &impl Abort, alloc: Global, action: &Action) -> String {
             alloc,
             &["no grant", organisation.text(), team.text(), name.text()],
         ),
-        _ => joined(rt, alloc, &["another"]),
+        _ => string(rt, alloc, "another"),
     }
 }
 
@@ -141,7 +144,7 @@ fn told(rt: &impl Abort, alloc: Global, request: &Request) -> String {
         Credential::Token(_) => " by a token",
         Credential::Anonymous => "",
     };
-    format!(in alloc; "{what}{who}").expect(rt, "memory")
+    concat(rt, alloc, &[what.as_str(), who])
 }
 
 /// A method, a target and a body, and the request in a line or the refusal.

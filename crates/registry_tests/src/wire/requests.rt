@@ -2,7 +2,7 @@
 
 use super::reader::{Drip, Faltering, Halting};
 use crate::outcome::same;
-use crate::parts::{repeated, string};
+use crate::parts::{around, as_text, joined, repeated, shown, string};
 use registry_names::{ByteIn, FromRead, Refusal};
 use registry_wire::{
     Authorization, BODY_LIMIT, Ending, First, Inbox, Taken, Wanted, ending_of, first_in,
@@ -10,16 +10,12 @@ use registry_wire::{
 use std::alloc::Global;
 use std::io::ErrorKind;
 use std::process::Abort;
-use std::str;
-
-fn as_text(bytes: &[u8]) -> &str {
-    str::from_utf8(bytes).unwrap_or("no UTF-8")
-}
 
 // A request in a line: its method, its target, its authorization, its body, and whether it is the
 // last of its connection.
 fn asked(rt: &impl Abort, alloc: Global, wanted: &Wanted) -> String {
-    let shown = match &wanted.authorization {
+    let method = shown(rt, alloc, &wanted.method);
+    let authorization = match &wanted.authorization {
         Authorization::Absent => "",
         Authorization::Once(value) => as_text(value.as_slice()),
         Authorization::Repeated => "several",
@@ -27,7 +23,8 @@ fn asked(rt: &impl Abort, alloc: Global, wanted: &Wanted) -> String {
     let target = as_text(wanted.target.as_slice());
     let body = as_text(wanted.body.as_slice());
     let last = if wanted.closes { "last" } else { "" };
-    format!(in alloc; "{:?}|{target}|{shown}|{body}|{last}", wanted.method).expect(rt, "memory")
+    let words = [method.as_str(), target, authorization, body, last];
+    words.join(alloc, "|").expect(rt, "memory")
 }
 
 // What a read of a request gave, in a line.
@@ -218,19 +215,6 @@ fn some_input_is_bad(rt: HostRuntime) {
     all_come_out(&rt, rt.alloc(), &BAD_INPUTS);
 }
 
-// A text, another so many times, and a last one.
-fn around(
-    rt: &impl Abort,
-    alloc: Global,
-    front: &str,
-    part: &str,
-    times: usize,
-    back: &str,
-) -> String {
-    let parts = repeated(rt, alloc, part, times);
-    format!(in alloc; "{front}{parts}{back}").expect(rt, "memory")
-}
-
 const LINE: &str = "GET /kit HTTP/1.1\r\n";
 
 // How many fields a head has, and what reads of it give.
@@ -308,18 +292,18 @@ fn faltering(kind: ErrorKind, failures: u32) -> FromRead<Faltering<'static>> {
     })
 }
 
-// How many reads are interrupted, and what reads of requests give.
-static INTERRUPTED: [(u32, &[&str]); 3] = [
-    (999, &["Get|/kit|||", "closed"]),
-    (1_000, &["a read failed", "Get|/kit|||"]),
-    (1_001, &["a read failed", "a read failed"]),
+// What is shown, how many reads are interrupted, and what reads of requests give.
+static INTERRUPTED: [(&str, u32, &[&str]); 3] = [
+    ("999", 999, &["Get|/kit|||", "closed"]),
+    ("1,000", 1_000, &["a read failed", "Get|/kit|||"]),
+    ("1,001", 1_001, &["a read failed", "a read failed"]),
 ];
 
 #[test]
 fn interrupted_reads_are_tried_again(rt: HostRuntime) {
-    for (failures, wanted) in &INTERRUPTED {
+    for (shows, failures, wanted) in &INTERRUPTED {
         let reader = faltering(ErrorKind::Interrupted, *failures);
-        all_read(&rt, rt.alloc(), "interrupted", reader, wanted);
+        all_read(&rt, rt.alloc(), shows, reader, wanted);
     }
 }
 
@@ -341,13 +325,15 @@ fn a_failed_read_loses_nothing(rt: HostRuntime) {
 // What bytes that have come say of the first request, in a line with its length.
 fn said(rt: &impl Abort, alloc: Global, bytes: &[u8]) -> String {
     match first_in(alloc, bytes).expect(rt, "memory") {
-        First::Whole(wanted, len) => {
-            let asked = asked(rt, alloc, &wanted);
-            format!(in alloc; "{asked} {len}").expect(rt, "memory")
-        }
-        First::Unfinished => format!(in alloc; "{:?}", ending_of(bytes)).expect(rt, "memory"),
+        First::Whole(wanted, len) => whole(rt, alloc, &wanted, len),
+        First::Unfinished => shown(rt, alloc, &ending_of(bytes)),
         First::Bad(refusal) => string(rt, alloc, refusal.text()),
     }
+}
+
+fn whole(rt: &impl Abort, alloc: Global, wanted: &Wanted, len: usize) -> String {
+    let (asked, len) = (asked(rt, alloc, wanted), shown(rt, alloc, &len));
+    joined(rt, alloc, &[asked.as_str(), len.as_str()])
 }
 
 fn is_said(rt: &impl Abort, alloc: Global, bytes: &[u8], wanted: &str) {

@@ -2,17 +2,12 @@
 
 use super::reader::Narrow;
 use crate::outcome::same;
-use crate::parts::repeated;
+use crate::parts::{as_text, concat, repeated};
 use http::StatusCode;
 use registry_names::{ToWrite, WriteFailed};
 use registry_wire::{ContentKind, Response, ShortText, write_response};
 use std::alloc::Global;
 use std::process::Abort;
-use std::str;
-
-fn as_text(bytes: &[u8]) -> &str {
-    str::from_utf8(bytes).unwrap_or("no UTF-8")
-}
 
 // A status, a body, whether the connection ends, and the bytes of the response.
 type Case = (u16, &'static str, bool, &'static str);
@@ -116,7 +111,7 @@ fn long_bodies_are_written(rt: HostRuntime) {
     let mut out = Vec::new(alloc);
     let outcome = write_response(&response, &mut ToWrite::new(&mut out));
     same(&rt, "a long body", &outcome, &Ok(()));
-    let wanted = format!(in alloc; "{LONG_HEAD}{body}").expect(&rt, "memory");
+    let wanted = concat(&rt, alloc, &[LONG_HEAD, body.as_str()]);
     same(&rt, "a long body", as_text(&out), wanted.as_str());
 }
 

@@ -3,7 +3,7 @@
 ghost use Rattle.registry_cli.specs.Lines.{IsWhole};
 
 use crate::outcome::same;
-use crate::parts::{joined, shown, string, texts};
+use crate::parts::{concat, joined, shown, string, texts};
 use registry_cli::{Line, action_of, line};
 use registry_rules::{Action, Asked, Credential};
 use std::alloc::Global;
@@ -68,11 +68,8 @@ fn told_of_team(rt: &impl Abort, alloc: Global, what: &Action) -> String {
             joined(rt, alloc, &["TeamCreate", organisation.text(), team.text()])
         }
         Action::TeamDestroy { organisation, team } => {
-            joined(
-                rt,
-                alloc,
-                &["TeamDestroy", organisation.text(), team.text()],
-            )
+            let team = team.text();
+            joined(rt, alloc, &["TeamDestroy", organisation.text(), team])
         }
         Action::TeamAdd {
             organisation,
@@ -93,18 +90,12 @@ fn told_of_team(rt: &impl Abort, alloc: Global, what: &Action) -> String {
             &["TeamRemove", organisation.text(), team.text(), user.text()],
         ),
         Action::TeamMembers { organisation, team } => {
-            joined(
-                rt,
-                alloc,
-                &["TeamMembers", organisation.text(), team.text()],
-            )
+            let team = team.text();
+            joined(rt, alloc, &["TeamMembers", organisation.text(), team])
         }
         Action::TeamPackages { organisation, team } => {
-            joined(
-                rt,
-                alloc,
-                &["TeamPackages", organisation.text(), team.text()],
-            )
+            let team = team.text();
+            joined(rt, alloc, &["TeamPackages", organisation.text(), team])
         }
         _ => told_of_right(rt, alloc, what),
     }
@@ -152,18 +143,12 @@ fn told_of_right(rt: &impl Abort, alloc: Global, what: &Action) -> String {
 fn told_of_package(rt: &impl Abort, alloc: Global, what: &Action) -> String {
     match what {
         Action::Publish { form } => {
-            joined(
-                rt,
-                alloc,
-                &["Publish", form.name().text(), form.version().text()],
-            )
+            let (name, version) = (form.name(), form.version());
+            joined(rt, alloc, &["Publish", name.text(), version.text()])
         }
         Action::TagSet { name, tag, version } => {
-            joined(
-                rt,
-                alloc,
-                &["TagSet", name.text(), tag.text(), version.text()],
-            )
+            let (name, tag) = (name.text(), tag.text());
+            joined(rt, alloc, &["TagSet", name, tag, version.text()])
         }
         Action::TagRemove { name, tag } => {
             joined(rt, alloc, &["TagRemove", name.text(), tag.text()])
@@ -186,7 +171,7 @@ fn told_of_package(rt: &impl Abort, alloc: Global, what: &Action) -> String {
             joined(rt, alloc, &["Archive", name.text(), version.text()])
         }
         Action::Tags { name } => joined(rt, alloc, &["Tags", name.text()]),
-        _ => joined(rt, alloc, &["another action"]),
+        _ => string(rt, alloc, "another action"),
     }
 }
 
@@ -199,8 +184,8 @@ fn asked(rt: &impl Abort, alloc: Global, line: &Line, body: &str) -> String
     }
     match action_of(alloc, line, body.as_bytes()) {
         Ok((who, what)) => {
-            let (who, what) = (caller(&who), told(rt, alloc, &what));
-            format!(in alloc; "{who}: {what}").expect(rt, "memory")
+            let what = told(rt, alloc, &what);
+            concat(rt, alloc, &[caller(&who), ": ", what.as_str()])
         }
         Err(stop) => string(rt, alloc, stop.text()),
     }

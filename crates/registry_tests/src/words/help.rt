@@ -2,6 +2,7 @@
 
 use super::{WHOLE, said};
 use crate::outcome::same;
+use crate::parts::concat;
 use std::alloc::Global;
 use std::process::Abort;
 
@@ -33,8 +34,7 @@ static OF_THE_PROGRAM: [&str; 8] = [
 
 fn lists_each(rt: &impl Abort, alloc: Global, help: &str) {
     for words in &WHOLE {
-        let name = name(words);
-        let listed = format!(in alloc; "\n  {name} ").expect(rt, "memory");
+        let listed = concat(rt, alloc, &["\n  ", name(words), " "]);
         has_all(rt, help, &[listed.as_str()]);
     }
 }
@@ -51,7 +51,7 @@ fn help_of_the_program(rt: HostRuntime) {
 // Sees that the subcommand's help says how it is called, and gives an example.
 fn is_helpful(rt: &impl Abort, alloc: Global, name: &str) {
     let help = said(rt, alloc, &[name, "--help"]);
-    let usage = format!(in alloc; "Usage: registry {name} ").expect(rt, "memory");
+    let usage = concat(rt, alloc, &["Usage: registry ", name, " "]);
     has_all(rt, help.as_str(), &[usage.as_str(), "Example: registry "]);
 }
 
