@@ -2,7 +2,7 @@
 //! Rust reads into one decides.
 
 use crate::outcome::same;
-use crate::packument::{head, source, versions};
+use crate::packument::{VersionCase, head, source, versions};
 use crate::parts::{as_text, concat, repeated};
 use registry_names::{Fault, ToWrite};
 use registry_packument::{
@@ -95,8 +95,28 @@ fn a_manifest_nests_127_deep(rt: HostRuntime) {
 
 const FRONT: &str = r#"{"_id":"kit","dist-tags":{},"name":"kit","versions":{"1.0.0":{}"#;
 
-// Sees that where a manifest follows one in form, no text and no length is told, and what stands
-// before it is written.
+// Sees that no text of these rows is told.
+fn has_no_text(rt: &impl Abort, alloc: Global, head: &PackHead, rows: &[VersionCase]) {
+    let told = packument_text(alloc, head, &mut source(rt, alloc, rows)).err();
+    same(rt, rows, &told, &Some(Fault::Database));
+}
+
+// Sees that no length of them is.
+fn has_no_length(rt: &impl Abort, alloc: Global, head: &PackHead, rows: &[VersionCase]) {
+    let counted = packument_len(alloc, head, &mut source(rt, alloc, rows));
+    same(rt, rows, &counted, &Err(Fault::Database));
+}
+
+// Sees that what stands before the one out of form is written.
+fn has_a_front(rt: &impl Abort, alloc: Global, head: &PackHead, rows: &[VersionCase]) {
+    let mut out = Vec::new(alloc);
+    let mut source = source(rt, alloc, rows);
+    let end = write_packument(alloc, head, &mut source, &mut ToWrite::new(&mut out));
+    same(rt, rows, &end, &Err(PackFault::Source(Fault::Database)));
+    same(rt, rows, as_text(&out), FRONT);
+}
+
+// Sees that where a manifest follows one in form, there is no packument.
 fn is_no_packument(
     rt: &impl Abort,
     alloc: Global,
@@ -105,20 +125,9 @@ fn is_no_packument(
     message: &'static str,
 ) {
     let rows = [("1.0.0", "{}", ""), ("1.0.1", text, message)];
-    let told = packument_text(alloc, head, &mut source(rt, alloc, &rows)).err();
-    same(rt, &(text, message), &told, &Some(Fault::Database));
-    let counted = packument_len(alloc, head, &mut source(rt, alloc, &rows));
-    same(rt, &(text, message), &counted, &Err(Fault::Database));
-    let mut out = Vec::new(alloc);
-    let end = write_packument(
-        alloc,
-        head,
-        &mut source(rt, alloc, &rows),
-        &mut ToWrite::new(&mut out),
-    );
-    let wanted = Err(PackFault::Source(Fault::Database));
-    same(rt, &(text, message), &end, &wanted);
-    same(rt, &(text, message), as_text(&out), FRONT);
+    has_no_text(rt, alloc, head, &rows);
+    has_no_length(rt, alloc, head, &rows);
+    has_a_front(rt, alloc, head, &rows);
 }
 
 #[test]

@@ -2,7 +2,7 @@
 
 use crate::outcome::{is_refused, same};
 use crate::parts::name;
-use registry_names::{Refusal, Stop, Ver};
+use registry_names::Refusal;
 use registry_routes::{decoded, ident_in, name_in, tag_in, version_in, version_of_file};
 use std::alloc::Global;
 use std::process::Abort;
@@ -39,26 +39,26 @@ fn is_read(rt: &impl Abort, alloc: Global, case: &Written) {
             Ok(ident) => same(rt, *written, &Ok(ident.text()), wanted),
             Err(stop) => is_refused(rt, *written, stop, wanted),
         },
-        Kind::Version => is_version(rt, written, &version_in(alloc, written), wanted),
+        Kind::Version => match version_in(alloc, written) {
+            Ok(version) => same(rt, *written, &Ok(version.text()), wanted),
+            Err(stop) => is_refused(rt, *written, stop, wanted),
+        },
         Kind::Tag => match tag_in(alloc, written) {
             Ok(tag) => same(rt, *written, &Ok(tag.text()), wanted),
             Err(stop) => is_refused(rt, *written, stop, wanted),
         },
-        Kind::ScopedFile => {
-            let kit = name(rt, alloc, "@lab/kit");
-            is_version(rt, written, &version_of_file(alloc, &kit, written), wanted);
-        }
-        Kind::File => {
-            let kit = name(rt, alloc, "kit");
-            is_version(rt, written, &version_of_file(alloc, &kit, written), wanted);
-        }
+        Kind::ScopedFile => is_file(rt, alloc, "@lab/kit", case),
+        Kind::File => is_file(rt, alloc, "kit", case),
     }
 }
 
-fn is_version(rt: &impl Abort, written: &[u8], version: &Result<Ver, Stop>, wanted: &Outcome) {
-    match version {
-        Ok(version) => same(rt, written, &Ok(version.text()), wanted),
-        Err(stop) => is_refused(rt, written, *stop, wanted),
+// Sees that a file of a package is read as its version.
+fn is_file(rt: &impl Abort, alloc: Global, package: &str, case: &Written) {
+    let (_, written, wanted) = case;
+    let package = name(rt, alloc, package);
+    match version_of_file(alloc, &package, written) {
+        Ok(version) => same(rt, *written, &Ok(version.text()), wanted),
+        Err(stop) => is_refused(rt, *written, stop, wanted),
     }
 }
 

@@ -6,11 +6,6 @@ use registry_rules::Change;
 use std::alloc::Global;
 use std::process::Abort;
 
-// Whether what is put stands already.
-fn standing(stands: bool) -> &'static str {
-    if stands { "true" } else { "false" }
-}
-
 /// A change as a text: its kind, and what it says, in the order of its fields.
 fn told(rt: &impl Abort, alloc: Global, change: Change<'_>) -> String {
     match change {
@@ -23,15 +18,9 @@ fn told(rt: &impl Abort, alloc: Global, change: Change<'_>) -> String {
             role,
             stands,
         } => {
-            let (role, stands) = (shown(rt, alloc, &role), standing(stands));
-            let words = [
-                "PutMember",
-                organisation,
-                user.text(),
-                role.as_str(),
-                stands,
-            ];
-            joined(rt, alloc, &words)
+            let (role, stands) = (shown(rt, alloc, &role), shown(rt, alloc, &stands));
+            let (user, role, stands) = (user.text(), role.as_str(), stands.as_str());
+            joined(rt, alloc, &["PutMember", organisation, user, role, stands])
         }
         Change::DropMember { organisation, user } => {
             joined(rt, alloc, &["DropMember", organisation, user.text()])
@@ -79,8 +68,8 @@ fn told_of_grant(rt: &impl Abort, alloc: Global, change: Change<'_>) -> String {
             grant,
             stands,
         } => {
-            let (grant, stands) = (shown(rt, alloc, &grant), standing(stands));
-            let (name, grant) = (package.text(), grant.as_str());
+            let (grant, stands) = (shown(rt, alloc, &grant), shown(rt, alloc, &stands));
+            let (name, grant, stands) = (package.text(), grant.as_str(), stands.as_str());
             joined(
                 rt,
                 alloc,
@@ -113,9 +102,9 @@ fn told_of_package(rt: &impl Abort, alloc: Global, change: Change<'_>) -> String
             status,
             stands,
         } => {
-            let (status, stands) = (shown(rt, alloc, &status), standing(stands));
-            let words = ["PutStatus", package.text(), status.as_str(), stands];
-            joined(rt, alloc, &words)
+            let (status, stands) = (shown(rt, alloc, &status), shown(rt, alloc, &stands));
+            let (name, status, stands) = (package.text(), status.as_str(), stands.as_str());
+            joined(rt, alloc, &["PutStatus", name, status, stands])
         }
         Change::PutTag {
             package,
@@ -123,8 +112,9 @@ fn told_of_package(rt: &impl Abort, alloc: Global, change: Change<'_>) -> String
             version,
             stands,
         } => {
-            let (name, stands) = (package.text(), standing(stands));
-            joined(rt, alloc, &["PutTag", name, tag, version.text(), stands])
+            let stands = shown(rt, alloc, &stands);
+            let (name, version, stands) = (package.text(), version.text(), stands.as_str());
+            joined(rt, alloc, &["PutTag", name, tag, version, stands])
         }
         Change::DropTag { package, tag } => joined(rt, alloc, &["DropTag", package.text(), tag]),
         _ => told_of_version(rt, alloc, change),
