@@ -1,7 +1,7 @@
 //! The requests that requests of HTTP spell, and the first refusals of their form.
 
 use crate::outcome::{is_refused, same};
-use crate::parts::{blob, concat, joined, shown, string};
+use crate::parts::{blob, joined, shown, string};
 use registry_names::{Moment, Refusal};
 use registry_rules::{Action, Asked, Credential, Request};
 use registry_talk::request_of;
@@ -138,13 +138,16 @@ fn of_grants(rt: &impl Abort, alloc: Global, action: &Action) -> String {
 // A request in a line: what is asked, and who asks where somebody does.
 fn told(rt: &impl Abort, alloc: Global, request: &Request) -> String {
     let what = of_packages(rt, alloc, &request.what);
-    let who = match request.who {
-        Credential::Operator => " by the operator",
-        Credential::User(_) => " by a user",
-        Credential::Token(_) => " by a token",
-        Credential::Anonymous => "",
-    };
-    concat(rt, alloc, &[what.as_str(), who])
+    asked_by(rt, alloc, what.as_str(), &request.who)
+}
+
+fn asked_by(rt: &impl Abort, alloc: Global, what: &str, who: &Credential) -> String {
+    match who {
+        Credential::Operator => joined(rt, alloc, &[what, "by the operator"]),
+        Credential::User(_) => joined(rt, alloc, &[what, "by a user"]),
+        Credential::Token(_) => joined(rt, alloc, &[what, "by a token"]),
+        Credential::Anonymous => string(rt, alloc, what),
+    }
 }
 
 /// A method, a target and a body, and the request in a line or the refusal.

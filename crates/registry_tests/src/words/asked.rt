@@ -183,12 +183,14 @@ fn asked(rt: &impl Abort, alloc: Global, line: &Line, body: &str) -> String
         return string(rt, alloc, "serve");
     }
     match action_of(alloc, line, body.as_bytes()) {
-        Ok((who, what)) => {
-            let what = told(rt, alloc, &what);
-            concat(rt, alloc, &[caller(&who), ": ", what.as_str()])
-        }
+        Ok((who, what)) => asked_by(rt, alloc, &who, &what),
         Err(stop) => string(rt, alloc, stop.text()),
     }
+}
+
+fn asked_by(rt: &impl Abort, alloc: Global, who: &Credential, what: &Action) -> String {
+    let what = told(rt, alloc, what);
+    concat(rt, alloc, &[caller(who), ": ", what.as_str()])
 }
 
 fn asks(rt: &impl Abort, alloc: Global, case: &Case) {
