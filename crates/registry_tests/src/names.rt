@@ -41,26 +41,46 @@ fn is_told(
     stopped: &Stopped,
 ) {
     match *kind {
-        Kind::Name => match Name::parse(alloc, text) {
-            Ok(read) => is_given_back(rt, shows, read.text(), text, stopped),
-            Err(stop) => is_stopped(rt, shows, stop, stopped),
-        },
-        Kind::Ident => match Ident::parse(alloc, text) {
-            Ok(read) => is_given_back(rt, shows, read.text(), text, stopped),
-            Err(stop) => is_stopped(rt, shows, stop, stopped),
-        },
-        Kind::Version => match Ver::parse(alloc, text) {
-            Ok(read) => is_given_back(rt, shows, read.text(), text, stopped),
-            Err(stop) => is_stopped(rt, shows, stop, stopped),
-        },
-        Kind::Tag => match TagText::shape(alloc, text) {
-            Ok(read) => is_given_back(rt, shows, read.text(), text, stopped),
-            Err(stop) => is_stopped(rt, shows, stop, stopped),
-        },
-        Kind::Message => match Message::parse(alloc, text) {
-            Ok(read) => is_given_back(rt, shows, read.text(), text, stopped),
-            Err(stop) => is_stopped(rt, shows, stop, stopped),
-        },
+        Kind::Name => is_name(rt, alloc, shows, text, stopped),
+        Kind::Ident => is_ident(rt, alloc, shows, text, stopped),
+        Kind::Version => is_version(rt, alloc, shows, text, stopped),
+        Kind::Tag => is_tag(rt, alloc, shows, text, stopped),
+        Kind::Message => is_message(rt, alloc, shows, text, stopped),
+    }
+}
+
+fn is_name(rt: &impl Abort, alloc: Global, shows: &str, text: &str, stopped: &Stopped) {
+    match Name::parse(alloc, text) {
+        Ok(read) => is_given_back(rt, shows, read.text(), text, stopped),
+        Err(stop) => is_stopped(rt, shows, stop, stopped),
+    }
+}
+
+fn is_ident(rt: &impl Abort, alloc: Global, shows: &str, text: &str, stopped: &Stopped) {
+    match Ident::parse(alloc, text) {
+        Ok(read) => is_given_back(rt, shows, read.text(), text, stopped),
+        Err(stop) => is_stopped(rt, shows, stop, stopped),
+    }
+}
+
+fn is_version(rt: &impl Abort, alloc: Global, shows: &str, text: &str, stopped: &Stopped) {
+    match Ver::parse(alloc, text) {
+        Ok(read) => is_given_back(rt, shows, read.text(), text, stopped),
+        Err(stop) => is_stopped(rt, shows, stop, stopped),
+    }
+}
+
+fn is_tag(rt: &impl Abort, alloc: Global, shows: &str, text: &str, stopped: &Stopped) {
+    match TagText::shape(alloc, text) {
+        Ok(read) => is_given_back(rt, shows, read.text(), text, stopped),
+        Err(stop) => is_stopped(rt, shows, stop, stopped),
+    }
+}
+
+fn is_message(rt: &impl Abort, alloc: Global, shows: &str, text: &str, stopped: &Stopped) {
+    match Message::parse(alloc, text) {
+        Ok(read) => is_given_back(rt, shows, read.text(), text, stopped),
+        Err(stop) => is_stopped(rt, shows, stop, stopped),
     }
 }
 

@@ -2,7 +2,7 @@
 
 use crate::outcome::{is_refused, same};
 use crate::parts::name;
-use registry_names::Refusal;
+use registry_names::{Refusal, Stop};
 use registry_routes::{decoded, ident_in, name_in, tag_in, version_in, version_of_file};
 use std::alloc::Global;
 use std::process::Abort;
@@ -25,41 +25,67 @@ type Outcome = Result<&'static str, Refusal>;
 
 // Sees that what is written is read as a kind.
 fn is_read(rt: &impl Abort, alloc: Global, case: &Written) {
-    let (kind, written, wanted) = case;
-    match kind {
-        Kind::Text => match decoded(alloc, written) {
-            Ok(text) => same(rt, *written, &Ok(text.as_str()), wanted),
-            Err(stop) => is_refused(rt, *written, stop, wanted),
-        },
-        Kind::Name => match name_in(alloc, written) {
-            Ok(name) => same(rt, *written, &Ok(name.text()), wanted),
-            Err(stop) => is_refused(rt, *written, stop, wanted),
-        },
-        Kind::Ident => match ident_in(alloc, written) {
-            Ok(ident) => same(rt, *written, &Ok(ident.text()), wanted),
-            Err(stop) => is_refused(rt, *written, stop, wanted),
-        },
-        Kind::Version => match version_in(alloc, written) {
-            Ok(version) => same(rt, *written, &Ok(version.text()), wanted),
-            Err(stop) => is_refused(rt, *written, stop, wanted),
-        },
-        Kind::Tag => match tag_in(alloc, written) {
-            Ok(tag) => same(rt, *written, &Ok(tag.text()), wanted),
-            Err(stop) => is_refused(rt, *written, stop, wanted),
-        },
+    match case.0 {
+        Kind::Text => is_text(rt, alloc, case),
+        Kind::Name => is_name(rt, alloc, case),
+        Kind::Ident => is_ident(rt, alloc, case),
+        Kind::Version => is_version(rt, alloc, case),
+        Kind::Tag => is_tag(rt, alloc, case),
         Kind::ScopedFile => is_file(rt, alloc, "@lab/kit", case),
         Kind::File => is_file(rt, alloc, "kit", case),
     }
 }
 
+fn is_text(rt: &impl Abort, alloc: Global, case: &Written) {
+    match decoded(alloc, case.1) {
+        Ok(text) => comes_out(rt, case, text.as_str()),
+        Err(stop) => is_stopped(rt, case, stop),
+    }
+}
+
+fn is_name(rt: &impl Abort, alloc: Global, case: &Written) {
+    match name_in(alloc, case.1) {
+        Ok(name) => comes_out(rt, case, name.text()),
+        Err(stop) => is_stopped(rt, case, stop),
+    }
+}
+
+fn is_ident(rt: &impl Abort, alloc: Global, case: &Written) {
+    match ident_in(alloc, case.1) {
+        Ok(ident) => comes_out(rt, case, ident.text()),
+        Err(stop) => is_stopped(rt, case, stop),
+    }
+}
+
+fn is_version(rt: &impl Abort, alloc: Global, case: &Written) {
+    match version_in(alloc, case.1) {
+        Ok(version) => comes_out(rt, case, version.text()),
+        Err(stop) => is_stopped(rt, case, stop),
+    }
+}
+
+fn is_tag(rt: &impl Abort, alloc: Global, case: &Written) {
+    match tag_in(alloc, case.1) {
+        Ok(tag) => comes_out(rt, case, tag.text()),
+        Err(stop) => is_stopped(rt, case, stop),
+    }
+}
+
 // Sees that a file of a package is read as its version.
 fn is_file(rt: &impl Abort, alloc: Global, package: &str, case: &Written) {
-    let (_, written, wanted) = case;
     let package = name(rt, alloc, package);
-    match version_of_file(alloc, &package, written) {
-        Ok(version) => same(rt, *written, &Ok(version.text()), wanted),
-        Err(stop) => is_refused(rt, *written, stop, wanted),
+    match version_of_file(alloc, &package, case.1) {
+        Ok(version) => comes_out(rt, case, version.text()),
+        Err(stop) => is_stopped(rt, case, stop),
     }
+}
+
+fn comes_out(rt: &impl Abort, case: &Written, text: &str) {
+    same(rt, case.1, &Ok(text), &case.2);
+}
+
+fn is_stopped(rt: &impl Abort, case: &Written, stop: Stop) {
+    is_refused(rt, case.1, stop, &case.2);
 }
 
 /// A kind of text, what is written, and the text in form or the refusal.

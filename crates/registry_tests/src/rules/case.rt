@@ -129,8 +129,13 @@ pub fn both_tell(
     same(rt, shows, &may_ask(facts, request).err(), &refused);
     match decide(alloc, facts, request) {
         Ok(changes) => are_told(rt, alloc, shows, &changes, told.expect(rt, shows)),
-        Err(stop) => same(rt, shows, stop, Stop::Refused(refused.expect(rt, shows))),
+        Err(stop) => is_stopped(rt, shows, stop, refused),
     }
+}
+
+fn is_stopped(rt: &impl Abort, shows: &str, stop: Stop, refused: Option<Refusal>) {
+    let refusal = refused.expect(rt, shows);
+    same(rt, shows, &stop, &Stop::Refused(refusal));
 }
 
 /// A user.

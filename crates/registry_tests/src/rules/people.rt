@@ -132,25 +132,26 @@ impl By {
 }
 
 fn action(rt: &impl Abort, alloc: Global, ask: &Ask) -> Action {
-    let user = ident(rt, alloc, "bob");
     match *ask {
-        Ask::UserAdd(_) => Action::UserAdd { user },
+        Ask::UserAdd(_) => Action::UserAdd {
+            user: ident(rt, alloc, "bob"),
+        },
         Ask::TokenAdd(..) => Action::TokenAdd {
-            user,
+            user: ident(rt, alloc, "bob"),
             digest: TokenDigest::of("npm_bob_000000001").expect(rt, "a token"),
         },
         Ask::OrgCreate(..) => Action::OrgCreate {
             organisation: ident(rt, alloc, "lab"),
-            owner: user,
+            owner: ident(rt, alloc, "bob"),
         },
         Ask::OrgSet(role, ..) => Action::OrgSet {
             organisation: ident(rt, alloc, "lab"),
-            user,
+            user: ident(rt, alloc, "bob"),
             role,
         },
         Ask::OrgRemove(..) => Action::OrgRemove {
             organisation: ident(rt, alloc, "lab"),
-            user,
+            user: ident(rt, alloc, "bob"),
         },
         Ask::Members => Action::Members {
             organisation: ident(rt, alloc, "lab"),
@@ -158,26 +159,24 @@ fn action(rt: &impl Abort, alloc: Global, ask: &Ask) -> Action {
         Ask::Teams => Action::Teams {
             organisation: ident(rt, alloc, "lab"),
         },
-        _ => of_team(rt, alloc, user, ask),
+        _ => of_team(rt, alloc, ask),
     }
 }
 
-fn of_team(rt: &impl Abort, alloc: Global, user: Ident, ask: &Ask) -> Action {
+fn of_team(rt: &impl Abort, alloc: Global, ask: &Ask) -> Action {
     let organisation = ident(rt, alloc, "lab");
     let team = ident(rt, alloc, ask.team());
     match *ask {
         Ask::TeamCreate(_) => Action::TeamCreate { organisation, team },
         Ask::TeamDestroy(..) => Action::TeamDestroy { organisation, team },
-        Ask::TeamAdd(..) => Action::TeamAdd {
-            organisation,
-            team,
-            user,
-        },
-        Ask::TeamRemove(..) => Action::TeamRemove {
-            organisation,
-            team,
-            user,
-        },
+        Ask::TeamMembers(_) => Action::TeamMembers { organisation, team },
+        Ask::TeamPackages(_) => Action::TeamPackages { organisation, team },
+        _ => of_grant(rt, alloc, organisation, team, ask),
+    }
+}
+
+fn of_grant(rt: &impl Abort, alloc: Global, organisation: Ident, team: Ident, ask: &Ask) -> Action {
+    match *ask {
         Ask::Grant(package, ..) => Action::Grant {
             organisation,
             team,
@@ -189,8 +188,16 @@ fn of_team(rt: &impl Abort, alloc: Global, user: Ident, ask: &Ask) -> Action {
             team,
             name: name(rt, alloc, "@lab/kit"),
         },
-        Ask::TeamMembers(_) => Action::TeamMembers { organisation, team },
-        _ => Action::TeamPackages { organisation, team },
+        Ask::TeamAdd(..) => Action::TeamAdd {
+            organisation,
+            team,
+            user: ident(rt, alloc, "bob"),
+        },
+        _ => Action::TeamRemove {
+            organisation,
+            team,
+            user: ident(rt, alloc, "bob"),
+        },
     }
 }
 

@@ -163,6 +163,10 @@ pub fn are_told(
 ) {
     same(rt, shows, &changes.len(), &wanted.len());
     for (change, want) in changes.iter().zip(wanted) {
-        same(rt, shows, told(rt, alloc, *change).as_str(), *want);
+        is_told(rt, alloc, shows, change, want);
     }
+}
+
+fn is_told(rt: &impl Abort, alloc: Global, shows: &str, change: &Change<'_>, wanted: &str) {
+    same(rt, shows, told(rt, alloc, *change).as_str(), wanted);
 }

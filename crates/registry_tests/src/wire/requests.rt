@@ -2,7 +2,7 @@
 
 use super::reader::{Drip, Faltering, Halting};
 use crate::outcome::same;
-use crate::parts::{around, as_text, joined, repeated, shown, string};
+use crate::parts::{around, as_text, concat, joined, repeated, shown, string};
 use registry_names::{ByteIn, FromRead, Refusal};
 use registry_wire::{
     Authorization, BODY_LIMIT, Ending, First, Inbox, Taken, Wanted, ending_of, first_in,
@@ -15,16 +15,24 @@ use std::process::Abort;
 // last of its connection.
 fn asked(rt: &impl Abort, alloc: Global, wanted: &Wanted) -> String {
     let method = shown(rt, alloc, &wanted.method);
-    let authorization = match &wanted.authorization {
+    let target = as_text(wanted.target.as_slice());
+    let front = concat(rt, alloc, &[method.as_str(), "|", target, "|"]);
+    let body = as_text(wanted.body.as_slice());
+    let back = if wanted.closes { "|last" } else { "|" };
+    let end = concat(rt, alloc, &["|", body, back]);
+    concat(
+        rt,
+        alloc,
+        &[front.as_str(), authorization(wanted), end.as_str()],
+    )
+}
+
+fn authorization(wanted: &Wanted) -> &str {
+    match &wanted.authorization {
         Authorization::Absent => "",
         Authorization::Once(value) => as_text(value.as_slice()),
         Authorization::Repeated => "several",
-    };
-    let target = as_text(wanted.target.as_slice());
-    let body = as_text(wanted.body.as_slice());
-    let last = if wanted.closes { "last" } else { "" };
-    let words = [method.as_str(), target, authorization, body, last];
-    words.join(alloc, "|").expect(rt, "memory")
+    }
 }
 
 // What a read of a request gave, in a line.
@@ -223,9 +231,13 @@ static FIELDS: [(usize, &[&str]); 2] = [(64, &["Get|/kit|||", "closed"]), (65, &
 #[test]
 fn a_head_has_64_fields(rt: HostRuntime) {
     for (fields, wanted) in &FIELDS {
-        let head = around(&rt, rt.alloc(), LINE, "a:\r\n", *fields, "\r\n");
-        both_read(&rt, rt.alloc(), head.as_bytes(), wanted);
+        has_fields(&rt, rt.alloc(), *fields, wanted);
     }
+}
+
+fn has_fields(rt: &impl Abort, alloc: Global, fields: usize, wanted: &[&str]) {
+    let head = around(rt, alloc, LINE, "a:\r\n", fields, "\r\n");
+    both_read(rt, alloc, head.as_bytes(), wanted);
 }
 
 const FIELD: &str = "GET /kit HTTP/1.1\r\na:";
@@ -239,17 +251,14 @@ static HEADS: [(usize, &[&str]); 2] = [
 #[test]
 fn a_head_has_16384_bytes(rt: HostRuntime) {
     for (len, wanted) in &HEADS {
-        let head = around(
-            &rt,
-            rt.alloc(),
-            FIELD,
-            "b",
-            len.saturating_sub(25),
-            "\r\n\r\n",
-        );
-        same(&rt, "its length", &head.len(), len);
-        both_read(&rt, rt.alloc(), head.as_bytes(), wanted);
+        is_head(&rt, rt.alloc(), *len, wanted);
     }
+}
+
+fn is_head(rt: &impl Abort, alloc: Global, len: usize, wanted: &[&str]) {
+    let head = around(rt, alloc, FIELD, "b", len.saturating_sub(25), "\r\n\r\n");
+    same(rt, "its length", &head.len(), &len);
+    both_read(rt, alloc, head.as_bytes(), wanted);
 }
 
 #[test]
@@ -264,14 +273,14 @@ const LONGEST_BODY: &str = "PUT /a HTTP/1.1\r\ncontent-length: 4194304\r\n\r\n";
 fn a_body_has_4194304_bytes(rt: HostRuntime) {
     let alloc = rt.alloc();
     let input = around(&rt, alloc, LONGEST_BODY, "b", BODY_LIMIT, "c");
-    let mut inbox = Inbox::new(alloc, FromRead::new(input.as_bytes()));
-    same(
-        &rt,
-        "its length",
-        &body_len(&inbox.read_request(alloc)),
-        &Some(BODY_LIMIT),
-    );
-    is_read(&rt, alloc, "what follows", &mut inbox, "BadBody");
+    has_longest_body(&rt, alloc, input.as_bytes());
+}
+
+fn has_longest_body(rt: &impl Abort, alloc: Global, input: &[u8]) {
+    let mut inbox = Inbox::new(alloc, FromRead::new(input));
+    let len = body_len(&inbox.read_request(alloc));
+    same(rt, "its length", &len, &Some(BODY_LIMIT));
+    is_read(rt, alloc, "what follows", &mut inbox, "BadBody");
 }
 
 fn body_len(taken: &Taken) -> Option<usize> {

@@ -100,19 +100,23 @@ const LONG_HEAD: &str =
 
 #[test]
 fn long_bodies_are_written(rt: HostRuntime) {
-    let alloc = rt.alloc();
-    let body = repeated(&rt, alloc, "archive ", 2_000);
+    let body = repeated(&rt, rt.alloc(), "archive ", 2_000);
+    let wanted = concat(&rt, rt.alloc(), &[LONG_HEAD, body.as_str()]);
+    is_whole(&rt, rt.alloc(), body.as_bytes(), wanted.as_str());
+}
+
+// Sees that a response with this body is written so.
+fn is_whole(rt: &impl Abort, alloc: Global, body: &[u8], wanted: &str) {
     let response = Response {
         status: StatusCode::OK,
         kind: ContentKind::Bytes,
-        body: body.as_bytes(),
+        body,
         closes: false,
     };
     let mut out = Vec::new(alloc);
     let outcome = write_response(&response, &mut ToWrite::new(&mut out));
-    same(&rt, "a long body", &outcome, &Ok(()));
-    let wanted = concat(&rt, alloc, &[LONG_HEAD, body.as_str()]);
-    same(&rt, "a long body", as_text(&out), wanted.as_str());
+    same(rt, "a long body", &outcome, &Ok(()));
+    same(rt, "a long body", as_text(&out), wanted);
 }
 
 #[test]
