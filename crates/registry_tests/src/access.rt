@@ -11,12 +11,13 @@ mod fixture;
 
 use crate::access::fixture::{registry, standing};
 use crate::outcome::same;
+use crate::parts::{ident, name};
 use registry_access::{
     AccessRows, Ask, Caller, Level, Standing, allowed, allowed_by, level, level_of,
 };
-use registry_names::{Ident, Name, Refusal, Rule, Stop};
+use registry_names::{Name, Refusal, Rule};
 use std::alloc::Global;
-use std::test::Fail;
+use std::process::Abort;
 
 type Answer = Result<Rule, Refusal>;
 
@@ -40,11 +41,11 @@ const DENIED_A7: Answer = Err(Refusal::Denied(Rule::A7));
 
 const DENIED_A9: Answer = Err(Refusal::Denied(Rule::A9));
 
-fn caller(alloc: Global, who: &str) -> Result<Caller, Stop> {
+fn caller(rt: &impl Abort, alloc: Global, who: &str) -> Caller {
     match who {
-        "operator" => Ok(Caller::Operator),
-        "anonymous" => Ok(Caller::Anonymous),
-        _ => Ok(Caller::User(Ident::parse(alloc, who)?)),
+        "operator" => Caller::Operator,
+        "anonymous" => Caller::Anonymous,
+        _ => Caller::User(ident(rt, alloc, who)),
     }
 }
 
@@ -113,61 +114,61 @@ static PACKAGES: [Case; 31] = [
     ("anonymous", "@ghost/kit", Level::Nothing, UNREAD_ANONYMOUS),
 ];
 
-fn rows_say(rows: &AccessRows, caller: &Caller, name: &Name) -> (Level, Answers) {
-    let answers = [
+fn rows_say(rows: &AccessRows, caller: &Caller, name: &Name) -> Answers {
+    [
         allowed(rows, caller, &Ask::Publish(name)),
         allowed(rows, caller, &Ask::Write(name)),
         allowed(rows, caller, &Ask::Owners(name)),
         allowed(rows, caller, &Ask::Read(name)),
-    ];
-    (level(rows, caller, name), answers)
+    ]
 }
 
-fn standing_says(standing: &Standing, caller: &Caller, name: &Name) -> (Level, Answers) {
-    let answers = [
+fn standing_says(standing: &Standing, caller: &Caller, name: &Name) -> Answers {
+    [
         allowed_by(standing, caller, &Ask::Publish(name)),
         allowed_by(standing, caller, &Ask::Write(name)),
         allowed_by(standing, caller, &Ask::Owners(name)),
         allowed_by(standing, caller, &Ask::Read(name)),
-    ];
-    (level_of(standing, caller), answers)
+    ]
 }
 
-fn said_by_rows(
-    alloc: Global,
-    rows: &AccessRows,
-    who: &str,
-    package: &str,
-) -> Result<(Level, Answers), Stop> {
-    let caller = caller(alloc, who)?;
-    let name = Name::parse(alloc, package)?;
-    Ok(rows_say(rows, &caller, &name))
+fn is_told_by_rows(rt: &impl Abort, alloc: Global, rows: &AccessRows, case: &Case) {
+    let (who, package, wanted, answers) = case;
+    let caller = caller(rt, alloc, who);
+    let name = name(rt, alloc, package);
+    let shows = (*who, *package);
+    same(rt, &shows, &level(rows, &caller, &name), wanted);
+    same(rt, &shows, &rows_say(rows, &caller, &name), answers);
 }
 
-fn said_by_standing(alloc: Global, who: &str, package: &str) -> Result<(Level, Answers), Stop> {
-    let caller = caller(alloc, who)?;
-    let name = Name::parse(alloc, package)?;
-    let standing = standing(alloc, who, package)?;
-    Ok(standing_says(&standing, &caller, &name))
-}
-
-#[test]
-fn packages_by_rows(rt: HostRuntime) -> Result<(), Fail> {
-    let rows = registry(rt.alloc())?;
-    for (who, package, level, answers) in &PACKAGES {
-        let said = said_by_rows(rt.alloc(), &rows, who, package)?;
-        same((*who, *package), said, (*level, *answers))?;
-    }
-    Ok(())
+fn is_told_by_standing(rt: &impl Abort, alloc: Global, case: &Case) {
+    let (who, package, wanted, answers) = case;
+    let caller = caller(rt, alloc, who);
+    let name = name(rt, alloc, package);
+    let standing = standing(rt, alloc, who, package);
+    let shows = (*who, *package);
+    same(rt, &shows, &level_of(&standing, &caller), wanted);
+    same(
+        rt,
+        &shows,
+        &standing_says(&standing, &caller, &name),
+        answers,
+    );
 }
 
 #[test]
-fn packages_by_standings(rt: HostRuntime) -> Result<(), Fail> {
-    for (who, package, level, answers) in &PACKAGES {
-        let said = said_by_standing(rt.alloc(), who, package)?;
-        same((*who, *package), said, (*level, *answers))?;
+fn packages_by_rows(rt: HostRuntime) {
+    let rows = registry(&rt, rt.alloc());
+    for case in &PACKAGES {
+        is_told_by_rows(&rt, rt.alloc(), &rows, case);
     }
-    Ok(())
+}
+
+#[test]
+fn packages_by_standings(rt: HostRuntime) {
+    for case in &PACKAGES {
+        is_told_by_standing(&rt, rt.alloc(), case);
+    }
 }
 
 /// The answers where a caller asks to operate, and about the members, the teams and the sight of an
@@ -207,28 +208,23 @@ static ORGANISATIONS: [OrganisationCase; 12] = [
     ("anonymous", "ghost", NOBODY),
 ];
 
-fn answers_in(
-    alloc: Global,
-    rows: &AccessRows,
-    who: &str,
-    organisation: &str,
-) -> Result<OrganisationAnswers, Stop> {
-    let caller = caller(alloc, who)?;
-    let organisation = Ident::parse(alloc, organisation)?;
-    Ok([
+fn is_answered(rt: &impl Abort, alloc: Global, rows: &AccessRows, case: &OrganisationCase) {
+    let (who, organisation, answers) = case;
+    let caller = caller(rt, alloc, who);
+    let asked = ident(rt, alloc, organisation);
+    let came_out = [
         allowed(rows, &caller, &Ask::Operate),
-        allowed(rows, &caller, &Ask::OrgMembers(&organisation)),
-        allowed(rows, &caller, &Ask::OrgTeams(&organisation)),
-        allowed(rows, &caller, &Ask::OrgRead(&organisation)),
-    ])
+        allowed(rows, &caller, &Ask::OrgMembers(&asked)),
+        allowed(rows, &caller, &Ask::OrgTeams(&asked)),
+        allowed(rows, &caller, &Ask::OrgRead(&asked)),
+    ];
+    same(rt, &(*who, *organisation), &came_out, answers);
 }
 
 #[test]
-fn organisations(rt: HostRuntime) -> Result<(), Fail> {
-    let rows = registry(rt.alloc())?;
-    for (who, organisation, answers) in &ORGANISATIONS {
-        let said = answers_in(rt.alloc(), &rows, who, organisation)?;
-        same((*who, *organisation), said, *answers)?;
+fn organisations(rt: HostRuntime) {
+    let rows = registry(&rt, rt.alloc());
+    for case in &ORGANISATIONS {
+        is_answered(&rt, rt.alloc(), &rows, case);
     }
-    Ok(())
 }

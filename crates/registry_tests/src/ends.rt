@@ -1,14 +1,14 @@
 //! Ends over readers and writers in memory, and over some that fail.
 
-use crate::outcome::{displayed, same};
+use crate::outcome::{is_displayed, same};
+use crate::parts::{as_text, repeated};
 use registry_names::{
     ByteIn, ByteOut, FromRead, ReadFailed, ReadStop, ToWrite, WriteFailed, read_whole, write_whole,
 };
 use std::alloc::Global;
-use std::error::Error;
+use std::io;
 use std::io::{ErrorKind, Read, Write};
-use std::test::Fail;
-use std::{io, str};
+use std::process::Abort;
 
 /// A reader whose second read is interrupted, and whose fourth fails.
 #[derive(Drop)]
@@ -66,37 +66,37 @@ impl Write for Narrow {
 /// What a read is to give.
 type Given = Result<&'static str, ReadFailed>;
 
-fn as_text(bytes: &[u8]) -> &str {
-    str::from_utf8(bytes).unwrap_or("no UTF-8")
-}
-
 // What the next read gives.
 fn given<'b, I: ByteIn>(end: &mut I, buf: &'b mut [u8]) -> Result<&'b str, ReadFailed> {
     let count = end.read(buf)?;
     Ok(as_text(&buf[..count]))
 }
 
-fn all_given<I: ByteIn>(end: &mut I, buf: &mut [u8], wanted: &[Given]) -> Result<(), Fail> {
+fn all_given<I: ByteIn>(rt: &impl Abort, end: &mut I, buf: &mut [u8], wanted: &[Given]) {
     for (place, wanted) in wanted.iter().enumerate() {
-        same(place, given(end, buf), *wanted)?;
+        same(rt, &place, &given(end, buf), wanted);
     }
-    Ok(())
 }
 
 static PIECES: [Given; 3] = [Ok("regis"), Ok("try"), Ok("")];
 
 #[test]
-fn a_reader_gives_its_bytes_and_then_none(_: HostRuntime) -> Result<(), Fail> {
+fn a_reader_gives_its_bytes_and_then_none(rt: HostRuntime) {
     let mut end = FromRead::new(b"registry".as_slice());
-    all_given(&mut end, &mut [0; 5], &PIECES)
+    all_given(&rt, &mut end, &mut [0; 5], &PIECES);
 }
 
 #[test]
-fn a_large_read_gives_all_that_is_left(rt: HostRuntime) -> Result<(), Fail> {
-    let text = "registry".repeat(rt.alloc(), 1_000)?;
+fn a_large_read_gives_all_that_is_left(rt: HostRuntime) {
+    let text = repeated(&rt, rt.alloc(), "registry", 1_000);
     let mut end = FromRead::new(text.as_bytes());
     let mut buf = [0; 8_192];
-    same("8,000 bytes", given(&mut end, &mut buf), Ok(text.as_str()))
+    same(
+        &rt,
+        "8,000 bytes",
+        &given(&mut end, &mut buf),
+        &Ok(text.as_str()),
+    );
 }
 
 static READS: [Given; 5] = [
@@ -108,24 +108,28 @@ static READS: [Given; 5] = [
 ];
 
 #[test]
-fn a_read_goes_on_after_one_that_failed(_: HostRuntime) -> Result<(), Fail> {
+fn a_read_goes_on_after_one_that_failed(rt: HostRuntime) {
     let mut end = FromRead::new(Faltering {
         text: b"abcdef",
         reads: 0,
     });
-    all_given(&mut end, &mut [0; 2], &READS)
+    all_given(&rt, &mut end, &mut [0; 2], &READS);
 }
 
 static WRITES: [&str; 3] = ["lab", "", "-kit"];
 
 #[test]
-fn a_writer_holds_what_was_written(rt: HostRuntime) -> Result<(), Fail> {
+fn a_writer_holds_what_was_written(rt: HostRuntime) {
     let mut out = Vec::new(rt.alloc());
-    let mut end = ToWrite::new(&mut out);
+    all_written(&rt, &mut out);
+    same(&rt, "what is held", as_text(&out), "lab-kit");
+}
+
+fn all_written(rt: &impl Abort, out: &mut Vec<u8>) {
+    let mut end = ToWrite::new(out);
     for text in &WRITES {
-        same(*text, end.write(text.as_bytes()), Ok(text.len()))?;
+        same(rt, *text, &end.write(text.as_bytes()), &Ok(text.len()));
     }
-    same("what is held", as_text(&out), "lab-kit")
 }
 
 // Texts, and whether each is written whole by a narrow writer.
@@ -137,73 +141,76 @@ static WHOLE_WRITES: [(&str, Result<(), WriteFailed>); 4] = [
 ];
 
 #[test]
-fn a_write_goes_on_after_one_that_failed(rt: HostRuntime) -> Result<(), Fail> {
+fn a_write_goes_on_after_one_that_failed(rt: HostRuntime) {
     let mut narrow = Narrow {
         taken: Vec::new(rt.alloc()),
         writes: 0,
     };
-    let mut end = ToWrite::new(&mut narrow);
-    for (text, wanted) in &WHOLE_WRITES {
-        same(*text, write_whole(&mut end, text.as_bytes()), *wanted)?;
-    }
-    same("what is held", as_text(&narrow.taken), "abcdefg")
+    all_written_whole(&rt, &mut narrow);
+    same(&rt, "what is held", as_text(&narrow.taken), "abcdefg");
 }
 
-// Whether the whole of an input, up to a limit, is this.
+fn all_written_whole(rt: &impl Abort, narrow: &mut Narrow) {
+    let mut end = ToWrite::new(narrow);
+    for (text, wanted) in &WHOLE_WRITES {
+        same(rt, *text, &write_whole(&mut end, text.as_bytes()), wanted);
+    }
+}
+
+// Sees that the whole of an input, up to a limit, is this.
 fn is_whole<I: ByteIn>(
+    rt: &impl Abort,
     alloc: Global,
     end: &mut I,
     limit: usize,
     wanted: Result<&str, ReadStop>,
-) -> Result<(), Fail> {
-    let bytes = read_whole(alloc, end, limit);
-    let text = match &bytes {
-        Ok(bytes) => Ok(as_text(bytes)),
-        Err(stop) => Err(*stop),
-    };
-    same(limit, text, wanted)
+) {
+    match read_whole(alloc, end, limit) {
+        Ok(bytes) => same(rt, &limit, &Ok(as_text(&bytes)), &wanted),
+        Err(stop) => same(rt, &limit, &Err(stop), &wanted),
+    }
 }
 
 // A limit, and what is read up to it.
 static LIMITS: [(usize, &str); 4] = [(0, ""), (3, "reg"), (8, "registry"), (9, "registry")];
 
 #[test]
-fn a_whole_input_is_read_up_to_a_limit(rt: HostRuntime) -> Result<(), Fail> {
+fn a_whole_input_is_read_up_to_a_limit(rt: HostRuntime) {
     for (limit, text) in &LIMITS {
         let mut end = FromRead::new(b"registry".as_slice());
-        is_whole(rt.alloc(), &mut end, *limit, Ok(text))?;
+        is_whole(&rt, rt.alloc(), &mut end, *limit, Ok(text));
     }
-    Ok(())
 }
 
 #[test]
-fn an_interrupted_read_is_tried_again(rt: HostRuntime) -> Result<(), Fail> {
+fn an_interrupted_read_is_tried_again(rt: HostRuntime) {
     let mut end = FromRead::new(Faltering {
         text: b"abc",
         reads: 0,
     });
-    is_whole(rt.alloc(), &mut end, 9, Ok("abc"))?;
-    is_whole(rt.alloc(), &mut end, 9, Err(ReadStop::Read))
+    is_whole(&rt, rt.alloc(), &mut end, 9, Ok("abc"));
+    is_whole(&rt, rt.alloc(), &mut end, 9, Err(ReadStop::Read));
 }
 
 #[test]
-fn a_thousand_interrupted_reads_are_tried_again(rt: HostRuntime) -> Result<(), Fail> {
+fn a_thousand_interrupted_reads_are_tried_again(rt: HostRuntime) {
     let mut restless = Restless { reads: 0 };
     let mut end = FromRead::new(&mut restless);
-    is_whole(rt.alloc(), &mut end, 9, Err(ReadStop::Read))?;
-    same("how often it was read", restless.reads, 1_001)
-}
-
-fn is_displayed<E: Error>(alloc: Global, error: &E, wanted: &str) -> Result<(), Fail> {
-    same(wanted, displayed(alloc, error)?.as_str(), wanted)
+    is_whole(&rt, rt.alloc(), &mut end, 9, Err(ReadStop::Read));
+    same(&rt, "how often it was read", &restless.reads, &1_001);
 }
 
 #[test]
-fn failures_are_displayed(rt: HostRuntime) -> Result<(), Fail> {
+fn failures_are_displayed(rt: HostRuntime) {
     let alloc = rt.alloc();
-    is_displayed(alloc, &ReadFailed::Interrupted, "the read was interrupted")?;
-    is_displayed(alloc, &ReadFailed::Broken, "the read failed")?;
-    is_displayed(alloc, &WriteFailed, "the write failed")?;
-    is_displayed(alloc, &ReadStop::Read, "the input could not be read")?;
-    is_displayed(alloc, &ReadStop::Memory, "out of memory")
+    is_displayed(
+        &rt,
+        alloc,
+        &ReadFailed::Interrupted,
+        "the read was interrupted",
+    );
+    is_displayed(&rt, alloc, &ReadFailed::Broken, "the read failed");
+    is_displayed(&rt, alloc, &WriteFailed, "the write failed");
+    is_displayed(&rt, alloc, &ReadStop::Read, "the input could not be read");
+    is_displayed(&rt, alloc, &ReadStop::Memory, "out of memory");
 }

@@ -16,6 +16,8 @@ mod outcome;
 #[cfg(test)]
 mod packument;
 #[cfg(test)]
+mod parts;
+#[cfg(test)]
 mod printed;
 #[cfg(test)]
 mod publish;

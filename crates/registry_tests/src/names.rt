@@ -1,12 +1,13 @@
 //! Texts in form and out of form, from the rules as they are written down.
 
-use crate::outcome::{displayed, same};
+use crate::outcome::{is_displayed, same};
+use crate::parts::{blob, name, repeated, text, version};
 use registry_names::{
     Blob, Fault, Ident, Message, Moment, Name, Refusal, Rule, Stop, TagText, Text, Ver,
 };
-use std::alloc::{AllocError, Global};
+use std::alloc::Global;
 use std::cmp::Ordering;
-use std::test::Fail;
+use std::process::Abort;
 
 /// What a text is to be.
 enum Kind {
@@ -15,18 +16,6 @@ enum Kind {
     Version,
     Tag,
     Message,
-}
-
-// The text that is given back of one that is read.
-fn given_back(alloc: Global, kind: &Kind, text: &str) -> Result<String, Stop> {
-    let back = match *kind {
-        Kind::Name => String::from_str(alloc, Name::parse(alloc, text)?.text()),
-        Kind::Ident => String::from_str(alloc, Ident::parse(alloc, text)?.text()),
-        Kind::Version => String::from_str(alloc, Ver::parse(alloc, text)?.text()),
-        Kind::Tag => String::from_str(alloc, TagText::shape(alloc, text)?.text()),
-        Kind::Message => String::from_str(alloc, Message::parse(alloc, text)?.text()),
-    };
-    Ok(back?)
 }
 
 /// Why a text isn't given back, if it isn't.
@@ -42,18 +31,66 @@ const BAD_TAG: Stopped = Some(Stop::Refused(Refusal::BadTag));
 
 const BAD_BODY: Stopped = Some(Stop::Refused(Refusal::BadBody));
 
+// Sees that a text is read as a kind and given back, or why it isn't.
 fn is_told(
+    rt: &impl Abort,
     alloc: Global,
     shows: &str,
     kind: &Kind,
     text: &str,
     stopped: &Stopped,
-) -> Result<(), Fail> {
-    let wanted = match stopped {
-        None => Ok(text),
-        Some(stop) => Err(stop),
-    };
-    same(shows, given_back(alloc, kind, text).as_deref(), wanted)
+) {
+    match *kind {
+        Kind::Name => is_name(rt, alloc, shows, text, stopped),
+        Kind::Ident => is_ident(rt, alloc, shows, text, stopped),
+        Kind::Version => is_version(rt, alloc, shows, text, stopped),
+        Kind::Tag => is_tag(rt, alloc, shows, text, stopped),
+        Kind::Message => is_message(rt, alloc, shows, text, stopped),
+    }
+}
+
+fn is_name(rt: &impl Abort, alloc: Global, shows: &str, text: &str, stopped: &Stopped) {
+    match Name::parse(alloc, text) {
+        Ok(read) => is_given_back(rt, shows, read.text(), text, stopped),
+        Err(stop) => is_stopped(rt, shows, stop, stopped),
+    }
+}
+
+fn is_ident(rt: &impl Abort, alloc: Global, shows: &str, text: &str, stopped: &Stopped) {
+    match Ident::parse(alloc, text) {
+        Ok(read) => is_given_back(rt, shows, read.text(), text, stopped),
+        Err(stop) => is_stopped(rt, shows, stop, stopped),
+    }
+}
+
+fn is_version(rt: &impl Abort, alloc: Global, shows: &str, text: &str, stopped: &Stopped) {
+    match Ver::parse(alloc, text) {
+        Ok(read) => is_given_back(rt, shows, read.text(), text, stopped),
+        Err(stop) => is_stopped(rt, shows, stop, stopped),
+    }
+}
+
+fn is_tag(rt: &impl Abort, alloc: Global, shows: &str, text: &str, stopped: &Stopped) {
+    match TagText::shape(alloc, text) {
+        Ok(read) => is_given_back(rt, shows, read.text(), text, stopped),
+        Err(stop) => is_stopped(rt, shows, stop, stopped),
+    }
+}
+
+fn is_message(rt: &impl Abort, alloc: Global, shows: &str, text: &str, stopped: &Stopped) {
+    match Message::parse(alloc, text) {
+        Ok(read) => is_given_back(rt, shows, read.text(), text, stopped),
+        Err(stop) => is_stopped(rt, shows, stop, stopped),
+    }
+}
+
+fn is_given_back(rt: &impl Abort, shows: &str, came_out: &str, text: &str, stopped: &Stopped) {
+    same(rt, shows, &None, stopped);
+    same(rt, shows, came_out, text);
+}
+
+fn is_stopped(rt: &impl Abort, shows: &str, came_out: Stop, stopped: &Stopped) {
+    same(rt, shows, &Some(came_out), stopped);
 }
 
 /// Texts that are read as a kind, and why they aren't, if so.
@@ -152,13 +189,16 @@ static FORMS: [Form; 9] = [
 ];
 
 #[test]
-fn texts_in_form_and_out_of_it(rt: HostRuntime) -> Result<(), Fail> {
+fn texts_in_form_and_out_of_it(rt: HostRuntime) {
     for form in &FORMS {
-        for text in form.texts {
-            is_told(rt.alloc(), text, &form.kind, text, &form.stopped)?;
-        }
+        all_told(&rt, rt.alloc(), form);
     }
-    Ok(())
+}
+
+fn all_told(rt: &impl Abort, alloc: Global, form: &Form) {
+    for text in form.texts {
+        is_told(rt, alloc, text, &form.kind, text, &form.stopped);
+    }
 }
 
 /// What is shown, a kind, how many ones are read as it, and why they aren't, if so.
@@ -177,12 +217,16 @@ static LENGTHS: [Length; 9] = [
 ];
 
 #[test]
-fn the_longest_texts_and_longer_ones(rt: HostRuntime) -> Result<(), Fail> {
-    for (shows, kind, count, stopped) in &LENGTHS {
-        let text = "1".repeat(rt.alloc(), *count)?;
-        is_told(rt.alloc(), shows, kind, &text, stopped)?;
+fn the_longest_texts_and_longer_ones(rt: HostRuntime) {
+    for length in &LENGTHS {
+        is_long(&rt, rt.alloc(), length);
     }
-    Ok(())
+}
+
+fn is_long(rt: &impl Abort, alloc: Global, length: &Length) {
+    let (shows, kind, count, stopped) = length;
+    let text = repeated(rt, alloc, "1", *count);
+    is_told(rt, alloc, shows, kind, &text, stopped);
 }
 
 /// A name, its scope, and the part behind it.
@@ -195,12 +239,17 @@ static PARTS: [Parts; 3] = [
 ];
 
 #[test]
-fn parts_of_names(rt: HostRuntime) -> Result<(), Fail> {
-    for (text, scope, part) in &PARTS {
-        let name = Name::parse(rt.alloc(), text)?;
-        same(*text, (name.scope(), name.part()), (*scope, *part))?;
+fn parts_of_names(rt: HostRuntime) {
+    for parts in &PARTS {
+        has_parts(&rt, rt.alloc(), parts);
     }
-    Ok(())
+}
+
+fn has_parts(rt: &impl Abort, alloc: Global, parts: &Parts) {
+    let (text, scope, part) = parts;
+    let name = name(rt, alloc, text);
+    same(rt, *text, &name.scope(), scope);
+    same(rt, *text, name.part(), *part);
 }
 
 // The example of SemVer 2.0.0, item 11, and numbers that texts would turn round.
@@ -220,21 +269,23 @@ static RISING: [&str; 13] = [
     "2.0.0",
 ];
 
-fn order(alloc: Global, low: &str, high: &str) -> Result<Ordering, Stop> {
-    let low = Ver::parse(alloc, low)?;
-    let high = Ver::parse(alloc, high)?;
-    Ok(low.cmp(&high))
+fn order(rt: &impl Abort, alloc: Global, low: &str, high: &str) -> Ordering {
+    version(rt, alloc, low).cmp(&version(rt, alloc, high))
 }
 
 #[test]
-fn versions_in_order(rt: HostRuntime) -> Result<(), Fail> {
+fn versions_in_order(rt: HostRuntime) {
     for (place, low) in RISING.iter().enumerate() {
-        for (other_place, other) in RISING.iter().enumerate() {
-            let order = order(rt.alloc(), low, other)?;
-            same((*low, *other), order, place.cmp(&other_place))?;
-        }
+        is_in_order(&rt, rt.alloc(), place, low);
     }
-    Ok(())
+}
+
+// Sees that the version at this place stands to each as the places do.
+fn is_in_order(rt: &impl Abort, alloc: Global, place: usize, low: &str) {
+    for (other_place, other) in RISING.iter().enumerate() {
+        let came_out = order(rt, alloc, low, other);
+        same(rt, &(low, *other), &came_out, &place.cmp(&other_place));
+    }
 }
 
 // What is shown, seconds, the moment that they are, and the nearest moment.
@@ -259,12 +310,11 @@ fn exact(seconds: i64) -> Option<i64> {
 }
 
 #[test]
-fn moments(_: HostRuntime) -> Result<(), Fail> {
+fn moments(rt: HostRuntime) {
     for (shows, seconds, moment, nearest) in &MOMENTS {
-        let clamped = Moment::clamped(*seconds).seconds();
-        same(*shows, (exact(*seconds), clamped), (*moment, *nearest))?;
+        same(&rt, *shows, &exact(*seconds), moment);
+        same(&rt, *shows, &Moment::clamped(*seconds).seconds(), nearest);
     }
-    Ok(())
 }
 
 // Refusals and faults, how each is printed, and the status of its answer.
@@ -301,29 +351,31 @@ static PRINTED: [(Stop, &str, u16); 26] = [
     (Stop::Fault(Fault::Database), "Database", 500),
 ];
 
-fn printed(stop: Stop) -> (&'static str, u16) {
-    match stop {
-        Stop::Refused(refusal) => (refusal.text(), refusal.status()),
-        Stop::Fault(fault) => (fault.text(), fault.status()),
-    }
+fn has_status(rt: &impl Abort, text: &str, came_out: (&str, u16), status: u16) {
+    same(rt, text, came_out.0, text);
+    same(rt, text, &came_out.1, &status);
 }
 
-fn shown(alloc: Global, stop: Stop) -> Result<String, AllocError> {
+fn is_printed(rt: &impl Abort, alloc: Global, stop: &Stop, text: &str, status: u16) {
     match stop {
-        Stop::Refused(refusal) => displayed(alloc, &refusal),
-        Stop::Fault(fault) => displayed(alloc, &fault),
+        Stop::Refused(refusal) => {
+            has_status(rt, text, (refusal.text(), refusal.status()), status);
+            is_displayed(rt, alloc, refusal, text);
+        }
+        Stop::Fault(fault) => {
+            has_status(rt, text, (fault.text(), fault.status()), status);
+            is_displayed(rt, alloc, fault, text);
+        }
     }
+    is_displayed(rt, alloc, stop, text);
+    same(rt, text, stop.text(), text);
 }
 
 #[test]
-fn refusals_and_faults_are_printed(rt: HostRuntime) -> Result<(), Fail> {
+fn refusals_and_faults_are_printed(rt: HostRuntime) {
     for (stop, text, status) in &PRINTED {
-        same(*stop, printed(*stop), (*text, *status))?;
-        same(*stop, shown(rt.alloc(), *stop)?.as_str(), *text)?;
-        same(*stop, displayed(rt.alloc(), stop)?.as_str(), *text)?;
-        same(*stop, stop.text(), *text)?;
+        is_printed(&rt, rt.alloc(), stop, text, *status);
     }
-    Ok(())
 }
 
 /// Two texts, and whether they are one.
@@ -337,24 +389,31 @@ static PAIRS: [Pair; 4] = [
 ];
 
 #[test]
-fn texts(rt: HostRuntime) -> Result<(), Fail> {
-    let alloc = rt.alloc();
-    for (text, other, are_one) in &PAIRS {
-        let held = Text::from_str(alloc, text)?;
-        let again = Text::from(Text::from_str(alloc, other)?.into_string());
-        same(*text, (held.as_str(), held == again), (*text, *are_one))?;
+fn texts(rt: HostRuntime) {
+    for pair in &PAIRS {
+        is_text(&rt, rt.alloc(), pair);
     }
-    Ok(())
+}
+
+fn is_text(rt: &impl Abort, alloc: Global, pair: &Pair) {
+    let (shows, other, are_one) = pair;
+    let held = text(rt, alloc, shows);
+    let again = Text::from(text(rt, alloc, other).into_string());
+    same(rt, *shows, held.as_str(), *shows);
+    same(rt, *shows, &(held == again), are_one);
 }
 
 #[test]
-fn blobs(rt: HostRuntime) -> Result<(), Fail> {
-    let alloc = rt.alloc();
-    for (text, other, are_one) in &PAIRS {
-        let bytes = text.as_bytes();
-        let held = Blob::from_slice(alloc, bytes)?;
-        let again = Blob::from(Blob::from_slice(alloc, other.as_bytes())?.into_vec());
-        same(*text, (held.as_slice(), held == again), (bytes, *are_one))?;
+fn blobs(rt: HostRuntime) {
+    for pair in &PAIRS {
+        is_blob(&rt, rt.alloc(), pair);
     }
-    Ok(())
+}
+
+fn is_blob(rt: &impl Abort, alloc: Global, pair: &Pair) {
+    let (shows, other, are_one) = pair;
+    let held = blob(rt, alloc, shows.as_bytes());
+    let again = Blob::from(blob(rt, alloc, other.as_bytes()).into_vec());
+    same(rt, *shows, held.as_slice(), shows.as_bytes());
+    same(rt, *shows, &(held == again), are_one);
 }

@@ -1,23 +1,40 @@
 //! How a case comes out, and what a test shows of one that comes out otherwise than is wanted.
+//!
+//! A test ends at the first case that comes out otherwise, and where there is no memory.
 
-use std::alloc::{AllocError, Global};
+use registry_names::{Refusal, Stop};
+use std::alloc::Global;
 use std::error::Error;
 use std::fmt::Debug;
-use std::test::Fail;
+use std::process::Abort;
 
-/// Whether a case comes out as it is wanted. Else the test fails, and shows the case and both.
-pub fn same<C: Debug + Drop, T: Debug + Drop + PartialEq>(
+/// Sees that a case comes out as it is wanted. Else the test shows the case and both.
+pub fn same<C: Copy + Debug, T: Copy + Debug + PartialEq>(
+    rt: &impl Abort,
     case: C,
     came_out: T,
     wanted: T,
-) -> Result<(), Fail> {
-    if came_out == wanted {
-        return Ok(());
+) {
+    if came_out != wanted {
+        panic!(rt; "{case:?} comes out as {came_out:?}, and not as {wanted:?}");
     }
-    Err(Fail::new(format_args!("{case:?} comes out as {came_out:?}, and not as {wanted:?}")))
 }
 
-/// What is displayed of an error.
-pub fn displayed<E: Error>(alloc: Global, error: &E) -> Result<String, AllocError> {
-    format!(in alloc; "{error}")
+/// Sees that an error is displayed so.
+pub fn is_displayed<E: Error>(rt: &impl Abort, alloc: Global, error: &E, wanted: &str) {
+    let came_out = format!(in alloc; "{error}").expect(rt, "memory");
+    same(rt, wanted, came_out.as_str(), wanted);
+}
+
+/// Sees that a case is to be refused so.
+pub fn is_refused<C: Copy + Debug>(
+    rt: &impl Abort,
+    case: C,
+    came_out: Stop,
+    wanted: &Result<&str, Refusal>,
+) {
+    match wanted {
+        Ok(text) => panic!(rt; "{case:?} comes out as {came_out:?}, and not as {text:?}"),
+        Err(refusal) => same(rt, case, &came_out, &Stop::Refused(*refusal)),
+    }
 }

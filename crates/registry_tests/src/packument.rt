@@ -5,14 +5,15 @@ mod stream;
 
 use crate::outcome::same;
 use crate::packument::stream::{KIT, KIT_TAGS, KIT_VERSIONS, KIT_WITHOUT_VERSIONS};
+use crate::parts::{text, texts};
 use registry_access::{Grant, Role};
 use registry_names::{DistTag, Fault, Text};
 use registry_packument::{
     Granted, List, Member, PackHead, VersionRow, VersionRows, list_text, packument_text,
     version_text,
 };
-use std::alloc::{AllocError, Global};
-use std::test::Fail;
+use std::alloc::Global;
+use std::process::Abort;
 
 /// A tag, and the version that it names.
 type TagCase = (&'static str, &'static str);
@@ -39,131 +40,105 @@ enum Asked {
 /// What a case shows, what is asked for, and its text, or None where a version has no document.
 type Case = (&'static str, Asked, Option<&'static str>);
 
-fn tags(alloc: Global, cases: &[TagCase]) -> Result<Vec<DistTag>, AllocError> {
+fn tags(rt: &impl Abort, alloc: Global, cases: &[TagCase]) -> Vec<DistTag> {
     let mut tags = Vec::new(alloc);
     for (name, version) in cases {
-        tags.push(tag(alloc, name, version)?)?;
+        tags.push(tag(rt, alloc, name, version))
+            .expect(rt, "memory");
     }
-    Ok(tags)
+    tags
 }
 
-pub fn tag(alloc: Global, tag: &str, version: &str) -> Result<DistTag, AllocError> {
-    Ok(DistTag {
-        tag: Text::from_str(alloc, tag)?,
-        version: Text::from_str(alloc, version)?,
-    })
+fn tag(rt: &impl Abort, alloc: Global, tag: &str, version: &str) -> DistTag {
+    DistTag {
+        tag: text(rt, alloc, tag),
+        version: text(rt, alloc, version),
+    }
 }
 
-fn head(alloc: Global, name: &str, cases: &[TagCase]) -> Result<PackHead, AllocError> {
-    Ok(PackHead {
-        name: Text::from_str(alloc, name)?,
-        tags: tags(alloc, cases)?,
-    })
+fn head(rt: &impl Abort, alloc: Global, name: &str, cases: &[TagCase]) -> PackHead {
+    PackHead {
+        name: text(rt, alloc, name),
+        tags: tags(rt, alloc, cases),
+    }
 }
 
-fn versions(alloc: Global, cases: &[VersionCase]) -> Result<Vec<VersionRow>, AllocError> {
+fn versions(rt: &impl Abort, alloc: Global, cases: &[VersionCase]) -> Vec<VersionRow> {
     let mut rows = Vec::new(alloc);
-    for (text, manifest, message) in cases {
-        rows.push(version(alloc, text, manifest, message)?)?;
+    for case in cases {
+        rows.push(version(rt, alloc, case)).expect(rt, "memory");
     }
-    Ok(rows)
+    rows
 }
 
-fn version(
-    alloc: Global,
-    version: &str,
-    manifest: &str,
-    message: &str,
-) -> Result<VersionRow, AllocError> {
-    Ok(VersionRow {
-        version: Text::from_str(alloc, version)?,
-        manifest: Text::from_str(alloc, manifest)?,
-        message: Text::from_str(alloc, message)?,
-    })
+fn version(rt: &impl Abort, alloc: Global, case: &VersionCase) -> VersionRow {
+    let (version, manifest, message) = case;
+    VersionRow {
+        version: text(rt, alloc, version),
+        manifest: text(rt, alloc, manifest),
+        message: text(rt, alloc, message),
+    }
 }
 
-// Rows out of order are a mistake of the case, which no case wants to see answered so.
-fn source(alloc: Global, cases: &[VersionCase]) -> Result<VersionRows, Fault> {
-    VersionRows::new(versions(alloc, cases)?).ok_or(Fault::Memory)
+fn source(rt: &impl Abort, alloc: Global, cases: &[VersionCase]) -> VersionRows {
+    VersionRows::new(versions(rt, alloc, cases)).expect(rt, "versions in their order")
 }
 
-fn tag_list(alloc: Global, cases: &[TagCase]) -> Result<List, AllocError> {
-    Ok(List::Tags(tags(alloc, cases)?))
-}
-
-fn members(alloc: Global, cases: &[(&str, Role)]) -> Result<List, AllocError> {
+fn members(rt: &impl Abort, alloc: Global, cases: &[(&str, Role)]) -> List {
     let mut members = Vec::new(alloc);
     for (user, role) in cases {
-        members.push(member(alloc, user, *role)?)?;
+        let user = text(rt, alloc, user);
+        let role = *role;
+        members.push(Member { user, role }).expect(rt, "memory");
     }
-    Ok(List::Members(members))
+    List::Members(members)
 }
 
-fn member(alloc: Global, user: &str, role: Role) -> Result<Member, AllocError> {
-    Ok(Member {
-        user: Text::from_str(alloc, user)?,
-        role,
-    })
-}
-
-fn names(alloc: Global, cases: &[&str]) -> Result<List, AllocError> {
-    let mut names = Vec::new(alloc);
-    for name in cases {
-        names.push(Text::from_str(alloc, name)?)?;
-    }
-    Ok(List::Names(names))
-}
-
-fn grants(alloc: Global, cases: &[(&str, Grant)]) -> Result<List, AllocError> {
+fn grants(rt: &impl Abort, alloc: Global, cases: &[(&str, Grant)]) -> List {
     let mut grants = Vec::new(alloc);
     for (name, grant) in cases {
-        grants.push(granted(alloc, name, *grant)?)?;
+        let name = text(rt, alloc, name);
+        let grant = *grant;
+        grants.push(Granted { name, grant }).expect(rt, "memory");
     }
-    Ok(List::Grants(grants))
+    List::Grants(grants)
 }
 
-fn granted(alloc: Global, name: &str, grant: Grant) -> Result<Granted, AllocError> {
-    Ok(Granted {
-        name: Text::from_str(alloc, name)?,
-        grant,
-    })
-}
-
-fn all_told(alloc: Global, cases: &'static [Case]) -> Result<(), Fail> {
+fn all_told(rt: &impl Abort, alloc: Global, cases: &[Case]) {
     for (shows, asked, told) in cases {
-        let text = text(alloc, asked).map(Text::into_string);
-        same(*shows, text.as_deref(), told.ok_or(&Fault::Database))?;
+        match answer(rt, alloc, asked) {
+            Ok(text) => same(rt, *shows, text.as_str(), told.expect(rt, shows)),
+            Err(fault) => has_none(rt, shows, fault, told),
+        }
     }
-    Ok(())
 }
 
-fn text(alloc: Global, asked: &Asked) -> Result<Text, Fault> {
+// Sees that there is to be no document, by the fault that tells so.
+fn has_none(rt: &impl Abort, shows: &str, fault: Fault, told: &Option<&str>) {
+    same(rt, shows, &fault, &Fault::Database);
+    same(rt, shows, &None, told);
+}
+
+fn answer(rt: &impl Abort, alloc: Global, asked: &Asked) -> Result<Text, Fault> {
     match asked {
-        Asked::Packument(name, tags, versions) => packument(alloc, name, tags, versions),
+        Asked::Packument(name, tags, versions) => packument(rt, alloc, name, tags, versions),
         Asked::Document(manifest, message) => version_text(alloc, manifest, message),
-        Asked::Tags(cases) => text_of(alloc, tag_list(alloc, cases)),
-        Asked::Members(cases) => text_of(alloc, members(alloc, cases)),
-        Asked::Names(cases) => text_of(alloc, names(alloc, cases)),
-        Asked::Grants(cases) => text_of(alloc, grants(alloc, cases)),
+        Asked::Tags(cases) => list_text(alloc, &List::Tags(tags(rt, alloc, cases))),
+        Asked::Members(cases) => list_text(alloc, &members(rt, alloc, cases)),
+        Asked::Names(cases) => list_text(alloc, &List::Names(texts(rt, alloc, cases))),
+        Asked::Grants(cases) => list_text(alloc, &grants(rt, alloc, cases)),
     }
 }
 
 fn packument(
+    rt: &impl Abort,
     alloc: Global,
     name: &str,
     tags: &[TagCase],
     cases: &[VersionCase],
 ) -> Result<Text, Fault> {
-    let head = head(alloc, name, tags)?;
-    packument_of(alloc, &head, cases)
-}
-
-fn packument_of(alloc: Global, head: &PackHead, cases: &[VersionCase]) -> Result<Text, Fault> {
-    packument_text(alloc, head, &mut source(alloc, cases)?)
-}
-
-fn text_of(alloc: Global, list: Result<List, AllocError>) -> Result<Text, Fault> {
-    list_text(alloc, &list?)
+    let head = head(rt, alloc, name, tags);
+    packument_text(alloc, &head, &mut source(rt, alloc, cases))
 }
 
 static PACKUMENTS: [Case; 6] = [
@@ -216,8 +191,8 @@ static PACKUMENTS: [Case; 6] = [
 ];
 
 #[test]
-fn packuments(rt: HostRuntime) -> Result<(), Fail> {
-    all_told(rt.alloc(), &PACKUMENTS)
+fn packuments(rt: HostRuntime) {
+    all_told(&rt, rt.alloc(), &PACKUMENTS);
 }
 
 static DOCUMENTS: [Case; 11] = [
@@ -279,8 +254,8 @@ static DOCUMENTS: [Case; 11] = [
 ];
 
 #[test]
-fn the_message_stands_in_its_place(rt: HostRuntime) -> Result<(), Fail> {
-    all_told(rt.alloc(), &DOCUMENTS)
+fn the_message_stands_in_its_place(rt: HostRuntime) {
+    all_told(&rt, rt.alloc(), &DOCUMENTS);
 }
 
 static LISTS: [Case; 8] = [
@@ -319,6 +294,6 @@ static LISTS: [Case; 8] = [
 ];
 
 #[test]
-fn lists_of_none_and_of_three(rt: HostRuntime) -> Result<(), Fail> {
-    all_told(rt.alloc(), &LISTS)
+fn lists_of_none_and_of_three(rt: HostRuntime) {
+    all_told(&rt, rt.alloc(), &LISTS);
 }

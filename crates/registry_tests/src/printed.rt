@@ -1,50 +1,45 @@
 //! What is printed of answers, and how roles, levels and statuses are spelled.
 
 use crate::outcome::same;
+use crate::parts::{blob, text};
 use registry_access::{Grant, Role};
+use registry_cli::render;
 use registry_cli::spelling::{level, role, status};
-use registry_cli::{Printed, render};
-use registry_names::{Blob, Fault, Refusal, Rule, Status, Text};
+use registry_names::{Refusal, Rule, Status};
 use registry_rules::Reply;
 use std::alloc::Global;
-use std::test::Fail;
+use std::process::Abort;
 
-fn printed(alloc: Global, out: &[u8], err: &str, status: u8) -> Result<Printed, Fault> {
-    Ok(Printed {
-        out: Blob::from_slice(alloc, out)?,
-        err: Text::from_str(alloc, err)?,
-        status,
-    })
+fn is_printed(rt: &impl Abort, alloc: Global, reply: Reply, out: &str, err: &str, status: u8) {
+    let printed = render(alloc, &reply).expect(rt, "memory");
+    same(rt, &reply, printed.out.as_slice(), out.as_bytes());
+    same(rt, &reply, printed.err.as_str(), err);
+    same(rt, &reply, &printed.status, &status);
 }
 
-fn is_printed(alloc: Global, reply: Reply, wanted: Printed) -> Result<(), Fail> {
-    let came_out = render(alloc, &reply)?;
-    same(reply, came_out, wanted)
-}
+const OK: &str = "{\"ok\":true}\n";
+
+const COUNTED: &str = "{\"count\":12,\"ok\":true}\n";
 
 #[test]
-fn answers_are_printed(rt: HostRuntime) -> Result<(), Fail> {
+fn answers_are_printed(rt: HostRuntime) {
     let alloc = rt.alloc();
-    let ok = "{\"ok\":true}\n".as_bytes();
-    is_printed(alloc, Reply::Created, printed(alloc, ok, "", 0)?)?;
-    is_printed(alloc, Reply::Done, printed(alloc, ok, "", 0)?)?;
-    let counted = "{\"count\":12,\"ok\":true}\n".as_bytes();
-    is_printed(alloc, Reply::Count(12), printed(alloc, counted, "", 0)?)?;
-    let document = Text::from_str(alloc, "{\"latest\":\"1.0.0\"}")?;
+    is_printed(&rt, alloc, Reply::Created, OK, "", 0);
+    is_printed(&rt, alloc, Reply::Done, OK, "", 0);
+    is_printed(&rt, alloc, Reply::Count(12), COUNTED, "", 0);
+    let document = text(&rt, alloc, "{\"latest\":\"1.0.0\"}");
     is_printed(
+        &rt,
         alloc,
         Reply::Doc(document),
-        printed(alloc, "{\"latest\":\"1.0.0\"}\n".as_bytes(), "", 0)?,
-    )?;
+        "{\"latest\":\"1.0.0\"}\n",
+        "",
+        0,
+    );
     for bytes in ["", "abc", "abc\n"] {
-        let archive = Blob::from_slice(alloc, bytes.as_bytes())?;
-        is_printed(
-            alloc,
-            Reply::Bytes(archive),
-            printed(alloc, bytes.as_bytes(), "", 0)?,
-        )?;
+        let archive = blob(&rt, alloc, bytes.as_bytes());
+        is_printed(&rt, alloc, Reply::Bytes(archive), bytes, "", 0);
     }
-    Ok(())
 }
 
 static REFUSED: [(Refusal, &'static str); 4] = [
@@ -55,16 +50,10 @@ static REFUSED: [(Refusal, &'static str); 4] = [
 ];
 
 #[test]
-fn refusals_are_printed(rt: HostRuntime) -> Result<(), Fail> {
-    let alloc = rt.alloc();
+fn refusals_are_printed(rt: HostRuntime) {
     for (refusal, err) in &REFUSED {
-        is_printed(
-            alloc,
-            Reply::Refused(*refusal),
-            printed(alloc, &[], err, 1)?,
-        )?;
+        is_printed(&rt, rt.alloc(), Reply::Refused(*refusal), "", err, 1);
     }
-    Ok(())
 }
 
 static ROLES: [(&'static str, Result<Role, Refusal>); 6] = [
@@ -91,15 +80,14 @@ static STATUSES: [(&'static str, Result<Status, Refusal>); 4] = [
 ];
 
 #[test]
-fn roles_levels_and_statuses_are_spelled(_rt: HostRuntime) -> Result<(), Fail> {
+fn roles_levels_and_statuses_are_spelled(rt: HostRuntime) {
     for (text, wanted) in &ROLES {
-        same(*text, role(text), *wanted)?;
+        same(&rt, *text, &role(text), wanted);
     }
     for (text, wanted) in &LEVELS {
-        same(*text, level(text), *wanted)?;
+        same(&rt, *text, &level(text), wanted);
     }
     for (text, wanted) in &STATUSES {
-        same(*text, status(text), *wanted)?;
+        same(&rt, *text, &status(text), wanted);
     }
-    Ok(())
 }

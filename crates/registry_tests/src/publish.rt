@@ -15,7 +15,6 @@ use crate::publish::case::{
     BAD_BODY, BAD_NAME, BAD_VERSION, Case, Change, TOO_LARGE, Told, all_told,
 };
 use registry_publish::integrity_of;
-use std::test::Fail;
 
 /// What the npm client sends to publish a package whose archive is the bytes `abc`.
 const KIT: &str =
@@ -42,8 +41,8 @@ static FIRST_VERSION: [Case; 8] = [
 ];
 
 #[test]
-fn the_body_of_a_first_version(rt: HostRuntime) -> Result<(), Fail> {
-    all_told(rt.alloc(), &FIRST_VERSION)
+fn the_body_of_a_first_version(rt: HostRuntime) {
+    all_told(&rt, rt.alloc(), &FIRST_VERSION);
 }
 
 static BROKEN: [Case; 10] = [
@@ -92,8 +91,8 @@ static BROKEN: [Case; 10] = [
 ];
 
 #[test]
-fn broken_bodies(rt: HostRuntime) -> Result<(), Fail> {
-    all_told(rt.alloc(), &BROKEN)
+fn broken_bodies(rt: HostRuntime) {
+    all_told(&rt, rt.alloc(), &BROKEN);
 }
 
 static LIMITS: [Case; 4] = [
@@ -104,8 +103,8 @@ static LIMITS: [Case; 4] = [
 ];
 
 #[test]
-fn limits_of_bodies(rt: HostRuntime) -> Result<(), Fail> {
-    all_told(rt.alloc(), &LIMITS)
+fn limits_of_bodies(rt: HostRuntime) {
+    all_told(&rt, rt.alloc(), &LIMITS);
 }
 
 const NO_VERSION: Change = ("1.0.0", "1.0");
@@ -136,18 +135,17 @@ static VERSIONS: [Case; 6] = [
 ];
 
 #[test]
-fn versions_of_bodies(rt: HostRuntime) -> Result<(), Fail> {
-    all_told(rt.alloc(), &VERSIONS)
+fn versions_of_bodies(rt: HostRuntime) {
+    all_told(&rt, rt.alloc(), &VERSIONS);
 }
 
 // Bytes and their integrity.
 static BYTES: [(&str, &str); 2] = [("", EMPTY_INTEGRITY), ("abc", ABC_INTEGRITY)];
 
 #[test]
-fn integrities_of_bytes(rt: HostRuntime) -> Result<(), Fail> {
+fn integrities_of_bytes(rt: HostRuntime) {
     for (bytes, wanted) in &BYTES {
-        let integrity = integrity_of(rt.alloc(), bytes.as_bytes())?;
-        same(*bytes, integrity.as_str(), *wanted)?;
+        let integrity = integrity_of(rt.alloc(), bytes.as_bytes()).expect(&rt, "memory");
+        same(&rt, *bytes, integrity.as_str(), *wanted);
     }
-    Ok(())
 }

@@ -1,10 +1,11 @@
 //! The tables of `docs/RANGES.md`, and texts of each kind.
 
 use crate::outcome::same;
-use registry_names::{Refusal, Stop, Ver};
+use crate::parts::{repeated, version};
+use registry_names::{Refusal, Stop};
 use registry_ranges::{Range, Selector, is_range, tag};
 use std::alloc::Global;
-use std::test::Fail;
+use std::process::Abort;
 
 /// Whether a range allows a version. None where the text is no range.
 type Allowed = Option<bool>;
@@ -15,24 +16,30 @@ const NOT_ALLOWED: Allowed = Some(false);
 
 const NO_RANGE: Allowed = None;
 
-fn allowed(alloc: Global, range: &str, version: &str) -> Result<Allowed, Stop> {
-    let version = Ver::parse(alloc, version)?;
-    match Range::parse(alloc, range)? {
-        Some(range) => Ok(Some(range.allows(&version))),
-        None => Ok(None),
+fn allowed(rt: &impl Abort, alloc: Global, range: &str, text: &str) -> Allowed {
+    let version = version(rt, alloc, text);
+    match Range::parse(alloc, range).expect(rt, "memory") {
+        Some(range) => Some(range.allows(&version)),
+        None => None,
     }
 }
 
-// Whether both calls say of a range what is wanted.
+// Sees that both calls say of a range what is wanted.
 fn both_say(
+    rt: &impl Abort,
     alloc: Global,
     shows: &str,
     range: &str,
     version: &str,
     wanted: Allowed,
-) -> Result<(), Fail> {
-    let came_out = (is_range(range), allowed(alloc, range, version));
-    same((shows, version), came_out, (wanted.is_some(), Ok(wanted)))
+) {
+    same(rt, &(shows, version), &is_range(range), &wanted.is_some());
+    same(
+        rt,
+        &(shows, version),
+        &allowed(rt, alloc, range, version),
+        &wanted,
+    );
 }
 
 /// A range, a version that it allows, and one that it doesn't.
@@ -96,12 +103,11 @@ static TABLE: [Row; 53] = [
 ];
 
 #[test]
-fn ranges_of_the_table(rt: HostRuntime) -> Result<(), Fail> {
+fn ranges_of_the_table(rt: HostRuntime) {
     for (range, inside, outside) in &TABLE {
-        both_say(rt.alloc(), range, range, inside, ALLOWED)?;
-        both_say(rt.alloc(), range, range, outside, NOT_ALLOWED)?;
+        both_say(&rt, rt.alloc(), range, range, inside, ALLOWED);
+        both_say(&rt, rt.alloc(), range, range, outside, NOT_ALLOWED);
     }
-    Ok(())
 }
 
 /// A range, a version, and whether it is allowed.
@@ -155,11 +161,10 @@ static SETS: [Case; 40] = [
 ];
 
 #[test]
-fn sets_of_ranges(rt: HostRuntime) -> Result<(), Fail> {
+fn sets_of_ranges(rt: HostRuntime) {
     for (range, version, wanted) in &SETS {
-        both_say(rt.alloc(), range, range, version, *wanted)?;
+        both_say(&rt, rt.alloc(), range, range, version, *wanted);
     }
-    Ok(())
 }
 
 static NO_RANGES: [&str; 27] = [
@@ -193,11 +198,10 @@ static NO_RANGES: [&str; 27] = [
 ];
 
 #[test]
-fn texts_that_are_no_ranges(rt: HostRuntime) -> Result<(), Fail> {
+fn texts_that_are_no_ranges(rt: HostRuntime) {
     for text in &NO_RANGES {
-        both_say(rt.alloc(), text, text, "1.0.0", NO_RANGE)?;
+        both_say(&rt, rt.alloc(), text, text, "1.0.0", NO_RANGE);
     }
-    Ok(())
 }
 
 /// A part, how often it stands in a range, and whether 1.0.0 is allowed.
@@ -212,12 +216,11 @@ static LONG_RANGES: [LongCase; 5] = [
 ];
 
 #[test]
-fn long_ranges(rt: HostRuntime) -> Result<(), Fail> {
+fn long_ranges(rt: HostRuntime) {
     for (part, count, wanted) in &LONG_RANGES {
-        let range = part.repeat(rt.alloc(), *count)?;
-        both_say(rt.alloc(), part, &range, "1.0.0", *wanted)?;
+        let range = repeated(&rt, rt.alloc(), part, *count);
+        both_say(&rt, rt.alloc(), part, &range, "1.0.0", *wanted);
     }
-    Ok(())
 }
 
 /// Why a tag or a selector isn't read, if it isn't.
@@ -246,21 +249,21 @@ static TAGS: [(&str, Stopped); 14] = [
     ("ü", BAD_TAG),
 ];
 
-fn tag_given_back(alloc: Global, text: &str) -> Result<String, Stop> {
-    let tag = tag(alloc, text)?;
-    Ok(String::from_str(alloc, tag.text())?)
+fn is_tag(rt: &impl Abort, alloc: Global, text: &str, stopped: &Stopped) {
+    match tag(alloc, text) {
+        Ok(tag) => {
+            same(rt, text, &None, stopped);
+            same(rt, text, tag.text(), text);
+        }
+        Err(stop) => same(rt, text, &Some(stop), stopped),
+    }
 }
 
 #[test]
-fn tags(rt: HostRuntime) -> Result<(), Fail> {
+fn tags(rt: HostRuntime) {
     for (text, stopped) in &TAGS {
-        let wanted = match stopped {
-            None => Ok(*text),
-            Some(stop) => Err(stop),
-        };
-        same(*text, tag_given_back(rt.alloc(), text).as_deref(), wanted)?;
+        is_tag(&rt, rt.alloc(), text, stopped);
     }
-    Ok(())
 }
 
 /// Whether a selector selects a version; or why the text is refused.
@@ -307,16 +310,15 @@ static SELECTORS: [Selection; 29] = [
     ("next", "1.0.0", BAD_SELECTOR),
 ];
 
-fn selects(alloc: Global, selector: &str, version: &str) -> Selected {
-    let version = Ver::parse(alloc, version)?;
+fn selects(rt: &impl Abort, alloc: Global, selector: &str, text: &str) -> Selected {
+    let version = version(rt, alloc, text);
     Ok(Selector::parse(alloc, selector)?.selects(&version))
 }
 
 #[test]
-fn selectors(rt: HostRuntime) -> Result<(), Fail> {
+fn selectors(rt: HostRuntime) {
     for (selector, version, wanted) in &SELECTORS {
-        let came_out = selects(rt.alloc(), selector, version);
-        same((*selector, *version), came_out, *wanted)?;
+        let came_out = selects(&rt, rt.alloc(), selector, version);
+        same(&rt, &(*selector, *version), &came_out, wanted);
     }
-    Ok(())
 }

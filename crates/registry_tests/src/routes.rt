@@ -12,7 +12,7 @@ use registry_routes::Endpoint::{
 };
 use registry_routes::Method::{Delete, Get, Other, Post, Put};
 use registry_routes::{Endpoint, Method, Route, Values, route_of};
-use std::test::Fail;
+use std::process::Abort;
 
 /// A method and a target, what they ask for, and the values of the path, with a space between them.
 type Case = (Method, &'static str, Endpoint, &'static str);
@@ -114,22 +114,26 @@ fn wanted(endpoint: Endpoint, values: &'static str) -> Option<Route<'static>> {
     Some(Route { endpoint, values })
 }
 
-fn lead(cases: &[Case]) -> Result<(), Fail> {
+fn lead(rt: &impl Abort, cases: &[Case]) {
     for (method, target, endpoint, values) in cases {
         let came_out = route_of(*method, target.as_bytes());
-        same((*method, *target), came_out, wanted(*endpoint, values))?;
+        same(
+            rt,
+            &(*method, *target),
+            &came_out,
+            &wanted(*endpoint, values),
+        );
     }
-    Ok(())
 }
 
 #[test]
-fn each_row_of_the_table(_rt: HostRuntime) -> Result<(), Fail> {
-    lead(&TABLE)
+fn each_row_of_the_table(rt: HostRuntime) {
+    lead(&rt, &TABLE);
 }
 
 #[test]
-fn scopes_escapes_and_queries(_rt: HostRuntime) -> Result<(), Fail> {
-    lead(&EDGES)
+fn scopes_escapes_and_queries(rt: HostRuntime) {
+    lead(&rt, &EDGES);
 }
 
 /// A method and a target.
@@ -172,13 +176,9 @@ static LOST: [Lost; 33] = [
 ];
 
 #[test]
-fn targets_that_lead_nowhere(_rt: HostRuntime) -> Result<(), Fail> {
+fn targets_that_lead_nowhere(rt: HostRuntime) {
     for (method, target) in &LOST {
-        same(
-            (*method, *target),
-            route_of(*method, target.as_bytes()),
-            None,
-        )?;
+        let came_out = route_of(*method, target.as_bytes());
+        same(&rt, &(*method, *target), &came_out, &None);
     }
-    Ok(())
 }

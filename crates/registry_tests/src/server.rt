@@ -1,17 +1,17 @@
 //! Connections apart from their sockets, and a server over loopback.
 
 use crate::outcome::same;
-use crate::talk::connections::{CONNECTIONS, CUT_OUT, Shelf, Steps, TAGS, TAGS_OUT};
+use crate::parts::as_text;
+use crate::talk::connections::{CONNECTIONS, CUT_OUT, Case, Shelf, Steps, TAGS, TAGS_OUT};
 use registry_server::{Line, Progress, Server};
 use registry_talk::End;
-use std::alloc::{AllocError, Global};
+use std::alloc::Global;
 use std::io::{Read, Write};
 use std::net::{Ipv4Addr, Net, OpenStream, Shutdown, SocketAddr};
-use std::str;
-use std::test::Fail;
+use std::process::Abort;
 
 // Puts what isn't sent of a line behind the rest, a few bytes at a time.
-fn take_all(line: &mut Line, out: &mut Vec<u8>) -> Result<(), AllocError> {
+fn take_all(rt: &impl Abort, line: &mut Line, out: &mut Vec<u8>) {
     for _ in 0..1_000 {
         let (head, body) = line.unsent().parts();
         let (front, _) = head.split_at(head.len().min(7));
@@ -24,80 +24,90 @@ fn take_all(line: &mut Line, out: &mut Vec<u8>) -> Result<(), AllocError> {
         if count == 0 {
             break;
         }
-        out.extend_from_slice(front)?;
+        out.extend_from_slice(front).expect(rt, "memory");
         line.sent(count);
     }
-    Ok(())
 }
 
-// What a line answers to the input, which comes in pieces of a length, and how it ends.
+// Puts what a line answers to the input, which comes in pieces of a length, behind the rest, and
+// says how it ends.
 fn answers(
+    rt: &impl Abort,
     alloc: Global,
     input: &[u8],
     piece_len: usize,
-) -> Result<(Vec<u8>, Option<End>), AllocError> {
+    out: &mut Vec<u8>,
+) -> Option<End> {
     let mut desk = Shelf {
         asked: Vec::new(alloc),
     };
     let mut clock = Steps { next: 0 };
     let mut line = Line::new(alloc);
-    let mut out = Vec::new(alloc);
     let mut rest = input;
+    let mut end = None;
     for _ in 0..10_000 {
-        let is_over = rest.is_empty();
-        match line.take_turn(alloc, &mut desk, &mut clock, is_over) {
+        match line.take_turn(alloc, &mut desk, &mut clock, rest.is_empty()) {
             Progress::Answered => {
-                take_all(&mut line, &mut out)?;
-                if line.ends().is_some() {
-                    return Ok((out, line.ends()));
-                }
+                take_all(rt, &mut line, out);
+                end = line.ends();
             }
             Progress::Waits => {
                 let (piece, after) = rest.split_at(rest.len().min(piece_len));
-                line.came(piece)?;
+                line.came(piece).expect(rt, "memory");
                 rest = after;
             }
-            Progress::Closed => return Ok((out, Some(End::Closed))),
+            Progress::Closed => end = Some(End::Closed),
+        }
+        if end.is_some() {
+            break;
         }
     }
-    Ok((out, None))
+    end
+}
+
+fn is_answered(rt: &impl Abort, alloc: Global, case: &Case, piece_len: usize) {
+    let (input, wanted, _, end) = case;
+    let mut out = Vec::new(alloc);
+    let ended = answers(rt, alloc, input.as_bytes(), piece_len, &mut out);
+    same(rt, *input, as_text(&out), *wanted);
+    same(rt, *input, &ended, &Some(*end));
 }
 
 #[test]
-fn lines_answer_as_connections_do(rt: HostRuntime) -> Result<(), Fail> {
-    for (input, out, _, end) in &CONNECTIONS {
-        for piece_len in [1, 10, 10_000] {
-            let (came_out, ended) = answers(rt.alloc(), input.as_bytes(), piece_len)?;
-            same(*input, str::from_utf8(&came_out).unwrap_or("?"), *out)?;
-            same(*input, ended, Some(*end))?;
-        }
+fn lines_answer_as_connections_do(rt: HostRuntime) {
+    for case in &CONNECTIONS {
+        is_answered(&rt, rt.alloc(), case, 1);
+        is_answered(&rt, rt.alloc(), case, 10);
+        is_answered(&rt, rt.alloc(), case, 10_000);
     }
-    Ok(())
 }
 
 // A client that has sent this, and sends no more.
-fn client<R: Net>(rt: &R, port: u16, text: &str) -> Result<R::Stream, Fail> {
-    let mut stream = rt.connect(SocketAddr::from((Ipv4Addr::LOCALHOST, port)))?;
-    stream.write_all(text.as_bytes())?;
-    stream.shutdown(Shutdown::Write)?;
-    Ok(stream)
+fn client<R: Abort + Net>(rt: &R, port: u16, text: &str) -> R::Stream {
+    let address = SocketAddr::from((Ipv4Addr::LOCALHOST, port));
+    let mut stream = rt.connect(address).expect(rt, "a connection");
+    stream.write_all(text.as_bytes()).expect(rt, "a write");
+    stream.shutdown(Shutdown::Write).expect(rt, "an end");
+    stream
+}
+
+fn hears(rt: &impl Abort, alloc: Global, shows: &str, stream: &mut impl Read, wanted: &str) {
+    let mut answer = Vec::new(alloc);
+    stream.read_to_end(&mut answer).expect(rt, "a read");
+    same(rt, shows, as_text(&answer), wanted);
 }
 
 #[test]
-fn a_server_answers_over_loopback(rt: HostRuntime) -> Result<(), Fail> {
+fn a_server_answers_over_loopback(rt: HostRuntime) {
     let alloc = rt.alloc();
-    let server = Server::bind(&rt, alloc, 0, 2)?;
-    let port = server.port()?;
-    let mut cut = client(&rt, port, "GET /kit HTTP/1.1\r\nhost: l")?;
-    let mut whole = client(&rt, port, TAGS)?;
+    let server = Server::bind(&rt, alloc, 0, 2).expect(&rt, "a server");
+    let port = server.port().expect(&rt, "a port");
+    let mut cut = client(&rt, port, "GET /kit HTTP/1.1\r\nhost: l");
+    let mut whole = client(&rt, port, TAGS);
     let mut desk = Shelf {
         asked: Vec::new(alloc),
     };
-    server.run(&rt, alloc, &mut desk)?;
-    let mut answer = Vec::new(alloc);
-    whole.read_to_end(&mut answer)?;
-    same("whole", str::from_utf8(&answer).unwrap_or("?"), TAGS_OUT)?;
-    answer.clear();
-    cut.read_to_end(&mut answer)?;
-    same("cut", str::from_utf8(&answer).unwrap_or("?"), CUT_OUT)
+    server.run(&rt, alloc, &mut desk).expect(&rt, "a run");
+    hears(&rt, alloc, "whole", &mut whole, TAGS_OUT);
+    hears(&rt, alloc, "cut", &mut cut, CUT_OUT);
 }

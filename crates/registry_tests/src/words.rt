@@ -6,78 +6,14 @@ mod help;
 mod wrong;
 
 use crate::outcome::same;
+use crate::parts::texts;
 use registry_cli::{Line, Usage, Who, line};
 use registry_names::{Moment, Text};
-use std::alloc::{AllocError, Global};
-use std::test::Fail;
-
-/// What a line comes to.
-#[derive(Debug, PartialEq, Eq, Drop)]
-enum Meant {
-    /// The file, who asks, the second of the moment, and the subcommand with its words.
-    Line(String, String, Option<i64>, Vec<String>),
-    /// What is said of wrong words.
-    Wrong(String),
-    NoMemory,
-}
-
-fn texts(alloc: Global, words: &[&str]) -> Result<Vec<Text>, AllocError> {
-    let mut texts = Vec::new(alloc);
-    for word in words {
-        texts.push(Text::from_str(alloc, word)?)?;
-    }
-    Ok(texts)
-}
-
-fn strings(alloc: Global, words: &[&str]) -> Result<Vec<String>, AllocError> {
-    let mut strings = Vec::new(alloc);
-    for word in words {
-        strings.push(String::from_str(alloc, word)?)?;
-    }
-    Ok(strings)
-}
-
-fn caller(alloc: Global, who: Who) -> Result<String, AllocError> {
-    match who {
-        Who::Operator => String::from_str(alloc, "the operator"),
-        Who::User(name) => Ok(name.into_string()),
-        Who::Anonymous => String::from_str(alloc, "nobody"),
-    }
-}
-
-fn what(alloc: Global, line: &Line) -> Result<Vec<String>, AllocError> {
-    let mut what = Vec::new(alloc);
-    for word in line.what.as_slice() {
-        what.push(String::from_str(alloc, word.as_str())?)?;
-    }
-    Ok(what)
-}
-
-fn meaning_of(alloc: Global, words: &[&str]) -> Result<Meant, AllocError> {
-    let texts = texts(alloc, words)?;
-    Ok(match line(alloc, &texts) {
-        Ok(line) => {
-            let what = what(alloc, &line)?;
-            let Line {
-                db,
-                who,
-                at,
-                what: _,
-            } = line;
-            Meant::Line(
-                db.into_string(),
-                caller(alloc, who)?,
-                at.map(Moment::seconds),
-                what,
-            )
-        }
-        Err(Usage::Words(said)) => Meant::Wrong(said.into_string()),
-        Err(Usage::Memory) => Meant::NoMemory,
-    })
-}
+use std::alloc::Global;
+use std::process::Abort;
 
 /// A line of words, and what it means.
-#[derive(Clone, Copy)]
+#[derive(Drop)]
 struct Case {
     words: &'static [&'static str],
     db: &'static str,
@@ -86,14 +22,38 @@ struct Case {
     what: &'static [&'static str],
 }
 
-fn is_meant(alloc: Global, case: &Case) -> Result<(), Fail> {
-    let wanted = Meant::Line(
-        String::from_str(alloc, case.db)?,
-        String::from_str(alloc, case.who)?,
-        case.at,
-        strings(alloc, case.what)?,
-    );
-    same(case.words, meaning_of(alloc, case.words)?, wanted)
+fn is_meant(rt: &impl Abort, alloc: Global, case: &Case) {
+    match line(alloc, &texts(rt, alloc, case.words)) {
+        Ok(line) => means(rt, &line, case),
+        Err(_) => panic!(rt; "{:?} means nothing", case.words),
+    }
+}
+
+fn means(rt: &impl Abort, line: &Line, case: &Case) {
+    let who = match &line.who {
+        Who::Operator => "the operator",
+        Who::User(name) => name.as_str(),
+        Who::Anonymous => "nobody",
+    };
+    same(rt, case.words, line.db.as_str(), case.db);
+    same(rt, case.words, who, case.who);
+    same(rt, case.words, &line.at.map(Moment::seconds), &case.at);
+    are_words(rt, line.what.as_slice(), case);
+}
+
+fn are_words(rt: &impl Abort, words: &[Text], case: &Case) {
+    same(rt, case.words, &words.len(), &case.what.len());
+    for (word, wanted) in words.iter().zip(case.what) {
+        same(rt, case.words, word.as_str(), *wanted);
+    }
+}
+
+// What is said of wrong words.
+fn said(rt: &impl Abort, alloc: Global, words: &[&str]) -> Text {
+    match line(alloc, &texts(rt, alloc, words)) {
+        Err(Usage::Words(said)) => said,
+        _ => panic!(rt; "nothing is said of {words:?}"),
+    }
 }
 
 /// Lines that have no options and leave no word out, one of each subcommand: they mean themselves.
@@ -128,20 +88,17 @@ static WHOLE: [&'static [&'static str]; 27] = [
 ];
 
 #[test]
-fn each_subcommand_means_its_words(rt: HostRuntime) -> Result<(), Fail> {
+fn each_subcommand_means_its_words(rt: HostRuntime) {
     for words in &WHOLE {
-        is_meant(
-            rt.alloc(),
-            &Case {
-                words,
-                db: "registry.db",
-                who: "nobody",
-                at: None,
-                what: words,
-            },
-        )?;
+        let case = Case {
+            words,
+            db: "registry.db",
+            who: "nobody",
+            at: None,
+            what: words,
+        };
+        is_meant(&rt, rt.alloc(), &case);
     }
-    Ok(())
 }
 
 static LINES: [Case; 18] = [
@@ -274,9 +231,8 @@ static LINES: [Case; 18] = [
 ];
 
 #[test]
-fn options_and_words_that_are_left_out(rt: HostRuntime) -> Result<(), Fail> {
+fn options_and_words_that_are_left_out(rt: HostRuntime) {
     for case in &LINES {
-        is_meant(rt.alloc(), case)?;
+        is_meant(&rt, rt.alloc(), case);
     }
-    Ok(())
 }

@@ -1,11 +1,13 @@
 //! The rows of the registry of these tests, and the standings in it.
 
+use crate::parts::text;
 use registry_access::{
     AccessRows, Grant, GrantRow, MaintainerRow, MemberRow, PackageRow, Role, Standing,
     TeamMemberRow,
 };
-use registry_names::{Status, Text};
-use std::alloc::{AllocError, Global};
+use registry_names::Status;
+use std::alloc::Global;
+use std::process::Abort;
 
 /// What a row says.
 enum Fact {
@@ -44,102 +46,76 @@ static FACTS: [Fact; 18] = [
     Fact::Maintainer("tool", "bob"),
 ];
 
-fn add_organisation(
-    alloc: Global,
-    rows: &mut Vec<Text>,
-    organisation: &str,
-) -> Result<(), AllocError> {
-    rows.push(Text::from_str(alloc, organisation)?)?;
-    Ok(())
-}
-
-fn add_member(
-    alloc: Global,
-    rows: &mut Vec<MemberRow>,
-    organisation: &str,
-    user: &str,
-    role: Role,
-) -> Result<(), AllocError> {
-    rows.push(MemberRow {
-        organisation: Text::from_str(alloc, organisation)?,
-        user: Text::from_str(alloc, user)?,
+fn member(rt: &impl Abort, alloc: Global, organisation: &str, user: &str, role: Role) -> MemberRow {
+    MemberRow {
+        organisation: text(rt, alloc, organisation),
+        user: text(rt, alloc, user),
         role,
-    })?;
-    Ok(())
+    }
 }
 
-fn add_team_member(
+fn team_member(
+    rt: &impl Abort,
     alloc: Global,
-    rows: &mut Vec<TeamMemberRow>,
     organisation: &str,
     team: &str,
     user: &str,
-) -> Result<(), AllocError> {
-    rows.push(TeamMemberRow {
-        organisation: Text::from_str(alloc, organisation)?,
-        team: Text::from_str(alloc, team)?,
-        user: Text::from_str(alloc, user)?,
-    })?;
-    Ok(())
+) -> TeamMemberRow {
+    TeamMemberRow {
+        organisation: text(rt, alloc, organisation),
+        team: text(rt, alloc, team),
+        user: text(rt, alloc, user),
+    }
 }
 
-fn add_grant(
-    alloc: Global,
-    rows: &mut Vec<GrantRow>,
-    team: &str,
-    package: &str,
-    grant: Grant,
-) -> Result<(), AllocError> {
-    rows.push(GrantRow {
-        organisation: Text::from_str(alloc, "lab")?,
-        team: Text::from_str(alloc, team)?,
-        package: Text::from_str(alloc, package)?,
+fn grant(rt: &impl Abort, alloc: Global, team: &str, package: &str, grant: Grant) -> GrantRow {
+    GrantRow {
+        organisation: text(rt, alloc, "lab"),
+        team: text(rt, alloc, team),
+        package: text(rt, alloc, package),
         grant,
-    })?;
-    Ok(())
+    }
 }
 
-fn add_package(
-    alloc: Global,
-    rows: &mut Vec<PackageRow>,
-    package: &str,
-    status: Status,
-) -> Result<(), AllocError> {
-    rows.push(PackageRow {
-        package: Text::from_str(alloc, package)?,
+fn package(rt: &impl Abort, alloc: Global, package: &str, status: Status) -> PackageRow {
+    PackageRow {
+        package: text(rt, alloc, package),
         status,
-    })?;
-    Ok(())
+    }
 }
 
-fn add_maintainer(
-    alloc: Global,
-    rows: &mut Vec<MaintainerRow>,
-    package: &str,
-    user: &str,
-) -> Result<(), AllocError> {
-    rows.push(MaintainerRow {
-        package: Text::from_str(alloc, package)?,
-        user: Text::from_str(alloc, user)?,
-    })?;
-    Ok(())
+fn maintainer(rt: &impl Abort, alloc: Global, package: &str, user: &str) -> MaintainerRow {
+    MaintainerRow {
+        package: text(rt, alloc, package),
+        user: text(rt, alloc, user),
+    }
 }
 
-fn add(alloc: Global, rows: &mut AccessRows, fact: &Fact) -> Result<(), AllocError> {
+fn add(rt: &impl Abort, alloc: Global, rows: &mut AccessRows, fact: &Fact) {
     match *fact {
-        Fact::Organisation(name) => add_organisation(alloc, &mut rows.organisations, name),
+        Fact::Organisation(name) => {
+            let row = text(rt, alloc, name);
+            rows.organisations.push(row).expect(rt, "memory")
+        }
         Fact::Member(organisation, user, role) => {
-            add_member(alloc, &mut rows.members, organisation, user, role)
+            let row = member(rt, alloc, organisation, user, role);
+            rows.members.push(row).expect(rt, "memory")
         }
         Fact::TeamMember(organisation, team, user) => {
-            add_team_member(alloc, &mut rows.team_members, organisation, team, user)
+            let row = team_member(rt, alloc, organisation, team, user);
+            rows.team_members.push(row).expect(rt, "memory")
         }
-        Fact::Granted(team, package, grant) => {
-            add_grant(alloc, &mut rows.grants, team, package, grant)
+        Fact::Granted(team, package, level) => {
+            let row = grant(rt, alloc, team, package, level);
+            rows.grants.push(row).expect(rt, "memory")
         }
-        Fact::Package(package, status) => add_package(alloc, &mut rows.packages, package, status),
+        Fact::Package(name, status) => {
+            let row = package(rt, alloc, name, status);
+            rows.packages.push(row).expect(rt, "memory")
+        }
         Fact::Maintainer(package, user) => {
-            add_maintainer(alloc, &mut rows.maintainers, package, user)
+            let row = maintainer(rt, alloc, package, user);
+            rows.maintainers.push(row).expect(rt, "memory")
         }
     }
 }
@@ -156,12 +132,12 @@ fn no_rows(alloc: Global) -> AccessRows {
     }
 }
 
-pub(super) fn registry(alloc: Global) -> Result<AccessRows, AllocError> {
+pub(super) fn registry(rt: &impl Abort, alloc: Global) -> AccessRows {
     let mut rows = no_rows(alloc);
     for fact in &FACTS {
-        add(alloc, &mut rows, fact)?;
+        add(rt, alloc, &mut rows, fact);
     }
-    Ok(rows)
+    rows
 }
 
 // The members of `lab`.
@@ -189,22 +165,22 @@ fn status_of(package: &str) -> Option<Status> {
     }
 }
 
-fn grants_to(alloc: Global, who: &str, package: &str) -> Result<Vec<Grant>, AllocError> {
+fn grants_to(who: &str, package: &str) -> &'static [Grant] {
     match (who, package) {
-        ("bob", "@lab/kit") => Vec::from_slice(alloc, &[Grant::ReadWrite, Grant::ReadOnly]),
-        ("bob", "@lab/app") => Vec::from_slice(alloc, &[Grant::ReadOnly, Grant::ReadWrite]),
-        _ => Ok(Vec::new(alloc)),
+        ("bob", "@lab/kit") => &[Grant::ReadWrite, Grant::ReadOnly],
+        ("bob", "@lab/app") => &[Grant::ReadOnly, Grant::ReadWrite],
+        _ => &[],
     }
 }
 
 // How a caller stands to a package.
-pub(super) fn standing(alloc: Global, who: &str, package: &str) -> Result<Standing, AllocError> {
+pub(super) fn standing(rt: &impl Abort, alloc: Global, who: &str, package: &str) -> Standing {
     let org = package.starts_with("@lab/");
-    Ok(Standing {
+    Standing {
         org,
         role: if org { role_in_lab(who) } else { None },
         status: status_of(package),
         maintainer: who == "bob" && package == "tool",
-        grants: grants_to(alloc, who, package)?,
-    })
+        grants: Vec::from_slice(alloc, grants_to(who, package)).expect(rt, "memory"),
+    }
 }

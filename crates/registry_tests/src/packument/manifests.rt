@@ -2,14 +2,14 @@
 //! Rust reads into one decides.
 
 use crate::outcome::same;
-use crate::packument::{head, source, versions};
-use registry_names::{Fault, Text, ToWrite};
+use crate::packument::{VersionCase, head, source, versions};
+use crate::parts::{as_text, concat, repeated};
+use registry_names::{Fault, ToWrite};
 use registry_packument::{
     PackFault, PackHead, VersionRows, packument_len, packument_text, version_text, write_packument,
 };
-use std::alloc::{AllocError, Global};
-use std::str;
-use std::test::Fail;
+use std::alloc::Global;
+use std::process::Abort;
 
 static NO_MANIFESTS: [&str; 17] = [
     "",
@@ -40,43 +40,42 @@ static MANIFESTS: [&str; 6] = [
     r#"{"z":[[],{},"\ud83d\ude00",true,false,null],"a":""}"#,
 ];
 
-static MESSAGES: [&str; 2] = ["", "old"];
-
-fn fault_of(alloc: Global, manifest: &str, message: &str) -> Option<Fault> {
-    version_text(alloc, manifest, message).err()
-}
-
-fn has_no_document(alloc: Global, manifest: &str) -> Result<(), Fail> {
-    for message in &MESSAGES {
-        let fault = fault_of(alloc, manifest, message);
-        same((manifest, *message), fault, Some(Fault::Database))?;
-    }
-    Ok(())
+// Sees that a manifest has a document, or none by this fault.
+fn has_fault(rt: &impl Abort, alloc: Global, manifest: &str, message: &str, fault: &Option<Fault>) {
+    let came_out = version_text(alloc, manifest, message).err();
+    same(rt, &(manifest, message), &came_out, fault);
 }
 
 #[test]
-fn what_is_no_object_has_no_document(rt: HostRuntime) -> Result<(), Fail> {
+fn what_is_no_object_has_no_document(rt: HostRuntime) {
     for text in &NO_MANIFESTS {
-        has_no_document(rt.alloc(), text)?;
+        has_fault(&rt, rt.alloc(), text, "", &Some(Fault::Database));
+        has_fault(&rt, rt.alloc(), text, "old", &Some(Fault::Database));
     }
-    Ok(())
+}
+
+fn is_document(rt: &impl Abort, alloc: Global, manifest: &str) {
+    let document = version_text(alloc, manifest, "").expect(rt, "a document");
+    same(rt, manifest, document.as_str(), manifest);
+    has_fault(rt, alloc, manifest, "old", &None);
 }
 
 #[test]
-fn a_manifest_is_its_document(rt: HostRuntime) -> Result<(), Fail> {
+fn a_manifest_is_its_document(rt: HostRuntime) {
     for manifest in &MANIFESTS {
-        let document = version_text(rt.alloc(), manifest, "").map(Text::into_string);
-        same(*manifest, document.as_deref(), Ok(*manifest))?;
-        same(*manifest, fault_of(rt.alloc(), manifest, "old"), None)?;
+        is_document(&rt, rt.alloc(), manifest);
     }
-    Ok(())
 }
 
 // An object of arrays in one another, so many.
-fn nested(alloc: Global, depth: usize) -> Result<String, AllocError> {
-    let opened = "[".repeat(alloc, depth)?;
-    let closed = "]".repeat(alloc, depth)?;
-    format!(in alloc; "{{\"a\":{opened}{closed}}}")
+fn nested(rt: &impl Abort, alloc: Global, depth: usize) -> String {
+    let opened = repeated(rt, alloc, "[", depth);
+    let closed = repeated(rt, alloc, "]", depth);
+    concat(
+        rt,
+        alloc,
+        &["{\"a\":", opened.as_str(), closed.as_str(), "}"],
+    )
 }
 
 static DEPTHS: [(usize, Option<Fault>); 3] = [
@@ -86,54 +85,58 @@ static DEPTHS: [(usize, Option<Fault>); 3] = [
 ];
 
 #[test]
-fn a_manifest_nests_127_deep(rt: HostRuntime) -> Result<(), Fail> {
+fn a_manifest_nests_127_deep(rt: HostRuntime) {
     for (depth, fault) in &DEPTHS {
-        let manifest = nested(rt.alloc(), *depth)?;
-        same((*depth, ""), fault_of(rt.alloc(), &manifest, ""), *fault)?;
-        same(
-            (*depth, "old"),
-            fault_of(rt.alloc(), &manifest, "old"),
-            *fault,
-        )?;
+        let manifest = nested(&rt, rt.alloc(), *depth);
+        has_fault(&rt, rt.alloc(), &manifest, "", fault);
+        has_fault(&rt, rt.alloc(), &manifest, "old", fault);
     }
-    Ok(())
-}
-
-// A version with a manifest, and then one with this text.
-fn rows(alloc: Global, text: &'static str, message: &'static str) -> Result<VersionRows, Fault> {
-    source(alloc, &[("1.0.0", "{}", ""), ("1.0.1", text, message)])
 }
 
 const FRONT: &str = r#"{"_id":"kit","dist-tags":{},"name":"kit","versions":{"1.0.0":{}"#;
 
-// No text and no length is told, and what stands before the text is written.
+// Sees that no text of these rows is told.
+fn has_no_text(rt: &impl Abort, alloc: Global, head: &PackHead, rows: &[VersionCase]) {
+    let told = packument_text(alloc, head, &mut source(rt, alloc, rows)).err();
+    same(rt, rows, &told, &Some(Fault::Database));
+}
+
+// Sees that no length of them is.
+fn has_no_length(rt: &impl Abort, alloc: Global, head: &PackHead, rows: &[VersionCase]) {
+    let counted = packument_len(alloc, head, &mut source(rt, alloc, rows));
+    same(rt, rows, &counted, &Err(Fault::Database));
+}
+
+// Sees that what stands before the one out of form is written.
+fn has_a_front(rt: &impl Abort, alloc: Global, head: &PackHead, rows: &[VersionCase]) {
+    let mut out = Vec::new(alloc);
+    let mut source = source(rt, alloc, rows);
+    let end = write_packument(alloc, head, &mut source, &mut ToWrite::new(&mut out));
+    same(rt, rows, &end, &Err(PackFault::Source(Fault::Database)));
+    same(rt, rows, as_text(&out), FRONT);
+}
+
+// Sees that where a manifest follows one in form, there is no packument.
 fn is_no_packument(
+    rt: &impl Abort,
     alloc: Global,
     head: &PackHead,
     text: &'static str,
     message: &'static str,
-) -> Result<(), Fail> {
-    let told = packument_text(alloc, head, &mut rows(alloc, text, message)?).err();
-    same((text, message), told, Some(Fault::Database))?;
-    let counted = packument_len(alloc, head, &mut rows(alloc, text, message)?);
-    same((text, message), counted, Err(Fault::Database))?;
-    let mut out = Vec::new(alloc);
-    let mut rows = rows(alloc, text, message)?;
-    let end = write_packument(alloc, head, &mut rows, &mut ToWrite::new(&mut out));
-    let written = str::from_utf8(&out).unwrap_or("no UTF-8");
-    let wanted = (FRONT, Err(PackFault::Source(Fault::Database)));
-    same((text, message), (written, end), wanted)
+) {
+    let rows = [("1.0.0", "{}", ""), ("1.0.1", text, message)];
+    has_no_text(rt, alloc, head, &rows);
+    has_no_length(rt, alloc, head, &rows);
+    has_a_front(rt, alloc, head, &rows);
 }
 
 #[test]
-fn what_is_no_object_is_in_no_packument(rt: HostRuntime) -> Result<(), Fail> {
-    let head = head(rt.alloc(), "kit", &[])?;
+fn what_is_no_object_is_in_no_packument(rt: HostRuntime) {
+    let head = head(&rt, rt.alloc(), "kit", &[]);
     for text in &NO_MANIFESTS {
-        for message in &MESSAGES {
-            is_no_packument(rt.alloc(), &head, text, message)?;
-        }
+        is_no_packument(&rt, rt.alloc(), &head, text, "");
+        is_no_packument(&rt, rt.alloc(), &head, text, "old");
     }
-    Ok(())
 }
 
 /// Versions, and whether they stand in byte order, each once.
@@ -149,18 +152,17 @@ static ORDERS: [Order; 7] = [
     (&["2.0.0", "1.0.0", "3.0.0"], false),
 ];
 
-fn is_source(alloc: Global, texts: &[&'static str]) -> Result<bool, AllocError> {
+fn is_source(rt: &impl Abort, alloc: Global, texts: &[&'static str]) -> bool {
     let mut cases = Vec::new(alloc);
     for text in texts {
-        cases.push((*text, "{}", ""))?;
+        cases.push((*text, "{}", "")).expect(rt, "memory");
     }
-    Ok(VersionRows::new(versions(alloc, &cases)?).is_some())
+    VersionRows::new(versions(rt, alloc, &cases)).is_some()
 }
 
 #[test]
-fn rows_in_order_are_a_source(rt: HostRuntime) -> Result<(), Fail> {
+fn rows_in_order_are_a_source(rt: HostRuntime) {
     for (texts, in_order) in &ORDERS {
-        same(*texts, is_source(rt.alloc(), texts)?, *in_order)?;
+        same(&rt, *texts, &is_source(&rt, rt.alloc(), texts), in_order);
     }
-    Ok(())
 }

@@ -3,16 +3,17 @@
 ghost use Rattle.std.specs.Prelude.{◌==◌, Some, if◌then◌else◌};
 ghost use Rattle.registry_names.specs.declared.stop.Fault.TheVariants.{Database};
 
-use crate::outcome::{displayed, same};
+use crate::outcome::{is_displayed, same};
 use crate::packument::{TagCase, VersionCase, head, source};
+use crate::parts::as_text;
 use registry_names::{Fault, ToWrite};
 use registry_packument::{
     PackFault, PackHead, VersionRow, VersionRows, VersionSource, packument_len, write_packument,
 };
 use std::alloc::Global;
+use std::io;
 use std::io::{ErrorKind, Write};
-use std::test::Fail;
-use std::{io, str};
+use std::process::Abort;
 
 /// A source that answers so many calls of another, and then with a fault.
 #[derive(Drop)]
@@ -86,54 +87,53 @@ struct Case {
     end: Result<(), PackFault>,
 }
 
-fn source_of(alloc: Global, case: &Case) -> Result<Failing<VersionRows>, Fault> {
-    Ok(Failing {
-        source: source(alloc, case.versions)?,
+fn source_of(rt: &impl Abort, alloc: Global, case: &Case) -> Failing<VersionRows> {
+    Failing {
+        source: source(rt, alloc, case.versions),
         answers: case.answers,
-    })
+    }
 }
 
-fn is_told(alloc: Global, shows: &str, case: &Case) -> Result<(), Fail> {
-    let head = head(alloc, "kit", KIT_TAGS)?;
-    is_counted(alloc, shows, &head, case)?;
-    is_written(alloc, shows, &head, case)
+fn is_told(rt: &impl Abort, alloc: Global, shows: &str, case: &Case) {
+    let head = head(rt, alloc, "kit", KIT_TAGS);
+    is_counted(rt, alloc, shows, &head, case);
+    is_written(rt, alloc, shows, &head, case);
 }
 
 // A length is told where the source has no fault, whatever the writer does.
-fn is_counted(alloc: Global, shows: &str, head: &PackHead, case: &Case) -> Result<(), Fail> {
-    let mut source = source_of(alloc, case)?;
+fn is_counted(rt: &impl Abort, alloc: Global, shows: &str, head: &PackHead, case: &Case) {
+    let came_out = packument_len(alloc, head, &mut source_of(rt, alloc, case));
     let wanted = match case.end {
         Err(PackFault::Source(fault)) => Err(fault),
         _ => Ok(case.text.len() as u64),
     };
-    same(shows, packument_len(alloc, head, &mut source), wanted)
+    same(rt, shows, &came_out, &wanted);
 }
 
-fn is_written(alloc: Global, shows: &str, head: &PackHead, case: &Case) -> Result<(), Fail> {
-    let mut source = source_of(alloc, case)?;
+fn is_written(rt: &impl Abort, alloc: Global, shows: &str, head: &PackHead, case: &Case) {
+    let mut source = source_of(rt, alloc, case);
     let mut narrow = Narrow {
         taken: Vec::new(alloc),
         room: case.room,
     };
     let end = write_packument(alloc, head, &mut source, &mut ToWrite::new(&mut narrow));
-    let written = str::from_utf8(&narrow.taken).unwrap_or("no UTF-8");
-    let wanted = case.text.get(..case.room).unwrap_or(case.text);
-    same(shows, (written, end), (wanted, case.end))?;
-    stays(alloc, shows, &mut source)
+    same(rt, shows, &end, &case.end);
+    let front = case.text.get(..case.room).unwrap_or(case.text);
+    same(rt, shows, as_text(&narrow.taken), front);
+    stays(rt, alloc, shows, &mut source);
 }
 
 // The source, where it failed, fails again.
-fn stays(alloc: Global, shows: &str, source: &mut Failing<VersionRows>) -> Result<(), Fail> {
-    if source.answers > 0 {
-        return Ok(());
+fn stays(rt: &impl Abort, alloc: Global, shows: &str, source: &mut Failing<VersionRows>) {
+    if source.answers == 0 {
+        same(rt, shows, &source.next(alloc).err(), &Some(Fault::Database));
     }
-    same(shows, source.next(alloc).err(), Some(Fault::Database))
 }
 
 /// What a row shows, versions, how many calls their source answers, and what is written then.
 type Row = (&'static str, &'static [VersionCase], u32, &'static str);
 
-fn all_told(alloc: Global, rows: &'static [Row], end: Result<(), PackFault>) -> Result<(), Fail> {
+fn all_told(rt: &impl Abort, alloc: Global, rows: &[Row], end: Result<(), PackFault>) {
     for (shows, versions, answers, text) in rows {
         let case = Case {
             versions,
@@ -142,9 +142,8 @@ fn all_told(alloc: Global, rows: &'static [Row], end: Result<(), PackFault>) -> 
             text,
             end,
         };
-        is_told(alloc, shows, &case)?;
+        is_told(rt, alloc, shows, &case);
     }
-    Ok(())
 }
 
 static WHOLE: [Row; 2] = [
@@ -153,8 +152,8 @@ static WHOLE: [Row; 2] = [
 ];
 
 #[test]
-fn written_and_counted_alike(rt: HostRuntime) -> Result<(), Fail> {
-    all_told(rt.alloc(), &WHOLE, Ok(()))
+fn written_and_counted_alike(rt: HostRuntime) {
+    all_told(&rt, rt.alloc(), &WHOLE, Ok(()));
 }
 
 const SOURCE_FAILED: Result<(), PackFault> = Err(PackFault::Source(Fault::Database));
@@ -197,11 +196,12 @@ static FRONTS: [Row; 5] = [
 ];
 
 #[test]
-fn a_fault_of_the_source_leaves_a_front(rt: HostRuntime) -> Result<(), Fail> {
-    all_told(rt.alloc(), &FRONTS, SOURCE_FAILED)
+fn a_fault_of_the_source_leaves_a_front(rt: HostRuntime) {
+    all_told(&rt, rt.alloc(), &FRONTS, SOURCE_FAILED);
 }
 
-fn all_rooms(alloc: Global) -> Result<(), Fail> {
+#[test]
+fn a_failed_write_leaves_a_front(rt: HostRuntime) {
     for room in 0..KIT.len() {
         let case = Case {
             versions: KIT_VERSIONS,
@@ -210,14 +210,8 @@ fn all_rooms(alloc: Global) -> Result<(), Fail> {
             text: KIT,
             end: Err(PackFault::Write),
         };
-        is_told(alloc, "a narrow writer", &case)?;
+        is_told(&rt, rt.alloc(), "a narrow writer", &case);
     }
-    Ok(())
-}
-
-#[test]
-fn a_failed_write_leaves_a_front(rt: HostRuntime) -> Result<(), Fail> {
-    all_rooms(rt.alloc())
 }
 
 static FAULTS: [(PackFault, &str); 3] = [
@@ -227,9 +221,8 @@ static FAULTS: [(PackFault, &str); 3] = [
 ];
 
 #[test]
-fn faults_of_packuments_are_printed(rt: HostRuntime) -> Result<(), Fail> {
+fn faults_of_packuments_are_printed(rt: HostRuntime) {
     for (fault, text) in &FAULTS {
-        same(*fault, displayed(rt.alloc(), fault)?.as_str(), *text)?;
+        is_displayed(&rt, rt.alloc(), fault, text);
     }
-    Ok(())
 }

@@ -3,7 +3,6 @@
 use crate::publish::case::Body::With;
 use crate::publish::case::{BAD_BODY, BAD_INTEGRITY, Case, Change, Told, all_told};
 use crate::publish::{ABC_INTEGRITY, EMPTY_INTEGRITY};
-use std::test::Fail;
 
 const DATA: &str = r#""data":"YWJj","length":3"#;
 
@@ -48,8 +47,8 @@ static ARCHIVES: [Case; 9] = [
 ];
 
 #[test]
-fn archives_out_of_form(rt: HostRuntime) -> Result<(), Fail> {
-    all_told(rt.alloc(), &ARCHIVES)
+fn archives_out_of_form(rt: HostRuntime) {
+    all_told(&rt, rt.alloc(), &ARCHIVES);
 }
 
 const NOTHING: Change = (DATA, r#""data":"","length":0"#);
@@ -88,6 +87,6 @@ static INTEGRITIES: [Case; 8] = [
 ];
 
 #[test]
-fn integrities_of_archives(rt: HostRuntime) -> Result<(), Fail> {
-    all_told(rt.alloc(), &INTEGRITIES)
+fn integrities_of_archives(rt: HostRuntime) {
+    all_told(&rt, rt.alloc(), &INTEGRITIES);
 }

@@ -3,7 +3,6 @@
 use crate::publish::case::Body::With;
 use crate::publish::case::{BAD_BODY, Case, Told, all_told};
 use registry_names::Status;
-use std::test::Fail;
 
 const TAGS: &str = r#""dist-tags":{"latest":"1.0.0"}"#;
 
@@ -51,8 +50,8 @@ static ASKED_TAGS: [Case; 8] = [
 ];
 
 #[test]
-fn tags_that_are_asked_for(rt: HostRuntime) -> Result<(), Fail> {
-    all_told(rt.alloc(), &ASKED_TAGS)
+fn tags_that_are_asked_for(rt: HostRuntime) {
+    all_told(&rt, rt.alloc(), &ASKED_TAGS);
 }
 
 static ASKED_STATUSES: [Case; 7] = [
@@ -90,6 +89,6 @@ static ASKED_STATUSES: [Case; 7] = [
 ];
 
 #[test]
-fn statuses_that_are_asked_for(rt: HostRuntime) -> Result<(), Fail> {
-    all_told(rt.alloc(), &ASKED_STATUSES)
+fn statuses_that_are_asked_for(rt: HostRuntime) {
+    all_told(&rt, rt.alloc(), &ASKED_STATUSES);
 }

@@ -1,14 +1,15 @@
 //! A case: a body, and what its reading tells.
 
 use crate::outcome::same;
+use crate::parts::{repeated, string};
 use crate::publish::KIT;
 use crate::publish::client::SENT;
-use crate::publish::needs::pairs;
+use crate::publish::needs::are_needed;
 use crate::publish::order::SHAPE;
 use registry_names::{Refusal, Status, Stop};
 use registry_publish::PublishForm;
-use std::alloc::{AllocError, Global};
-use std::test::Fail;
+use std::alloc::Global;
+use std::process::Abort;
 
 pub const TOO_LARGE: Told = Told::Stopped(Stop::Refused(Refusal::TooLarge));
 
@@ -25,13 +26,13 @@ pub const BAD_TAG: Told = Told::Stopped(Stop::Refused(Refusal::BadTag));
 pub const BAD_INTEGRITY: Told = Told::Stopped(Stop::Refused(Refusal::BadIntegrity));
 
 /// What a body shows, how it is made, and what its reading tells.
-pub type Case = (&'static str, Body, Told<'static>);
+pub type Case = (&'static str, Body, Told);
 
 /// A text, and what stands in its place.
 pub type Change = (&'static str, &'static str);
 
 /// A target, and the range of it that is needed.
-pub type NeedCase<'a> = (&'a str, &'a str);
+pub type NeedCase = (&'static str, &'static str);
 
 /// How a body is made.
 pub enum Body {
@@ -50,91 +51,99 @@ pub enum Body {
 }
 
 /// What the reading of a body tells.
-#[derive(Clone, Copy, Debug, PartialEq)]
-pub enum Told<'a> {
+pub enum Told {
     /// The body is refused, or a fault comes.
     Stopped(Stop),
     /// The body has a form.
     Form,
     /// The body has a form with this name.
-    Name(&'a str),
+    Name(&'static str),
     /// With this version.
-    Version(&'a str),
+    Version(&'static str),
     /// With this tag.
-    Tag(&'a str),
+    Tag(&'static str),
     /// With this status.
     Access(Option<Status>),
     /// With this manifest.
-    Manifest(&'a str),
+    Manifest(&'static str),
     /// With an archive of this integrity.
-    Integrity(&'a str),
+    Integrity(&'static str),
     /// With an archive of these bytes.
-    Archive(&'a [u8]),
+    Archive(&'static [u8]),
     /// With an archive of so many bytes.
     ArchiveLen(usize),
     /// With these needs.
-    Needs(&'a [NeedCase<'a>]),
+    Needs(&'static [NeedCase]),
 }
 
-/// Whether each case is told.
-pub fn all_told(alloc: Global, cases: &'static [Case]) -> Result<(), Fail> {
-    for (shows, body, wanted) in cases {
-        let text = made(alloc, body)?;
-        is_told(alloc, shows, &text, wanted)?;
+/// Sees that each case is told.
+pub fn all_told(rt: &impl Abort, alloc: Global, cases: &[Case]) {
+    for case in cases {
+        is_told(rt, alloc, case);
     }
-    Ok(())
 }
 
-fn is_told(alloc: Global, shows: &str, text: &str, wanted: &Told) -> Result<(), Fail> {
+fn is_told(rt: &impl Abort, alloc: Global, case: &Case) {
+    let (shows, body, wanted) = case;
+    let text = made(rt, alloc, body);
     match PublishForm::read(alloc, text.as_bytes()) {
-        Ok(form) => {
-            let needs = pairs(alloc, form.needs())?;
-            same(shows, said(&form, &needs, wanted), *wanted)
-        }
-        Err(stop) => same(shows, Told::Stopped(stop), *wanted),
+        Ok(form) => says(rt, shows, &form, wanted),
+        Err(stop) => is_stopped(rt, shows, stop, wanted),
     }
 }
 
-// What a form with these needs says of what is asked for.
-fn said<'a>(form: &'a PublishForm, needs: &'a [NeedCase<'a>], asked: &Told) -> Told<'a> {
-    match asked {
-        Told::Stopped(_) | Told::Form => Told::Form,
-        Told::Name(_) => Told::Name(form.name().text()),
-        Told::Version(_) => Told::Version(form.version().text()),
-        Told::Tag(_) => Told::Tag(form.tag().text()),
-        Told::Access(_) => Told::Access(form.access()),
-        Told::Manifest(_) => Told::Manifest(form.manifest_text()),
-        Told::Integrity(_) => Told::Integrity(form.integrity()),
-        Told::Archive(_) => Told::Archive(form.archive()),
-        Told::ArchiveLen(_) => Told::ArchiveLen(form.archive().len()),
-        Told::Needs(_) => Told::Needs(needs),
+fn is_stopped(rt: &impl Abort, shows: &str, came_out: Stop, wanted: &Told) {
+    let wanted = match wanted {
+        Told::Stopped(stop) => Some(*stop),
+        _ => None,
+    };
+    same(rt, shows, &Some(came_out), &wanted);
+}
+
+fn says(rt: &impl Abort, shows: &str, form: &PublishForm, wanted: &Told) {
+    match wanted {
+        Told::Stopped(stop) => same(rt, shows, &None, &Some(*stop)),
+        Told::Form => {}
+        Told::Name(name) => same(rt, shows, form.name().text(), *name),
+        Told::Version(version) => same(rt, shows, form.version().text(), *version),
+        Told::Tag(tag) => same(rt, shows, form.tag().text(), *tag),
+        Told::Access(status) => same(rt, shows, &form.access(), status),
+        Told::Manifest(manifest) => same(rt, shows, form.manifest_text(), *manifest),
+        Told::Integrity(integrity) => same(rt, shows, form.integrity(), *integrity),
+        Told::Archive(archive) => same(rt, shows, form.archive(), *archive),
+        Told::ArchiveLen(len) => same(rt, shows, &form.archive().len(), len),
+        Told::Needs(needs) => are_needed(rt, shows, form.needs(), needs),
     }
 }
 
-fn made(alloc: Global, body: &Body) -> Result<String, AllocError> {
+fn made(rt: &impl Abort, alloc: Global, body: &Body) -> String {
     match body {
-        Body::With(changes) => changed(alloc, KIT, changes),
-        Body::Shape(changes) => changed(alloc, SHAPE, changes),
-        Body::Client => String::from_str(alloc, SENT),
-        Body::Text(text) => String::from_str(alloc, text),
-        Body::Nested(depth) => nested(alloc, *depth),
-        Body::Zeros(count) => "\0".repeat(alloc, *count),
+        Body::With(changes) => changed(rt, alloc, KIT, changes),
+        Body::Shape(changes) => changed(rt, alloc, SHAPE, changes),
+        Body::Client => string(rt, alloc, SENT),
+        Body::Text(text) => string(rt, alloc, text),
+        Body::Nested(depth) => nested(rt, alloc, *depth),
+        Body::Zeros(count) => repeated(rt, alloc, "\0", *count),
     }
 }
 
 /// A text, with these changes in turn.
-pub fn changed(alloc: Global, text: &str, changes: &[Change]) -> Result<String, AllocError> {
-    let mut text = String::from_str(alloc, text)?;
+pub fn changed(rt: &impl Abort, alloc: Global, text: &str, changes: &[Change]) -> String {
+    let mut text = string(rt, alloc, text);
     for (from, to) in changes {
-        text = text.replace(alloc, from, to)?;
+        text = replaced(rt, alloc, &text, from, to);
     }
-    Ok(text)
+    text
 }
 
-fn nested(alloc: Global, depth: usize) -> Result<String, AllocError> {
-    let mut text = KIT.replace(alloc, "\"dist\":", "\"x\":[],\"dist\":")?;
+fn replaced(rt: &impl Abort, alloc: Global, text: &str, from: &str, to: &str) -> String {
+    text.replace(alloc, from, to).expect(rt, "memory")
+}
+
+fn nested(rt: &impl Abort, alloc: Global, depth: usize) -> String {
+    let mut text = replaced(rt, alloc, KIT, "\"dist\":", "\"x\":[],\"dist\":");
     for _ in 1..depth {
-        text = text.replace(alloc, "[]", "[[]]")?;
+        text = replaced(rt, alloc, &text, "[]", "[[]]");
     }
-    Ok(text)
+    text
 }

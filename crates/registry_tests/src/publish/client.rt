@@ -3,7 +3,6 @@
 use crate::publish::case::Body::Client;
 use crate::publish::case::{Case, NeedCase, Told, all_told};
 use registry_names::Status;
-use std::test::Fail;
 
 /// What `npm publish --tag next --access public` of npm 10.8.2 sent.
 pub(super) const SENT: &str =
@@ -35,6 +34,6 @@ static PARTS: [Case; 8] = [
 ];
 
 #[test]
-fn the_body_of_a_client(rt: HostRuntime) -> Result<(), Fail> {
-    all_told(rt.alloc(), &PARTS)
+fn the_body_of_a_client(rt: HostRuntime) {
+    all_told(&rt, rt.alloc(), &PARTS);
 }

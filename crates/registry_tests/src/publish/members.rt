@@ -2,7 +2,6 @@
 
 use crate::publish::case::Body::{Text, With};
 use crate::publish::case::{BAD_BODY, Case, all_told};
-use std::test::Fail;
 
 const VERSIONS: &str = r#""versions":"#;
 
@@ -59,6 +58,6 @@ static MEMBERS: [Case; 13] = [
 ];
 
 #[test]
-fn members_out_of_form(rt: HostRuntime) -> Result<(), Fail> {
-    all_told(rt.alloc(), &MEMBERS)
+fn members_out_of_form(rt: HostRuntime) {
+    all_told(&rt, rt.alloc(), &MEMBERS);
 }

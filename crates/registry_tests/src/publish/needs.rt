@@ -2,18 +2,23 @@
 
 use crate::outcome::same;
 use crate::publish::case::NeedCase;
-use registry_names::{Refusal, Stop, Text};
+use registry_names::{Refusal, Stop};
 use registry_publish::{Need, needs_of};
-use std::alloc::{AllocError, Global};
-use std::test::Fail;
+use std::alloc::Global;
+use std::process::Abort;
 
-// The target and the range of each need, in their order.
-pub(super) fn pairs<'a>(alloc: Global, needs: &'a [Need]) -> Result<Vec<NeedCase<'a>>, AllocError> {
-    let mut pairs = Vec::new(alloc);
-    for need in needs {
-        pairs.push((need.target.as_str(), need.range.as_str()))?;
+// Sees that these are the targets and the ranges of the needs, in their order.
+pub(super) fn are_needed(rt: &impl Abort, shows: &str, needs: &[Need], wanted: &[NeedCase]) {
+    same(rt, shows, &needs.len(), &wanted.len());
+    for (need, case) in needs.iter().zip(wanted) {
+        is_needed(rt, shows, need, case);
     }
-    Ok(pairs)
+}
+
+fn is_needed(rt: &impl Abort, shows: &str, need: &Need, case: &NeedCase) {
+    let (target, range) = case;
+    same(rt, shows, need.target.as_str(), *target);
+    same(rt, shows, need.range.as_str(), *range);
 }
 
 // A manifest, and its needs, or None where it is out of form.
@@ -43,27 +48,19 @@ static MANIFESTS: [(&str, Option<&[NeedCase]>); 14] = [
     (r#"{"peerDependencies":{"a":1}}"#, None),
 ];
 
-fn wanted(alloc: Global, cases: Option<&[NeedCase]>) -> Result<Vec<Need>, Stop> {
-    let cases = cases.ok_or(Stop::Refused(Refusal::BadBody))?;
-    let mut needs = Vec::new(alloc);
-    for (target, range) in cases {
-        needs.push(need(alloc, target, range)?)?;
+fn is_told(rt: &impl Abort, alloc: Global, manifest: &str, wanted: Option<&[NeedCase]>) {
+    match needs_of(alloc, manifest) {
+        Ok(needs) => are_needed(rt, manifest, &needs, wanted.expect(rt, "no needs")),
+        Err(stop) => {
+            same(rt, manifest, &stop, &Stop::Refused(Refusal::BadBody));
+            assert!(rt; wanted.is_none(), "{manifest} has no needs");
+        }
     }
-    Ok(needs)
-}
-
-fn need(alloc: Global, target: &str, range: &str) -> Result<Need, AllocError> {
-    Ok(Need {
-        target: Text::from_str(alloc, target)?,
-        range: Text::from_str(alloc, range)?,
-    })
 }
 
 #[test]
-fn needs_of_manifests(rt: HostRuntime) -> Result<(), Fail> {
-    let alloc = rt.alloc();
-    for (manifest, cases) in &MANIFESTS {
-        same(*manifest, needs_of(alloc, manifest), wanted(alloc, *cases))?;
+fn needs_of_manifests(rt: HostRuntime) {
+    for (manifest, wanted) in &MANIFESTS {
+        is_told(&rt, rt.alloc(), manifest, *wanted);
     }
-    Ok(())
 }

@@ -5,7 +5,6 @@ use crate::publish::case::{
     BAD_BODY, BAD_INTEGRITY, BAD_NAME, BAD_TAG, BAD_VERSION, Case, Change, RANGE_TAG, Told,
     all_told,
 };
-use std::test::Fail;
 
 /// A body in form, whose archive is the bytes `abc`.
 pub(super) const SHAPE: &str =
@@ -50,6 +49,6 @@ static REFUSALS: [Case; 10] = [
 ];
 
 #[test]
-fn each_refusal_before_the_next(rt: HostRuntime) -> Result<(), Fail> {
-    all_told(rt.alloc(), &REFUSALS)
+fn each_refusal_before_the_next(rt: HostRuntime) {
+    all_told(&rt, rt.alloc(), &REFUSALS);
 }

@@ -1,9 +1,8 @@
 //! Tokens and their digests.
 
 use crate::outcome::same;
+use crate::parts::repeated;
 use registry_publish::TokenDigest;
-use std::alloc::{AllocError, Global};
-use std::test::Fail;
 
 static DIGEST: [u8; 32] = [
     0xb6, 0x10, 0x52, 0x09, 0xb6, 0xcd, 0xa5, 0x9e, 0x36, 0xef, 0xc1, 0x96, 0x8b, 0xa5, 0x2a, 0xa7,
@@ -11,11 +10,10 @@ static DIGEST: [u8; 32] = [
 ];
 
 #[test]
-fn the_digest_of_a_token(_: HostRuntime) -> Result<(), Fail> {
+fn the_digest_of_a_token(rt: HostRuntime) {
     let token = "npm_bob_000000001";
-    let digest = TokenDigest::of(token);
-    let bytes = digest.as_ref().map(TokenDigest::as_slice);
-    same(token, bytes, Some(DIGEST.as_slice()))
+    let digest = TokenDigest::of(token).expect(&rt, "a token");
+    same(&rt, token, digest.as_slice(), DIGEST.as_slice());
 }
 
 // A text, how often it stands in a row, and whether that is a token.
@@ -31,19 +29,15 @@ static TOKENS: [(&str, usize, bool); 9] = [
     ("0123456789abcd\u{e9}", 1, false),
 ];
 
-fn is_token(alloc: Global, text: &str, times: usize) -> Result<bool, AllocError> {
-    let token = text.repeat(alloc, times)?;
-    Ok(TokenDigest::of(&token).is_some())
-}
-
 #[test]
-fn tokens(rt: HostRuntime) -> Result<(), Fail> {
+fn tokens(rt: HostRuntime) {
     for (text, times, wanted) in &TOKENS {
+        let token = repeated(&rt, rt.alloc(), text, *times);
         same(
-            (*text, *times),
-            is_token(rt.alloc(), text, *times)?,
-            *wanted,
-        )?;
+            &rt,
+            &(*text, *times),
+            &TokenDigest::of(&token).is_some(),
+            wanted,
+        );
     }
-    Ok(())
 }

@@ -2,7 +2,8 @@
 //! scopes of two segments, no file names of two, and knows `-` as any other name.
 
 use crate::outcome::same;
-use matchit::{InsertError, Router};
+use crate::parts::concat;
+use matchit::Router;
 use registry_routes::Endpoint::{
     Archive, Deprecate, Grant, Members, OrgRemove, OrgSet, OwnerAdd, OwnerRemove, Packument,
     Publish, Revoke, SetAccess, TagRemove, TagSet, Tags, TeamAdd, TeamCreate, TeamDestroy,
@@ -11,7 +12,7 @@ use registry_routes::Endpoint::{
 use registry_routes::Method::{Delete, Get, Other, Post, Put};
 use registry_routes::{Endpoint, Method, Route, Values, route_of};
 use std::alloc::Global;
-use std::test::Fail;
+use std::process::Abort;
 
 /// A method, a route as `matchit` writes it, and what it asks for.
 type Row = (Method, &'static str, Endpoint);
@@ -60,14 +61,14 @@ static ENDS: [&str; 6] = [
 ];
 
 // The routes of a method.
-fn router_of(alloc: Global, method: Method) -> Result<Router<Endpoint>, InsertError> {
+fn router_of(rt: &impl Abort, alloc: Global, method: Method) -> Router<Endpoint> {
     let mut router = Router::new(alloc);
     for (row, route, endpoint) in &ROWS {
         if *row == method {
-            router.insert(route, *endpoint)?;
+            router.insert(route, *endpoint).expect(rt, "a route");
         }
     }
-    Ok(router)
+    router
 }
 
 // The route that `matchit` finds, but for one of a name that is `-`.
@@ -95,48 +96,66 @@ fn names_package(endpoint: Endpoint) -> bool {
     matches!(endpoint, Packument | Publish | VersionDoc | Archive)
 }
 
-// Whether both say the same of a path.
-fn agree(router: &Router<Endpoint>, method: Method, path: &str) -> Result<(), Fail> {
-    same(
-        (method, path),
-        route_of(method, path.as_bytes()),
-        found(router, path),
-    )
+// Sees that both say the same of a path.
+fn agree(rt: &impl Abort, router: &Router<Endpoint>, method: Method, path: &str) {
+    let came_out = route_of(method, path.as_bytes());
+    same(rt, &(method, path), &came_out, &found(router, path));
 }
 
-// Whether they do of each path of a front and one to three of these segments.
-fn agree_on(
+// Sees that they do of each path of a front and one segment.
+fn agree_behind(
+    rt: &impl Abort,
     alloc: Global,
     router: &Router<Endpoint>,
     method: Method,
     front: &str,
     segments: &[&str],
-) -> Result<(), Fail> {
+) {
     for first in segments {
-        let path = format!(in alloc; "{front}/{first}")?;
-        agree(router, method, &path)?;
-        for second in segments {
-            let path = format!(in alloc; "{front}/{first}/{second}")?;
-            agree(router, method, &path)?;
-            for third in segments {
-                let path = format!(in alloc; "{front}/{first}/{second}/{third}")?;
-                agree(router, method, &path)?;
-            }
-        }
+        let path = concat(rt, alloc, &[front, "/", first]);
+        agree(rt, router, method, &path);
     }
-    Ok(())
+}
+
+// Sees that they do of each path of a front and one or two segments.
+fn agree_on_two(
+    rt: &impl Abort,
+    alloc: Global,
+    router: &Router<Endpoint>,
+    method: Method,
+    front: &str,
+    segments: &[&str],
+) {
+    agree_behind(rt, alloc, router, method, front, segments);
+    for first in segments {
+        let path = concat(rt, alloc, &[front, "/", first]);
+        agree_behind(rt, alloc, router, method, &path, segments);
+    }
+}
+
+// Sees that they do of each path of a front and one to three of these segments.
+fn agree_on(
+    rt: &impl Abort,
+    alloc: Global,
+    router: &Router<Endpoint>,
+    method: Method,
+    front: &str,
+    segments: &[&str],
+) {
+    agree_behind(rt, alloc, router, method, front, segments);
+    for first in segments {
+        let path = concat(rt, alloc, &[front, "/", first]);
+        agree_on_two(rt, alloc, router, method, &path, segments);
+    }
 }
 
 #[test]
-fn the_table_agrees_with_matchit(rt: HostRuntime) -> Result<(), Fail> {
+fn the_table_agrees_with_matchit(rt: HostRuntime) {
     for method in &METHODS {
-        let Ok(router) = router_of(rt.alloc(), *method) else {
-            return Err(Fail::new(format_args!("no router of {method:?}")));
-        };
-        agree_on(rt.alloc(), &router, *method, "", &SEGMENTS)?;
+        let router = router_of(&rt, rt.alloc(), *method);
+        agree_on(&rt, rt.alloc(), &router, *method, "", &SEGMENTS);
         for front in &FRONTS {
-            agree_on(rt.alloc(), &router, *method, front, &ENDS)?;
+            agree_on(&rt, rt.alloc(), &router, *method, front, &ENDS);
         }
     }
-    Ok(())
 }

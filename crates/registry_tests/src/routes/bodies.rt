@@ -1,19 +1,14 @@
 //! What bodies and authorizations say.
 
-use crate::outcome::same;
+use crate::outcome::{is_refused, same};
+use crate::parts::{around, version};
 use registry_access::{Grant, Role};
-use registry_names::{Refusal, Status, Stop, Ver};
+use registry_names::{Message, Refusal, Status, Stop};
 use registry_routes::{
     bearer_token, deprecation_of_body, grant_of_body, role_of_body, status_of_body, version_of_body,
 };
 use std::alloc::Global;
-use std::test::Fail;
-
-// The version that a body says, in form.
-fn version_said(alloc: Global, body: &[u8]) -> Result<String, Stop> {
-    let version = version_of_body(alloc, body)?;
-    Ok(String::from_str(alloc, version.text())?)
-}
+use std::process::Abort;
 
 /// A body, and the version that it says or the refusal.
 type VersionBody = (&'static [u8], Result<&'static str, Refusal>);
@@ -31,21 +26,19 @@ static VERSION_BODIES: [VersionBody; 10] = [
     (b"\"latest\"", Err(Refusal::BadVersion)),
 ];
 
-#[test]
-fn versions_in_bodies(rt: HostRuntime) -> Result<(), Fail> {
-    for (body, wanted) in &VERSION_BODIES {
-        let wanted = match wanted {
-            Ok(text) => Ok(*text),
-            Err(refusal) => Err(Stop::Refused(*refusal)),
-        };
-        let came_out = version_said(rt.alloc(), body);
-        let came_out = match &came_out {
-            Ok(text) => Ok(text.as_str()),
-            Err(stop) => Err(*stop),
-        };
-        same(*body, came_out, wanted)?;
+fn says_version(rt: &impl Abort, alloc: Global, case: &VersionBody) {
+    let (body, wanted) = case;
+    match version_of_body(alloc, body) {
+        Ok(version) => same(rt, *body, &Ok(version.text()), wanted),
+        Err(stop) => is_refused(rt, *body, stop, wanted),
     }
-    Ok(())
+}
+
+#[test]
+fn versions_in_bodies(rt: HostRuntime) {
+    for case in &VERSION_BODIES {
+        says_version(&rt, rt.alloc(), case);
+    }
 }
 
 /// A body, and the status, the role and the grant that it says.
@@ -67,25 +60,18 @@ static WORDS: [Word; 13] = [
     (b"{\"access\":\"public\"}", None, None, None),
 ];
 
-#[test]
-fn words_in_bodies(rt: HostRuntime) -> Result<(), Fail> {
+fn says_word(rt: &impl Abort, alloc: Global, word: &Word) {
+    let (body, status, role, grant) = word;
     let bad = Stop::Refused(Refusal::BadBody);
-    for (body, status, role, grant) in &WORDS {
-        same(*body, status_of_body(rt.alloc(), body), status.ok_or(bad))?;
-        same(*body, role_of_body(rt.alloc(), body), role.ok_or(bad))?;
-        same(*body, grant_of_body(rt.alloc(), body), grant.ok_or(bad))?;
-    }
-    Ok(())
+    same(rt, *body, &status_of_body(alloc, body), &status.ok_or(bad));
+    same(rt, *body, &role_of_body(alloc, body), &role.ok_or(bad));
+    same(rt, *body, &grant_of_body(alloc, body), &grant.ok_or(bad));
 }
 
-// The message that a body says, of a deprecation that is about 1.0.0.
-fn message_said(alloc: Global, body: &[u8]) -> Result<String, Stop> {
-    let said = deprecation_of_body(alloc, body)?;
-    let version = Ver::parse(alloc, "1.0.0")?;
-    if said.selector.selects(&version) {
-        Ok(String::from_str(alloc, said.message.text())?)
-    } else {
-        Ok(String::from_str(alloc, "another version")?)
+#[test]
+fn words_in_bodies(rt: HostRuntime) {
+    for word in &WORDS {
+        says_word(&rt, rt.alloc(), word);
     }
 }
 
@@ -128,29 +114,50 @@ static DEPRECATIONS: [DeprecationBody; 12] = [
     ),
 ];
 
-fn says(alloc: Global, body: &str, wanted: &Result<&'static str, Refusal>) -> Result<(), Fail> {
-    let wanted = match wanted {
-        Ok(text) => Ok(*text),
-        Err(refusal) => Err(Stop::Refused(*refusal)),
-    };
-    let came_out = message_said(alloc, body.as_bytes());
-    let came_out = match &came_out {
-        Ok(text) => Ok(text.as_str()),
-        Err(stop) => Err(*stop),
-    };
-    same(body, came_out, wanted)
+// Sees that a body says this message, of a deprecation that is about 1.0.0, or is refused.
+fn says(rt: &impl Abort, alloc: Global, body: &str, wanted: &Result<&'static str, Refusal>) {
+    match deprecation_of_body(alloc, body.as_bytes()) {
+        Ok(said) => {
+            let version = version(rt, alloc, "1.0.0");
+            is_said(
+                rt,
+                body,
+                &said.message,
+                said.selector.selects(&version),
+                wanted,
+            );
+        }
+        Err(stop) => is_refused(rt, body, stop, wanted),
+    }
+}
+
+fn is_said(
+    rt: &impl Abort,
+    body: &str,
+    message: &Message,
+    is_meant: bool,
+    wanted: &Result<&'static str, Refusal>,
+) {
+    if is_meant {
+        same(rt, body, &Ok(message.text()), wanted);
+    } else {
+        same(rt, body, &Ok("another version"), wanted);
+    }
 }
 
 #[test]
-fn deprecations_in_bodies(rt: HostRuntime) -> Result<(), Fail> {
+fn deprecations_in_bodies(rt: HostRuntime) {
     for (body, wanted) in &DEPRECATIONS {
-        says(rt.alloc(), body, wanted)?;
+        says(&rt, rt.alloc(), body, wanted);
     }
-    // A message that is too long is refused before the selector.
+}
+
+#[test]
+fn a_message_that_is_too_long_is_refused_before_the_selector(rt: HostRuntime) {
     let alloc = rt.alloc();
-    let message = "a".repeat(alloc, 1025)?;
-    let body = format!(in alloc; "{{\"selector\":\"^1\",\"message\":\"{message}\"}}")?;
-    says(alloc, &body, &Err(Refusal::BadBody))
+    let front = "{\"selector\":\"^1\",\"message\":\"";
+    let body = around(&rt, alloc, front, "a", 1025, "\"}");
+    says(&rt, alloc, &body, &Err(Refusal::BadBody));
 }
 
 /// The value of an `authorization` field, and the token that it shows.
@@ -174,9 +181,8 @@ static SHOWN: [Shown; 14] = [
 ];
 
 #[test]
-fn tokens_of_authorizations(_rt: HostRuntime) -> Result<(), Fail> {
+fn tokens_of_authorizations(rt: HostRuntime) {
     for (value, wanted) in &SHOWN {
-        same(*value, bearer_token(value), *wanted)?;
+        same(&rt, *value, &bearer_token(value), wanted);
     }
-    Ok(())
 }

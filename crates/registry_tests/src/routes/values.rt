@@ -1,13 +1,13 @@
 //! What is written in paths.
 
-use crate::outcome::same;
-use registry_names::{Name, Refusal, Stop};
+use crate::outcome::{is_refused, same};
+use crate::parts::name;
+use registry_names::{Refusal, Stop};
 use registry_routes::{decoded, ident_in, name_in, tag_in, version_in, version_of_file};
 use std::alloc::Global;
-use std::test::Fail;
+use std::process::Abort;
 
 /// What a text in a path is to be.
-#[derive(Clone, Copy, Debug)]
 enum Kind {
     Text,
     Name,
@@ -20,28 +20,76 @@ enum Kind {
     File,
 }
 
-// The text that is read, in form.
-fn read(alloc: Global, kind: Kind, written: &[u8]) -> Result<String, Stop> {
-    let text = match kind {
-        Kind::Text => decoded(alloc, written),
-        Kind::Name => Ok(String::from_str(alloc, name_in(alloc, written)?.text())?),
-        Kind::Ident => Ok(String::from_str(alloc, ident_in(alloc, written)?.text())?),
-        Kind::Version => Ok(String::from_str(alloc, version_in(alloc, written)?.text())?),
-        Kind::Tag => Ok(String::from_str(alloc, tag_in(alloc, written)?.text())?),
-        Kind::ScopedFile => file(alloc, "@lab/kit", written),
-        Kind::File => file(alloc, "kit", written),
-    };
-    Ok(text?)
+/// The text in form, or the refusal.
+type Outcome = Result<&'static str, Refusal>;
+
+// Sees that what is written is read as a kind.
+fn is_read(rt: &impl Abort, alloc: Global, case: &Written) {
+    match case.0 {
+        Kind::Text => is_text(rt, alloc, case),
+        Kind::Name => is_name(rt, alloc, case),
+        Kind::Ident => is_ident(rt, alloc, case),
+        Kind::Version => is_version(rt, alloc, case),
+        Kind::Tag => is_tag(rt, alloc, case),
+        Kind::ScopedFile => is_file(rt, alloc, "@lab/kit", case),
+        Kind::File => is_file(rt, alloc, "kit", case),
+    }
 }
 
-fn file(alloc: Global, name: &str, written: &[u8]) -> Result<String, Stop> {
-    let name = Name::parse(alloc, name)?;
-    let version = version_of_file(alloc, &name, written)?;
-    Ok(String::from_str(alloc, version.text())?)
+fn is_text(rt: &impl Abort, alloc: Global, case: &Written) {
+    match decoded(alloc, case.1) {
+        Ok(text) => comes_out(rt, case, text.as_str()),
+        Err(stop) => is_stopped(rt, case, stop),
+    }
+}
+
+fn is_name(rt: &impl Abort, alloc: Global, case: &Written) {
+    match name_in(alloc, case.1) {
+        Ok(name) => comes_out(rt, case, name.text()),
+        Err(stop) => is_stopped(rt, case, stop),
+    }
+}
+
+fn is_ident(rt: &impl Abort, alloc: Global, case: &Written) {
+    match ident_in(alloc, case.1) {
+        Ok(ident) => comes_out(rt, case, ident.text()),
+        Err(stop) => is_stopped(rt, case, stop),
+    }
+}
+
+fn is_version(rt: &impl Abort, alloc: Global, case: &Written) {
+    match version_in(alloc, case.1) {
+        Ok(version) => comes_out(rt, case, version.text()),
+        Err(stop) => is_stopped(rt, case, stop),
+    }
+}
+
+fn is_tag(rt: &impl Abort, alloc: Global, case: &Written) {
+    match tag_in(alloc, case.1) {
+        Ok(tag) => comes_out(rt, case, tag.text()),
+        Err(stop) => is_stopped(rt, case, stop),
+    }
+}
+
+// Sees that a file of a package is read as its version.
+fn is_file(rt: &impl Abort, alloc: Global, package: &str, case: &Written) {
+    let package = name(rt, alloc, package);
+    match version_of_file(alloc, &package, case.1) {
+        Ok(version) => comes_out(rt, case, version.text()),
+        Err(stop) => is_stopped(rt, case, stop),
+    }
+}
+
+fn comes_out(rt: &impl Abort, case: &Written, text: &str) {
+    same(rt, case.1, &Ok(text), &case.2);
+}
+
+fn is_stopped(rt: &impl Abort, case: &Written, stop: Stop) {
+    is_refused(rt, case.1, stop, &case.2);
 }
 
 /// A kind of text, what is written, and the text in form or the refusal.
-type Written = (Kind, &'static [u8], Result<&'static str, Refusal>);
+type Written = (Kind, &'static [u8], Outcome);
 
 static WRITTEN: [Written; 31] = [
     (Kind::Text, b"a%20b", Ok("a b")),
@@ -101,24 +149,14 @@ static SCOPED_FILES: [Written; 9] = [
     (Kind::ScopedFile, b"kit-.tgz", Err(Refusal::NotFound)),
 ];
 
-fn are_read(alloc: Global, cases: &[Written]) -> Result<(), Fail> {
-    for (kind, written, wanted) in cases {
-        let wanted = match wanted {
-            Ok(text) => Ok(*text),
-            Err(refusal) => Err(Stop::Refused(*refusal)),
-        };
-        let came_out = read(alloc, *kind, written);
-        let came_out = match &came_out {
-            Ok(text) => Ok(text.as_str()),
-            Err(stop) => Err(*stop),
-        };
-        same((*kind, *written), came_out, wanted)?;
+fn are_read(rt: &impl Abort, alloc: Global, cases: &[Written]) {
+    for case in cases {
+        is_read(rt, alloc, case);
     }
-    Ok(())
 }
 
 #[test]
-fn values_of_paths(rt: HostRuntime) -> Result<(), Fail> {
-    are_read(rt.alloc(), &WRITTEN)?;
-    are_read(rt.alloc(), &SCOPED_FILES)
+fn values_of_paths(rt: HostRuntime) {
+    are_read(&rt, rt.alloc(), &WRITTEN);
+    are_read(&rt, rt.alloc(), &SCOPED_FILES);
 }

@@ -1,14 +1,17 @@
 //! A case about a package: who asks, what is held, what is asked, and what both calls tell of it.
 
+use crate::outcome::same;
+use crate::parts::{ident, name, version};
 use crate::publish::case::changed;
-use crate::rules::shown::are_shown;
+use crate::rules::shown::are_told;
 use registry_access::{Caller, Grant, Role, Standing};
-use registry_names::{Ident, Moment, Name, Refusal, Status, Stop, TagText, Ver};
+use registry_names::{Moment, Refusal, Status, Stop, TagText};
 use registry_publish::PublishForm;
 use registry_rules::{
     About, Action, Asked, Credential, Facts, PublishFacts, Request, decide, may_ask,
 };
-use std::alloc::{AllocError, Global};
+use std::alloc::Global;
+use std::process::Abort;
 
 const BODY: &str =
     r#"{"name":"NAME","versions":{"1.0.0":{"name":"NAME","version":"1.0.0"}},"dist-tags":TAGS,"access":ACCESS,"_attachments":{"kit.tgz":{"data":"YWJj"}}}"#;
@@ -81,61 +84,76 @@ pub enum Ask {
     Tags(&'static str),
 }
 
-/// Whether the calls tell each case, and else what the first shows of which they don't.
-pub fn all_told(alloc: Global, cases: &'static [Case]) -> Result<(), &'static str> {
-    for (shows, by, held, ask, told) in cases {
-        if is_told(alloc, by, held, ask, told) != Ok(true) {
-            return Err(shows);
-        }
+/// Sees that the calls tell each case.
+pub fn all_told(rt: &impl Abort, alloc: Global, cases: &[Case]) {
+    for case in cases {
+        is_told(rt, alloc, case);
     }
-    Ok(())
 }
 
-fn is_told(alloc: Global, by: &By, held: &Held, ask: &Ask, told: &Told) -> Result<bool, Stop> {
+fn is_told(rt: &impl Abort, alloc: Global, case: &Case) {
+    let (shows, by, held, ask, told) = case;
     let facts = Facts {
-        caller: by.caller(alloc)?,
-        about: about(alloc, by, held, ask)?,
+        caller: by.caller(rt, alloc),
+        about: about(rt, alloc, by, held, ask),
     };
-    Ok(tells(alloc, &facts, NOW, action(alloc, ask)?, told)?)
+    both_tell(
+        rt,
+        alloc,
+        shows,
+        &facts,
+        &request(NOW, action(rt, alloc, ask)),
+        told,
+    );
 }
 
-/// Whether both calls tell this of an action at a moment.
-pub fn tells(
-    alloc: Global,
-    facts: &Facts,
-    now: i64,
-    what: Action,
-    told: &Told,
-) -> Result<bool, AllocError> {
-    let request = Request {
+/// The request that asks for this at a moment.
+pub fn request(now: i64, what: Action) -> Request {
+    Request {
         at: Moment::clamped(now),
         who: Credential::Anonymous,
         what,
-    };
-    let may = may_ask(facts, &request);
-    match (decide(alloc, facts, &request), told) {
-        (Ok(changes), Ok(wanted)) => Ok(may.is_ok() && are_shown(alloc, &changes, wanted)?),
-        (Err(stop), Err(wanted)) => Ok(may == Err(*wanted) && stop == Stop::Refused(*wanted)),
-        _ => Ok(false),
     }
 }
 
+/// Sees that both calls tell this of a request.
+pub fn both_tell(
+    rt: &impl Abort,
+    alloc: Global,
+    shows: &str,
+    facts: &Facts,
+    request: &Request,
+    told: &Told,
+) {
+    let refused = told.err();
+    same(rt, shows, &may_ask(facts, request).err(), &refused);
+    match decide(alloc, facts, request) {
+        Ok(changes) => are_told(rt, alloc, shows, &changes, told.expect(rt, shows)),
+        Err(stop) => is_stopped(rt, shows, stop, refused),
+    }
+}
+
+fn is_stopped(rt: &impl Abort, shows: &str, stop: Stop, refused: Option<Refusal>) {
+    let refusal = refused.expect(rt, shows);
+    same(rt, shows, &stop, &Stop::Refused(refusal));
+}
+
 /// A user.
-pub fn user(alloc: Global, name: &str) -> Result<Option<Caller>, Stop> {
-    Ok(Some(Caller::User(Ident::parse(alloc, name)?)))
+pub fn user(rt: &impl Abort, alloc: Global, name: &str) -> Option<Caller> {
+    Some(Caller::User(ident(rt, alloc, name)))
 }
 
 impl By {
-    fn caller(&self, alloc: Global) -> Result<Option<Caller>, Stop> {
+    fn caller(&self, rt: &impl Abort, alloc: Global) -> Option<Caller> {
         match self {
-            By::Operator => Ok(Some(Caller::Operator)),
-            By::Anonymous => Ok(Some(Caller::Anonymous)),
-            By::Nobody => Ok(None),
+            By::Operator => Some(Caller::Operator),
+            By::Anonymous => Some(Caller::Anonymous),
+            By::Nobody => None,
             By::Stranger(name)
             | By::Developer(name)
             | By::Granted(name, _)
             | By::Owner(name)
-            | By::Maintainer(name) => user(alloc, name),
+            | By::Maintainer(name) => user(rt, alloc, name),
         }
     }
 
@@ -147,90 +165,91 @@ impl By {
         }
     }
 
-    fn grants(&self, alloc: Global) -> Result<Vec<Grant>, AllocError> {
-        match self {
-            By::Granted(_, grant) => Vec::from_slice(alloc, &[*grant]),
-            _ => Ok(Vec::new(alloc)),
+    fn grants(&self, rt: &impl Abort, alloc: Global) -> Vec<Grant> {
+        let mut grants = Vec::new(alloc);
+        if let By::Granted(_, grant) = self {
+            grants.push(*grant).expect(rt, "memory");
         }
+        grants
     }
 
-    fn standing(&self, alloc: Global, held: &Held, package: &str) -> Result<Standing, AllocError> {
+    fn standing(&self, rt: &impl Abort, alloc: Global, held: &Held, package: &str) -> Standing {
         let of_lab = package.starts_with("@lab/");
-        Ok(Standing {
+        Standing {
             org: of_lab,
             role: if of_lab { self.role() } else { None },
             status: held.status(),
             maintainer: matches!(self, By::Maintainer(_)),
-            grants: self.grants(alloc)?,
-        })
+            grants: self.grants(rt, alloc),
+        }
     }
 }
 
-fn action(alloc: Global, ask: &Ask) -> Result<Action, Stop> {
+fn action(rt: &impl Abort, alloc: Global, ask: &Ask) -> Action {
     match *ask {
-        Ask::Publish(name, access) => publish(alloc, name, access, "{}"),
-        Ask::PublishUnderNext(name) => publish(alloc, name, "null", r#"{"next":"1.0.0"}"#),
-        Ask::TagSet(name, tag, version) => tag_set(alloc, name, tag, version),
-        Ask::TagRemove(name, tag) => tag_remove(alloc, name, tag),
-        Ask::SetAccess(name, status) => Ok(Action::SetAccess {
-            name: Name::parse(alloc, name)?,
+        Ask::Publish(name, access) => publish(rt, alloc, name, access, "{}"),
+        Ask::PublishUnderNext(name) => publish(rt, alloc, name, "null", r#"{"next":"1.0.0"}"#),
+        Ask::TagSet(package, text, number) => Action::TagSet {
+            name: name(rt, alloc, package),
+            tag: tag(rt, alloc, text),
+            version: version(rt, alloc, number),
+        },
+        Ask::TagRemove(package, text) => Action::TagRemove {
+            name: name(rt, alloc, package),
+            tag: tag(rt, alloc, text),
+        },
+        Ask::SetAccess(package, status) => Action::SetAccess {
+            name: name(rt, alloc, package),
             status,
-        }),
-        Ask::OwnerAdd(name, ..) => Ok(Action::OwnerAdd {
-            name: Name::parse(alloc, name)?,
-            user: Ident::parse(alloc, "eve")?,
-        }),
-        Ask::OwnerRemove(name, ..) => Ok(Action::OwnerRemove {
-            name: Name::parse(alloc, name)?,
-            user: Ident::parse(alloc, "eve")?,
-        }),
-        _ => query(alloc, ask),
+        },
+        Ask::OwnerAdd(package, ..) => Action::OwnerAdd {
+            name: name(rt, alloc, package),
+            user: ident(rt, alloc, "eve"),
+        },
+        Ask::OwnerRemove(package, ..) => Action::OwnerRemove {
+            name: name(rt, alloc, package),
+            user: ident(rt, alloc, "eve"),
+        },
+        _ => query(rt, alloc, ask),
     }
 }
 
-fn query(alloc: Global, ask: &Ask) -> Result<Action, Stop> {
-    let name = Name::parse(alloc, ask.package())?;
+fn query(rt: &impl Abort, alloc: Global, ask: &Ask) -> Action {
+    let name = name(rt, alloc, ask.package());
     match *ask {
-        Ask::VersionDoc(_, version) => Ok(Action::VersionDoc {
+        Ask::VersionDoc(_, number) => Action::VersionDoc {
             name,
-            version: Asked::Exact(Ver::parse(alloc, version)?),
-        }),
-        Ask::LatestDoc(_) => Ok(Action::VersionDoc {
+            version: Asked::Exact(version(rt, alloc, number)),
+        },
+        Ask::LatestDoc(_) => Action::VersionDoc {
             name,
             version: Asked::Latest,
-        }),
-        Ask::Archive(_, version) => Ok(Action::Archive {
+        },
+        Ask::Archive(_, number) => Action::Archive {
             name,
-            version: Ver::parse(alloc, version)?,
-        }),
-        Ask::Tags(_) => Ok(Action::Tags { name }),
-        _ => Ok(Action::Packument { name }),
+            version: version(rt, alloc, number),
+        },
+        Ask::Tags(_) => Action::Tags { name },
+        _ => Action::Packument { name },
     }
+}
+
+fn tag(rt: &impl Abort, alloc: Global, text: &str) -> TagText {
+    TagText::shape(alloc, text).expect(rt, "a tag")
 }
 
 fn publish(
+    rt: &impl Abort,
     alloc: Global,
     name: &'static str,
     access: &'static str,
     tags: &'static str,
-) -> Result<Action, Stop> {
+) -> Action {
     let changes = [("NAME", name), ("ACCESS", access), ("TAGS", tags)];
-    let body = changed(alloc, BODY, &changes)?;
-    let form = PublishForm::read(alloc, body.as_bytes())?;
-    Ok(Action::Publish { form })
-}
-
-fn tag_set(alloc: Global, name: &str, tag: &str, version: &str) -> Result<Action, Stop> {
-    let name = Name::parse(alloc, name)?;
-    let tag = TagText::shape(alloc, tag)?;
-    let version = Ver::parse(alloc, version)?;
-    Ok(Action::TagSet { name, tag, version })
-}
-
-fn tag_remove(alloc: Global, name: &str, tag: &str) -> Result<Action, Stop> {
-    let name = Name::parse(alloc, name)?;
-    let tag = TagText::shape(alloc, tag)?;
-    Ok(Action::TagRemove { name, tag })
+    let body = changed(rt, alloc, BODY, &changes);
+    Action::Publish {
+        form: PublishForm::read(alloc, body.as_bytes()).expect(rt, "a body in form"),
+    }
 }
 
 impl Ask {
@@ -253,9 +272,9 @@ impl Ask {
     }
 }
 
-fn about(alloc: Global, by: &By, held: &Held, ask: &Ask) -> Result<About, AllocError> {
-    let standing = by.standing(alloc, held, ask.package())?;
-    Ok(match *ask {
+fn about(rt: &impl Abort, alloc: Global, by: &By, held: &Held, ask: &Ask) -> About {
+    let standing = by.standing(rt, alloc, held, ask.package());
+    match *ask {
         Ask::Publish(..) => about_publish(standing, held, "latest"),
         Ask::PublishUnderNext(_) => about_publish(standing, held, "next"),
         Ask::TagSet(_, tag, version) => About::TagSet {
@@ -279,7 +298,7 @@ fn about(alloc: Global, by: &By, held: &Held, ask: &Ask) -> Result<About, AllocE
             other_owner,
         },
         _ => about_query(standing, held, ask),
-    })
+    }
 }
 
 fn about_query(standing: Standing, held: &Held, ask: &Ask) -> About {

@@ -70,8 +70,8 @@ static USERS: [Case; 12] = [
 ];
 
 #[test]
-fn users_tokens_and_organisations(rt: HostRuntime) -> Result<(), &'static str> {
-    all_told(rt.alloc(), &USERS)
+fn users_tokens_and_organisations(rt: HostRuntime) {
+    all_told(&rt, rt.alloc(), &USERS);
 }
 
 static MEMBERS: [Case; 18] = [
@@ -184,8 +184,8 @@ static MEMBERS: [Case; 18] = [
 ];
 
 #[test]
-fn members_that_come_and_go(rt: HostRuntime) -> Result<(), &'static str> {
-    all_told(rt.alloc(), &MEMBERS)
+fn members_that_come_and_go(rt: HostRuntime) {
+    all_told(&rt, rt.alloc(), &MEMBERS);
 }
 
 static TEAMS: [Case; 17] = [
@@ -249,8 +249,8 @@ static TEAMS: [Case; 17] = [
 ];
 
 #[test]
-fn teams_that_come_and_go(rt: HostRuntime) -> Result<(), &'static str> {
-    all_told(rt.alloc(), &TEAMS)
+fn teams_that_come_and_go(rt: HostRuntime) {
+    all_told(&rt, rt.alloc(), &TEAMS);
 }
 
 static GRANTS: [Case; 12] = [
@@ -319,8 +319,8 @@ static GRANTS: [Case; 12] = [
 ];
 
 #[test]
-fn grants_that_are_given_and_revoked(rt: HostRuntime) -> Result<(), &'static str> {
-    all_told(rt.alloc(), &GRANTS)
+fn grants_that_are_given_and_revoked(rt: HostRuntime) {
+    all_told(&rt, rt.alloc(), &GRANTS);
 }
 
 static QUERIES: [Case; 12] = [
@@ -349,6 +349,6 @@ static QUERIES: [Case; 12] = [
 ];
 
 #[test]
-fn queries_of_organisations(rt: HostRuntime) -> Result<(), &'static str> {
-    all_told(rt.alloc(), &QUERIES)
+fn queries_of_organisations(rt: HostRuntime) {
+    all_told(&rt, rt.alloc(), &QUERIES);
 }

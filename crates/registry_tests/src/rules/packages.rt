@@ -98,8 +98,8 @@ static FIRST_PUBLICATIONS: [Case; 5] = [
 ];
 
 #[test]
-fn first_publications(rt: HostRuntime) -> Result<(), &'static str> {
-    all_told(rt.alloc(), &FIRST_PUBLICATIONS)
+fn first_publications(rt: HostRuntime) {
+    all_told(&rt, rt.alloc(), &FIRST_PUBLICATIONS);
 }
 
 static LATER_PUBLISHES: [Case; 5] = [
@@ -158,8 +158,8 @@ static LATER_PUBLISHES: [Case; 5] = [
 ];
 
 #[test]
-fn later_publishes(rt: HostRuntime) -> Result<(), &'static str> {
-    all_told(rt.alloc(), &LATER_PUBLISHES)
+fn later_publishes(rt: HostRuntime) {
+    all_told(&rt, rt.alloc(), &LATER_PUBLISHES);
 }
 
 static REFUSED_PUBLISHES: [Case; 12] = [
@@ -250,8 +250,8 @@ static REFUSED_PUBLISHES: [Case; 12] = [
 ];
 
 #[test]
-fn refused_publishes(rt: HostRuntime) -> Result<(), &'static str> {
-    all_told(rt.alloc(), &REFUSED_PUBLISHES)
+fn refused_publishes(rt: HostRuntime) {
+    all_told(&rt, rt.alloc(), &REFUSED_PUBLISHES);
 }
 
 static TAGS: [Case; 10] = [
@@ -328,8 +328,8 @@ static TAGS: [Case; 10] = [
 ];
 
 #[test]
-fn tags_that_are_set_and_removed(rt: HostRuntime) -> Result<(), &'static str> {
-    all_told(rt.alloc(), &TAGS)
+fn tags_that_are_set_and_removed(rt: HostRuntime) {
+    all_told(&rt, rt.alloc(), &TAGS);
 }
 
 static STATUSES_AND_MAINTAINERS: [Case; 15] = [
@@ -441,8 +441,8 @@ static STATUSES_AND_MAINTAINERS: [Case; 15] = [
 ];
 
 #[test]
-fn statuses_and_maintainers(rt: HostRuntime) -> Result<(), &'static str> {
-    all_told(rt.alloc(), &STATUSES_AND_MAINTAINERS)
+fn statuses_and_maintainers(rt: HostRuntime) {
+    all_told(&rt, rt.alloc(), &STATUSES_AND_MAINTAINERS);
 }
 
 static QUERIES: [Case; 17] = [
@@ -550,6 +550,6 @@ static QUERIES: [Case; 17] = [
 ];
 
 #[test]
-fn queries_of_what_lives(rt: HostRuntime) -> Result<(), &'static str> {
-    all_told(rt.alloc(), &QUERIES)
+fn queries_of_what_lives(rt: HostRuntime) {
+    all_told(&rt, rt.alloc(), &QUERIES);
 }

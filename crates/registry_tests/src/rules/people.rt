@@ -1,11 +1,13 @@
 //! A case about users, tokens, the organisation `lab` and its teams.
 
-use crate::rules::case::{NOW, Told, tells, user};
+use crate::parts::{ident, name, text, texts};
+use crate::rules::case::{NOW, Told, both_tell, request, user};
 use registry_access::{AccessRows, Caller, Grant, MemberRow, Role};
-use registry_names::{Ident, Name, Refusal, Stop, Text};
+use registry_names::{Ident, Text};
 use registry_publish::TokenDigest;
 use registry_rules::{About, Action, Facts};
-use std::alloc::{AllocError, Global};
+use std::alloc::Global;
+use std::process::Abort;
 
 /// What a case shows, who asks, what he asks with what stands of it, and what is told.
 pub type Case = (&'static str, By, Ask, Told);
@@ -62,131 +64,140 @@ pub enum Ask {
     TeamPackages(bool),
 }
 
-/// Whether the calls tell each case, and else what the first shows of which they don't.
-pub fn all_told(alloc: Global, cases: &'static [Case]) -> Result<(), &'static str> {
-    for (shows, by, ask, told) in cases {
-        if is_told(alloc, by, ask, told) != Ok(true) {
-            return Err(shows);
-        }
+/// Sees that the calls tell each case.
+pub fn all_told(rt: &impl Abort, alloc: Global, cases: &[Case]) {
+    for case in cases {
+        is_told(rt, alloc, case);
     }
-    Ok(())
 }
 
-fn is_told(alloc: Global, by: &By, ask: &Ask, told: &Told) -> Result<bool, Stop> {
+fn is_told(rt: &impl Abort, alloc: Global, case: &Case) {
+    let (shows, by, ask, told) = case;
     let facts = Facts {
-        caller: by.caller(alloc)?,
-        about: about(alloc, by, ask)?,
+        caller: by.caller(rt, alloc),
+        about: about(rt, alloc, by, ask),
     };
-    Ok(tells(alloc, &facts, NOW, action(alloc, ask)?, told)?)
+    both_tell(
+        rt,
+        alloc,
+        shows,
+        &facts,
+        &request(NOW, action(rt, alloc, ask)),
+        told,
+    );
 }
 
 impl By {
-    fn caller(&self, alloc: Global) -> Result<Option<Caller>, Stop> {
+    fn caller(&self, rt: &impl Abort, alloc: Global) -> Option<Caller> {
         match self {
-            By::Operator => Ok(Some(Caller::Operator)),
-            By::Member(_) => user(alloc, "ann"),
-            By::Stranger | By::WithoutLab => user(alloc, "eve"),
-            By::Anonymous => Ok(Some(Caller::Anonymous)),
-            By::Nobody => Ok(None),
+            By::Operator => Some(Caller::Operator),
+            By::Member(_) => user(rt, alloc, "ann"),
+            By::Stranger | By::WithoutLab => user(rt, alloc, "eve"),
+            By::Anonymous => Some(Caller::Anonymous),
+            By::Nobody => None,
         }
     }
 
-    fn rows(&self, alloc: Global) -> Result<AccessRows, AllocError> {
-        let mut organisations = Vec::new(alloc);
-        if !matches!(self, By::WithoutLab) {
-            organisations.push(Text::from_str(alloc, "lab")?)?;
-        }
-        let mut members = Vec::new(alloc);
-        if let By::Member(role) = self {
-            members.push(MemberRow {
-                organisation: Text::from_str(alloc, "lab")?,
-                user: Text::from_str(alloc, "ann")?,
-                role: *role,
-            })?;
-        }
-        Ok(AccessRows {
-            organisations,
-            members,
+    fn rows(&self, rt: &impl Abort, alloc: Global) -> AccessRows {
+        AccessRows {
+            organisations: self.organisations(rt, alloc),
+            members: self.members(rt, alloc),
             teams: Vec::new(alloc),
             team_members: Vec::new(alloc),
             grants: Vec::new(alloc),
             packages: Vec::new(alloc),
             maintainers: Vec::new(alloc),
-        })
+        }
+    }
+
+    fn organisations(&self, rt: &impl Abort, alloc: Global) -> Vec<Text> {
+        match self {
+            By::WithoutLab => Vec::new(alloc),
+            _ => texts(rt, alloc, &["lab"]),
+        }
+    }
+
+    fn members(&self, rt: &impl Abort, alloc: Global) -> Vec<MemberRow> {
+        let mut members = Vec::new(alloc);
+        if let By::Member(role) = self {
+            let member = MemberRow {
+                organisation: text(rt, alloc, "lab"),
+                user: text(rt, alloc, "ann"),
+                role: *role,
+            };
+            members.push(member).expect(rt, "memory");
+        }
+        members
     }
 }
 
-fn ident(alloc: Global, name: &str) -> Result<Ident, Stop> {
-    Ident::parse(alloc, name)
-}
-
-fn token() -> Result<TokenDigest, Stop> {
-    match TokenDigest::of("npm_bob_000000001") {
-        Some(digest) => Ok(digest),
-        None => Err(Stop::Refused(Refusal::BadName)),
-    }
-}
-
-fn action(alloc: Global, ask: &Ask) -> Result<Action, Stop> {
-    let user = ident(alloc, "bob")?;
+fn action(rt: &impl Abort, alloc: Global, ask: &Ask) -> Action {
     match *ask {
-        Ask::UserAdd(_) => Ok(Action::UserAdd { user }),
-        Ask::TokenAdd(..) => Ok(Action::TokenAdd {
-            user,
-            digest: token()?,
-        }),
-        Ask::OrgCreate(..) => Ok(Action::OrgCreate {
-            organisation: ident(alloc, "lab")?,
-            owner: user,
-        }),
-        Ask::OrgSet(role, ..) => Ok(Action::OrgSet {
-            organisation: ident(alloc, "lab")?,
-            user,
+        Ask::UserAdd(_) => Action::UserAdd {
+            user: ident(rt, alloc, "bob"),
+        },
+        Ask::TokenAdd(..) => Action::TokenAdd {
+            user: ident(rt, alloc, "bob"),
+            digest: TokenDigest::of("npm_bob_000000001").expect(rt, "a token"),
+        },
+        Ask::OrgCreate(..) => Action::OrgCreate {
+            organisation: ident(rt, alloc, "lab"),
+            owner: ident(rt, alloc, "bob"),
+        },
+        Ask::OrgSet(role, ..) => Action::OrgSet {
+            organisation: ident(rt, alloc, "lab"),
+            user: ident(rt, alloc, "bob"),
             role,
-        }),
-        Ask::OrgRemove(..) => Ok(Action::OrgRemove {
-            organisation: ident(alloc, "lab")?,
-            user,
-        }),
-        Ask::Members => Ok(Action::Members {
-            organisation: ident(alloc, "lab")?,
-        }),
-        Ask::Teams => Ok(Action::Teams {
-            organisation: ident(alloc, "lab")?,
-        }),
-        _ => of_team(alloc, user, ask),
+        },
+        Ask::OrgRemove(..) => Action::OrgRemove {
+            organisation: ident(rt, alloc, "lab"),
+            user: ident(rt, alloc, "bob"),
+        },
+        Ask::Members => Action::Members {
+            organisation: ident(rt, alloc, "lab"),
+        },
+        Ask::Teams => Action::Teams {
+            organisation: ident(rt, alloc, "lab"),
+        },
+        _ => of_team(rt, alloc, ask),
     }
 }
 
-fn of_team(alloc: Global, user: Ident, ask: &Ask) -> Result<Action, Stop> {
-    let organisation = ident(alloc, "lab")?;
-    let team = ident(alloc, ask.team())?;
+fn of_team(rt: &impl Abort, alloc: Global, ask: &Ask) -> Action {
+    let organisation = ident(rt, alloc, "lab");
+    let team = ident(rt, alloc, ask.team());
     match *ask {
-        Ask::TeamCreate(_) => Ok(Action::TeamCreate { organisation, team }),
-        Ask::TeamDestroy(..) => Ok(Action::TeamDestroy { organisation, team }),
-        Ask::TeamAdd(..) => Ok(Action::TeamAdd {
+        Ask::TeamCreate(_) => Action::TeamCreate { organisation, team },
+        Ask::TeamDestroy(..) => Action::TeamDestroy { organisation, team },
+        Ask::TeamMembers(_) => Action::TeamMembers { organisation, team },
+        Ask::TeamPackages(_) => Action::TeamPackages { organisation, team },
+        _ => of_grant(rt, alloc, organisation, team, ask),
+    }
+}
+
+fn of_grant(rt: &impl Abort, alloc: Global, organisation: Ident, team: Ident, ask: &Ask) -> Action {
+    match *ask {
+        Ask::Grant(package, ..) => Action::Grant {
             organisation,
             team,
-            user,
-        }),
-        Ask::TeamRemove(..) => Ok(Action::TeamRemove {
-            organisation,
-            team,
-            user,
-        }),
-        Ask::Grant(name, ..) => Ok(Action::Grant {
-            organisation,
-            team,
-            name: Name::parse(alloc, name)?,
+            name: name(rt, alloc, package),
             grant: Grant::ReadOnly,
-        }),
-        Ask::Revoke(_) => Ok(Action::Revoke {
+        },
+        Ask::Revoke(_) => Action::Revoke {
             organisation,
             team,
-            name: Name::parse(alloc, "@lab/kit")?,
-        }),
-        Ask::TeamMembers(_) => Ok(Action::TeamMembers { organisation, team }),
-        _ => Ok(Action::TeamPackages { organisation, team }),
+            name: name(rt, alloc, "@lab/kit"),
+        },
+        Ask::TeamAdd(..) => Action::TeamAdd {
+            organisation,
+            team,
+            user: ident(rt, alloc, "bob"),
+        },
+        _ => Action::TeamRemove {
+            organisation,
+            team,
+            user: ident(rt, alloc, "bob"),
+        },
     }
 }
 
@@ -199,9 +210,8 @@ impl Ask {
     }
 }
 
-fn about(alloc: Global, by: &By, ask: &Ask) -> Result<About, AllocError> {
-    let rows = by.rows(alloc)?;
-    Ok(match *ask {
+fn about(rt: &impl Abort, alloc: Global, by: &By, ask: &Ask) -> About {
+    match *ask {
         Ask::UserAdd(exists) => About::UserAdd { exists },
         Ask::TokenAdd(user_exists, exists) => About::TokenAdd {
             user_exists,
@@ -211,6 +221,12 @@ fn about(alloc: Global, by: &By, ask: &Ask) -> Result<About, AllocError> {
             owner_exists,
             exists,
         },
+        _ => about_rows(by.rows(rt, alloc), ask),
+    }
+}
+
+fn about_rows(rows: AccessRows, ask: &Ask) -> About {
+    match *ask {
         Ask::OrgSet(_, user_exists, role, other_owner) => About::OrgSet {
             rows,
             user_exists,
@@ -224,7 +240,7 @@ fn about(alloc: Global, by: &By, ask: &Ask) -> Result<About, AllocError> {
         },
         Ask::Members | Ask::Teams => About::Organisation { rows },
         _ => about_team(rows, ask),
-    })
+    }
 }
 
 fn about_team(rows: AccessRows, ask: &Ask) -> About {

@@ -1,13 +1,15 @@
 //! What is asked about versions that go, and of deprecations.
 
+use crate::parts::{name, texts, version};
 use crate::publish::case::changed;
-use crate::rules::case::{Told, tells, user};
+use crate::rules::case::{Told, both_tell, request, user};
 use registry_access::Standing;
-use registry_names::{Message, Moment, Name, Refusal, Status, Stop, Text, Ver};
+use registry_names::{Message, Moment, Refusal, Status, Ver};
 use registry_publish::PublishForm;
 use registry_ranges::Selector;
 use registry_rules::{About, Action, Facts, PublishFacts};
-use std::alloc::{AllocError, Global};
+use std::alloc::Global;
+use std::process::Abort;
 
 const BODY: &str =
     r#"{"name":"kit","versions":{"1.0.0":{"name":"kit","version":"1.0.0"}},"access":ACCESS,"_attachments":{"kit.tgz":{"data":"YWJj"}}}"#;
@@ -34,44 +36,44 @@ fn standing(alloc: Global) -> Standing {
     }
 }
 
-fn texts(alloc: Global, words: &[&'static str]) -> Result<Vec<Text>, AllocError> {
-    let mut texts = Vec::new(alloc);
-    for word in words {
-        texts.push(Text::from_str(alloc, word)?)?;
-    }
-    Ok(texts)
-}
-
-fn versions(alloc: Global, words: &[&'static str]) -> Result<Vec<Ver>, Stop> {
+fn versions(rt: &impl Abort, alloc: Global, words: &[&'static str]) -> Vec<Ver> {
     let mut versions = Vec::new(alloc);
     for word in words {
-        versions.push(Ver::parse(alloc, word)?)?;
+        versions.push(version(rt, alloc, word)).expect(rt, "memory");
     }
-    Ok(versions)
+    versions
 }
 
-fn is_told(alloc: Global, now: i64, about: About, what: Action, told: &Told) -> Result<bool, Stop> {
+fn is_told(
+    rt: &impl Abort,
+    alloc: Global,
+    shows: &str,
+    now: i64,
+    about: About,
+    what: Action,
+    told: &Told,
+) {
     let facts = Facts {
-        caller: user(alloc, "ann")?,
+        caller: user(rt, alloc, "ann"),
         about,
     };
-    Ok(tells(alloc, &facts, now, what, told)?)
+    both_tell(rt, alloc, shows, &facts, &request(now, what), told);
 }
 
-fn is_withdrawn(alloc: Global, case: &Going) -> Result<bool, Stop> {
-    let (_, now, published, depended, tags, live, told) = case;
+fn is_withdrawn(rt: &impl Abort, alloc: Global, case: &Going) {
+    let (shows, now, published, depended, tags, live, told) = case;
     let about = About::Withdraw {
         standing: standing(alloc),
         published: published.map(Moment::clamped),
         depended: *depended,
-        tags: texts(alloc, tags)?,
-        live: versions(alloc, live)?,
+        tags: texts(rt, alloc, tags),
+        live: versions(rt, alloc, live),
     };
     let what = Action::Withdraw {
-        name: Name::parse(alloc, "kit")?,
-        version: Ver::parse(alloc, "1.1.0")?,
+        name: name(rt, alloc, "kit"),
+        version: version(rt, alloc, "1.1.0"),
     };
-    is_told(alloc, *now, about, what, told)
+    is_told(rt, alloc, shows, *now, about, what, told);
 }
 
 static WITHDRAWALS: [Going; 10] = [
@@ -179,13 +181,10 @@ static WITHDRAWALS: [Going; 10] = [
 ];
 
 #[test]
-fn versions_that_are_withdrawn(rt: HostRuntime) -> Result<(), &'static str> {
+fn versions_that_are_withdrawn(rt: HostRuntime) {
     for case in &WITHDRAWALS {
-        if is_withdrawn(rt.alloc(), case) != Ok(true) {
-            return Err(case.0);
-        }
+        is_withdrawn(&rt, rt.alloc(), case);
     }
-    Ok(())
 }
 
 /// What a case shows, the selector, the message, and what is told of versions 1.0.0, 1.1.0-a and
@@ -216,28 +215,25 @@ static DEPRECATIONS: [Deprecated; 4] = [
     ("none", ">3.0.0", "none", Ok(&[])),
 ];
 
-fn is_deprecated(alloc: Global, case: &Deprecated) -> Result<bool, Stop> {
-    let (_, selector, message, told) = case;
+fn is_deprecated(rt: &impl Abort, alloc: Global, case: &Deprecated) {
+    let (shows, selector, message, told) = case;
     let about = About::Deprecate {
         standing: standing(alloc),
-        live: versions(alloc, &["1.0.0", "1.1.0-a", "2.0.0"])?,
+        live: versions(rt, alloc, &["1.0.0", "1.1.0-a", "2.0.0"]),
     };
     let what = Action::Deprecate {
-        name: Name::parse(alloc, "kit")?,
-        selector: Selector::parse(alloc, selector)?,
-        message: Message::parse(alloc, message)?,
+        name: name(rt, alloc, "kit"),
+        selector: Selector::parse(alloc, selector).expect(rt, "a selector"),
+        message: Message::parse(alloc, message).expect(rt, "a message"),
     };
-    is_told(alloc, 100, about, what, told)
+    is_told(rt, alloc, shows, 100, about, what, told);
 }
 
 #[test]
-fn versions_that_are_deprecated(rt: HostRuntime) -> Result<(), &'static str> {
+fn versions_that_are_deprecated(rt: HostRuntime) {
     for case in &DEPRECATIONS {
-        if is_deprecated(rt.alloc(), case) != Ok(true) {
-            return Err(case.0);
-        }
+        is_deprecated(&rt, rt.alloc(), case);
     }
-    Ok(())
 }
 
 /// What a case shows, when it is asked, whether a version lives, the last withdrawal, the value of
@@ -290,8 +286,8 @@ static WAITING: [Waiting; 5] = [
     ),
 ];
 
-fn is_waiting(alloc: Global, case: &Waiting) -> Result<bool, Stop> {
-    let (_, now, lives, last, access, told) = case;
+fn is_waiting(rt: &impl Abort, alloc: Global, case: &Waiting) {
+    let (shows, now, lives, last, access, told) = case;
     let about = About::Publish(PublishFacts {
         standing: standing(alloc),
         version_lives: false,
@@ -301,19 +297,16 @@ fn is_waiting(alloc: Global, case: &Waiting) -> Result<bool, Stop> {
         lives: *lives,
         last_withdrawal: last.map(Moment::clamped),
     });
-    let body = changed(alloc, BODY, &[("ACCESS", *access)])?;
+    let body = changed(rt, alloc, BODY, &[("ACCESS", *access)]);
     let what = Action::Publish {
-        form: PublishForm::read(alloc, body.as_bytes())?,
+        form: PublishForm::read(alloc, body.as_bytes()).expect(rt, "a body in form"),
     };
-    is_told(alloc, *now, about, what, told)
+    is_told(rt, alloc, shows, *now, about, what, told);
 }
 
 #[test]
-fn packages_that_wait(rt: HostRuntime) -> Result<(), &'static str> {
+fn packages_that_wait(rt: HostRuntime) {
     for case in &WAITING {
-        if is_waiting(rt.alloc(), case) != Ok(true) {
-            return Err(case.0);
-        }
+        is_waiting(&rt, rt.alloc(), case);
     }
-    Ok(())
 }

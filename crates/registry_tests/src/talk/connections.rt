@@ -3,6 +3,7 @@
 ghost use Rattle.std.specs.Prelude.{None};
 
 use crate::outcome::same;
+use crate::parts::{around, as_text, repeated};
 use crate::wire::reader::{Drip, Faltering, Narrow};
 use registry_names::{ByteIn, Fault, FromRead, Moment, Refusal, Text, ToWrite};
 use registry_rules::{Action, Credential, Reply, Request};
@@ -10,8 +11,7 @@ use registry_talk::{Clock, Desk, End, Served, serve};
 use registry_wire::Inbox;
 use std::alloc::Global;
 use std::io::ErrorKind;
-use std::str;
-use std::test::Fail;
+use std::process::Abort;
 
 /// A desk that tells the tags of any package to who shows a token, and has a fault for teams.
 #[derive(Drop)]
@@ -55,12 +55,13 @@ impl Clock for Steps {
 pub type Case = (&'static str, &'static str, u32, End);
 
 fn is_served<R: ByteIn + Drop>(
+    rt: &impl Abort,
     alloc: Global,
     case: &str,
     reader: R,
     written: &str,
     served: Served,
-) -> Result<(), Fail> {
+) {
     let mut desk = Shelf {
         asked: Vec::new(alloc),
     };
@@ -69,9 +70,9 @@ fn is_served<R: ByteIn + Drop>(
     let mut out = Vec::new(alloc);
     let mut writer = ToWrite::new(&mut out);
     let came_out = serve(alloc, &mut desk, &mut inbox, &mut writer, &mut clock);
-    same(case, came_out, served)?;
-    same(case, str::from_utf8(&out).unwrap_or("?"), written)?;
-    same(case, desk.asked.is_sorted(), true)
+    same(rt, case, &came_out, &served);
+    same(rt, case, as_text(&out), written);
+    same(rt, case, &desk.asked.is_sorted(), &true);
 }
 
 pub const TAGS: &str =
@@ -119,87 +120,107 @@ pub static CONNECTIONS: [Case; 8] = [
     ),
 ];
 
-#[test]
-fn connections_are_served(rt: HostRuntime) -> Result<(), Fail> {
-    let alloc = rt.alloc();
-    for (input, out, requests, end) in &CONNECTIONS {
-        let served = Served {
-            requests: *requests,
-            end: *end,
-        };
-        let input = *input;
-        is_served(alloc, input, FromRead::new(input.as_bytes()), out, served)?;
-        let drip = Drip {
-            text: input.as_bytes(),
-        };
-        is_served(alloc, input, FromRead::new(drip), out, served)?;
-    }
-    Ok(())
+fn both_served(rt: &impl Abort, alloc: Global, case: &Case) {
+    let (input, out, requests, end) = case;
+    let served = Served {
+        requests: *requests,
+        end: *end,
+    };
+    let text = input.as_bytes();
+    is_served(rt, alloc, input, FromRead::new(text), out, served);
+    is_served(rt, alloc, input, FromRead::new(Drip { text }), out, served);
 }
 
 #[test]
-fn a_connection_has_a_thousand_requests(rt: HostRuntime) -> Result<(), Fail> {
+fn connections_are_served(rt: HostRuntime) {
+    for case in &CONNECTIONS {
+        both_served(&rt, rt.alloc(), case);
+    }
+}
+
+const LAST_OUT: &str =
+    "HTTP/1.1 200 OK\r\ncontent-type: application/json\r\ncontent-length: 18\r\nconnection: close\r\n\r\n{\"latest\":\"1.0.0\"}";
+
+#[test]
+fn a_connection_has_a_thousand_requests(rt: HostRuntime) {
     let alloc = rt.alloc();
-    let input = TAGS.repeat(alloc, 1_001)?;
-    let mut wanted = TAGS_OUT.repeat(alloc, 999)?;
-    wanted.push_str(
-        "HTTP/1.1 200 OK\r\ncontent-type: application/json\r\ncontent-length: 18\r\nconnection: close\r\n\r\n{\"latest\":\"1.0.0\"}",
-    )?;
+    let input = repeated(&rt, alloc, TAGS, 1_001);
+    let wanted = around(&rt, alloc, "", TAGS_OUT, 999, LAST_OUT);
     let served = Served {
         requests: 1_000,
         end: End::Limit,
     };
     let reader = FromRead::new(input.as_bytes());
-    is_served(alloc, "a thousand", reader, &wanted, served)
+    is_served(&rt, alloc, "a thousand", reader, &wanted, served);
 }
 
+const ONE_SERVED: Served = Served {
+    requests: 1,
+    end: End::Closed,
+};
+
+const NONE_SERVED: Served = Served {
+    requests: 0,
+    end: End::ReadFault,
+};
+
+/// What is shown, how reads fail, how many do, what is written, and how it ends.
+type Failed = (&'static str, ErrorKind, u32, &'static str, Served);
+
+static FAILED_READS: [Failed; 3] = [
+    (
+        "999 times",
+        ErrorKind::Interrupted,
+        999,
+        TAGS_OUT,
+        ONE_SERVED,
+    ),
+    (
+        "1,000 times",
+        ErrorKind::Interrupted,
+        1_000,
+        "",
+        NONE_SERVED,
+    ),
+    ("broken", ErrorKind::TimedOut, 1, "", NONE_SERVED),
+];
+
 #[test]
-fn interrupted_reads_are_tried_again(rt: HostRuntime) -> Result<(), Fail> {
-    let alloc = rt.alloc();
-    let faltering = |kind, failures| {
-        FromRead::new(Faltering {
+fn interrupted_reads_are_tried_again(rt: HostRuntime) {
+    for (shows, kind, failures, written, served) in &FAILED_READS {
+        let reader = FromRead::new(Faltering {
             text: TAGS.as_bytes(),
-            kind,
-            failures,
-        })
+            kind: *kind,
+            failures: *failures,
+        });
+        is_served(&rt, rt.alloc(), shows, reader, written, *served);
+    }
+}
+
+// Sees how a connection of two requests ends where so many bytes are taken.
+fn is_cut(rt: &impl Abort, alloc: Global, limit: usize, requests: u32) {
+    let two = repeated(rt, alloc, TAGS, 2);
+    let mut desk = Shelf {
+        asked: Vec::new(alloc),
     };
-    let whole = Served {
-        requests: 1,
-        end: End::Closed,
+    let mut clock = Steps { next: 0 };
+    let mut inbox = Inbox::new(alloc, FromRead::new(two.as_bytes()));
+    let mut narrow = Narrow {
+        taken: Vec::new(alloc),
+        limit,
     };
-    let none = Served {
-        requests: 0,
-        end: End::ReadFault,
-    };
-    let kind = ErrorKind::Interrupted;
-    is_served(alloc, "999 times", faltering(kind, 999), TAGS_OUT, whole)?;
-    is_served(alloc, "1,000 times", faltering(kind, 1_000), "", none)?;
-    is_served(alloc, "broken", faltering(ErrorKind::TimedOut, 1), "", none)
+    let mut writer = ToWrite::new(&mut narrow);
+    let served = serve(alloc, &mut desk, &mut inbox, &mut writer, &mut clock);
+    let end = End::WriteFault;
+    same(rt, &limit, &served, &Served { requests, end });
+    let front = TAGS_OUT.get(..limit).unwrap_or("?");
+    same(rt, &limit, as_text(&narrow.taken), front);
 }
 
 #[test]
-fn a_failed_write_ends_a_connection(rt: HostRuntime) -> Result<(), Fail> {
+fn a_failed_write_ends_a_connection(rt: HostRuntime) {
     let alloc = rt.alloc();
-    let two = TAGS.repeat(alloc, 2)?;
-    for (limit, requests) in [(0, 0), (50, 0), (TAGS_OUT.len(), 1)] {
-        let mut desk = Shelf {
-            asked: Vec::new(alloc),
-        };
-        let mut clock = Steps { next: 0 };
-        let mut inbox = Inbox::new(alloc, FromRead::new(two.as_bytes()));
-        let mut narrow = Narrow {
-            taken: Vec::new(alloc),
-            limit,
-        };
-        let mut writer = ToWrite::new(&mut narrow);
-        let served = serve(alloc, &mut desk, &mut inbox, &mut writer, &mut clock);
-        let wanted = Served {
-            requests,
-            end: End::WriteFault,
-        };
-        same(limit, served, wanted)?;
-        let (front, _) = TAGS_OUT.split_at(limit);
-        same(limit, str::from_utf8(&narrow.taken).unwrap_or("?"), front)?;
-    }
-    Ok(())
+    is_cut(&rt, alloc, 0, 0);
+    is_cut(&rt, alloc, 50, 0);
+    is_cut(&rt, alloc, TAGS_OUT.len(), 1);
 }

@@ -1,140 +1,153 @@
 //! The requests that requests of HTTP spell, and the first refusals of their form.
 
-use crate::outcome::same;
-use registry_names::{Blob, Moment, Refusal, Stop};
+use crate::outcome::{is_refused, same};
+use crate::parts::{blob, joined, shown, string};
+use registry_names::{Moment, Refusal};
 use registry_rules::{Action, Asked, Credential, Request};
 use registry_talk::request_of;
 use registry_wire::Method::{Delete, Get, Other, Post, Put};
 use registry_wire::{Authorization, Method, Wanted};
-use std::alloc::{AllocError, Global};
-use std::test::Fail;
+use std::alloc::Global;
+use std::process::Abort;
 
-fn of_packages(alloc: Global, action: &Action) -> Result<String, AllocError> {
+fn of_packages(rt: &impl Abort, alloc: Global, action: &Action) -> String {
     match action {
-        Action::Packument { name } => format!(in alloc; "packument {}", name.text()),
+        Action::Packument { name } => joined(rt, alloc, &["packument", name.text()]),
         Action::VersionDoc { name, version } => match version {
-            Asked::Exact(version) => format!(in alloc;
-                "version {} {}",
-                name.text(),
-                version.text()
-            ),
-            Asked::Latest => format!(in alloc; "latest {}", name.text()),
+            Asked::Exact(version) => joined(rt, alloc, &["version", name.text(), version.text()]),
+            Asked::Latest => joined(rt, alloc, &["latest", name.text()]),
         },
         Action::Archive { name, version } => {
-            format!(in alloc; "archive {} {}", name.text(), version.text())
+            joined(rt, alloc, &["archive", name.text(), version.text()])
         }
-        Action::Tags { name } => format!(in alloc; "tags {}", name.text()),
+        Action::Tags { name } => joined(rt, alloc, &["tags", name.text()]),
         Action::Publish { form } => {
-            format!(in alloc; "publish {} {}", form.name().text(), form.version().text())
+            let (name, version) = (form.name(), form.version());
+            joined(rt, alloc, &["publish", name.text(), version.text()])
         }
         Action::TagSet { name, tag, version } => {
-            format!(in alloc; "tag {} {} {}", name.text(), tag.text(), version.text())
+            joined(rt, alloc, &["tag", name.text(), tag.text(), version.text()])
         }
-        Action::TagRemove { name, tag } => {
-            format!(in alloc; "no tag {} {}", name.text(), tag.text())
-        }
+        Action::TagRemove { name, tag } => joined(rt, alloc, &["no tag", name.text(), tag.text()]),
         Action::SetAccess { name, status } => {
-            format!(in alloc; "status {} {status:?}", name.text())
+            let status = shown(rt, alloc, status);
+            joined(rt, alloc, &["status", name.text(), status.as_str()])
         }
         Action::Withdraw { name, version } => {
-            format!(in alloc; "withdraw {} {}", name.text(), version.text())
+            joined(rt, alloc, &["withdraw", name.text(), version.text()])
         }
-        Action::Deprecate {
-            name,
-            selector: _,
-            message,
-        } => format!(in alloc; "deprecate {} {}", name.text(), message.text()),
-        Action::OwnerAdd { name, user } => {
-            format!(in alloc; "owner {} {}", name.text(), user.text())
+        Action::Deprecate { name, message, .. } => {
+            joined(rt, alloc, &["deprecate", name.text(), message.text()])
         }
+        Action::OwnerAdd { name, user } => joined(rt, alloc, &["owner", name.text(), user.text()]),
         Action::OwnerRemove { name, user } => {
-            format!(in alloc; "no owner {} {}", name.text(), user.text())
+            joined(rt, alloc, &["no owner", name.text(), user.text()])
         }
-        _ => of_teams(alloc, action),
+        _ => of_organisations(rt, alloc, action),
     }
 }
 
-fn of_teams(alloc: Global, action: &Action) -> Result<String, AllocError> {
+fn of_organisations(rt: &impl Abort, alloc: Global, action: &Action) -> String {
     match action {
-        Action::Members { organisation } => format!(in alloc; "members {}", organisation.text()),
+        Action::Members { organisation } => joined(rt, alloc, &["members", organisation.text()]),
         Action::OrgSet {
             organisation,
             user,
             role,
-        } => format!(in alloc; "role {} {} {role:?}", organisation.text(), user.text()),
-        Action::OrgRemove { organisation, user } => {
-            format!(in alloc; "no role {} {}", organisation.text(), user.text())
+        } => {
+            let role = shown(rt, alloc, role);
+            joined(
+                rt,
+                alloc,
+                &["role", organisation.text(), user.text(), role.as_str()],
+            )
         }
-        Action::Teams { organisation } => format!(in alloc; "teams {}", organisation.text()),
+        Action::OrgRemove { organisation, user } => {
+            joined(rt, alloc, &["no role", organisation.text(), user.text()])
+        }
+        Action::Teams { organisation } => joined(rt, alloc, &["teams", organisation.text()]),
+        _ => of_teams(rt, alloc, action),
+    }
+}
+
+fn of_teams(rt: &impl Abort, alloc: Global, action: &Action) -> String {
+    match action {
         Action::TeamMembers { organisation, team } => {
-            format!(in alloc; "team {} {}", organisation.text(), team.text())
+            joined(rt, alloc, &["team", organisation.text(), team.text()])
         }
         Action::TeamCreate { organisation, team } => {
-            format!(in alloc; "new team {} {}", organisation.text(), team.text())
+            joined(rt, alloc, &["new team", organisation.text(), team.text()])
         }
         Action::TeamDestroy { organisation, team } => {
-            format!(in alloc; "no team {} {}", organisation.text(), team.text())
+            joined(rt, alloc, &["no team", organisation.text(), team.text()])
         }
         Action::TeamAdd {
             organisation,
             team,
             user,
-        } => format!(in alloc;
-            "in {} {} {}",
-            organisation.text(),
-            team.text(),
-            user.text()
+        } => joined(
+            rt,
+            alloc,
+            &["in", organisation.text(), team.text(), user.text()],
         ),
         Action::TeamRemove {
             organisation,
             team,
             user,
-        } => format!(in alloc;
-            "out {} {} {}",
-            organisation.text(),
-            team.text(),
-            user.text()
+        } => joined(
+            rt,
+            alloc,
+            &["out", organisation.text(), team.text(), user.text()],
         ),
         Action::TeamPackages { organisation, team } => {
-            format!(in alloc; "grants {} {}", organisation.text(), team.text())
+            joined(rt, alloc, &["grants", organisation.text(), team.text()])
         }
+        _ => of_grants(rt, alloc, action),
+    }
+}
+
+fn of_grants(rt: &impl Abort, alloc: Global, action: &Action) -> String {
+    match action {
         Action::Grant {
             organisation,
             team,
             name,
             grant,
         } => {
-            format!(in alloc;
-                "grant {} {} {} {grant:?}",
-                organisation.text(),
-                team.text(),
-                name.text()
+            let (organisation, team) = (organisation.text(), team.text());
+            let grant = shown(rt, alloc, grant);
+            joined(
+                rt,
+                alloc,
+                &["grant", organisation, team, name.text(), grant.as_str()],
             )
         }
         Action::Revoke {
             organisation,
             team,
             name,
-        } => format!(in alloc;
-            "no grant {} {} {}",
-            organisation.text(),
-            team.text(),
-            name.text()
+        } => joined(
+            rt,
+            alloc,
+            &["no grant", organisation.text(), team.text(), name.text()],
         ),
-        _ => format!(in alloc; "another"),
+        _ => string(rt, alloc, "another"),
     }
 }
 
 // A request in a line: what is asked, and who asks where somebody does.
-fn told(alloc: Global, request: &Request) -> Result<String, AllocError> {
-    let what = of_packages(alloc, &request.what)?;
-    let who = match request.who {
-        Credential::Operator => " by the operator",
-        Credential::User(_) => " by a user",
-        Credential::Token(_) => " by a token",
-        Credential::Anonymous => "",
-    };
-    format!(in alloc; "{what}{who}")
+fn told(rt: &impl Abort, alloc: Global, request: &Request) -> String {
+    let what = of_packages(rt, alloc, &request.what);
+    asked_by(rt, alloc, what.as_str(), &request.who)
+}
+
+fn asked_by(rt: &impl Abort, alloc: Global, what: &str, who: &Credential) -> String {
+    match who {
+        Credential::Operator => joined(rt, alloc, &[what, "by the operator"]),
+        Credential::User(_) => joined(rt, alloc, &[what, "by a user"]),
+        Credential::Token(_) => joined(rt, alloc, &[what, "by a token"]),
+        Credential::Anonymous => string(rt, alloc, what),
+    }
 }
 
 /// A method, a target and a body, and the request in a line or the refusal.
@@ -145,38 +158,29 @@ type Case = (
     Result<&'static str, Refusal>,
 );
 
-fn comes_out(
-    alloc: Global,
-    case: &Case,
-    authorization: Authorization,
-    wanted: Result<&str, Refusal>,
-) -> Result<(), Fail> {
+fn comes_out(rt: &impl Abort, alloc: Global, case: &Case, authorization: Authorization) {
+    let (method, target, body, wanted) = case;
     let request = Wanted {
-        method: case.0,
-        target: Blob::from_slice(alloc, case.1.as_bytes())?,
+        method: *method,
+        target: blob(rt, alloc, target.as_bytes()),
         authorization,
-        body: Blob::from_slice(alloc, case.2.as_bytes())?,
+        body: blob(rt, alloc, body.as_bytes()),
         closes: false,
     };
-    match (request_of(alloc, &request, Moment::clamped(7)), wanted) {
-        (Ok(request), Ok(wanted)) => {
-            same(case.1, request.at.seconds(), 7)?;
-            same(case.1, told(alloc, &request)?.as_str(), wanted)
+    match request_of(alloc, &request, Moment::clamped(7)) {
+        Ok(request) => {
+            same(rt, *target, &request.at.seconds(), &7);
+            let came_out = told(rt, alloc, &request);
+            same(rt, *target, &Ok(came_out.as_str()), wanted);
         }
-        (Ok(request), Err(wanted)) => {
-            let text = told(alloc, &request)?;
-            same(case.1, Ok(text.as_str()), Err(wanted))
-        }
-        (Err(Stop::Refused(refusal)), wanted) => same(case.1, Err(refusal), wanted),
-        (Err(stop), _) => Err(Fail::from(stop)),
+        Err(stop) => is_refused(rt, *target, stop, wanted),
     }
 }
 
-fn all_come_out(alloc: Global, cases: &[Case]) -> Result<(), Fail> {
+fn all_come_out(rt: &impl Abort, alloc: Global, cases: &[Case]) {
     for case in cases {
-        comes_out(alloc, case, Authorization::Absent, case.3)?;
+        comes_out(rt, alloc, case, Authorization::Absent);
     }
-    Ok(())
 }
 
 const KIT: &str =
@@ -273,8 +277,8 @@ static ROUTES: [Case; 31] = [
 ];
 
 #[test]
-fn routes_ask_for_actions(rt: HostRuntime) -> Result<(), Fail> {
-    all_come_out(rt.alloc(), &ROUTES)
+fn routes_ask_for_actions(rt: HostRuntime) {
+    all_come_out(&rt, rt.alloc(), &ROUTES);
 }
 
 // The route, the values of the path from left to right, and then the body: the first that isn't in
@@ -331,40 +335,32 @@ static REFUSALS: [Case; 18] = [
 ];
 
 #[test]
-fn the_first_text_out_of_form_is_refused(rt: HostRuntime) -> Result<(), Fail> {
-    all_come_out(rt.alloc(), &REFUSALS)
+fn the_first_text_out_of_form_is_refused(rt: HostRuntime) {
+    all_come_out(&rt, rt.alloc(), &REFUSALS);
 }
 
-fn shows(
-    alloc: Global,
-    value: &str,
-    target: &'static str,
-    wanted: Result<&str, Refusal>,
-) -> Result<(), Fail> {
-    let authorization = Authorization::Once(Blob::from_slice(alloc, value.as_bytes())?);
-    comes_out(alloc, &(Get, target, "", Ok("")), authorization, wanted)
-}
+const NOBODY: Result<&str, Refusal> = Err(Refusal::NoCaller);
+
+const BY_TOKEN: Result<&str, Refusal> = Ok("packument kit by a token");
+
+/// The value of an `authorization` field, and what a request with it asks for.
+type Authorized = (&'static str, Case);
+
+static AUTHORIZATIONS: [Authorized; 6] = [
+    ("Bearer npm_bob_000000001", (Get, "/kit", "", BY_TOKEN)),
+    ("bEARER   npm_bob_000000001", (Get, "/kit", "", BY_TOKEN)),
+    ("Bearer short", (Get, "/kit", "", NOBODY)),
+    ("Bearer", (Get, "/kit", "", NOBODY)),
+    ("Basic npm_bob_000000001", (Get, "/kit", "", NOBODY)),
+    ("Basic x", (Get, "/Kit", "", Err(Refusal::BadName))),
+];
 
 #[test]
-fn authorizations_are_read_last(rt: HostRuntime) -> Result<(), Fail> {
-    let alloc = rt.alloc();
-    let nobody = Err(Refusal::NoCaller);
-    shows(
-        alloc,
-        "Bearer npm_bob_000000001",
-        "/kit",
-        Ok("packument kit by a token"),
-    )?;
-    shows(
-        alloc,
-        "bEARER   npm_bob_000000001",
-        "/kit",
-        Ok("packument kit by a token"),
-    )?;
-    shows(alloc, "Bearer short", "/kit", nobody)?;
-    shows(alloc, "Bearer", "/kit", nobody)?;
-    shows(alloc, "Basic npm_bob_000000001", "/kit", nobody)?;
-    shows(alloc, "Basic x", "/Kit", Err(Refusal::BadName))?;
-    let case = (Get, "/kit", "", Ok(""));
-    comes_out(alloc, &case, Authorization::Repeated, nobody)
+fn authorizations_are_read_last(rt: HostRuntime) {
+    for (value, case) in &AUTHORIZATIONS {
+        let value = blob(&rt, rt.alloc(), value.as_bytes());
+        comes_out(&rt, rt.alloc(), case, Authorization::Once(value));
+    }
+    let case = (Get, "/kit", "", NOBODY);
+    comes_out(&rt, rt.alloc(), &case, Authorization::Repeated);
 }

@@ -2,74 +2,90 @@
 
 use super::reader::{Drip, Faltering, Halting};
 use crate::outcome::same;
+use crate::parts::{around, as_text, concat, joined, repeated, shown, string};
 use registry_names::{ByteIn, FromRead, Refusal};
 use registry_wire::{
     Authorization, BODY_LIMIT, Ending, First, Inbox, Taken, Wanted, ending_of, first_in,
 };
-use std::alloc::{AllocError, Global};
+use std::alloc::Global;
 use std::io::ErrorKind;
-use std::str;
-use std::test::Fail;
-
-fn as_text(bytes: &[u8]) -> &str {
-    str::from_utf8(bytes).unwrap_or("no UTF-8")
-}
+use std::process::Abort;
 
 // A request in a line: its method, its target, its authorization, its body, and whether it is the
 // last of its connection.
-fn asked(alloc: Global, wanted: &Wanted) -> Result<String, AllocError> {
-    let shown = match &wanted.authorization {
+fn asked(rt: &impl Abort, alloc: Global, wanted: &Wanted) -> String {
+    let method = shown(rt, alloc, &wanted.method);
+    let target = as_text(wanted.target.as_slice());
+    let front = concat(rt, alloc, &[method.as_str(), "|", target, "|"]);
+    let body = as_text(wanted.body.as_slice());
+    let back = if wanted.closes { "|last" } else { "|" };
+    let end = concat(rt, alloc, &["|", body, back]);
+    concat(
+        rt,
+        alloc,
+        &[front.as_str(), authorization(wanted), end.as_str()],
+    )
+}
+
+fn authorization(wanted: &Wanted) -> &str {
+    match &wanted.authorization {
         Authorization::Absent => "",
         Authorization::Once(value) => as_text(value.as_slice()),
         Authorization::Repeated => "several",
-    };
-    let target = as_text(wanted.target.as_slice());
-    let body = as_text(wanted.body.as_slice());
-    let last = if wanted.closes { "last" } else { "" };
-    format!(in alloc; "{:?}|{target}|{shown}|{body}|{last}", wanted.method)
-}
-
-// What a read of a request gave, in a line.
-fn told(alloc: Global, taken: &Taken) -> Result<String, AllocError> {
-    match taken {
-        Taken::Whole(wanted) => asked(alloc, wanted),
-        Taken::Closed => format!(in alloc; "closed"),
-        Taken::Bad(refusal) => format!(in alloc; "{refusal}"),
-        Taken::ReadFault => format!(in alloc; "a read failed"),
-        Taken::Faulted(fault) => format!(in alloc; "{fault}"),
     }
 }
 
-// Whether reads give these, one after the other.
+// What a read of a request gave, in a line.
+fn told(rt: &impl Abort, alloc: Global, taken: &Taken) -> String {
+    match taken {
+        Taken::Whole(wanted) => asked(rt, alloc, wanted),
+        Taken::Closed => string(rt, alloc, "closed"),
+        Taken::Bad(refusal) => string(rt, alloc, refusal.text()),
+        Taken::ReadFault => string(rt, alloc, "a read failed"),
+        Taken::Faulted(fault) => string(rt, alloc, fault.text()),
+    }
+}
+
+// Sees that the next read gives this.
+fn is_read<R: ByteIn + Drop>(
+    rt: &impl Abort,
+    alloc: Global,
+    case: &str,
+    inbox: &mut Inbox<R>,
+    wanted: &str,
+) {
+    let taken = inbox.read_request(alloc);
+    same(rt, case, told(rt, alloc, &taken).as_str(), wanted);
+}
+
+// Sees that reads give these, one after the other.
 fn all_read<R: ByteIn + Drop>(
+    rt: &impl Abort,
     alloc: Global,
     case: &str,
     reader: R,
     wanted: &[&str],
-) -> Result<(), Fail> {
+) {
     let mut inbox = Inbox::new(alloc, reader);
     for line in wanted {
-        let taken = inbox.read_request(alloc);
-        same(case, told(alloc, &taken)?.as_str(), *line)?;
+        is_read(rt, alloc, case, &mut inbox, line);
     }
-    Ok(())
 }
 
 // The same where all bytes come at once, and where each read gives one.
-fn both_read(alloc: Global, input: &[u8], wanted: &[&str]) -> Result<(), Fail> {
+fn both_read(rt: &impl Abort, alloc: Global, input: &[u8], wanted: &[&str]) {
     let case = as_text(input);
-    all_read(alloc, case, FromRead::new(input), wanted)?;
-    all_read(alloc, case, FromRead::new(Drip { text: input }), wanted)
+    all_read(rt, alloc, case, FromRead::new(input), wanted);
+    all_read(rt, alloc, case, FromRead::new(Drip { text: input }), wanted);
 }
 
 // Input, and what reads of it give one after the other.
 type Case = (&'static str, &'static [&'static str]);
 
-fn all_come_out(alloc: Global, cases: &[Case]) -> Result<(), Fail> {
+fn all_come_out(rt: &impl Abort, alloc: Global, cases: &[Case]) {
     for (input, wanted) in cases {
-        both_read(alloc, input.as_bytes(), wanted)?;
+        both_read(rt, alloc, input.as_bytes(), wanted);
     }
-    Ok(())
 }
 
 static REQUESTS: [Case; 9] = [
@@ -111,8 +127,8 @@ static REQUESTS: [Case; 9] = [
 ];
 
 #[test]
-fn bytes_spell_requests(rt: HostRuntime) -> Result<(), Fail> {
-    all_come_out(rt.alloc(), &REQUESTS)
+fn bytes_spell_requests(rt: HostRuntime) {
+    all_come_out(&rt, rt.alloc(), &REQUESTS);
 }
 
 static LAST_ONES: [Case; 6] = [
@@ -134,8 +150,8 @@ static LAST_ONES: [Case; 6] = [
 ];
 
 #[test]
-fn some_requests_are_the_last(rt: HostRuntime) -> Result<(), Fail> {
-    all_come_out(rt.alloc(), &LAST_ONES)
+fn some_requests_are_the_last(rt: HostRuntime) {
+    all_come_out(&rt, rt.alloc(), &LAST_ONES);
 }
 
 static BAD_INPUTS: [Case; 19] = [
@@ -203,60 +219,75 @@ static BAD_INPUTS: [Case; 19] = [
 ];
 
 #[test]
-fn some_input_is_bad(rt: HostRuntime) -> Result<(), Fail> {
-    all_come_out(rt.alloc(), &BAD_INPUTS)
+fn some_input_is_bad(rt: HostRuntime) {
+    all_come_out(&rt, rt.alloc(), &BAD_INPUTS);
 }
 
-// A head of a line, so many fields of four bytes more, and the blank line.
-fn head_of(alloc: Global, fields: usize) -> Result<String, AllocError> {
-    let mut head = String::from_str(alloc, "GET /kit HTTP/1.1\r\n")?;
-    head.push_str(&"a:\r\n".repeat(alloc, fields)?)?;
-    head.push_str("\r\n")?;
-    Ok(head)
+const LINE: &str = "GET /kit HTTP/1.1\r\n";
+
+// How many fields a head has, and what reads of it give.
+static FIELDS: [(usize, &[&str]); 2] = [(64, &["Get|/kit|||", "closed"]), (65, &["BadBody"])];
+
+#[test]
+fn a_head_has_64_fields(rt: HostRuntime) {
+    for (fields, wanted) in &FIELDS {
+        has_fields(&rt, rt.alloc(), *fields, wanted);
+    }
+}
+
+fn has_fields(rt: &impl Abort, alloc: Global, fields: usize, wanted: &[&str]) {
+    let head = around(rt, alloc, LINE, "a:\r\n", fields, "\r\n");
+    both_read(rt, alloc, head.as_bytes(), wanted);
+}
+
+const FIELD: &str = "GET /kit HTTP/1.1\r\na:";
+
+// How many bytes a head has, its blank line and one field included, and what reads of it give.
+static HEADS: [(usize, &[&str]); 2] = [
+    (16_384, &["Get|/kit|||", "closed"]),
+    (16_385, &["BadBody"]),
+];
+
+#[test]
+fn a_head_has_16384_bytes(rt: HostRuntime) {
+    for (len, wanted) in &HEADS {
+        is_head(&rt, rt.alloc(), *len, wanted);
+    }
+}
+
+fn is_head(rt: &impl Abort, alloc: Global, len: usize, wanted: &[&str]) {
+    let head = around(rt, alloc, FIELD, "b", len.saturating_sub(25), "\r\n\r\n");
+    same(rt, "its length", &head.len(), &len);
+    both_read(rt, alloc, head.as_bytes(), wanted);
 }
 
 #[test]
-fn a_head_has_64_fields(rt: HostRuntime) -> Result<(), Fail> {
-    let alloc = rt.alloc();
-    both_read(
-        alloc,
-        head_of(alloc, 64)?.as_bytes(),
-        &["Get|/kit|||", "closed"],
-    )?;
-    both_read(alloc, head_of(alloc, 65)?.as_bytes(), &["BadBody"])
+fn a_line_has_no_16385_bytes(rt: HostRuntime) {
+    let line = repeated(&rt, rt.alloc(), "a", 16_385);
+    both_read(&rt, rt.alloc(), line.as_bytes(), &["BadBody"]);
 }
 
-// A head of this many bytes, its blank line included, with one field.
-fn long_head(alloc: Global, len: usize) -> Result<String, AllocError> {
-    let mut head = String::from_str(alloc, "GET /kit HTTP/1.1\r\na:")?;
-    head.push_str(&"b".repeat(alloc, len.saturating_sub(25))?)?;
-    head.push_str("\r\n\r\n")?;
-    Ok(head)
-}
+const LONGEST_BODY: &str = "PUT /a HTTP/1.1\r\ncontent-length: 4194304\r\n\r\n";
 
 #[test]
-fn a_head_has_16384_bytes(rt: HostRuntime) -> Result<(), Fail> {
+fn a_body_has_4194304_bytes(rt: HostRuntime) {
     let alloc = rt.alloc();
-    let longest = long_head(alloc, 16_384)?;
-    same("its length", longest.len(), 16_384)?;
-    both_read(alloc, longest.as_bytes(), &["Get|/kit|||", "closed"])?;
-    both_read(alloc, long_head(alloc, 16_385)?.as_bytes(), &["BadBody"])?;
-    both_read(alloc, "a".repeat(alloc, 16_385)?.as_bytes(), &["BadBody"])
+    let input = around(&rt, alloc, LONGEST_BODY, "b", BODY_LIMIT, "c");
+    has_longest_body(&rt, alloc, input.as_bytes());
 }
 
-#[test]
-fn a_body_has_4194304_bytes(rt: HostRuntime) -> Result<(), Fail> {
-    let alloc = rt.alloc();
-    let mut input = String::from_str(alloc, "PUT /a HTTP/1.1\r\ncontent-length: 4194304\r\n\r\n")?;
-    input.push_str(&"b".repeat(alloc, BODY_LIMIT)?)?;
-    input.push_str("c")?;
-    let mut inbox = Inbox::new(alloc, FromRead::new(input.as_bytes()));
-    let Taken::Whole(wanted) = inbox.read_request(alloc) else {
-        return same("the longest body", "none", "one");
-    };
-    same("its length", wanted.body.as_slice().len(), BODY_LIMIT)?;
-    let cut = inbox.read_request(alloc);
-    same("what follows", told(alloc, &cut)?.as_str(), "BadBody")
+fn has_longest_body(rt: &impl Abort, alloc: Global, input: &[u8]) {
+    let mut inbox = Inbox::new(alloc, FromRead::new(input));
+    let len = body_len(&inbox.read_request(alloc));
+    same(rt, "its length", &len, &Some(BODY_LIMIT));
+    is_read(rt, alloc, "what follows", &mut inbox, "BadBody");
+}
+
+fn body_len(taken: &Taken) -> Option<usize> {
+    match taken {
+        Taken::Whole(wanted) => Some(wanted.body.as_slice().len()),
+        _ => None,
+    }
 }
 
 static KIT: &str = "GET /kit HTTP/1.1\r\n\r\n";
@@ -270,33 +301,25 @@ fn faltering(kind: ErrorKind, failures: u32) -> FromRead<Faltering<'static>> {
     })
 }
 
-#[test]
-fn interrupted_reads_are_tried_again(rt: HostRuntime) -> Result<(), Fail> {
-    let alloc = rt.alloc();
-    let kind = ErrorKind::Interrupted;
-    all_read(
-        alloc,
-        "999",
-        faltering(kind, 999),
-        &["Get|/kit|||", "closed"],
-    )?;
-    all_read(
-        alloc,
-        "1,000",
-        faltering(kind, 1_000),
-        &["a read failed", "Get|/kit|||"],
-    )?;
-    all_read(
-        alloc,
-        "1,001",
-        faltering(kind, 1_001),
-        &["a read failed", "a read failed"],
-    )
-}
+// What is shown, how many reads are interrupted, and what reads of requests give.
+static INTERRUPTED: [(&str, u32, &[&str]); 3] = [
+    ("999", 999, &["Get|/kit|||", "closed"]),
+    ("1,000", 1_000, &["a read failed", "Get|/kit|||"]),
+    ("1,001", 1_001, &["a read failed", "a read failed"]),
+];
 
 #[test]
-fn a_failed_read_loses_nothing(rt: HostRuntime) -> Result<(), Fail> {
-    let alloc = rt.alloc();
+fn interrupted_reads_are_tried_again(rt: HostRuntime) {
+    for (shows, failures, wanted) in &INTERRUPTED {
+        let reader = faltering(ErrorKind::Interrupted, *failures);
+        all_read(&rt, rt.alloc(), shows, reader, wanted);
+    }
+}
+
+static HALTED: [&str; 3] = ["a read failed", "Get|/kit|||", "closed"];
+
+#[test]
+fn a_failed_read_loses_nothing(rt: HostRuntime) {
     for len in 0..KIT.len() {
         let (front, rest) = KIT.as_bytes().split_at(len);
         let reader = FromRead::new(Halting {
@@ -304,43 +327,39 @@ fn a_failed_read_loses_nothing(rt: HostRuntime) -> Result<(), Fail> {
             rest,
             halted: false,
         });
-        all_read(
-            alloc,
-            as_text(front),
-            reader,
-            &["a read failed", "Get|/kit|||", "closed"],
-        )?;
+        all_read(&rt, rt.alloc(), as_text(front), reader, &HALTED);
     }
-    Ok(())
 }
 
 // What bytes that have come say of the first request, in a line with its length.
-fn said(alloc: Global, bytes: &[u8]) -> Result<String, Fail> {
-    let line = match first_in(alloc, bytes)? {
-        First::Whole(wanted, len) => format!(in alloc; "{} {len}", asked(alloc, &wanted)?)?,
-        First::Unfinished => format!(in alloc; "{:?}", ending_of(bytes))?,
-        First::Bad(refusal) => format!(in alloc; "{refusal}")?,
-    };
-    Ok(line)
+fn said(rt: &impl Abort, alloc: Global, bytes: &[u8]) -> String {
+    match first_in(alloc, bytes).expect(rt, "memory") {
+        First::Whole(wanted, len) => whole(rt, alloc, &wanted, len),
+        First::Unfinished => shown(rt, alloc, &ending_of(bytes)),
+        First::Bad(refusal) => string(rt, alloc, refusal.text()),
+    }
 }
 
+fn whole(rt: &impl Abort, alloc: Global, wanted: &Wanted, len: usize) -> String {
+    let (asked, len) = (asked(rt, alloc, wanted), shown(rt, alloc, &len));
+    joined(rt, alloc, &[asked.as_str(), len.as_str()])
+}
+
+fn is_said(rt: &impl Abort, alloc: Global, bytes: &[u8], wanted: &str) {
+    same(rt, bytes, said(rt, alloc, bytes).as_str(), wanted);
+}
+
+static INPUT: &[u8] = b"PUT /a HTTP/1.1\r\ncontent-length: 2\r\n\r\nabGET";
+
 #[test]
-fn a_front_of_a_request_is_unfinished(rt: HostRuntime) -> Result<(), Fail> {
+fn a_front_of_a_request_is_unfinished(rt: HostRuntime) {
     let alloc = rt.alloc();
-    let input = b"PUT /a HTTP/1.1\r\ncontent-length: 2\r\n\r\nabGET".as_slice();
-    same("none", said(alloc, b"")?.as_str(), "Closed")?;
+    is_said(&rt, alloc, b"", "Closed");
     for len in 1..40 {
-        same(
-            len,
-            said(alloc, input.get(..len).unwrap_or(input))?.as_str(),
-            "BadInput(BadBody)",
-        )?;
+        let front = INPUT.get(..len).unwrap_or(INPUT);
+        is_said(&rt, alloc, front, "BadInput(BadBody)");
     }
-    same("the whole", said(alloc, input)?.as_str(), "Put|/a||ab| 40")?;
-    same(
-        "a bad one",
-        said(alloc, b"GET")?.as_str(),
-        "BadInput(BadBody)",
-    )?;
-    same("a bad one", said(alloc, b"G\0")?.as_str(), "BadBody")
+    is_said(&rt, alloc, INPUT, "Put|/a||ab| 40");
+    is_said(&rt, alloc, b"GET", "BadInput(BadBody)");
+    is_said(&rt, alloc, b"G\0", "BadBody");
 }

@@ -2,16 +2,12 @@
 
 use super::reader::Narrow;
 use crate::outcome::same;
+use crate::parts::{as_text, concat, repeated};
 use http::StatusCode;
 use registry_names::{ToWrite, WriteFailed};
 use registry_wire::{ContentKind, Response, ShortText, write_response};
 use std::alloc::Global;
-use std::str;
-use std::test::Fail;
-
-fn as_text(bytes: &[u8]) -> &str {
-    str::from_utf8(bytes).unwrap_or("no UTF-8")
-}
+use std::process::Abort;
 
 // A status, a body, whether the connection ends, and the bytes of the response.
 type Case = (u16, &'static str, bool, &'static str);
@@ -61,15 +57,16 @@ static CASES: [Case; 7] = [
     ),
 ];
 
-// Whether a writer holds this when so many bytes of the case's response were taken, one a call.
+// What is written of the case's response where so many bytes are taken, one a call.
 fn is_written(
+    rt: &impl Abort,
     alloc: Global,
     case: &Case,
     limit: usize,
-    wanted: (Result<(), WriteFailed>, &[u8]),
-) -> Result<(), Fail> {
+    wanted: (Result<(), WriteFailed>, &str),
+) {
     let response = Response {
-        status: StatusCode::from_u16(case.0)?,
+        status: StatusCode::from_u16(case.0).expect(rt, "a status"),
         kind: ContentKind::Json,
         body: case.1.as_bytes(),
         closes: case.2,
@@ -78,67 +75,56 @@ fn is_written(
         taken: Vec::new(alloc),
         limit,
     };
-    let mut end = ToWrite::new(&mut narrow);
-    let outcome = write_response(&response, &mut end);
-    same(
-        limit,
-        (outcome, as_text(&narrow.taken)),
-        (wanted.0, as_text(wanted.1)),
-    )
+    let outcome = write_response(&response, &mut ToWrite::new(&mut narrow));
+    same(rt, &limit, &(outcome, as_text(&narrow.taken)), &wanted);
 }
 
 #[test]
-fn responses_are_written(rt: HostRuntime) -> Result<(), Fail> {
+fn responses_are_written(rt: HostRuntime) {
     for case in &CASES {
-        is_written(rt.alloc(), case, usize::MAX, (Ok(()), case.3.as_bytes()))?;
+        is_written(&rt, rt.alloc(), case, usize::MAX, (Ok(()), case.3));
     }
-    Ok(())
 }
 
 #[test]
-fn a_failed_write_leaves_a_front_of_a_response(rt: HostRuntime) -> Result<(), Fail> {
+fn a_failed_write_leaves_a_front_of_a_response(rt: HostRuntime) {
     let [case, ..] = &CASES;
-    let bytes = case.3.as_bytes();
-    for limit in 0..bytes.len() {
-        let (front, _) = bytes.split_at(limit);
-        is_written(rt.alloc(), case, limit, (Err(WriteFailed), front))?;
+    for limit in 0..case.3.len() {
+        let front = case.3.get(..limit).unwrap_or(case.3);
+        is_written(&rt, rt.alloc(), case, limit, (Err(WriteFailed), front));
     }
-    Ok(())
 }
 
+const LONG_HEAD: &str =
+    "HTTP/1.1 200 OK\r\ncontent-type: application/octet-stream\r\ncontent-length: 16000\r\n\r\n";
+
 #[test]
-fn long_bodies_are_written(rt: HostRuntime) -> Result<(), Fail> {
-    let alloc = rt.alloc();
-    let body = "archive ".repeat(alloc, 2_000)?;
+fn long_bodies_are_written(rt: HostRuntime) {
+    let body = repeated(&rt, rt.alloc(), "archive ", 2_000);
+    let wanted = concat(&rt, rt.alloc(), &[LONG_HEAD, body.as_str()]);
+    is_whole(&rt, rt.alloc(), body.as_bytes(), wanted.as_str());
+}
+
+// Sees that a response with this body is written so.
+fn is_whole(rt: &impl Abort, alloc: Global, body: &[u8], wanted: &str) {
     let response = Response {
         status: StatusCode::OK,
         kind: ContentKind::Bytes,
-        body: body.as_bytes(),
+        body,
         closes: false,
     };
-    let mut wanted = String::from_str(
-        alloc,
-        "HTTP/1.1 200 OK\r\ncontent-type: application/octet-stream\r\ncontent-length: 16000\r\n\r\n",
-    )?;
-    wanted.push_str(&body)?;
     let mut out = Vec::new(alloc);
-    same(
-        "a long body",
-        write_response(&response, &mut ToWrite::new(&mut out)),
-        Ok(()),
-    )?;
-    same("a long body", as_text(&out), wanted.as_str())
+    let outcome = write_response(&response, &mut ToWrite::new(&mut out));
+    same(rt, "a long body", &outcome, &Ok(()));
+    same(rt, "a long body", as_text(&out), wanted);
 }
 
 #[test]
-fn short_texts_take_no_memory(_: HostRuntime) -> Result<(), Fail> {
+fn short_texts_take_no_memory(rt: HostRuntime) {
     let mut text = ShortText::new();
     text.push(b"{\"count\":");
     text.push_number(2);
     text.push(b",\"ok\":true}");
-    same(
-        "a count",
-        as_text(text.as_slice()),
-        "{\"count\":2,\"ok\":true}",
-    )
+    let wanted = "{\"count\":2,\"ok\":true}";
+    same(&rt, "a count", as_text(text.as_slice()), wanted);
 }

@@ -2,16 +2,15 @@
 
 ghost use Rattle.registry_cli.specs.Lines.{IsWhole};
 
-use super::texts;
 use crate::outcome::same;
+use crate::parts::{concat, joined, shown, string, texts};
 use registry_cli::{Line, action_of, line};
-use registry_names::Stop;
 use registry_rules::{Action, Asked, Credential};
-use std::alloc::{AllocError, Global};
-use std::test::Fail;
+use std::alloc::Global;
+use std::process::Abort;
 
 /// A line of words, the text of the file that it names, and who asks for what, or the refusal.
-#[derive(Clone, Copy)]
+#[derive(Drop)]
 struct Case {
     words: &'static [&'static str],
     body: &'static str,
@@ -21,75 +20,88 @@ struct Case {
 /// A line that names no file, and what it asks for.
 type Row = (&'static [&'static str], &'static str);
 
-fn caller(alloc: Global, who: &Credential) -> Result<String, AllocError> {
+fn caller(who: &Credential) -> &str {
     match who {
-        Credential::Operator => String::from_str(alloc, "the operator"),
-        Credential::User(user) => String::from_str(alloc, user.text()),
-        Credential::Token(_) => String::from_str(alloc, "a token"),
-        Credential::Anonymous => String::from_str(alloc, "nobody"),
+        Credential::Operator => "the operator",
+        Credential::User(user) => user.text(),
+        Credential::Token(_) => "a token",
+        Credential::Anonymous => "nobody",
     }
 }
 
 // An action as a text: its kind, and what it says, in the order of its fields.
-fn shown(alloc: Global, what: &Action) -> Result<String, AllocError> {
+fn told(rt: &impl Abort, alloc: Global, what: &Action) -> String {
     match what {
-        Action::UserAdd { user } => format!(in alloc; "UserAdd {}", user.text()),
+        Action::UserAdd { user } => joined(rt, alloc, &["UserAdd", user.text()]),
         Action::TokenAdd { user, digest } => {
-            format!(in alloc; "TokenAdd {} {:?}", user.text(), digest.as_slice().first())
+            let first = shown(rt, alloc, &digest.as_slice().first());
+            joined(rt, alloc, &["TokenAdd", user.text(), first.as_str()])
         }
         Action::OrgCreate {
             organisation,
             owner,
-        } => { format!(in alloc; "OrgCreate {} {}", organisation.text(), owner.text()) }
+        } => joined(rt, alloc, &["OrgCreate", organisation.text(), owner.text()]),
         Action::OrgSet {
             organisation,
             user,
             role,
-        } => { format!(in alloc; "OrgSet {} {} {role:?}", organisation.text(), user.text()) }
-        Action::OrgRemove { organisation, user } => {
-            format!(in alloc; "OrgRemove {} {}", organisation.text(), user.text())
+        } => {
+            let role = shown(rt, alloc, role);
+            joined(
+                rt,
+                alloc,
+                &["OrgSet", organisation.text(), user.text(), role.as_str()],
+            )
         }
-        Action::Members { organisation } => format!(in alloc; "Members {}", organisation.text()),
-        Action::Teams { organisation } => format!(in alloc; "Teams {}", organisation.text()),
-        _ => shown_of_team(alloc, what),
+        Action::OrgRemove { organisation, user } => {
+            joined(rt, alloc, &["OrgRemove", organisation.text(), user.text()])
+        }
+        Action::Members { organisation } => joined(rt, alloc, &["Members", organisation.text()]),
+        Action::Teams { organisation } => joined(rt, alloc, &["Teams", organisation.text()]),
+        _ => told_of_team(rt, alloc, what),
     }
 }
 
-fn shown_of_team(alloc: Global, what: &Action) -> Result<String, AllocError> {
+fn told_of_team(rt: &impl Abort, alloc: Global, what: &Action) -> String {
     match what {
         Action::TeamCreate { organisation, team } => {
-            format!(in alloc; "TeamCreate {} {}", organisation.text(), team.text())
+            joined(rt, alloc, &["TeamCreate", organisation.text(), team.text()])
         }
         Action::TeamDestroy { organisation, team } => {
-            format!(in alloc; "TeamDestroy {} {}", organisation.text(), team.text())
+            let team = team.text();
+            joined(rt, alloc, &["TeamDestroy", organisation.text(), team])
         }
         Action::TeamAdd {
             organisation,
             team,
             user,
-        } => {
-            let (organisation, team) = (organisation.text(), team.text());
-            format!(in alloc; "TeamAdd {organisation} {team} {}", user.text())
-        }
+        } => joined(
+            rt,
+            alloc,
+            &["TeamAdd", organisation.text(), team.text(), user.text()],
+        ),
         Action::TeamRemove {
             organisation,
             team,
             user,
-        } => {
-            let (organisation, team) = (organisation.text(), team.text());
-            format!(in alloc; "TeamRemove {organisation} {team} {}", user.text())
-        }
+        } => joined(
+            rt,
+            alloc,
+            &["TeamRemove", organisation.text(), team.text(), user.text()],
+        ),
         Action::TeamMembers { organisation, team } => {
-            format!(in alloc; "TeamMembers {} {}", organisation.text(), team.text())
+            let team = team.text();
+            joined(rt, alloc, &["TeamMembers", organisation.text(), team])
         }
         Action::TeamPackages { organisation, team } => {
-            format!(in alloc; "TeamPackages {} {}", organisation.text(), team.text())
+            let team = team.text();
+            joined(rt, alloc, &["TeamPackages", organisation.text(), team])
         }
-        _ => shown_of_right(alloc, what),
+        _ => told_of_right(rt, alloc, what),
     }
 }
 
-fn shown_of_right(alloc: Global, what: &Action) -> Result<String, AllocError> {
+fn told_of_right(rt: &impl Abort, alloc: Global, what: &Action) -> String {
     match what {
         Action::Grant {
             organisation,
@@ -98,110 +110,110 @@ fn shown_of_right(alloc: Global, what: &Action) -> Result<String, AllocError> {
             grant,
         } => {
             let (organisation, team) = (organisation.text(), team.text());
-            format!(in alloc; "Grant {organisation} {team} {} {grant:?}", name.text())
+            let grant = shown(rt, alloc, grant);
+            joined(
+                rt,
+                alloc,
+                &["Grant", organisation, team, name.text(), grant.as_str()],
+            )
         }
         Action::Revoke {
             organisation,
             team,
             name,
-        } => {
-            let (organisation, team) = (organisation.text(), team.text());
-            format!(in alloc; "Revoke {organisation} {team} {}", name.text())
-        }
+        } => joined(
+            rt,
+            alloc,
+            &["Revoke", organisation.text(), team.text(), name.text()],
+        ),
         Action::SetAccess { name, status } => {
-            format!(in alloc; "SetAccess {} {status:?}", name.text())
+            let status = shown(rt, alloc, status);
+            joined(rt, alloc, &["SetAccess", name.text(), status.as_str()])
         }
         Action::OwnerAdd { name, user } => {
-            format!(in alloc; "OwnerAdd {} {}", name.text(), user.text())
+            joined(rt, alloc, &["OwnerAdd", name.text(), user.text()])
         }
         Action::OwnerRemove { name, user } => {
-            format!(in alloc; "OwnerRemove {} {}", name.text(), user.text())
+            joined(rt, alloc, &["OwnerRemove", name.text(), user.text()])
         }
-        _ => shown_of_package(alloc, what),
+        _ => told_of_package(rt, alloc, what),
     }
 }
 
-fn shown_of_package(alloc: Global, what: &Action) -> Result<String, AllocError> {
+fn told_of_package(rt: &impl Abort, alloc: Global, what: &Action) -> String {
     match what {
         Action::Publish { form } => {
-            format!(in alloc; "Publish {} {}", form.name().text(), form.version().text())
+            let (name, version) = (form.name(), form.version());
+            joined(rt, alloc, &["Publish", name.text(), version.text()])
         }
         Action::TagSet { name, tag, version } => {
             let (name, tag) = (name.text(), tag.text());
-            format!(in alloc; "TagSet {name} {tag} {}", version.text())
+            joined(rt, alloc, &["TagSet", name, tag, version.text()])
         }
         Action::TagRemove { name, tag } => {
-            format!(in alloc; "TagRemove {} {}", name.text(), tag.text())
+            joined(rt, alloc, &["TagRemove", name.text(), tag.text()])
         }
         Action::Deprecate { name, message, .. } => {
-            format!(in alloc; "Deprecate {} {}", name.text(), message.text())
+            joined(rt, alloc, &["Deprecate", name.text(), message.text()])
         }
         Action::Withdraw { name, version } => {
-            format!(in alloc; "Withdraw {} {}", name.text(), version.text())
+            joined(rt, alloc, &["Withdraw", name.text(), version.text()])
         }
-        Action::Packument { name } => format!(in alloc; "Packument {}", name.text()),
+        Action::Packument { name } => joined(rt, alloc, &["Packument", name.text()]),
         Action::VersionDoc { name, version } => {
             let version = match version {
                 Asked::Exact(version) => version.text(),
                 Asked::Latest => "Latest",
             };
-            format!(in alloc; "VersionDoc {} {version}", name.text())
+            joined(rt, alloc, &["VersionDoc", name.text(), version])
         }
         Action::Archive { name, version } => {
-            format!(in alloc; "Archive {} {}", name.text(), version.text())
+            joined(rt, alloc, &["Archive", name.text(), version.text()])
         }
-        Action::Tags { name } => format!(in alloc; "Tags {}", name.text()),
-        _ => String::from_str(alloc, "another action"),
+        Action::Tags { name } => joined(rt, alloc, &["Tags", name.text()]),
+        _ => string(rt, alloc, "another action"),
     }
 }
 
 // Who asks for what, or the refusal's name.
-fn asked(alloc: Global, line: &Line, body: &str) -> Result<String, AllocError>
+fn asked(rt: &impl Abort, alloc: Global, line: &Line, body: &str) -> String
     requires whole { IsWhole line.now.what }
 {
     if line.asks_to_serve() {
-        return String::from_str(alloc, "serve");
+        return string(rt, alloc, "serve");
     }
     match action_of(alloc, line, body.as_bytes()) {
-        Ok((who, what)) => said(alloc, &who, &what),
-        Err(stop) => stopped(alloc, stop),
+        Ok((who, what)) => asked_by(rt, alloc, &who, &what),
+        Err(stop) => string(rt, alloc, stop.text()),
     }
 }
 
-fn said(alloc: Global, who: &Credential, what: &Action) -> Result<String, AllocError> {
-    let who = caller(alloc, who)?;
-    let what = shown(alloc, what)?;
-    format!(in alloc; "{who}: {what}")
+fn asked_by(rt: &impl Abort, alloc: Global, who: &Credential, what: &Action) -> String {
+    let what = told(rt, alloc, what);
+    concat(rt, alloc, &[caller(who), ": ", what.as_str()])
 }
 
-fn stopped(alloc: Global, stop: Stop) -> Result<String, AllocError> {
-    match stop {
-        Stop::Refused(refusal) => String::from_str(alloc, refusal.text()),
-        Stop::Fault(fault) => String::from_str(alloc, fault.text()),
+fn asks(rt: &impl Abort, alloc: Global, case: &Case) {
+    match line(alloc, &texts(rt, alloc, case.words)) {
+        Ok(line) => same(
+            rt,
+            case.words,
+            asked(rt, alloc, &line, case.body).as_str(),
+            case.asks,
+        ),
+        Err(_) => panic!(rt; "{:?} means nothing", case.words),
     }
 }
 
-fn asks(alloc: Global, case: &Case) -> Result<(), Fail> {
-    let texts = texts(alloc, case.words)?;
-    let came_out = match line(alloc, &texts) {
-        Ok(line) => asked(alloc, &line, case.body)?,
-        Err(_) => String::from_str(alloc, "wrong words")?,
-    };
-    same(case.words, came_out, String::from_str(alloc, case.asks)?)
-}
-
-fn ask(alloc: Global, rows: &[Row]) -> Result<(), Fail> {
-    for (words, wanted) in rows {
-        asks(
-            alloc,
-            &Case {
-                words,
-                body: "",
-                asks: wanted,
-            },
-        )?;
+fn all_ask(rt: &impl Abort, alloc: Global, rows: &[Row]) {
+    for (words, asks_for) in rows {
+        let case = Case {
+            words,
+            body: "",
+            asks: asks_for,
+        };
+        asks(rt, alloc, &case);
     }
-    Ok(())
 }
 
 /// One line of each subcommand but `publish`, whose texts are in form.
@@ -367,31 +379,35 @@ static IN_ORDER: [Row; 13] = [
 ];
 
 #[test]
-fn lines_in_form_ask_for_actions(rt: HostRuntime) -> Result<(), Fail> {
-    ask(rt.alloc(), &IN_FORM)
+fn lines_in_form_ask_for_actions(rt: HostRuntime) {
+    all_ask(&rt, rt.alloc(), &IN_FORM);
 }
 
 #[test]
-fn the_first_text_out_of_form_is_told(rt: HostRuntime) -> Result<(), Fail> {
-    ask(rt.alloc(), &OUT_OF_FORM)?;
-    ask(rt.alloc(), &IN_ORDER)
+fn the_first_text_out_of_form_is_told(rt: HostRuntime) {
+    all_ask(&rt, rt.alloc(), &OUT_OF_FORM);
+    all_ask(&rt, rt.alloc(), &IN_ORDER);
 }
 
 const BODY: &str =
     r#"{"name":"kit","versions":{"1.0.0":{"name":"kit","version":"1.0.0"}},"_attachments":{"kit-1.0.0.tgz":{"data":"YWJj"}}}"#;
 
-#[test]
-fn a_publish_asks_for_what_its_file_says(rt: HostRuntime) -> Result<(), Fail> {
-    let published = Case {
+static WITH_BODY: [Case; 2] = [
+    Case {
         words: &["--as", "bob", "publish", "body.json"],
         body: BODY,
         asks: "bob: Publish kit 1.0.0",
-    };
-    asks(rt.alloc(), &published)?;
-    let unread = Case {
+    },
+    Case {
         words: &["tags", "kit"],
         body: BODY,
         asks: "nobody: Tags kit",
-    };
-    asks(rt.alloc(), &unread)
+    },
+];
+
+#[test]
+fn a_publish_asks_for_what_its_file_says(rt: HostRuntime) {
+    for case in &WITH_BODY {
+        asks(&rt, rt.alloc(), case);
+    }
 }

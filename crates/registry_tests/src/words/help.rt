@@ -1,15 +1,10 @@
 //! What is said where help is asked for.
 
-use super::{Meant, WHOLE, meaning_of};
-use std::alloc::{AllocError, Global};
-use std::test::Fail;
-
-fn said(alloc: Global, words: &[&str]) -> Result<String, AllocError> {
-    match meaning_of(alloc, words)? {
-        Meant::Wrong(said) => Ok(said),
-        Meant::Line(_, _, _, _) | Meant::NoMemory => String::from_str(alloc, ""),
-    }
-}
+use super::{WHOLE, said};
+use crate::outcome::same;
+use crate::parts::concat;
+use std::alloc::Global;
+use std::process::Abort;
 
 // The subcommand's name.
 fn name(words: &'static [&'static str]) -> &'static str {
@@ -19,62 +14,53 @@ fn name(words: &'static [&'static str]) -> &'static str {
     }
 }
 
-// Whether the help of the words has each of the parts.
-fn has_all(alloc: Global, words: &[&str], parts: &[&str]) -> Result<(), Fail> {
-    let said = said(alloc, words)?;
+// Sees that a help has each of the parts.
+fn has_all(rt: &impl Abort, help: &str, parts: &[&str]) {
     for part in parts {
-        if !said.as_str().contains(*part) {
-            return Err(Fail::new(format_args!("{words:?} is answered without {part:?}: {said}")));
-        }
+        assert!(rt; help.contains(*part), "there is no {part:?} in {help}");
     }
-    Ok(())
 }
 
-#[test]
-fn help_of_the_program(rt: HostRuntime) -> Result<(), Fail> {
-    let alloc = rt.alloc();
-    for asked in ["--help", "-h"] {
-        has_all(
-            alloc,
-            &[asked],
-            &[
-                "Usage: registry [OPTIONS] <COMMAND>\n",
-                "--db <PATH>",
-                "--as <USER>",
-                "--operator",
-                "--at <SECONDS>",
-                "[default: registry.db]",
-                "  serve ",
-                "Example: registry --db registry.db --operator user-add ann\n",
-            ],
-        )?;
-        for words in &WHOLE {
-            let name = name(words);
-            let listed = format!(in alloc; "\n  {name} ")?;
-            has_all(alloc, &[asked], &[listed.as_str()])?;
-        }
-    }
-    Ok(())
-}
+static OF_THE_PROGRAM: [&str; 8] = [
+    "Usage: registry [OPTIONS] <COMMAND>\n",
+    "--db <PATH>",
+    "--as <USER>",
+    "--operator",
+    "--at <SECONDS>",
+    "[default: registry.db]",
+    "  serve ",
+    "Example: registry --db registry.db --operator user-add ann\n",
+];
 
-// Whether the subcommand's help says how it is called, and gives an example.
-fn is_helpful(alloc: Global, name: &str) -> Result<(), Fail> {
-    let usage = format!(in alloc; "Usage: registry {name} ")?;
-    let example = format!(in alloc; "Example: registry ")?;
-    has_all(
-        alloc,
-        &[name, "--help"],
-        &[usage.as_str(), example.as_str()],
-    )
-}
-
-#[test]
-fn help_of_each_subcommand(rt: HostRuntime) -> Result<(), Fail> {
-    let alloc = rt.alloc();
+fn lists_each(rt: &impl Abort, alloc: Global, help: &str) {
     for words in &WHOLE {
-        is_helpful(alloc, name(words))?;
+        let listed = concat(rt, alloc, &["\n  ", name(words), " "]);
+        has_all(rt, help, &[listed.as_str()]);
     }
-    is_helpful(alloc, "serve")
+}
+
+#[test]
+fn help_of_the_program(rt: HostRuntime) {
+    for asked in ["--help", "-h"] {
+        let help = said(&rt, rt.alloc(), &[asked]);
+        has_all(&rt, help.as_str(), &OF_THE_PROGRAM);
+        lists_each(&rt, rt.alloc(), help.as_str());
+    }
+}
+
+// Sees that the subcommand's help says how it is called, and gives an example.
+fn is_helpful(rt: &impl Abort, alloc: Global, name: &str) {
+    let help = said(rt, alloc, &[name, "--help"]);
+    let usage = concat(rt, alloc, &["Usage: registry ", name, " "]);
+    has_all(rt, help.as_str(), &[usage.as_str(), "Example: registry "]);
+}
+
+#[test]
+fn help_of_each_subcommand(rt: HostRuntime) {
+    for words in &WHOLE {
+        is_helpful(&rt, rt.alloc(), name(words));
+    }
+    is_helpful(&rt, rt.alloc(), "serve");
 }
 
 const HELP_OF_ORG_SET: &str = "\
@@ -94,12 +80,7 @@ Example: registry --as ann org-set lab bob developer
 ";
 
 #[test]
-fn help_as_it_is_printed(rt: HostRuntime) -> Result<(), Fail> {
-    let alloc = rt.alloc();
-    let came_out = said(alloc, &["org-set", "-h"])?;
-    crate::outcome::same(
-        "org-set -h",
-        came_out,
-        String::from_str(alloc, HELP_OF_ORG_SET)?,
-    )
+fn help_as_it_is_printed(rt: HostRuntime) {
+    let help = said(&rt, rt.alloc(), &["org-set", "-h"]);
+    same(&rt, "org-set -h", help.as_str(), HELP_OF_ORG_SET);
 }

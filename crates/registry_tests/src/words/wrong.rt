@@ -1,9 +1,9 @@
 //! Words that mean nothing, and what is said of them.
 
-use super::{Meant, meaning_of};
+use super::said;
 use crate::outcome::same;
 use std::alloc::Global;
-use std::test::Fail;
+use std::process::Abort;
 
 /// Wrong words, and how what is said of them begins.
 struct Case {
@@ -11,18 +11,12 @@ struct Case {
     begins: &'static str,
 }
 
-// Whether the words are wrong, and what is said begins so and ends in a newline.
-fn is_wrong(alloc: Global, case: &Case) -> Result<(), Fail> {
-    let meant = meaning_of(alloc, case.words)?;
-    let is_said = match &meant {
-        Meant::Wrong(said) => said.as_str().starts_with(case.begins)
-            && said.as_str().ends_with('\n'),
-        Meant::Line(_, _, _, _) | Meant::NoMemory => false,
-    };
-    if is_said {
-        return Ok(());
-    }
-    Err(Fail::new(format_args!("{:?} comes out as {meant:?}", case.words)))
+// Sees that the words are wrong, and that what is said begins so and ends in a newline.
+fn is_wrong(rt: &impl Abort, alloc: Global, case: &Case) {
+    let said = said(rt, alloc, case.words);
+    let said = said.as_str();
+    let is_said = said.starts_with(case.begins) && said.ends_with('\n');
+    assert!(rt; is_said, "{said:?} doesn't begin as {:?}", case.begins);
 }
 
 static WRONG: [Case; 31] = [
@@ -153,11 +147,10 @@ static WRONG: [Case; 31] = [
 ];
 
 #[test]
-fn wrong_words(rt: HostRuntime) -> Result<(), Fail> {
+fn wrong_words(rt: HostRuntime) {
     for case in &WRONG {
-        is_wrong(rt.alloc(), case)?;
+        is_wrong(&rt, rt.alloc(), case);
     }
-    Ok(())
 }
 
 static BOTH: [&'static [&'static str]; 3] = [
@@ -167,11 +160,9 @@ static BOTH: [&'static [&'static str]; 3] = [
 ];
 
 #[test]
-fn a_user_who_would_be_the_operator(rt: HostRuntime) -> Result<(), Fail> {
-    let alloc = rt.alloc();
+fn a_user_who_would_be_the_operator(rt: HostRuntime) {
     for words in &BOTH {
-        let wanted = Meant::Wrong(String::from_str(alloc, "--as excludes --operator")?);
-        same(words, meaning_of(alloc, words)?, wanted)?;
+        let said = said(&rt, rt.alloc(), words);
+        same(&rt, *words, said.as_str(), "--as excludes --operator");
     }
-    Ok(())
 }

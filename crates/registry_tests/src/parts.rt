@@ -1,0 +1,76 @@
+//! Values in form, of which the cases are made.
+
+use registry_names::{Blob, Ident, Name, Text, Ver};
+use std::alloc::Global;
+use std::fmt::Debug;
+use std::process::Abort;
+use std::str;
+
+pub fn text(rt: &impl Abort, alloc: Global, text: &str) -> Text {
+    Text::from_str(alloc, text).expect(rt, "memory")
+}
+
+pub fn texts(rt: &impl Abort, alloc: Global, words: &[&str]) -> Vec<Text> {
+    let mut texts = Vec::new(alloc);
+    for word in words {
+        texts.push(text(rt, alloc, word)).expect(rt, "memory");
+    }
+    texts
+}
+
+pub fn string(rt: &impl Abort, alloc: Global, text: &str) -> String {
+    String::from_str(alloc, text).expect(rt, "memory")
+}
+
+/// Words with a space between them.
+pub fn joined(rt: &impl Abort, alloc: Global, words: &[&str]) -> String {
+    words.join(alloc, " ").expect(rt, "memory")
+}
+
+/// Texts with nothing between them.
+pub fn concat(rt: &impl Abort, alloc: Global, texts: &[&str]) -> String {
+    texts.join(alloc, "").expect(rt, "memory")
+}
+
+/// Bytes as a text.
+pub fn as_text(bytes: &[u8]) -> &str {
+    str::from_utf8(bytes).unwrap_or("no UTF-8")
+}
+
+/// What `Debug` shows of a value.
+pub fn shown<T: Debug>(rt: &impl Abort, alloc: Global, value: &T) -> String {
+    format!(in alloc; "{value:?}").expect(rt, "memory")
+}
+
+pub fn repeated(rt: &impl Abort, alloc: Global, text: &str, times: usize) -> String {
+    text.repeat(alloc, times).expect(rt, "memory")
+}
+
+/// A text, another so many times, and a last one.
+pub fn around(
+    rt: &impl Abort,
+    alloc: Global,
+    front: &str,
+    part: &str,
+    times: usize,
+    back: &str,
+) -> String {
+    let parts = repeated(rt, alloc, part, times);
+    concat(rt, alloc, &[front, parts.as_str(), back])
+}
+
+pub fn blob(rt: &impl Abort, alloc: Global, bytes: &[u8]) -> Blob {
+    Blob::from_slice(alloc, bytes).expect(rt, "memory")
+}
+
+pub fn name(rt: &impl Abort, alloc: Global, text: &str) -> Name {
+    Name::parse(alloc, text).expect(rt, "a name")
+}
+
+pub fn ident(rt: &impl Abort, alloc: Global, text: &str) -> Ident {
+    Ident::parse(alloc, text).expect(rt, "the name of a user, an organisation or a team")
+}
+
+pub fn version(rt: &impl Abort, alloc: Global, text: &str) -> Ver {
+    Ver::parse(alloc, text).expect(rt, "a version")
+}
