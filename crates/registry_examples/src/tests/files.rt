@@ -20,10 +20,18 @@ const FOLDER: &str = "files_of_registries";
 
 const PATH: &str = "files_of_registries/registry.db";
 
-/// A place in each field of a database's head: the name of the format, the size of pages, the
-/// versions, the sums, the counter of changes, the number of pages, the free pages, the schema's
-/// cookie and format, the encoding, the version that users give, and the counter again.
-const HEAD: [usize; 12] = [0, 16, 18, 20, 24, 28, 32, 40, 44, 56, 60, 92];
+/// A place in each field of a database's head: the name of the format, the size of pages, both
+/// versions, the bytes of sums, the three fractions, the counter of changes, the number of pages,
+/// the first free page and the number of free ones, the schema's cookie and format, the size of
+/// the cache, the largest root, the encoding, the number that users give, the mark of vacuums, the
+/// number of the program, what is kept empty, the counter again, and the version of the library.
+static HEAD: [usize; 23] = [
+    0, 16, 18, 19, 20, 21, 22, 23, 24, 28, 32, 36, 40, 44, 48, 52, 56, 60, 64, 68, 72, 92, 96,
+];
+
+/// How many pages are kept in memory: more than these registries have. The memory of all is
+/// written when files are opened, which takes seconds where a sanitizer watches thousands.
+const CACHE_PAGES: usize = 64;
 
 const ADD_ANN: Step = Step {
     at: 0,
@@ -290,7 +298,15 @@ fn new_files(alloc: Global) -> Files<Memory>
     }
 }
 
-// No registry opens from files of these bytes with one byte of the head changed.
+fn options() -> Options {
+    Options {
+        cache_pages: CACHE_PAGES,
+        ..Options::new(1)
+    }
+}
+
+// No registry opens from files of these bytes with one byte of the head changed: the first page
+// ends in a sum of its bytes, which no change of one byte leaves right, and no log stands for it.
 fn all_are_refused(alloc: Global, whole: &[u8]) -> Result<(), Fail> {
     for place in &HEAD {
         opens_none(alloc, *place, changed_at(alloc, whole, *place)?)?;
@@ -315,7 +331,7 @@ fn opens_none(alloc: Global, place: usize, files: Files<Memory>) -> Result<(), F
     if !files.may_be_used() {
         return Err(Fail::new(format_args!("the files can't be used")));
     }
-    match Registry::open_files(alloc, files, Options::new(1)) {
+    match Registry::open_files(alloc, files, options()) {
         Ok(_) => Err(Fail::new(format_args!("a registry opens, with byte {place} changed"))),
         Err((fault, _)) => same(place, fault, Fault::Database),
     }
@@ -332,7 +348,7 @@ fn opened(alloc: Global, files: Files<Memory>) -> Result<Registry<FileStore<Memo
     if !files.may_be_used() {
         return Err(Fail::new(format_args!("the files can't be used")));
     }
-    match Registry::open_files(alloc, files, Options::new(1)) {
+    match Registry::open_files(alloc, files, options()) {
         Ok(registry) => Ok(registry),
         Err(_) => Err(Fail::new(format_args!("no registry opens from the files"))),
     }
