@@ -176,6 +176,7 @@ fn databases_of_others_are_kept(rt: HostRuntime) -> Result<(), Fail> {
 fn a_byte_changed_in_the_head_is_refused(rt: HostRuntime) -> Result<(), Fail> {
     let alloc = rt.alloc();
     let files = told_in(alloc, new_files(alloc), &ADD_ANN)?;
+    opens_whole(alloc, files.db.bytes())?;
     all_are_refused(alloc, files.db.bytes())
 }
 
@@ -305,8 +306,15 @@ fn options() -> Options {
     }
 }
 
-// No registry opens from files of these bytes with one byte of the head changed: the first page
-// ends in a sum of its bytes, which no change of one byte leaves right, and no log stands for it.
+// From these bytes, with no byte changed, a registry opens that has the user.
+fn opens_whole(alloc: Global, whole: &[u8]) -> Result<(), Fail> {
+    let _files = told_in(alloc, files_from(alloc, whole)?, &ADD_ANN_AGAIN)?;
+    Ok(())
+}
+
+// No registry opens from files of these bytes with one byte of the head changed. The first page
+// ends in a sum of its bytes, which no change of one byte leaves right, and no log stands for it;
+// and what comes of a change in the size of pages or of sums is no size.
 fn all_are_refused(alloc: Global, whole: &[u8]) -> Result<(), Fail> {
     for place in &HEAD {
         opens_none(alloc, *place, changed_at(alloc, whole, *place)?)?;
@@ -321,8 +329,13 @@ fn changed_at(alloc: Global, whole: &[u8], place: usize) -> Result<Files<Memory>
     if let Some(byte) = bytes.get_mut(place) {
         *byte ^= 0x5a;
     }
+    files_from(alloc, &bytes)
+}
+
+// A database of these bytes, with an empty log.
+fn files_from(alloc: Global, bytes: &[u8]) -> Result<Files<Memory>, Fail> {
     let mut files = new_files(alloc);
-    files.db.write_at(0, &bytes)?;
+    files.db.write_at(0, bytes)?;
     Ok(files)
 }
 
