@@ -1,5 +1,5 @@
-//! Connections to a registry in memory that holds `@lab/kit`. Each is served with all bytes at once,
-//! and with one byte a read.
+//! Connections to a registry in memory that holds `@lab/kit`. The cases of a table are served with
+//! all bytes at once, and with one byte a read.
 
 mod commands;
 mod ends;

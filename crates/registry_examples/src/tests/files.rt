@@ -83,7 +83,7 @@ enum Comes {
 }
 
 /// What each case shows, what lies there, and what comes of a request to add the user.
-static OPENED: [(&str, Lies, Comes); 4] = [
+static OPENED: [(&str, Lies, Comes); 5] = [
     (
         "a file that isn't there becomes a registry",
         Lies::Nothing,
@@ -92,6 +92,11 @@ static OPENED: [(&str, Lies, Comes); 4] = [
     (
         "an empty file becomes a registry",
         Lies::Text(""),
+        Comes::Added,
+    ),
+    (
+        "a file of one byte becomes a registry",
+        Lies::Text("S"),
         Comes::Added,
     ),
     (

@@ -26,7 +26,7 @@ fn a_member_is_told_of_it(rt: HostRuntime) -> Result<(), Fail> {
 }
 
 /// The queries about the hidden package, and then the commands.
-static ABOUT_HIDDEN: [Ask; 13] = [
+static ABOUT_HIDDEN: [Ask; 15] = [
     Ask::Packument("@lab/kit"),
     Ask::VersionDoc("@lab/kit", "1.0.0"),
     Ask::LatestDoc("@lab/kit"),
@@ -40,10 +40,12 @@ static ABOUT_HIDDEN: [Ask; 13] = [
     Ask::OwnerRemove("@lab/kit", "eve"),
     Ask::Grant("lab", "developers", "@lab/kit", Grant::ReadOnly),
     Ask::Revoke("lab", "developers", "@lab/kit"),
+    Ask::Deprecate("@lab/kit", "*", "old"),
+    Ask::Withdraw("@lab/kit", "1.0.0"),
 ];
 
 /// The same about one that was never published.
-static ABOUT_NONE: [Ask; 13] = [
+static ABOUT_NONE: [Ask; 15] = [
     Ask::Packument("@lab/none"),
     Ask::VersionDoc("@lab/none", "1.0.0"),
     Ask::LatestDoc("@lab/none"),
@@ -57,6 +59,8 @@ static ABOUT_NONE: [Ask; 13] = [
     Ask::OwnerRemove("@lab/none", "eve"),
     Ask::Grant("lab", "developers", "@lab/none", Grant::ReadOnly),
     Ask::Revoke("lab", "developers", "@lab/none"),
+    Ask::Deprecate("@lab/none", "*", "old"),
+    Ask::Withdraw("@lab/none", "1.0.0"),
 ];
 
 static STRANGERS: [(&str, Who); 5] = [

@@ -1,6 +1,6 @@
 //! Connections whose requests change the registry.
 
-use super::{Case, Counting, is_served, is_served_at, kit};
+use super::{Case, Counting, both_come_out, is_served_at, kit};
 use crate::example::{Ask, Expected, Step, Who};
 use crate::tests::has_its_reply;
 use registry_names::FromRead;
@@ -46,6 +46,5 @@ fn what_is_asked_over_http_is_there_for_others(rt: HostRuntime) -> Result<(), Fa
 
 #[test]
 fn versions_are_deprecated_and_withdrawn_over_http(rt: HostRuntime) -> Result<(), Fail> {
-    let reader = FromRead::new(WITHDRAWN.input.as_bytes());
-    is_served(rt.alloc(), &WITHDRAWN, reader)
+    both_come_out(rt.alloc(), &WITHDRAWN)
 }
