@@ -8,6 +8,10 @@ use registry_names::Refusal;
 const KIT_PACKUMENT: &str =
     r#"{"_id":"@lab/kit","dist-tags":{"latest":"1.0.0"},"name":"@lab/kit","versions":{"1.0.0":{"dist":{"integrity":"sha512-3a81oZNherrMQXNJriBBMRLm+k6JqX6iCp7u5ktV05ohkpkqJ0/BqDa6PCOj/uu9RU1EI2Q86A4qmslPpUyknw==","shasum":"a9993e364706816aba3e25717850c26c9cd0d89d","tarball":"http://localhost:8080/@lab/kit/-/@lab/kit-1.0.0.tgz"},"name":"@lab/kit","version":"1.0.0"}}}"#;
 
+/// The document of `@lab/kit` 1.0.0.
+const KIT_DOCUMENT: &str =
+    r#"{"dist":{"integrity":"sha512-3a81oZNherrMQXNJriBBMRLm+k6JqX6iCp7u5ktV05ohkpkqJ0/BqDa6PCOj/uu9RU1EI2Q86A4qmslPpUyknw==","shasum":"a9993e364706816aba3e25717850c26c9cd0d89d","tarball":"http://localhost:8080/@lab/kit/-/@lab/kit-1.0.0.tgz"},"name":"@lab/kit","version":"1.0.0"}"#;
+
 /// The client's body of `@lab/kit` 1.0.0 without the archive's integrity.
 const UNCHECKED_BODY: &str =
     r#"{"_id":"@lab/kit","name":"@lab/kit","dist-tags":{"latest":"1.0.0"},"versions":{"1.0.0":{"name":"@lab/kit","version":"1.0.0","dist":{"shasum":"a9993e364706816aba3e25717850c26c9cd0d89d","tarball":"http://localhost:8080/@lab/kit/-/@lab/kit-1.0.0.tgz"}}},"access":null,"_attachments":{"@lab/kit-1.0.0.tgz":{"content_type":"application/octet-stream","data":"YWJj","length":3}}}"#;
@@ -79,6 +83,24 @@ pub static PUBLISHES: [Example; 6] = [
                 who: Who::User("bob"),
                 ask: Ask::Packument("@lab/kit"),
                 expected: Expected::Doc(KIT_PACKUMENT),
+            },
+            Step {
+                at: 103,
+                who: Who::User("bob"),
+                ask: Ask::VersionDoc("@lab/kit", "1.0.0"),
+                expected: Expected::Doc(KIT_DOCUMENT),
+            },
+            Step {
+                at: 103,
+                who: Who::User("bob"),
+                ask: Ask::Archive("@lab/kit", "1.0.0"),
+                expected: Expected::Bytes("abc"),
+            },
+            Step {
+                at: 103,
+                who: Who::User("bob"),
+                ask: Ask::Tags("@lab/kit"),
+                expected: Expected::Doc(r#"{"latest":"1.0.0"}"#),
             },
             Step {
                 at: 103,

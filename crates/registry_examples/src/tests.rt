@@ -21,11 +21,12 @@ use crate::rights::{GRANTS, MAINTAINERS, STATUSES};
 use crate::table::{DOCUMENTS, PUBLISHES, QUERIES, TAGS};
 use body::{ABC, body_of};
 use outcome::{otherwise, same};
-use people::digest_of;
+use people::{action_of, digest_of};
 use registry_desk::Registry;
 use registry_names::{Fault, Ident, Moment, Name, Stop, TagText, Ver};
 use registry_publish::PublishForm;
 use registry_rules::{Action, Asked, Credential, Reply, Request};
+use sqlite::Alter;
 use std::alloc::{AllocError, Global};
 use std::test::Fail;
 
@@ -83,9 +84,14 @@ fn tags_name_versions(rt: HostRuntime) -> Result<(), Fail> {
 
 fn all_have_their_replies(alloc: Global, examples: &[Example]) -> Result<(), Fail> {
     for example in examples {
-        have_their_replies(alloc, example.shows, &steps_of(alloc, example)?)?;
+        has_its_replies(alloc, example)?;
     }
     Ok(())
+}
+
+fn has_its_replies(alloc: Global, example: &Example) -> Result<(), Fail> {
+    let steps = steps_of(alloc, example)?;
+    have_their_replies(alloc, example.shows, &steps)
 }
 
 fn steps_of(alloc: Global, example: &Example) -> Result<Vec<Step>, AllocError> {
@@ -98,9 +104,35 @@ fn steps_of(alloc: Global, example: &Example) -> Result<Vec<Step>, AllocError> {
 // Whether the requests have the replies of these steps, all at once and one by one.
 fn have_their_replies(alloc: Global, shows: &str, steps: &[Step]) -> Result<(), Fail> {
     let requests = requests_of(alloc, steps)?;
-    let outcomes = all_at_once(alloc, &requests)?;
-    are_expected(shows, &outcomes, steps)?;
-    are_the_same(shows, &one_by_one(alloc, &requests)?, &outcomes)
+    are_replied(alloc, shows, &requests, steps)
+}
+
+fn are_replied(
+    alloc: Global,
+    shows: &str,
+    requests: &[Request],
+    steps: &[Step],
+) -> Result<(), Fail> {
+    let outcomes = both_ways(alloc, shows, requests)?;
+    are_expected(shows, &outcomes, steps)
+}
+
+// The outcomes of requests, which are the same all at once and one by one.
+fn both_ways(alloc: Global, shows: &str, requests: &[Request]) -> Result<Vec<Outcome>, Fail> {
+    let outcomes = all_at_once(alloc, requests)?;
+    are_the_outcomes(alloc, shows, requests, &outcomes)?;
+    Ok(outcomes)
+}
+
+// Whether these are the outcomes one by one.
+fn are_the_outcomes(
+    alloc: Global,
+    shows: &str,
+    requests: &[Request],
+    outcomes: &[Outcome],
+) -> Result<(), Fail> {
+    let others = one_by_one(alloc, requests)?;
+    are_the_same(shows, &others, outcomes)
 }
 
 fn all_at_once(alloc: Global, requests: &[Request]) -> Result<Vec<Outcome>, Fault> {
@@ -110,11 +142,49 @@ fn all_at_once(alloc: Global, requests: &[Request]) -> Result<Vec<Outcome>, Faul
 
 fn one_by_one(alloc: Global, requests: &[Request]) -> Result<Vec<Outcome>, Fault> {
     let mut registry = Registry::in_memory(alloc)?;
+    applied(alloc, &mut registry, requests)
+}
+
+fn applied<S: Alter>(
+    alloc: Global,
+    registry: &mut Registry<S>,
+    requests: &[Request],
+) -> Result<Vec<Outcome>, Fault> {
     let mut outcomes = Vec::new(alloc);
     for request in requests {
         outcomes.push(registry.apply(alloc, request))?;
     }
     Ok(outcomes)
+}
+
+// Whether a registry gives each step its reply.
+fn all_have_their_reply<S: Alter>(
+    alloc: Global,
+    registry: &mut Registry<S>,
+    steps: &[Step],
+) -> Result<(), Fail> {
+    for step in steps {
+        has_its_reply(alloc, registry, step)?;
+    }
+    Ok(())
+}
+
+fn has_its_reply<S: Alter>(
+    alloc: Global,
+    registry: &mut Registry<S>,
+    step: &Step,
+) -> Result<(), Fail> {
+    let outcome = outcome_of(alloc, registry, step)?;
+    comes_out(("a step", 0), &outcome, &step.expected)
+}
+
+fn outcome_of<S: Alter>(
+    alloc: Global,
+    registry: &mut Registry<S>,
+    step: &Step,
+) -> Result<Outcome, Stop> {
+    let request = request_of(alloc, step)?;
+    Ok(registry.apply(alloc, &request))
 }
 
 fn requests_of(alloc: Global, steps: &[Step]) -> Result<Vec<Request>, Stop> {
@@ -126,10 +196,16 @@ fn requests_of(alloc: Global, steps: &[Step]) -> Result<Vec<Request>, Stop> {
 }
 
 fn request_of(alloc: Global, step: &Step) -> Result<Request, Stop> {
+    request_at(alloc, step.at, step.who, step.ask)
+}
+
+fn request_at(alloc: Global, at: i64, who: Who, ask: Ask) -> Result<Request, Stop> {
+    let who = credential_of(alloc, who)?;
+    let what = action_of(alloc, ask)?;
     Ok(Request {
-        at: Moment::clamped(step.at),
-        who: credential_of(alloc, step.who)?,
-        what: action_of(alloc, step.ask)?,
+        at: Moment::clamped(at),
+        who,
+        what,
     })
 }
 
@@ -139,13 +215,6 @@ fn credential_of(alloc: Global, who: Who) -> Result<Credential, Stop> {
         Who::User(user) => Ok(Credential::User(Ident::parse(alloc, user)?)),
         Who::Token(token) => Ok(Credential::Token(digest_of(token)?)),
         Who::Anonymous => Ok(Credential::Anonymous),
-    }
-}
-
-fn action_of(alloc: Global, ask: Ask) -> Result<Action, Stop> {
-    match people::action_of(alloc, ask)? {
-        Some(action) => Ok(action),
-        None => package_action_of(alloc, ask),
     }
 }
 
@@ -182,11 +251,9 @@ fn packument(alloc: Global, name: &str) -> Result<Action, Stop> {
 }
 
 fn tag_set(alloc: Global, name: &str, tag: &str, version: &str) -> Result<Action, Stop> {
-    Ok(Action::TagSet {
-        name: Name::parse(alloc, name)?,
-        tag: TagText::shape(alloc, tag)?,
-        version: Ver::parse(alloc, version)?,
-    })
+    let (name, version) = version_of(alloc, name, version)?;
+    let tag = TagText::shape(alloc, tag)?;
+    Ok(Action::TagSet { name, tag, version })
 }
 
 fn tag_remove(alloc: Global, name: &str, tag: &str) -> Result<Action, Stop> {
@@ -197,10 +264,9 @@ fn tag_remove(alloc: Global, name: &str, tag: &str) -> Result<Action, Stop> {
 }
 
 fn version_doc(alloc: Global, name: &str, version: &str) -> Result<Action, Stop> {
-    Ok(Action::VersionDoc {
-        name: Name::parse(alloc, name)?,
-        version: Asked::Exact(Ver::parse(alloc, version)?),
-    })
+    let (name, version) = version_of(alloc, name, version)?;
+    let version = Asked::Exact(version);
+    Ok(Action::VersionDoc { name, version })
 }
 
 fn latest_doc(alloc: Global, name: &str) -> Result<Action, Stop> {
@@ -211,10 +277,15 @@ fn latest_doc(alloc: Global, name: &str) -> Result<Action, Stop> {
 }
 
 fn archive(alloc: Global, name: &str, version: &str) -> Result<Action, Stop> {
-    Ok(Action::Archive {
-        name: Name::parse(alloc, name)?,
-        version: Ver::parse(alloc, version)?,
-    })
+    let (name, version) = version_of(alloc, name, version)?;
+    Ok(Action::Archive { name, version })
+}
+
+// A package, and a version.
+fn version_of(alloc: Global, name: &str, version: &str) -> Result<(Name, Ver), Stop> {
+    let name = Name::parse(alloc, name)?;
+    let version = Ver::parse(alloc, version)?;
+    Ok((name, version))
 }
 
 fn tags(alloc: Global, name: &str) -> Result<Action, Stop> {
@@ -226,9 +297,7 @@ fn tags(alloc: Global, name: &str) -> Result<Action, Stop> {
 fn are_expected(shows: &str, outcomes: &[Outcome], steps: &[Step]) -> Result<(), Fail> {
     same(shows, outcomes.len(), steps.len())?;
     for (place, (outcome, step)) in outcomes.iter().zip(steps).enumerate() {
-        if !is_expected(outcome, &step.expected) {
-            return Err(otherwise((shows, place), outcome, step.expected));
-        }
+        comes_out((shows, place), outcome, &step.expected)?;
     }
     Ok(())
 }
@@ -239,6 +308,13 @@ fn are_the_same(shows: &str, others: &[Outcome], outcomes: &[Outcome]) -> Result
         same((shows, place), other, outcome)?;
     }
     Ok(())
+}
+
+fn comes_out(case: (&str, usize), outcome: &Outcome, expected: &Expected) -> Result<(), Fail> {
+    if is_expected(outcome, expected) {
+        return Ok(());
+    }
+    Err(otherwise(case, outcome, *expected))
 }
 
 fn is_expected(outcome: &Outcome, expected: &Expected) -> bool {

@@ -1,5 +1,5 @@
-//! Connections to a registry in memory that holds `@lab/kit`. Each is served with all bytes at once,
-//! and with one byte a read.
+//! Connections to a registry in memory that holds `@lab/kit`. The cases of a table are served with
+//! all bytes at once, and with one byte a read.
 
 mod commands;
 mod ends;
@@ -9,13 +9,12 @@ mod source;
 
 ghost use Rattle.std.specs.Prelude.{None};
 
+use super::all_have_their_reply;
 use super::outcome::same;
-use super::request_of;
 use crate::beginnings::LAB_KIT;
-use crate::example::Step;
 use registry_desk::Registry;
 use registry_http::FrontDesk;
-use registry_names::{ByteIn, Fault, FromRead, Moment, Stop, ToWrite};
+use registry_names::{ByteIn, Fault, FromRead, Moment, ToWrite};
 use registry_rules::{Reply, Request};
 use registry_talk::{Clock, Desk, End, Served, serve};
 use registry_wire::Inbox;
@@ -71,22 +70,13 @@ impl Clock for Noon {
 }
 
 // A registry that holds `@lab/kit`, of which nothing was counted.
-fn kit(alloc: Global) -> Result<Counting, Stop> {
+fn kit(alloc: Global) -> Result<Counting, Fail> {
     let mut registry = Registry::in_memory(alloc)?;
-    for step in LAB_KIT {
-        settle(alloc, &mut registry, step)?;
-    }
+    all_have_their_reply(alloc, &mut registry, LAB_KIT)?;
     Ok(Counting {
         desk: FrontDesk::new(registry),
         asked: 0,
     })
-}
-
-fn settle(alloc: Global, registry: &mut Registry<MemStore>, step: &Step) -> Result<(), Stop> {
-    let request = request_of(alloc, step)?;
-    let outcome = registry.apply(alloc, &request);
-    outcome?;
-    Ok(())
 }
 
 // Whether all comes out as the case has it, where the input comes in pieces of so many bytes.
@@ -102,30 +92,33 @@ fn comes_out(alloc: Global, case: &Case<'_>, piece_len: usize) -> Result<(), Fai
 
 // The same of any reader.
 fn is_served<R: ByteIn + Drop>(alloc: Global, case: &Case<'_>, reader: R) -> Result<(), Fail> {
-    served(alloc, case, reader)?;
-    Ok(())
+    let mut desk = kit(alloc)?;
+    is_served_at(alloc, &mut desk, case, reader)
 }
 
-// The registry that is left where all comes out so.
-fn served<R: ByteIn + Drop>(
+// The same at a registry of which nothing was counted.
+fn is_served_at<R: ByteIn + Drop>(
     alloc: Global,
+    desk: &mut Counting,
     case: &Case<'_>,
     reader: R,
-) -> Result<Registry<MemStore>, Fail> {
-    let mut desk = kit(alloc)?;
+) -> Result<(), Fail> {
     let mut inbox = Inbox::new(alloc, reader);
     let mut out = Vec::new(alloc);
     let mut writer = ToWrite::new(&mut out);
-    let served = serve(alloc, &mut desk, &mut inbox, &mut writer, &mut Noon);
+    let served = serve(alloc, desk, &mut inbox, &mut writer, &mut Noon);
+    is_wanted(case, served, desk.asked, &out)
+}
+
+// Whether a case has this end, as many requests asked, and this answer.
+fn is_wanted(case: &Case<'_>, served: Served, asked: u32, out: &[u8]) -> Result<(), Fail> {
     let wanted = Served {
         requests: case.requests,
         end: case.end,
     };
     same(case.shows, served, wanted)?;
-    same(case.shows, desk.asked, case.asked)?;
-    same(case.shows, str::from_utf8(&out).unwrap_or("?"), case.output)?;
-    let Counting { desk, asked: _ } = desk;
-    Ok(desk.into_registry())
+    same(case.shows, asked, case.asked)?;
+    same(case.shows, str::from_utf8(out).unwrap_or("?"), case.output)
 }
 
 // The same with all bytes at once, and with one byte a read.

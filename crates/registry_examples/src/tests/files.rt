@@ -1,12 +1,17 @@
-//! Registries in files, in a folder of their own where the tests run.
+//! Registries in files: in those of the machine, and in files in memory. The machine's stand in a
+//! folder of their own where the tests run.
+
+ghost use Rattle.std.specs.Prelude.{IsTrue};
+ghost use Rattle.sqlite_disk.specs.Memory.{memory_is_usable};
 
 use super::outcome::same;
-use super::{Outcome, request_of};
+use super::{Outcome, has_its_reply, outcome_of};
 use crate::example::{Ask, Expected, Step, Who};
 use registry_desk::Registry;
-use registry_names::{Fault, Refusal};
+use registry_names::{Fault, Refusal, Stop};
 use registry_rules::Reply;
-use sqlite::{Alter, Connection, Error};
+use sqlite::{Alter, Connection, Error, FileStore, Files, Options};
+use sqlite_disk::{Disk, Memory};
 use std::alloc::Global;
 use std::fs;
 use std::test::Fail;
@@ -15,11 +20,36 @@ const FOLDER: &str = "files_of_registries";
 
 const PATH: &str = "files_of_registries/registry.db";
 
+/// A place in each field of a database's head: the name of the format, the size of pages, both
+/// versions, the bytes of sums, the three fractions, the counter of changes, the number of pages,
+/// the first free page and the number of free ones, the schema's cookie and format, the size of
+/// the cache, the largest root, the encoding, the number that users give, the mark of vacuums, the
+/// number of the program, what is kept empty, the counter again, and the version of the library.
+static HEAD: [usize; 23] = [
+    0, 16, 18, 19, 20, 21, 22, 23, 24, 28, 32, 36, 40, 44, 48, 52, 56, 60, 64, 68, 72, 92, 96,
+];
+
+/// How many pages are kept in memory: more than these registries have. The memory of all is
+/// written when files are opened, which takes seconds where a sanitizer watches thousands.
+const CACHE_PAGES: usize = 64;
+
 const ADD_ANN: Step = Step {
     at: 0,
     who: Who::Operator,
     ask: Ask::UserAdd("ann"),
     expected: Expected::Done,
+};
+
+const ADD_ANN_AGAIN: Step = Step {
+    expected: Expected::Refused(Refusal::Exists),
+    ..ADD_ANN
+};
+
+const TAGS_OF_NONE: Step = Step {
+    at: 0,
+    who: Who::Anonymous,
+    ask: Ask::Tags("none"),
+    expected: Expected::Refused(Refusal::NotFound),
 };
 
 /// What lies at the path.
@@ -53,7 +83,7 @@ enum Comes {
 }
 
 /// What each case shows, what lies there, and what comes of a request to add the user.
-static OPENED: [(&str, Lies, Comes); 4] = [
+static OPENED: [(&str, Lies, Comes); 5] = [
     (
         "a file that isn't there becomes a registry",
         Lies::Nothing,
@@ -62,6 +92,11 @@ static OPENED: [(&str, Lies, Comes); 4] = [
     (
         "an empty file becomes a registry",
         Lies::Text(""),
+        Comes::Added,
+    ),
+    (
+        "a file of one byte becomes a registry",
+        Lies::Text("S"),
         Comes::Added,
     ),
     (
@@ -143,17 +178,35 @@ fn databases_of_others_are_kept(rt: HostRuntime) -> Result<(), Fail> {
 }
 
 #[test]
+fn a_byte_changed_in_the_head_is_refused(rt: HostRuntime) -> Result<(), Fail> {
+    let alloc = rt.alloc();
+    let files = told_in(alloc, new_files(alloc), &ADD_ANN)?;
+    opens_whole(alloc, files.db.bytes())?;
+    all_are_refused(alloc, files.db.bytes())
+}
+
+#[test]
 fn a_registry_is_held_by_one(rt: HostRuntime) -> Result<(), Fail> {
     lay(&rt, Lies::Registry)?;
     let first = Registry::open(&rt, PATH)?;
-    same("a second one", added(&rt)?, Err(Fault::Database))?;
+    let second = added(&rt);
     drop(first);
+    same("a second one", second?, Err(Fault::Database))?;
     same(
         "a later one",
         added(&rt)?,
         Ok(Reply::Refused(Refusal::Exists)),
     )?;
     Ok(fs::remove_dir_all(&rt, FOLDER)?)
+}
+
+#[test]
+fn a_registry_in_files_in_memory_lasts(rt: HostRuntime) -> Result<(), Fail> {
+    let alloc = rt.alloc();
+    let files = told_in(alloc, new_files(alloc), &ADD_ANN)?;
+    let files = told_in(alloc, files, &ADD_ANN_AGAIN)?;
+    let _files = told_in(alloc, files, &TAGS_OF_NONE)?;
+    Ok(())
 }
 
 // Lays this at the path, in a new folder.
@@ -175,9 +228,8 @@ fn lay(rt: &HostRuntime, lies: Lies) -> Result<(), Fail> {
 // A registry in which the user is, closed.
 fn with_ann(rt: &HostRuntime) -> Result<(), Fail> {
     let mut registry = Registry::open(rt, PATH)?;
-    let outcome = asked(rt.alloc(), &mut registry, &ADD_ANN)?;
-    registry.release().close()?;
-    same("a user of a new registry", outcome, Ok(Reply::Done))
+    has_its_reply(rt.alloc(), &mut registry, &ADD_ANN)?;
+    Ok(registry.release().close()?)
 }
 
 fn cut(rt: &HostRuntime, length: usize) -> Result<(), Fail> {
@@ -236,18 +288,97 @@ fn is_kept(rt: &HostRuntime, shows: &str) -> Result<(), Fail> {
     same((shows, "kept"), fs::read(rt, PATH).ok() == before, true)
 }
 
-fn added(rt: &HostRuntime) -> Result<Outcome, Fail> {
+fn added(rt: &HostRuntime) -> Result<Outcome, Stop> {
     match Registry::open(rt, PATH) {
-        Ok(mut registry) => asked(rt.alloc(), &mut registry, &ADD_ANN),
+        Ok(mut registry) => outcome_of(rt.alloc(), &mut registry, &ADD_ANN),
         Err(fault) => Ok(Err(fault)),
     }
 }
 
-fn asked<S: Alter>(
-    alloc: Global,
-    registry: &mut Registry<S>,
-    step: &Step,
-) -> Result<Outcome, Fail> {
-    let request = request_of(alloc, step)?;
-    Ok(registry.apply(alloc, &request))
+fn new_files(alloc: Global) -> Files<Memory>
+    ensures { IsTrue (memory_is_usable result.db) }
+{
+    Files {
+        log: Memory::new(alloc),
+        db: Memory::new(alloc),
+    }
+}
+
+fn options() -> Options {
+    Options {
+        cache_pages: CACHE_PAGES,
+        ..Options::new(1)
+    }
+}
+
+// From these bytes, with no byte changed, a registry opens that has the user.
+fn opens_whole(alloc: Global, whole: &[u8]) -> Result<(), Fail> {
+    let _files = told_in(alloc, files_from(alloc, whole)?, &ADD_ANN_AGAIN)?;
+    Ok(())
+}
+
+// No registry opens from files of these bytes with one byte of the head changed. The first page
+// ends in a sum of its bytes, which no change of one byte leaves right, and no log stands for it;
+// and what comes of a change in the size of pages or of sums is no size.
+fn all_are_refused(alloc: Global, whole: &[u8]) -> Result<(), Fail> {
+    for place in &HEAD {
+        opens_none(alloc, *place, changed_at(alloc, whole, *place)?)?;
+    }
+    Ok(())
+}
+
+// Files of these bytes, with the one at this place changed.
+fn changed_at(alloc: Global, whole: &[u8], place: usize) -> Result<Files<Memory>, Fail> {
+    let mut bytes = Vec::new(alloc);
+    bytes.extend_from_slice(whole)?;
+    if let Some(byte) = bytes.get_mut(place) {
+        *byte ^= 0x5a;
+    }
+    files_from(alloc, &bytes)
+}
+
+// A database of these bytes, with an empty log.
+fn files_from(alloc: Global, bytes: &[u8]) -> Result<Files<Memory>, Fail> {
+    let mut files = new_files(alloc);
+    files.db.write_at(0, bytes)?;
+    Ok(files)
+}
+
+// No registry opens from these files, where the byte at this place was changed.
+fn opens_none(alloc: Global, place: usize, files: Files<Memory>) -> Result<(), Fail> {
+    if !files.may_be_used() {
+        return Err(Fail::new(format_args!("the files can't be used")));
+    }
+    match Registry::open_files(alloc, files, options()) {
+        Ok(_) => Err(Fail::new(format_args!("a registry opens, with byte {place} changed"))),
+        Err((fault, _)) => same(place, fault, Fault::Database),
+    }
+}
+
+// The files, once a registry in them answered as it should.
+fn told_in(alloc: Global, files: Files<Memory>, step: &Step) -> Result<Files<Memory>, Fail> {
+    let mut registry = opened(alloc, files)?;
+    has_its_reply(alloc, &mut registry, step)?;
+    files_of(registry.release())
+}
+
+fn opened(alloc: Global, files: Files<Memory>) -> Result<Registry<FileStore<Memory>>, Fail> {
+    if !files.may_be_used() {
+        return Err(Fail::new(format_args!("the files can't be used")));
+    }
+    match Registry::open_files(alloc, files, options()) {
+        Ok(registry) => Ok(registry),
+        Err(_) => Err(Fail::new(format_args!("no registry opens from the files"))),
+    }
+}
+
+// The files of a connection, which is closed.
+fn files_of(conn: Connection<FileStore<Memory>>) -> Result<Files<Memory>, Fail> {
+    match conn.close_files() {
+        Ok(files) => Ok(files),
+        Err((_, store)) => {
+            drop(store.close());
+            Err(Fail::new(format_args!("the files don't close")))
+        }
+    }
 }

@@ -4,9 +4,9 @@
 use crate::beginnings::LAB_KIT;
 use crate::example::{Ask, Who};
 use crate::tests::outcome::same;
-use crate::tests::{Outcome, action_of, all_at_once, are_the_same, credential_of, requests_of};
+use crate::tests::{Outcome, all_at_once, are_the_same, request_at, requests_of};
 use registry_access::Grant;
-use registry_names::{Moment, Status, Stop};
+use registry_names::{Status, Stop};
 use registry_rules::Request;
 use std::alloc::Global;
 use std::test::Fail;
@@ -14,19 +14,54 @@ use std::test::Fail;
 #[test]
 fn a_hidden_package_is_like_none(rt: HostRuntime) -> Result<(), Fail> {
     for (shows, who) in &STRANGERS {
-        let hidden = outcomes_about(rt.alloc(), *who, "@lab/kit")?;
-        let none = outcomes_about(rt.alloc(), *who, "@lab/none")?;
-        are_the_same(shows, &none, &hidden)?;
+        is_told_of_none(rt.alloc(), shows, *who)?;
     }
     Ok(())
 }
 
 #[test]
 fn a_member_is_told_of_it(rt: HostRuntime) -> Result<(), Fail> {
-    let hidden = outcomes_about(rt.alloc(), Who::User("bob"), "@lab/kit")?;
-    let none = outcomes_about(rt.alloc(), Who::User("bob"), "@lab/none")?;
+    let (hidden, none) = told_of_both(rt.alloc(), Who::User("bob"))?;
     same("a member", hidden == none, false)
 }
+
+/// The queries about the hidden package, and then the commands.
+static ABOUT_HIDDEN: [Ask; 15] = [
+    Ask::Packument("@lab/kit"),
+    Ask::VersionDoc("@lab/kit", "1.0.0"),
+    Ask::LatestDoc("@lab/kit"),
+    Ask::Archive("@lab/kit", "1.0.0"),
+    Ask::Tags("@lab/kit"),
+    Ask::Publish("@lab/kit", "1.0.0"),
+    Ask::TagSet("@lab/kit", "next", "1.0.0"),
+    Ask::TagRemove("@lab/kit", "latest"),
+    Ask::SetAccess("@lab/kit", Status::Public),
+    Ask::OwnerAdd("@lab/kit", "eve"),
+    Ask::OwnerRemove("@lab/kit", "eve"),
+    Ask::Grant("lab", "developers", "@lab/kit", Grant::ReadOnly),
+    Ask::Revoke("lab", "developers", "@lab/kit"),
+    Ask::Deprecate("@lab/kit", "*", "old"),
+    Ask::Withdraw("@lab/kit", "1.0.0"),
+];
+
+/// The same about one that was never published.
+static ABOUT_NONE: [Ask; 15] = [
+    Ask::Packument("@lab/none"),
+    Ask::VersionDoc("@lab/none", "1.0.0"),
+    Ask::LatestDoc("@lab/none"),
+    Ask::Archive("@lab/none", "1.0.0"),
+    Ask::Tags("@lab/none"),
+    Ask::Publish("@lab/none", "1.0.0"),
+    Ask::TagSet("@lab/none", "next", "1.0.0"),
+    Ask::TagRemove("@lab/none", "latest"),
+    Ask::SetAccess("@lab/none", Status::Public),
+    Ask::OwnerAdd("@lab/none", "eve"),
+    Ask::OwnerRemove("@lab/none", "eve"),
+    Ask::Grant("lab", "developers", "@lab/none", Grant::ReadOnly),
+    Ask::Revoke("lab", "developers", "@lab/none"),
+    Ask::Deprecate("@lab/none", "*", "old"),
+    Ask::Withdraw("@lab/none", "1.0.0"),
+];
 
 static STRANGERS: [(&str, Who); 5] = [
     ("the operator", Who::Operator),
@@ -36,45 +71,28 @@ static STRANGERS: [(&str, Who); 5] = [
     ("no credential", Who::Anonymous),
 ];
 
-// What is answered to all that can be asked about a package, where `@lab/kit` is there.
-fn outcomes_about(alloc: Global, who: Who, name: &'static str) -> Result<Vec<Outcome>, Fail> {
-    let mut requests = requests_of(alloc, LAB_KIT)?;
-    for ask in queries_about(name) {
-        requests.push(asked(alloc, who, ask)?)?;
-    }
-    for ask in commands_about(name) {
-        requests.push(asked(alloc, who, ask)?)?;
-    }
+fn is_told_of_none(alloc: Global, shows: &str, who: Who) -> Result<(), Fail> {
+    let (hidden, none) = told_of_both(alloc, who)?;
+    are_the_same(shows, &none, &hidden)
+}
+
+// What is answered about the hidden package, and about none.
+fn told_of_both(alloc: Global, who: Who) -> Result<(Vec<Outcome>, Vec<Outcome>), Fail> {
+    let hidden = outcomes_about(alloc, who, &ABOUT_HIDDEN)?;
+    let none = outcomes_about(alloc, who, &ABOUT_NONE)?;
+    Ok((hidden, none))
+}
+
+// What is answered to all that is asked, where `@lab/kit` is there.
+fn outcomes_about(alloc: Global, who: Who, asks: &[Ask]) -> Result<Vec<Outcome>, Fail> {
+    let requests = requests_about(alloc, who, asks)?;
     Ok(all_at_once(alloc, &requests)?)
 }
 
-fn queries_about(name: &'static str) -> [Ask; 5] {
-    [
-        Ask::Packument(name),
-        Ask::VersionDoc(name, "1.0.0"),
-        Ask::LatestDoc(name),
-        Ask::Archive(name, "1.0.0"),
-        Ask::Tags(name),
-    ]
-}
-
-fn commands_about(name: &'static str) -> [Ask; 8] {
-    [
-        Ask::Publish(name, "1.0.0"),
-        Ask::TagSet(name, "next", "1.0.0"),
-        Ask::TagRemove(name, "latest"),
-        Ask::SetAccess(name, Status::Public),
-        Ask::OwnerAdd(name, "eve"),
-        Ask::OwnerRemove(name, "eve"),
-        Ask::Grant("lab", "developers", name, Grant::ReadOnly),
-        Ask::Revoke("lab", "developers", name),
-    ]
-}
-
-fn asked(alloc: Global, who: Who, ask: Ask) -> Result<Request, Stop> {
-    Ok(Request {
-        at: Moment::clamped(200),
-        who: credential_of(alloc, who)?,
-        what: action_of(alloc, ask)?,
-    })
+fn requests_about(alloc: Global, who: Who, asks: &[Ask]) -> Result<Vec<Request>, Stop> {
+    let mut requests = requests_of(alloc, LAB_KIT)?;
+    for ask in asks {
+        requests.push(request_at(alloc, 200, who, *ask)?)?;
+    }
+    Ok(requests)
 }

@@ -1,107 +1,168 @@
 //! Actions about users, organisations, teams and rights, from their texts.
 
 use crate::example::Ask;
+use crate::tests::package_action_of;
 use registry_names::{Ident, Name, Refusal, Stop};
 use registry_publish::TokenDigest;
 use registry_rules::Action;
 use std::alloc::Global;
 
-/// The action that is asked. None where it is about versions or tags of a package.
-pub(crate) fn action_of(alloc: Global, ask: Ask) -> Result<Option<Action>, Stop> {
-    let ident = |text: &str| Ident::parse(alloc, text);
-    let action = match ask {
-        Ask::UserAdd(user) => Action::UserAdd { user: ident(user)? },
-        Ask::TokenAdd(user, token) => Action::TokenAdd {
-            user: ident(user)?,
-            digest: digest_of(token)?,
-        },
-        Ask::OrgCreate(organisation, owner) => Action::OrgCreate {
-            organisation: ident(organisation)?,
-            owner: ident(owner)?,
-        },
-        Ask::OrgSet(organisation, user, role) => Action::OrgSet {
-            organisation: ident(organisation)?,
-            user: ident(user)?,
-            role,
-        },
-        Ask::OrgRemove(organisation, user) => Action::OrgRemove {
-            organisation: ident(organisation)?,
-            user: ident(user)?,
-        },
-        Ask::Members(organisation) => Action::Members {
-            organisation: ident(organisation)?,
-        },
-        Ask::Teams(organisation) => Action::Teams {
-            organisation: ident(organisation)?,
-        },
-        _ => return team_action_of(alloc, ask),
-    };
-    Ok(Some(action))
+/// The action that is asked.
+pub(crate) fn action_of(alloc: Global, ask: Ask) -> Result<Action, Stop> {
+    match ask {
+        Ask::UserAdd(user) => {
+            let user = Ident::parse(alloc, user)?;
+            Ok(Action::UserAdd { user })
+        }
+        Ask::TokenAdd(user, token) => {
+            let digest = digest_of(token)?;
+            let user = Ident::parse(alloc, user)?;
+            Ok(Action::TokenAdd { user, digest })
+        }
+        Ask::OrgCreate(organisation, owner) => {
+            let (organisation, owner) = two_idents(alloc, organisation, owner)?;
+            Ok(Action::OrgCreate {
+                organisation,
+                owner,
+            })
+        }
+        Ask::OrgSet(organisation, user, role) => {
+            let (organisation, user) = two_idents(alloc, organisation, user)?;
+            Ok(Action::OrgSet {
+                organisation,
+                user,
+                role,
+            })
+        }
+        Ask::OrgRemove(organisation, user) => {
+            let (organisation, user) = two_idents(alloc, organisation, user)?;
+            Ok(Action::OrgRemove { organisation, user })
+        }
+        _ => team_action_of(alloc, ask),
+    }
 }
 
-fn team_action_of(alloc: Global, ask: Ask) -> Result<Option<Action>, Stop> {
-    let ident = |text: &str| Ident::parse(alloc, text);
-    let action = match ask {
-        Ask::TeamCreate(organisation, team) => Action::TeamCreate {
-            organisation: ident(organisation)?,
-            team: ident(team)?,
-        },
-        Ask::TeamDestroy(organisation, team) => Action::TeamDestroy {
-            organisation: ident(organisation)?,
-            team: ident(team)?,
-        },
-        Ask::TeamAdd(organisation, team, user) => Action::TeamAdd {
-            organisation: ident(organisation)?,
-            team: ident(team)?,
-            user: ident(user)?,
-        },
-        Ask::TeamRemove(organisation, team, user) => Action::TeamRemove {
-            organisation: ident(organisation)?,
-            team: ident(team)?,
-            user: ident(user)?,
-        },
-        Ask::TeamMembers(organisation, team) => Action::TeamMembers {
-            organisation: ident(organisation)?,
-            team: ident(team)?,
-        },
-        Ask::TeamPackages(organisation, team) => Action::TeamPackages {
-            organisation: ident(organisation)?,
-            team: ident(team)?,
-        },
-        _ => return right_action_of(alloc, ask),
-    };
-    Ok(Some(action))
+fn team_action_of(alloc: Global, ask: Ask) -> Result<Action, Stop> {
+    match ask {
+        Ask::TeamCreate(organisation, team) => {
+            let (organisation, team) = two_idents(alloc, organisation, team)?;
+            Ok(Action::TeamCreate { organisation, team })
+        }
+        Ask::TeamDestroy(organisation, team) => {
+            let (organisation, team) = two_idents(alloc, organisation, team)?;
+            Ok(Action::TeamDestroy { organisation, team })
+        }
+        Ask::TeamAdd(organisation, team, user) => {
+            let (organisation, team, user) = three_idents(alloc, organisation, team, user)?;
+            Ok(Action::TeamAdd {
+                organisation,
+                team,
+                user,
+            })
+        }
+        Ask::TeamRemove(organisation, team, user) => {
+            let (organisation, team, user) = three_idents(alloc, organisation, team, user)?;
+            Ok(Action::TeamRemove {
+                organisation,
+                team,
+                user,
+            })
+        }
+        _ => query_of(alloc, ask),
+    }
 }
 
-fn right_action_of(alloc: Global, ask: Ask) -> Result<Option<Action>, Stop> {
-    let ident = |text: &str| Ident::parse(alloc, text);
-    let action = match ask {
-        Ask::Grant(organisation, team, name, grant) => Action::Grant {
-            organisation: ident(organisation)?,
-            team: ident(team)?,
-            name: Name::parse(alloc, name)?,
-            grant,
-        },
-        Ask::Revoke(organisation, team, name) => Action::Revoke {
-            organisation: ident(organisation)?,
-            team: ident(team)?,
-            name: Name::parse(alloc, name)?,
-        },
-        Ask::SetAccess(name, status) => Action::SetAccess {
-            name: Name::parse(alloc, name)?,
-            status,
-        },
-        Ask::OwnerAdd(name, user) => Action::OwnerAdd {
-            name: Name::parse(alloc, name)?,
-            user: ident(user)?,
-        },
-        Ask::OwnerRemove(name, user) => Action::OwnerRemove {
-            name: Name::parse(alloc, name)?,
-            user: ident(user)?,
-        },
-        _ => return Ok(None),
-    };
-    Ok(Some(action))
+fn query_of(alloc: Global, ask: Ask) -> Result<Action, Stop> {
+    match ask {
+        Ask::Members(organisation) => {
+            let organisation = Ident::parse(alloc, organisation)?;
+            Ok(Action::Members { organisation })
+        }
+        Ask::Teams(organisation) => {
+            let organisation = Ident::parse(alloc, organisation)?;
+            Ok(Action::Teams { organisation })
+        }
+        Ask::TeamMembers(organisation, team) => {
+            let (organisation, team) = two_idents(alloc, organisation, team)?;
+            Ok(Action::TeamMembers { organisation, team })
+        }
+        Ask::TeamPackages(organisation, team) => {
+            let (organisation, team) = two_idents(alloc, organisation, team)?;
+            Ok(Action::TeamPackages { organisation, team })
+        }
+        _ => right_action_of(alloc, ask),
+    }
+}
+
+fn right_action_of(alloc: Global, ask: Ask) -> Result<Action, Stop> {
+    match ask {
+        Ask::Grant(organisation, team, name, grant) => {
+            let (name, organisation, team) = team_of(alloc, name, organisation, team)?;
+            Ok(Action::Grant {
+                organisation,
+                team,
+                name,
+                grant,
+            })
+        }
+        Ask::Revoke(organisation, team, name) => {
+            let (name, organisation, team) = team_of(alloc, name, organisation, team)?;
+            Ok(Action::Revoke {
+                organisation,
+                team,
+                name,
+            })
+        }
+        Ask::SetAccess(name, status) => {
+            let name = Name::parse(alloc, name)?;
+            Ok(Action::SetAccess { name, status })
+        }
+        Ask::OwnerAdd(name, user) => {
+            let (name, user) = user_of(alloc, name, user)?;
+            Ok(Action::OwnerAdd { name, user })
+        }
+        Ask::OwnerRemove(name, user) => {
+            let (name, user) = user_of(alloc, name, user)?;
+            Ok(Action::OwnerRemove { name, user })
+        }
+        _ => package_action_of(alloc, ask),
+    }
+}
+
+// A package, and a team of an organisation.
+fn team_of(
+    alloc: Global,
+    name: &str,
+    organisation: &str,
+    team: &str,
+) -> Result<(Name, Ident, Ident), Stop> {
+    let (name, organisation) = user_of(alloc, name, organisation)?;
+    let team = Ident::parse(alloc, team)?;
+    Ok((name, organisation, team))
+}
+
+// A package, and a user or an organisation.
+fn user_of(alloc: Global, name: &str, user: &str) -> Result<(Name, Ident), Stop> {
+    let name = Name::parse(alloc, name)?;
+    let user = Ident::parse(alloc, user)?;
+    Ok((name, user))
+}
+
+fn two_idents(alloc: Global, first: &str, second: &str) -> Result<(Ident, Ident), Stop> {
+    let first = Ident::parse(alloc, first)?;
+    let second = Ident::parse(alloc, second)?;
+    Ok((first, second))
+}
+
+fn three_idents(
+    alloc: Global,
+    first: &str,
+    second: &str,
+    third: &str,
+) -> Result<(Ident, Ident, Ident), Stop> {
+    let (first, second) = two_idents(alloc, first, second)?;
+    let third = Ident::parse(alloc, third)?;
+    Ok((first, second, third))
 }
 
 /// The digest of a token.

@@ -3,11 +3,9 @@
 use crate::beginnings::{KIT_BODY, LAB};
 use crate::example::Who;
 use crate::tests::outcome::same;
-use crate::tests::{Outcome, credential_of, publish, requests_of};
-use registry_desk::Registry;
+use crate::tests::{Outcome, all_at_once, credential_of, publish, requests_of};
 use registry_names::{Moment, Refusal, Stop};
 use registry_rules::{Reply, Request};
-use sqlite::MemStore;
 use std::alloc::{AllocError, Global};
 use std::test::Fail;
 
@@ -18,11 +16,7 @@ const MOST: usize = 4_194_304;
 fn the_largest_body_is_published(rt: HostRuntime) -> Result<(), Fail> {
     let alloc = rt.alloc();
     let body = padded(alloc, MOST)?;
-    same(
-        "the most bytes",
-        outcome_of(alloc, &body)?,
-        Ok(Reply::Created),
-    )
+    is_published(alloc, &body)
 }
 
 #[test]
@@ -41,24 +35,24 @@ fn padded(alloc: Global, length: usize) -> Result<String, AllocError> {
     Ok(body)
 }
 
-// The outcome of its publication in a new registry.
-fn outcome_of(alloc: Global, body: &str) -> Result<Outcome, Fail> {
-    let mut registry = lab(alloc)?;
-    let request = request_with(alloc, body)?;
-    Ok(registry.apply(alloc, &request))
+fn is_published(alloc: Global, body: &str) -> Result<(), Fail> {
+    let outcomes = outcomes_with(alloc, body)?;
+    same("the most bytes", outcomes.last(), Some(&Ok(Reply::Created)))
 }
 
-// A registry with an organisation.
-fn lab(alloc: Global) -> Result<Registry<MemStore>, Fail> {
-    let requests = requests_of(alloc, LAB)?;
-    let (registry, _outcomes) = Registry::run_in_memory(alloc, &requests)?;
-    Ok(registry)
+// The outcomes where it is published in a registry with an organisation.
+fn outcomes_with(alloc: Global, body: &str) -> Result<Vec<Outcome>, Fail> {
+    let mut requests = requests_of(alloc, LAB)?;
+    requests.push(request_with(alloc, body)?)?;
+    Ok(all_at_once(alloc, &requests)?)
 }
 
 fn request_with(alloc: Global, body: &str) -> Result<Request, Stop> {
+    let who = credential_of(alloc, Who::User("bob"))?;
+    let what = publish(alloc, body)?;
     Ok(Request {
         at: Moment::clamped(100),
-        who: credential_of(alloc, Who::User("bob"))?,
-        what: publish(alloc, body)?,
+        who,
+        what,
     })
 }

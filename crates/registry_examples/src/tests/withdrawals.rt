@@ -1,20 +1,18 @@
 //! Withdrawals and deprecations.
 
-ghost use Rattle.std.specs.Prelude.{◌≡◌, false};
-
 use crate::dependents::{DEPENDENTS, NEEDS};
 use crate::deprecations::{DEPRECATIONS, MESSAGES};
 use crate::example::{Ask, Example, Step};
 use crate::tests::body::ABC;
 use crate::tests::outcome::same;
-use crate::tests::{all_have_their_replies, are_expected, publish, requests_of, steps_of};
+use crate::tests::{all_have_their_replies, all_have_their_reply, publish, steps_of, version_of};
 use crate::waits::{REASONS, WAITS};
 use crate::withdrawals::{FREED_TAGS, SHARED_ARCHIVES, WITHDRAWALS};
 use registry_desk::Registry;
-use registry_names::{Message, Name, Refusal, Stop, Ver};
+use registry_names::{Message, Name, Refusal, Stop};
 use registry_ranges::Selector;
-use registry_rules::{Action, Request};
-use sqlite::{Alter, Connection, MemStore};
+use registry_rules::Action;
+use sqlite::{Alter, Connection, Error, MemStore};
 use std::alloc::{AllocError, Global};
 use std::test::Fail;
 
@@ -84,27 +82,24 @@ static STORED: [usize; 3] = [1, 1, 0];
 // Whether so many archives are stored after the requests of an example, which have their replies.
 fn stores(alloc: Global, example: &Example, count: usize) -> Result<(), Fail> {
     let steps = steps_of(alloc, example)?;
-    let stored = archives_after(alloc, &requests_of(alloc, &steps)?, &steps)?;
-    same(example.shows, stored, count)
+    same(example.shows, archives_after(alloc, &steps)?, count)
 }
 
-fn archives_after(alloc: Global, requests: &[Request], steps: &[Step]) -> Result<usize, Fail> {
-    let (registry, outcomes) = Registry::run_in_memory(alloc, requests)?;
-    are_expected("archives", &outcomes, steps)?;
-    archives_in(registry)
+fn archives_after(alloc: Global, steps: &[Step]) -> Result<usize, Fail> {
+    let mut registry = Registry::in_memory(alloc)?;
+    all_have_their_reply(alloc, &mut registry, steps)?;
+    Ok(archives_in(registry)?)
 }
 
-fn archives_in(registry: Registry<MemStore>) -> Result<usize, Fail> {
+fn archives_in(registry: Registry<MemStore>) -> Result<usize, Error> {
     let mut conn = registry.release();
     rows_of(&mut conn, "SELECT id FROM archives")
 }
 
 // How many rows a query gives.
-fn rows_of<S: Alter>(conn: &mut Connection<S>, text: &str) -> Result<usize, Fail>
-    requires idle { conn.old.in_transaction ≡ false }
-{
-    let mut tx = conn.transaction();
-    Ok(tx.query_all(text, &[])?.len())
+fn rows_of<S: Alter>(conn: &mut Connection<S>, text: &str) -> Result<usize, Error> {
+    let rows = conn.query_all(text, &[])?;
+    Ok(rows.len())
 }
 
 /// The action about versions that is asked. None of the others is.
@@ -154,10 +149,8 @@ fn client_body(alloc: Global, name: &str, version: &str, tag: &str) -> Result<St
 }
 
 fn withdraw(alloc: Global, name: &str, version: &str) -> Result<Action, Stop> {
-    Ok(Action::Withdraw {
-        name: Name::parse(alloc, name)?,
-        version: Ver::parse(alloc, version)?,
-    })
+    let (name, version) = version_of(alloc, name, version)?;
+    Ok(Action::Withdraw { name, version })
 }
 
 fn deprecate(alloc: Global, name: &str, selector: &str, message: &str) -> Result<Action, Stop> {

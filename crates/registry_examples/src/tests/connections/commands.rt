@@ -1,13 +1,10 @@
 //! Connections whose requests change the registry.
 
-use super::{Case, is_served, served};
+use super::{Case, Counting, both_come_out, is_served_at, kit};
 use crate::example::{Ask, Expected, Step, Who};
-use crate::tests::{Outcome, is_expected, otherwise, request_of};
-use registry_desk::Registry;
-use registry_names::{FromRead, Stop};
+use crate::tests::has_its_reply;
+use registry_names::FromRead;
 use registry_talk::End;
-use sqlite::MemStore;
-use std::alloc::Global;
 use std::test::Fail;
 
 /// A tag is set.
@@ -37,28 +34,17 @@ const TAGS_THEN: Step = Step {
     expected: Expected::Doc("{\"latest\":\"1.0.0\",\"next\":\"1.0.0\"}"),
 };
 
-fn outcome_of(
-    alloc: Global,
-    registry: &mut Registry<MemStore>,
-    step: &Step,
-) -> Result<Outcome, Stop> {
-    let request = request_of(alloc, step)?;
-    Ok(registry.apply(alloc, &request))
-}
-
 #[test]
 fn what_is_asked_over_http_is_there_for_others(rt: HostRuntime) -> Result<(), Fail> {
+    let alloc = rt.alloc();
+    let mut counting = kit(alloc)?;
     let reader = FromRead::new(TAGGED.input.as_bytes());
-    let mut registry = served(rt.alloc(), &TAGGED, reader)?;
-    let outcome = outcome_of(rt.alloc(), &mut registry, &TAGS_THEN)?;
-    if is_expected(&outcome, &TAGS_THEN.expected) {
-        return Ok(());
-    }
-    Err(otherwise("the tags then", outcome, TAGS_THEN.expected))
+    is_served_at(alloc, &mut counting, &TAGGED, reader)?;
+    let Counting { desk, asked: _ } = counting;
+    has_its_reply(alloc, &mut desk.into_registry(), &TAGS_THEN)
 }
 
 #[test]
 fn versions_are_deprecated_and_withdrawn_over_http(rt: HostRuntime) -> Result<(), Fail> {
-    let reader = FromRead::new(WITHDRAWN.input.as_bytes());
-    is_served(rt.alloc(), &WITHDRAWN, reader)
+    both_come_out(rt.alloc(), &WITHDRAWN)
 }

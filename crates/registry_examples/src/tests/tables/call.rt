@@ -8,7 +8,7 @@ ghost use Rattle.registry_tables.specs.Effects.{InForm};
 use super::rights::{self, RightCall};
 use super::teams::{self, TeamCall};
 use super::text::{
-    Body, archive_text, done, form_of, status_text, tags_text, versions_text, word_text,
+    Body, archive_text, done, form_of, push_word, status_text, tags_text, versions_text, word_text,
 };
 use crate::tests::outcome::{otherwise, same};
 use registry_names::{Fault, Moment, Name, Status, Stop, Ver};
@@ -177,12 +177,16 @@ fn is_fault<S: Alter>(alloc: Global, tx: &mut Transaction<'_, S>, asked: Asked) 
 fn words_in(alloc: Global, rows: &[Row]) -> Result<String, Fail> {
     let mut text = String::new(alloc);
     for row in rows {
-        text.push_str(" ")?;
-        if let ValueRef::Text(word) = row.get_ref(0)? {
-            text.push_str(str::from_utf8(word)?)?;
-        }
+        push_word(&mut text, word_in(row)?)?;
     }
     Ok(text)
+}
+
+fn word_in(row: &Row) -> Result<&str, Fail> {
+    match row.get_ref(0)? {
+        ValueRef::Text(word) => Ok(str::from_utf8(word)?),
+        _ => Ok(""),
+    }
 }
 
 fn told<S: Alter>(
@@ -210,56 +214,82 @@ fn told_of<S: Alter>(
     ensures in_form { OnOk result (InForm S.Store tx.new) }
 {
     match call {
-        Call::NewStatus(status) => put_status(alloc, tx, name, status, false),
-        Call::OtherStatus(status) => put_status(alloc, tx, name, status, true),
-        Call::Number(number) => put_number(alloc, tx, name, number),
-        Call::Add(body, at) => add(alloc, tx, name, body, Moment::clamped(at)),
-        Call::Publish(body, at) => publish(alloc, tx, name, body, Moment::clamped(at)),
-        Call::Withdrawn(version) => withdraw(alloc, tx, name, version),
-        Call::NewTag(tag, version) => put_tag(alloc, tx, name, (tag, version), false),
-        Call::MovedTag(tag, version) => put_tag(alloc, tx, name, (tag, version), true),
-        Call::DropTag(tag) => drop_tag(alloc, tx, name, tag),
-        Call::Status => Ok(status_text(alloc, load_status(tx, name)?)?),
-        Call::HasLive => Ok(word_text(alloc, has_live(tx, name)?)?),
-        Call::Lives(version) => Ok(word_text(alloc, has_version(tx, name, version)?)?),
-        Call::IsSpent(version) => Ok(word_text(alloc, is_spent(tx, name, version)?)?),
-        Call::HasTag(tag) => Ok(word_text(alloc, has_tag(tx, name, tag)?)?),
-        Call::Tags => Ok(tags_text(alloc, &load_tags(alloc, tx, name)?)?),
-        Call::Versions => Ok(versions_text(alloc, &load_versions(alloc, tx, name)?)?),
+        Call::Status => status_text(alloc, load_status(tx, name)?),
+        Call::HasLive => word_text(alloc, has_live(tx, name)?),
+        Call::Lives(version) => word_text(alloc, has_version(tx, name, version)?),
+        Call::IsSpent(version) => word_text(alloc, is_spent(tx, name, version)?),
+        Call::HasTag(tag) => word_text(alloc, has_tag(tx, name, tag)?),
+        Call::Tags => tags_text(alloc, &load_tags(alloc, tx, name)?),
+        Call::Versions => versions_text(alloc, &load_versions(alloc, tx, name)?),
         Call::Archive(version) => archive_text(alloc, &load_archive(tx, name, version)?),
         Call::Teams(call) => teams::told(alloc, tx, name, call),
         Call::Rights(call) => rights::told(alloc, tx, name, call),
+        _ => {
+            put(alloc, tx, name, call)?;
+            done(alloc)
+        }
     }
 }
 
-fn put_status<S: Alter>(
+// Makes a call that only writes.
+fn put<S: Alter>(
     alloc: Global,
     tx: &mut Transaction<'_, S>,
     package: &Name,
-    status: Status,
-    stands: bool,
-) -> Result<String, Stop>
+    call: Call,
+) -> Result<(), Stop>
     requires in_form { InForm S.Store tx.old }
     ensures same_reference { tx.new.conn.ghost_name ≡ tx.old.conn.ghost_name }
     ensures in_form { OnOk result (InForm S.Store tx.new) }
 {
-    make(
+    match call {
+        Call::NewStatus(status) => put_status(tx, package, status, false),
+        Call::OtherStatus(status) => put_status(tx, package, status, true),
+        Call::Number(number) => Ok(put_number(tx, package, number)?),
+        Call::Add(body, at) => add(alloc, tx, package, body, at),
+        Call::Publish(body, at) => publish(alloc, tx, package, body, at),
+        Call::Withdrawn(version) => Ok(withdraw(tx, package, version)?),
+        Call::NewTag(tag, version) => put_tag(alloc, tx, package, (tag, version), false),
+        Call::MovedTag(tag, version) => put_tag(alloc, tx, package, (tag, version), true),
+        Call::DropTag(tag) => made(tx, &Change::DropTag { package, tag }),
+        _ => Ok(()),
+    }
+}
+
+/// Makes a change.
+pub fn made<S: Alter>(tx: &mut Transaction<'_, S>, change: &Change<'_>) -> Result<(), Stop>
+    requires in_form { InForm S.Store tx.old }
+    ensures same_reference { tx.new.conn.ghost_name ≡ tx.old.conn.ghost_name }
+    ensures in_form { OnOk result (InForm S.Store tx.new) }
+{
+    Ok(make(tx, change)?)
+}
+
+fn put_status<S: Alter>(
+    tx: &mut Transaction<'_, S>,
+    package: &Name,
+    status: Status,
+    stands: bool,
+) -> Result<(), Stop>
+    requires in_form { InForm S.Store tx.old }
+    ensures same_reference { tx.new.conn.ghost_name ≡ tx.old.conn.ghost_name }
+    ensures in_form { OnOk result (InForm S.Store tx.new) }
+{
+    made(
         tx,
         &Change::PutStatus {
             package,
             status,
             stands,
         },
-    )?;
-    done(alloc)
+    )
 }
 
 fn put_number<S: Alter>(
-    alloc: Global,
     tx: &mut Transaction<'_, S>,
     package: &Name,
     number: i64,
-) -> Result<String, Stop>
+) -> Result<(), Fault>
     requires in_form { InForm S.Store tx.old }
     ensures same_reference { tx.new.conn.ghost_name ≡ tx.old.conn.ghost_name }
     ensures in_form { OnOk result (InForm S.Store tx.new) }
@@ -268,54 +298,51 @@ fn put_number<S: Alter>(
         tx,
         "INSERT INTO packages VALUES (?1, ?2)",
         params![package.text(), number],
-    )?;
-    done(alloc)
+    )
 }
 
 fn add<S: Alter>(
     alloc: Global,
     tx: &mut Transaction<'_, S>,
-    name: &Name,
+    package: &Name,
     body: Body,
-    at: Moment,
-) -> Result<String, Stop>
+    at: i64,
+) -> Result<(), Stop>
     requires in_form { InForm S.Store tx.old }
     ensures same_reference { tx.new.conn.ghost_name ≡ tx.old.conn.ghost_name }
     ensures in_form { OnOk result (InForm S.Store tx.new) }
 {
-    let form = form_of(alloc, name.text(), body)?;
-    make(
+    let form = form_of(alloc, package.text(), body)?;
+    let at = Moment::clamped(at);
+    made(
         tx,
         &Change::AddVersion {
             form: &form,
             at: &at,
         },
-    )?;
-    done(alloc)
+    )
 }
 
 fn publish<S: Alter>(
     alloc: Global,
     tx: &mut Transaction<'_, S>,
-    name: &Name,
+    package: &Name,
     body: Body,
-    at: Moment,
-) -> Result<String, Stop>
+    at: i64,
+) -> Result<(), Stop>
     requires in_form { InForm S.Store tx.old }
     ensures same_reference { tx.new.conn.ghost_name ≡ tx.old.conn.ghost_name }
     ensures in_form { OnOk result (InForm S.Store tx.new) }
 {
-    let form = form_of(alloc, name.text(), body)?;
-    put_version(tx, &form, at)?;
-    done(alloc)
+    let form = form_of(alloc, package.text(), body)?;
+    Ok(put_version(tx, &form, Moment::clamped(at))?)
 }
 
 fn withdraw<S: Alter>(
-    alloc: Global,
     tx: &mut Transaction<'_, S>,
     package: &Name,
     version: &str,
-) -> Result<String, Stop>
+) -> Result<(), Fault>
     requires in_form { InForm S.Store tx.old }
     ensures same_reference { tx.new.conn.ghost_name ≡ tx.old.conn.ghost_name }
     ensures in_form { OnOk result (InForm S.Store tx.new) }
@@ -324,8 +351,7 @@ fn withdraw<S: Alter>(
         tx,
         "INSERT INTO spent VALUES (?1, ?2, 1, 2)",
         params![package.text(), version],
-    )?;
-    done(alloc)
+    )
 }
 
 fn put_tag<S: Alter>(
@@ -334,13 +360,13 @@ fn put_tag<S: Alter>(
     package: &Name,
     named: (&str, &str),
     stands: bool,
-) -> Result<String, Stop>
+) -> Result<(), Stop>
     requires in_form { InForm S.Store tx.old }
     ensures same_reference { tx.new.conn.ghost_name ≡ tx.old.conn.ghost_name }
     ensures in_form { OnOk result (InForm S.Store tx.new) }
 {
     let version = Ver::parse(alloc, named.1)?;
-    make(
+    made(
         tx,
         &Change::PutTag {
             package,
@@ -348,20 +374,5 @@ fn put_tag<S: Alter>(
             version: &version,
             stands,
         },
-    )?;
-    done(alloc)
-}
-
-fn drop_tag<S: Alter>(
-    alloc: Global,
-    tx: &mut Transaction<'_, S>,
-    package: &Name,
-    tag: &str,
-) -> Result<String, Stop>
-    requires in_form { InForm S.Store tx.old }
-    ensures same_reference { tx.new.conn.ghost_name ≡ tx.old.conn.ghost_name }
-    ensures in_form { OnOk result (InForm S.Store tx.new) }
-{
-    make(tx, &Change::DropTag { package, tag })?;
-    done(alloc)
+    )
 }

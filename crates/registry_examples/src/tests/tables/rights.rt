@@ -3,12 +3,13 @@
 ghost use Rattle.std.specs.Prelude.{◌≡◌, OnOk};
 ghost use Rattle.registry_tables.specs.Effects.{InForm};
 
+use super::call::made;
 use super::text::{done, granted_text, standing_text, word_text};
 use registry_access::{Caller, Grant};
 use registry_names::{Ident, Name, Stop};
 use registry_rules::Change;
 use registry_tables::{
-    has_grant, has_other_maintainer, is_maintainer, load_standing, load_team_packages, make,
+    has_grant, has_other_maintainer, is_maintainer, load_standing, load_team_packages,
 };
 use sqlite::{Alter, Transaction};
 use std::alloc::Global;
@@ -52,63 +53,52 @@ pub fn told<S: Alter>(
     ensures in_form { OnOk result (InForm S.Store tx.new) }
 {
     match call {
-        RightCall::HasGrant(org, team) => Ok(word_text(alloc, has_grant(tx, org, team, name)?)?),
-        RightCall::IsMaintainer(user) => Ok(word_text(alloc, is_maintainer(tx, name, user)?)?),
+        RightCall::HasGrant(org, team) => word_text(alloc, has_grant(tx, org, team, name)?),
+        RightCall::IsMaintainer(user) => word_text(alloc, is_maintainer(tx, name, user)?),
         RightCall::OtherMaintainer(user) => other_maintainer(alloc, tx, name, user),
         RightCall::Standing(user) => standing(alloc, tx, name, user),
         RightCall::Anonymous => standing_of(alloc, tx, name, &Caller::Anonymous),
         RightCall::Packages(user, org, team) => packages(alloc, tx, user, (org, team)),
-        _ => put(alloc, tx, name, call),
+        _ => {
+            put(alloc, tx, name, call)?;
+            done(alloc)
+        }
     }
 }
 
+// Makes a call that only writes.
 fn put<S: Alter>(
     alloc: Global,
     tx: &mut Transaction<'_, S>,
-    name: &Name,
+    package: &Name,
     call: RightCall,
-) -> Result<String, Stop>
+) -> Result<(), Stop>
     requires in_form { InForm S.Store tx.old }
     ensures same_reference { tx.new.conn.ghost_name ≡ tx.old.conn.ghost_name }
     ensures in_form { OnOk result (InForm S.Store tx.new) }
 {
     match call {
-        RightCall::NewGrant(org, team, grant) => put_grant(
-            alloc,
-            tx,
-            (org, team),
-            name,
-            grant,
-            false,
-        ),
-        RightCall::OtherGrant(org, team, grant) => put_grant(
-            alloc,
-            tx,
-            (org, team),
-            name,
-            grant,
-            true,
-        ),
-        RightCall::DropGrant(org, team) => drop_grant(alloc, tx, (org, team), name),
-        RightCall::NewMaintainer(user) => put_maintainer(alloc, tx, name, user),
-        RightCall::DropMaintainer(user) => drop_maintainer(alloc, tx, name, user),
-        _ => done(alloc),
+        RightCall::NewGrant(org, team, grant) => put_grant(tx, (org, team), package, grant, false),
+        RightCall::OtherGrant(org, team, grant) => put_grant(tx, (org, team), package, grant, true),
+        RightCall::DropGrant(org, team) => drop_grant(tx, (org, team), package),
+        RightCall::NewMaintainer(user) => put_maintainer(alloc, tx, package, user),
+        RightCall::DropMaintainer(user) => drop_maintainer(alloc, tx, package, user),
+        _ => Ok(()),
     }
 }
 
 fn put_grant<S: Alter>(
-    alloc: Global,
     tx: &mut Transaction<'_, S>,
     team: (&str, &str),
     package: &Name,
     grant: Grant,
     stands: bool,
-) -> Result<String, Stop>
+) -> Result<(), Stop>
     requires in_form { InForm S.Store tx.old }
     ensures same_reference { tx.new.conn.ghost_name ≡ tx.old.conn.ghost_name }
     ensures in_form { OnOk result (InForm S.Store tx.new) }
 {
-    make(
+    made(
         tx,
         &Change::PutGrant {
             organisation: team.0,
@@ -117,29 +107,26 @@ fn put_grant<S: Alter>(
             grant,
             stands,
         },
-    )?;
-    done(alloc)
+    )
 }
 
 fn drop_grant<S: Alter>(
-    alloc: Global,
     tx: &mut Transaction<'_, S>,
     team: (&str, &str),
     package: &Name,
-) -> Result<String, Stop>
+) -> Result<(), Stop>
     requires in_form { InForm S.Store tx.old }
     ensures same_reference { tx.new.conn.ghost_name ≡ tx.old.conn.ghost_name }
     ensures in_form { OnOk result (InForm S.Store tx.new) }
 {
-    make(
+    made(
         tx,
         &Change::DropGrant {
             organisation: team.0,
             team: team.1,
             package,
         },
-    )?;
-    done(alloc)
+    )
 }
 
 fn put_maintainer<S: Alter>(
@@ -147,20 +134,13 @@ fn put_maintainer<S: Alter>(
     tx: &mut Transaction<'_, S>,
     package: &Name,
     user: &str,
-) -> Result<String, Stop>
+) -> Result<(), Stop>
     requires in_form { InForm S.Store tx.old }
     ensures same_reference { tx.new.conn.ghost_name ≡ tx.old.conn.ghost_name }
     ensures in_form { OnOk result (InForm S.Store tx.new) }
 {
-    let user = Ident::parse(alloc, user)?;
-    make(
-        tx,
-        &Change::PutOwner {
-            package,
-            user: &user,
-        },
-    )?;
-    done(alloc)
+    let user = &Ident::parse(alloc, user)?;
+    made(tx, &Change::PutOwner { package, user })
 }
 
 fn drop_maintainer<S: Alter>(
@@ -168,20 +148,13 @@ fn drop_maintainer<S: Alter>(
     tx: &mut Transaction<'_, S>,
     package: &Name,
     user: &str,
-) -> Result<String, Stop>
+) -> Result<(), Stop>
     requires in_form { InForm S.Store tx.old }
     ensures same_reference { tx.new.conn.ghost_name ≡ tx.old.conn.ghost_name }
     ensures in_form { OnOk result (InForm S.Store tx.new) }
 {
-    let user = Ident::parse(alloc, user)?;
-    make(
-        tx,
-        &Change::DropOwner {
-            package,
-            user: &user,
-        },
-    )?;
-    done(alloc)
+    let user = &Ident::parse(alloc, user)?;
+    made(tx, &Change::DropOwner { package, user })
 }
 
 fn other_maintainer<S: Alter>(
@@ -195,7 +168,7 @@ fn other_maintainer<S: Alter>(
     ensures in_form { OnOk result (InForm S.Store tx.new) }
 {
     let has = has_other_maintainer(alloc, tx, name, user)?;
-    Ok(word_text(alloc, has)?)
+    word_text(alloc, has)
 }
 
 fn standing<S: Alter>(
@@ -223,7 +196,7 @@ fn standing_of<S: Alter>(
     ensures in_form { OnOk result (InForm S.Store tx.new) }
 {
     let standing = load_standing(alloc, tx, caller, name)?;
-    Ok(standing_text(alloc, &standing)?)
+    standing_text(alloc, &standing)
 }
 
 fn packages<S: Alter>(
@@ -238,5 +211,5 @@ fn packages<S: Alter>(
 {
     let caller = Caller::User(Ident::parse(alloc, user)?);
     let granted = load_team_packages(alloc, tx, &caller, team.0, team.1)?;
-    Ok(granted_text(alloc, &granted)?)
+    granted_text(alloc, &granted)
 }

@@ -48,30 +48,28 @@ pub fn told<S: Alter>(
         TeamCall::Users(org, team) => users(alloc, tx, org, team),
         TeamCall::Teams(org, user) => teams(alloc, tx, org, user),
         TeamCall::Grants(org, user) => grants(alloc, tx, org, user, name),
-        _ => put(alloc, tx, name, call),
+        _ => {
+            put(tx, name, call)?;
+            done(alloc)
+        }
     }
 }
 
-fn put<S: Alter>(
-    alloc: Global,
-    tx: &mut Transaction<'_, S>,
-    name: &Name,
-    call: TeamCall,
-) -> Result<String, Stop>
+// Makes a call that only writes.
+fn put<S: Alter>(tx: &mut Transaction<'_, S>, name: &Name, call: TeamCall) -> Result<(), Fault>
     requires in_form { InForm S.Store tx.old }
     ensures same_reference { tx.new.conn.ghost_name ≡ tx.old.conn.ghost_name }
     ensures in_form { OnOk result (InForm S.Store tx.new) }
 {
     match call {
-        TeamCall::User(user) => put_user(tx, user)?,
-        TeamCall::Organisation(org) => put_organisation(tx, org)?,
-        TeamCall::Member(org, user) => put_member(tx, org, user)?,
-        TeamCall::Team(org, team) => put_team(tx, org, team)?,
-        TeamCall::TeamMember(org, team, user) => put_team_member(tx, org, team, user)?,
-        TeamCall::Grant(org, team, number) => put_grant(tx, (org, team), name, number)?,
-        _ => {}
+        TeamCall::User(user) => put_user(tx, user),
+        TeamCall::Organisation(org) => put_organisation(tx, org),
+        TeamCall::Member(org, user) => put_member(tx, org, user),
+        TeamCall::Team(org, team) => put_team(tx, org, team),
+        TeamCall::TeamMember(org, team, user) => put_team_member(tx, org, team, user),
+        TeamCall::Grant(org, team, number) => put_grant(tx, (org, team), name, number),
+        _ => Ok(()),
     }
-    done(alloc)
 }
 
 fn users<S: Alter>(
@@ -85,7 +83,7 @@ fn users<S: Alter>(
     ensures in_form { OnOk result (InForm S.Store tx.new) }
 {
     let users = load_team_users(alloc, tx, org, team)?;
-    Ok(names_text(alloc, &users)?)
+    names_text(alloc, &users)
 }
 
 fn teams<S: Alter>(
@@ -99,7 +97,7 @@ fn teams<S: Alter>(
     ensures in_form { OnOk result (InForm S.Store tx.new) }
 {
     let teams = load_user_teams(alloc, tx, org, user)?;
-    Ok(names_text(alloc, &teams)?)
+    names_text(alloc, &teams)
 }
 
 fn grants<S: Alter>(
@@ -114,7 +112,7 @@ fn grants<S: Alter>(
     ensures in_form { OnOk result (InForm S.Store tx.new) }
 {
     let grants = load_grants(alloc, tx, org, user, name)?;
-    Ok(grants_text(alloc, &grants)?)
+    grants_text(alloc, &grants)
 }
 
 fn put_user<S: Alter>(tx: &mut Transaction<'_, S>, user: &str) -> Result<(), Fault>

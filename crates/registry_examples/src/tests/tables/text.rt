@@ -49,41 +49,59 @@ pub fn done(alloc: Global) -> Result<String, Stop> {
 }
 
 /// `true` or `false`.
-pub fn word_text(alloc: Global, is_so: bool) -> Result<String, AllocError> {
-    format!(in alloc; "{is_so}")
+pub fn word_text(alloc: Global, is_so: bool) -> Result<String, Stop> {
+    Ok(format!(in alloc; "{is_so}")?)
 }
 
 /// The word of a status, or `none`.
-pub fn status_text(alloc: Global, status: Option<Status>) -> Result<String, AllocError> {
-    let word = match status {
+pub fn status_text(alloc: Global, status: Option<Status>) -> Result<String, Stop> {
+    Ok(String::from_str(alloc, status_word(status))?)
+}
+
+fn status_word(status: Option<Status>) -> &'static str {
+    match status {
         Some(Status::Public) => "public",
         Some(Status::Restricted) => "restricted",
         None => "none",
-    };
-    String::from_str(alloc, word)
+    }
 }
 
 /// Each tag with its version, after a space.
-pub fn tags_text(alloc: Global, tags: &[DistTag]) -> Result<String, AllocError> {
+pub fn tags_text(alloc: Global, tags: &[DistTag]) -> Result<String, Stop> {
     let mut text = String::new(alloc);
     for named in tags {
-        let tag = named.tag.as_str();
-        let version = named.version.as_str();
-        text.push_str(&format!(in alloc; " {tag}={version}")?)?;
+        push_named(&mut text, named.tag.as_str(), named.version.as_str())?;
     }
     Ok(text)
 }
 
+fn push_named(text: &mut String, name: &str, value: &str) -> Result<(), AllocError> {
+    push_word(text, name)?;
+    text.push_str("=")?;
+    text.push_str(value)
+}
+
+/// A word, after a space.
+pub fn push_word(text: &mut String, word: &str) -> Result<(), AllocError> {
+    text.push_str(" ")?;
+    text.push_str(word)
+}
+
 /// Each version with its manifest and its message in brackets, after a space.
-pub fn versions_text(alloc: Global, rows: &[VersionRow]) -> Result<String, AllocError> {
+pub fn versions_text(alloc: Global, rows: &[VersionRow]) -> Result<String, Stop> {
     let mut text = String::new(alloc);
     for row in rows {
-        let version = row.version.as_str();
-        let manifest = row.manifest.as_str();
-        let message = row.message.as_str();
-        text.push_str(&format!(in alloc; " {version} {manifest} [{message}]")?)?;
+        push_version(&mut text, row)?;
     }
     Ok(text)
+}
+
+fn push_version(text: &mut String, row: &VersionRow) -> Result<(), AllocError> {
+    push_word(text, row.version.as_str())?;
+    push_word(text, row.manifest.as_str())?;
+    text.push_str(" [")?;
+    text.push_str(row.message.as_str())?;
+    text.push_str("]")
 }
 
 /// The length of an archive, and the text of its last three bytes; or `none`.
@@ -98,21 +116,19 @@ pub fn archive_text(alloc: Global, archive: &Option<Blob>) -> Result<String, Sto
 }
 
 /// Each name, after a space.
-pub fn names_text(alloc: Global, names: &[Text]) -> Result<String, AllocError> {
+pub fn names_text(alloc: Global, names: &[Text]) -> Result<String, Stop> {
     let mut text = String::new(alloc);
     for name in names {
-        text.push_str(" ")?;
-        text.push_str(name.as_str())?;
+        push_word(&mut text, name.as_str())?;
     }
     Ok(text)
 }
 
 /// The word of each grant, after a space.
-pub fn grants_text(alloc: Global, grants: &[Grant]) -> Result<String, AllocError> {
+pub fn grants_text(alloc: Global, grants: &[Grant]) -> Result<String, Stop> {
     let mut text = String::new(alloc);
     for grant in grants {
-        text.push_str(" ")?;
-        text.push_str(grant_word(*grant))?;
+        push_word(&mut text, grant_word(*grant))?;
     }
     Ok(text)
 }
@@ -125,30 +141,31 @@ fn grant_word(grant: Grant) -> &'static str {
 }
 
 /// Each package with what is granted on it, after a space.
-pub fn granted_text(alloc: Global, rows: &[Granted]) -> Result<String, AllocError> {
+pub fn granted_text(alloc: Global, rows: &[Granted]) -> Result<String, Stop> {
     let mut text = String::new(alloc);
     for row in rows {
-        let name = row.name.as_str();
-        let grant = grant_word(row.grant);
-        text.push_str(&format!(in alloc; " {name}={grant}")?)?;
+        push_named(&mut text, row.name.as_str(), grant_word(row.grant))?;
     }
     Ok(text)
 }
 
 /// Whether the organisation is there, the role in it, the package's status, whether the caller is
 /// a maintainer, and what he is granted.
-pub fn standing_text(alloc: Global, standing: &Standing) -> Result<String, AllocError> {
-    let role = match standing.role {
-        Some(Role::Owner) => "owner",
-        Some(Role::Admin) => "admin",
-        Some(Role::Developer) => "developer",
-        None => "none",
-    };
-    let status = status_text(alloc, standing.status)?;
-    let status = status.as_str();
+pub fn standing_text(alloc: Global, standing: &Standing) -> Result<String, Stop> {
+    let role = role_word(standing.role);
+    let status = status_word(standing.status);
     let grants = grants_text(alloc, &standing.grants)?;
     let grants = grants.as_str();
     let org = standing.org;
     let maintainer = standing.maintainer;
-    format!(in alloc; "{org} {role} {status} {maintainer}{grants}")
+    Ok(format!(in alloc; "{org} {role} {status} {maintainer}{grants}")?)
+}
+
+fn role_word(role: Option<Role>) -> &'static str {
+    match role {
+        Some(Role::Owner) => "owner",
+        Some(Role::Admin) => "admin",
+        Some(Role::Developer) => "developer",
+        None => "none",
+    }
 }
