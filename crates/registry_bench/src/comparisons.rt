@@ -1,10 +1,12 @@
 //! Requests that are asked in turn of two registries of which one is larger in some way.
 
 use crate::failure::Failure;
-use crate::people;
+use crate::people::add_publisher;
 use crate::release::Archive;
 use crate::stage::{Ask, Stage, ask_stages};
 use crate::turns::print_turns;
+use registry_desk::Registry;
+use sqlite::Alter;
 use std::alloc::Global;
 use std::time::Clock;
 
@@ -146,13 +148,50 @@ fn print_pairs<R: Print + Clock>(
     smaller: &[Stage],
     pairs: &[Pair],
 ) -> Result<(), Failure> {
-    let mut first = people::registry(alloc)?;
-    let mut second = people::registry(alloc)?;
-    ask_stages(alloc, &mut first, larger)?;
-    ask_stages(alloc, &mut second, smaller)?;
+    let mut first = Registry::in_memory(alloc)?;
+    let mut second = Registry::in_memory(alloc)?;
+    print_pairs_of(
+        rt,
+        alloc,
+        (&mut first, larger),
+        (&mut second, smaller),
+        pairs,
+    )
+}
+
+fn print_pairs_of<R: Print + Clock, S: Alter>(
+    rt: &R,
+    alloc: Global,
+    (first, larger): (&mut Registry<S>, &[Stage]),
+    (second, smaller): (&mut Registry<S>, &[Stage]),
+    pairs: &[Pair],
+) -> Result<(), Failure> {
+    begin(alloc, first, larger)?;
+    begin(alloc, second, smaller)?;
     for pair in pairs {
-        let (large, small) = (pair.larger.turns(alloc)?, pair.smaller.turns(alloc)?);
-        print_turns(rt, alloc, (&mut first, &large), (&mut second, &small))?;
+        print_pair(rt, alloc, first, second, pair)?;
     }
     Ok(())
+}
+
+// Adds the publisher, and asks the requests of some stages.
+fn begin<S: Alter>(
+    alloc: Global,
+    registry: &mut Registry<S>,
+    stages: &[Stage],
+) -> Result<(), Failure> {
+    add_publisher(alloc, registry)?;
+    ask_stages(alloc, registry, stages)
+}
+
+fn print_pair<R: Print + Clock, S: Alter>(
+    rt: &R,
+    alloc: Global,
+    first: &mut Registry<S>,
+    second: &mut Registry<S>,
+    pair: &Pair,
+) -> Result<(), Failure> {
+    let large = pair.larger.turns(alloc)?;
+    let small = pair.smaller.turns(alloc)?;
+    print_turns(rt, alloc, (first, &large), (second, &small))
 }

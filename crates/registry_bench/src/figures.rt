@@ -3,12 +3,15 @@
 use crate::comparisons::print_comparisons;
 use crate::failure::Failure;
 use crate::measurement::{Measurement, start};
-use crate::people;
+use crate::people::add_publisher;
+use crate::refusals::print_refusals;
 use crate::release::{ARCHIVE, Archive, Release};
 use crate::stage::{Ask, Stage, print_stages};
 use crate::visits::print_visits;
+use registry_desk::Registry;
 use registry_names::Stop;
 use registry_publish::PublishForm;
+use sqlite::Alter;
 use std::alloc::Global;
 use std::time::Clock;
 
@@ -138,13 +141,24 @@ pub fn print_figures<R: Print + Clock>(rt: &R, alloc: Global) -> Result<(), Fail
     print_asking(rt, alloc, &GROWTH)?;
     print_asking(rt, alloc, &WITHDRAWALS)?;
     print_comparisons(rt, alloc)?;
-    print_visits(rt, alloc)
+    print_visits(rt, alloc)?;
+    print_refusals(rt, alloc)
 }
 
 // How long the requests of these stages take on a new registry.
 fn print_asking<R: Print + Clock>(rt: &R, alloc: Global, stages: &[Stage]) -> Result<(), Failure> {
-    let mut registry = people::registry(alloc)?;
-    print_stages(rt, alloc, &mut registry, stages)
+    let mut registry = Registry::in_memory(alloc)?;
+    print_asking_of(rt, alloc, &mut registry, stages)
+}
+
+fn print_asking_of<R: Print + Clock, S: Alter>(
+    rt: &R,
+    alloc: Global,
+    registry: &mut Registry<S>,
+    stages: &[Stage],
+) -> Result<(), Failure> {
+    add_publisher(alloc, registry)?;
+    print_stages(rt, alloc, registry, stages)
 }
 
 // How long the reading of a body takes that is read so many times, and whose archive is the

@@ -11,6 +11,7 @@ mod figures;
 mod measurement;
 mod organisations;
 mod people;
+mod refusals;
 mod release;
 mod requests;
 mod rounds;

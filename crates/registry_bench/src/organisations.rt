@@ -1,14 +1,14 @@
 //! Registries with the packages of organisations: of a hundred large ones, or of one small one.
 
 use crate::failure::Failure;
-use crate::people::{add_user, registry, user};
+use crate::people::{add_publisher, add_user, user};
 use crate::release::{Archive, Release};
 use crate::requests::{ask, publish_action, request};
 use registry_access::{Grant, Role};
 use registry_desk::Registry;
 use registry_names::{Ident, Status, Stop};
 use registry_rules::{Action, Credential};
-use sqlite::{Alter, MemStore};
+use sqlite::Alter;
 use std::alloc::{AllocError, Global};
 use std::fmt;
 use std::ops::Range;
@@ -83,18 +83,26 @@ impl Side {
         }
     }
 
-    /// A new registry with these organisations and the packages.
-    pub fn registry(self, alloc: Global) -> Result<Registry<MemStore>, Failure> {
-        let mut registry = registry(alloc)?;
-        add_user(alloc, &mut registry, STRANGER)?;
+    /// Adds these organisations and the packages, and the stranger, to a new registry.
+    pub fn fill<S: Alter>(self, alloc: Global, registry: &mut Registry<S>) -> Result<(), Failure> {
+        add_publisher(alloc, registry)?;
+        add_user(alloc, registry, STRANGER)?;
         for organisation in self.organisations() {
-            self.add_organisation(alloc, &mut registry, organisation)?;
+            self.add_organisation(alloc, registry, organisation)?;
         }
+        self.add_packages(alloc, registry)
+    }
+
+    fn add_packages<S: Alter>(
+        self,
+        alloc: Global,
+        registry: &mut Registry<S>,
+    ) -> Result<(), Failure> {
         let (first, end) = PACKAGES;
         for package in first..end {
-            self.add_package(alloc, &mut registry, package)?;
+            self.add_package(alloc, registry, package)?;
         }
-        Ok(registry)
+        Ok(())
     }
 
     // Adds an organisation with its teams and its members.
@@ -123,8 +131,7 @@ impl Side {
     ) -> Result<(), Failure> {
         let release = self.release(package);
         let organisation = self.organisation_of(package);
-        let published = publish_action(alloc, release, Archive::Shared)?;
-        ask_owner(alloc, registry, organisation, published)?;
+        publish_as_owner(alloc, registry, organisation, release)?;
         set_status(alloc, registry, organisation, release)?;
         for team in 0..TEAMS {
             grant(alloc, registry, organisation, team, release)?;
@@ -133,19 +140,20 @@ impl Side {
     }
 }
 
-// Asks an action of an organisation's owner.
-fn ask_owner<S: Alter>(
+/// Publishes a release as the owner of an organisation.
+pub fn publish_as_owner<S: Alter>(
     alloc: Global,
     registry: &mut Registry<S>,
     organisation: u32,
-    what: Action,
+    release: Release,
 ) -> Result<(), Failure> {
     let who = member(alloc, organisation, OWNER)?;
+    let what = publish_action(alloc, release, Archive::Shared)?;
     ask(alloc, registry, &request(who, what))
 }
 
-// Creates an organisation, whose owner is a new user.
-fn create_organisation<S: Alter>(
+/// Creates an organisation, whose owner is a new user.
+pub fn create_organisation<S: Alter>(
     alloc: Global,
     registry: &mut Registry<S>,
     organisation: u32,
@@ -164,11 +172,12 @@ fn create_team<S: Alter>(
     organisation: u32,
     team: u32,
 ) -> Result<(), Failure> {
+    let who = member(alloc, organisation, OWNER)?;
     let what = Action::TeamCreate {
         organisation: organisation_name(alloc, organisation)?,
         team: team_name(alloc, team)?,
     };
-    ask_owner(alloc, registry, organisation, what)
+    ask(alloc, registry, &request(who, what))
 }
 
 // Adds a new user to an organisation, and to one of its teams.
@@ -179,18 +188,40 @@ fn add_member<S: Alter>(
     number: u32,
 ) -> Result<(), Failure> {
     add_user(alloc, registry, &member_text(alloc, organisation, number)?)?;
-    let joined = Action::OrgSet {
+    join(alloc, registry, organisation, number)?;
+    put_into_team(alloc, registry, organisation, number)
+}
+
+// Makes a user a developer of an organisation.
+fn join<S: Alter>(
+    alloc: Global,
+    registry: &mut Registry<S>,
+    organisation: u32,
+    number: u32,
+) -> Result<(), Failure> {
+    let who = member(alloc, organisation, OWNER)?;
+    let what = Action::OrgSet {
         organisation: organisation_name(alloc, organisation)?,
         user: member_name(alloc, organisation, number)?,
         role: Role::Developer,
     };
-    ask_owner(alloc, registry, organisation, joined)?;
-    let put = Action::TeamAdd {
+    ask(alloc, registry, &request(who, what))
+}
+
+// Puts a member into the team of his number.
+fn put_into_team<S: Alter>(
+    alloc: Global,
+    registry: &mut Registry<S>,
+    organisation: u32,
+    number: u32,
+) -> Result<(), Failure> {
+    let who = member(alloc, organisation, OWNER)?;
+    let what = Action::TeamAdd {
         organisation: organisation_name(alloc, organisation)?,
         team: team_name(alloc, number % TEAMS)?,
         user: member_name(alloc, organisation, number)?,
     };
-    ask_owner(alloc, registry, organisation, put)
+    ask(alloc, registry, &request(who, what))
 }
 
 // Says of a release's package who may read it.
@@ -205,9 +236,10 @@ fn set_status<S: Alter>(
     } else {
         Status::Public
     };
+    let who = member(alloc, organisation, OWNER)?;
     let name = release.name(alloc)?;
     let what = Action::SetAccess { name, status };
-    ask_owner(alloc, registry, organisation, what)
+    ask(alloc, registry, &request(who, what))
 }
 
 // Lets a team read a release's package.
@@ -218,13 +250,14 @@ fn grant<S: Alter>(
     team: u32,
     release: Release,
 ) -> Result<(), Failure> {
+    let who = member(alloc, organisation, OWNER)?;
     let what = Action::Grant {
         organisation: organisation_name(alloc, organisation)?,
         team: team_name(alloc, team)?,
         name: release.name(alloc)?,
         grant: Grant::ReadOnly,
     };
-    ask_owner(alloc, registry, organisation, what)
+    ask(alloc, registry, &request(who, what))
 }
 
 /// A member of an organisation, by his number.

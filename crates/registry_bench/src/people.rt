@@ -1,11 +1,11 @@
-//! Those who ask, and registries that know them.
+//! Those who ask.
 
 use crate::failure::Failure;
 use crate::requests::{ask, request};
 use registry_desk::Registry;
 use registry_names::{Ident, Stop};
 use registry_rules::{Action, Credential};
-use sqlite::{Alter, MemStore};
+use sqlite::Alter;
 use std::alloc::Global;
 
 const PUBLISHER: &str = "publisher";
@@ -20,11 +20,9 @@ pub fn user(alloc: Global, name: &str) -> Result<Credential, Stop> {
     Ok(Credential::User(Ident::parse(alloc, name)?))
 }
 
-/// A new registry with the publisher.
-pub fn registry(alloc: Global) -> Result<Registry<MemStore>, Failure> {
-    let mut registry = Registry::in_memory(alloc)?;
-    add_user(alloc, &mut registry, PUBLISHER)?;
-    Ok(registry)
+/// Adds the publisher.
+pub fn add_publisher<S: Alter>(alloc: Global, registry: &mut Registry<S>) -> Result<(), Failure> {
+    add_user(alloc, registry, PUBLISHER)
 }
 
 /// Adds a user of this name.

@@ -1,11 +1,13 @@
 //! Ten rounds of a publish and a packument.
 
 use crate::failure::Failure;
-use crate::people;
+use crate::people::add_publisher;
 use crate::release::{Archive, Release};
 use crate::requests::{packument, publish};
+use registry_desk::Registry;
 use registry_names::{Fault, Stop};
 use registry_rules::{Reply, Request};
+use sqlite::Alter;
 use std::alloc::{AllocError, Global};
 
 const ROUNDS: u32 = 10;
@@ -13,7 +15,17 @@ const ROUNDS: u32 = 10;
 /// Publishes ten versions of a package, asks for the packument after each, and prints that each
 /// packument has the version.
 pub fn print_rounds<R: Print>(rt: &R, alloc: Global) -> Result<(), Failure> {
-    if !are_rounds(alloc, &outcomes(alloc)?)? {
+    let mut registry = Registry::in_memory(alloc)?;
+    print_rounds_of(rt, alloc, &mut registry)
+}
+
+fn print_rounds_of<R: Print, S: Alter>(
+    rt: &R,
+    alloc: Global,
+    registry: &mut Registry<S>,
+) -> Result<(), Failure> {
+    let outcomes = outcomes(alloc, registry)?;
+    if !are_rounds(alloc, &outcomes)? {
         return Err(Failure::Reply);
     }
     println!(rt; "{ROUNDS} rounds: each version was published, and its packument has it").or(Err(
@@ -21,9 +33,13 @@ pub fn print_rounds<R: Print>(rt: &R, alloc: Global) -> Result<(), Failure> {
     ))
 }
 
-fn outcomes(alloc: Global) -> Result<Vec<Result<Reply, Fault>>, Failure> {
-    let mut registry = people::registry(alloc)?;
-    Ok(registry.run(alloc, &requests(alloc)?)?)
+fn outcomes<S: Alter>(
+    alloc: Global,
+    registry: &mut Registry<S>,
+) -> Result<Vec<Result<Reply, Fault>>, Failure> {
+    add_publisher(alloc, registry)?;
+    let requests = requests(alloc)?;
+    Ok(registry.run(alloc, &requests)?)
 }
 
 fn release(version: u32) -> Release {

@@ -1,4 +1,4 @@
-//! Requests of two registries in turn, so that what else the machine does slows both.
+//! Requests of two kinds in turn, so that what else the machine does slows both.
 
 use crate::failure::Failure;
 use crate::measurement::{Measurement, Spread, start};
@@ -9,16 +9,27 @@ use sqlite::Alter;
 use std::alloc::Global;
 use std::time::Clock;
 
-/// How many turns each registry has.
+/// How many turns each kind has.
 const TURNS: usize = 11;
 
 /// Requests of one kind, in turns.
-#[derive(Drop)]
 pub struct Turns {
     what: String,
     requests: Vec<Request>,
     share: Share,
     wanted: Wanted,
+}
+
+// Written out, so that to drop turns is one call and not one for each part.
+impl Drop for Turns {
+    fn drop(self) {
+        let Turns {
+            what: _,
+            requests: _,
+            share: _,
+            wanted: _,
+        } = self;
+    }
 }
 
 /// Which of the requests are asked in a turn.
@@ -83,6 +94,39 @@ impl Turns {
     }
 }
 
+/// How long two kinds of requests took in each turn, in nanoseconds.
+#[derive(Drop)]
+struct Times {
+    first: Vec<u128>,
+    second: Vec<u128>,
+}
+
+impl Times {
+    fn new(alloc: Global) -> Times {
+        Times {
+            first: Vec::new(alloc),
+            second: Vec::new(alloc),
+        }
+    }
+
+    // Adds a turn of each.
+    fn push(&mut self, first: Measurement, second: Measurement) -> Result<(), Failure> {
+        self.first.push(first.nanos())?;
+        self.second.push(second.nanos())?;
+        Ok(())
+    }
+
+    // Prints how long the requests of each take, and how many times as long as those of the second
+    // those of the first.
+    fn print<R: Print>(self, rt: &R, first: &Turns, second: &Turns) -> Result<(), Failure> {
+        let large = Spread::of(self.first);
+        let small = Spread::of(self.second);
+        first.print(rt, large)?;
+        second.print(rt, small)?;
+        large.print_ratio(rt, small)
+    }
+}
+
 /// Asks two registries in turn, and prints how long the requests of each take, and how many times
 /// as long as those of the second those of the first.
 pub fn print_turns<R: Print + Clock, S: Alter>(
@@ -91,14 +135,28 @@ pub fn print_turns<R: Print + Clock, S: Alter>(
     (first, large): (&mut Registry<S>, &Turns),
     (second, small): (&mut Registry<S>, &Turns),
 ) -> Result<(), Failure> {
-    let mut larger = Vec::new(alloc);
-    let mut smaller = Vec::new(alloc);
+    let mut times = Times::new(alloc);
     for turn in 0..TURNS {
-        larger.push(large.measure(rt, alloc, first, turn)?.nanos())?;
-        smaller.push(small.measure(rt, alloc, second, turn)?.nanos())?;
+        let larger = large.measure(rt, alloc, first, turn)?;
+        let smaller = small.measure(rt, alloc, second, turn)?;
+        times.push(larger, smaller)?;
     }
-    let (larger, smaller) = (Spread::of(larger), Spread::of(smaller));
-    large.print(rt, larger)?;
-    small.print(rt, smaller)?;
-    larger.print_ratio(rt, smaller)
+    times.print(rt, large, small)
+}
+
+/// Asks one registry requests of two kinds in turn, and prints the same of them.
+pub fn print_turns_of_one<R: Print + Clock, S: Alter>(
+    rt: &R,
+    alloc: Global,
+    registry: &mut Registry<S>,
+    first: &Turns,
+    second: &Turns,
+) -> Result<(), Failure> {
+    let mut times = Times::new(alloc);
+    for turn in 0..TURNS {
+        let one = first.measure(rt, alloc, registry, turn)?;
+        let other = second.measure(rt, alloc, registry, turn)?;
+        times.push(one, other)?;
+    }
+    times.print(rt, first, second)
 }

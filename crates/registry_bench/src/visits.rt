@@ -65,18 +65,40 @@ static VISITS: [Visit; 4] = [
 /// Prints how long requests about two thousand packages take that are those of a hundred large
 /// organisations, and where they are those of one small one.
 pub fn print_visits<R: Print + Clock>(rt: &R, alloc: Global) -> Result<(), Failure> {
-    let mut first = Side::Hundred.registry(alloc)?;
-    let mut second = Side::One.registry(alloc)?;
+    let mut first = Registry::in_memory(alloc)?;
+    let mut second = Registry::in_memory(alloc)?;
+    print_visits_of(rt, alloc, &mut first, &mut second)
+}
+
+fn print_visits_of<R: Print + Clock, S: Alter>(
+    rt: &R,
+    alloc: Global,
+    first: &mut Registry<S>,
+    second: &mut Registry<S>,
+) -> Result<(), Failure> {
+    Side::Hundred.fill(alloc, first)?;
+    Side::One.fill(alloc, second)?;
     for visit in &VISITS {
-        let large = visit.turns(alloc, Side::Hundred)?;
-        let small = visit.turns(alloc, Side::One)?;
-        print_turns(rt, alloc, (&mut first, &large), (&mut second, &small))?;
+        visit.print(rt, alloc, first, second)?;
     }
-    print_publishes(rt, alloc, &mut first, &mut second, "new package", 0)?;
-    print_publishes(rt, alloc, &mut first, &mut second, "next version", 1)
+    print_publishes(rt, alloc, first, second, "new package", 0)?;
+    print_publishes(rt, alloc, first, second, "next version", 1)
 }
 
 impl Visit {
+    // Prints how long it takes on both sides.
+    fn print<R: Print + Clock, S: Alter>(
+        &self,
+        rt: &R,
+        alloc: Global,
+        first: &mut Registry<S>,
+        second: &mut Registry<S>,
+    ) -> Result<(), Failure> {
+        let large = self.turns(alloc, Side::Hundred)?;
+        let small = self.turns(alloc, Side::One)?;
+        print_turns(rt, alloc, (first, &large), (second, &small))
+    }
+
     // Its requests on one side, in turns.
     fn turns(&self, alloc: Global, side: Side) -> Result<Turns, Stop> {
         let mut requests = Vec::new(alloc);
