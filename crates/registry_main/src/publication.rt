@@ -23,8 +23,10 @@ fn requests_of(alloc: Global, body: &[u8]) -> Result<Vec<Request>, Stop> {
     let form = PublishForm::read(alloc, body)?;
     let name = Name::parse(alloc, form.name().text())?;
     let mut requests = beginning(alloc, name.scope())?;
-    requests.push(by_publisher(alloc, Action::Publish { form })?)?;
-    requests.push(by_publisher(alloc, Action::Packument { name })?)?;
+    let who = publisher(alloc)?;
+    requests.push(request(who, Action::Publish { form }))?;
+    let who = publisher(alloc)?;
+    requests.push(request(who, Action::Packument { name }))?;
     Ok(requests)
 }
 
@@ -45,9 +47,8 @@ fn beginning(alloc: Global, scope: Option<&str>) -> Result<Vec<Request>, Stop> {
     Ok(requests)
 }
 
-fn by_publisher(alloc: Global, what: Action) -> Result<Request, Stop> {
-    let who = Credential::User(Ident::parse(alloc, PUBLISHER)?);
-    Ok(request(who, what))
+fn publisher(alloc: Global) -> Result<Credential, Stop> {
+    Ok(Credential::User(Ident::parse(alloc, PUBLISHER)?))
 }
 
 // A request at moment 0.
