@@ -136,6 +136,38 @@ static ROWS_OF_NO_OUTPUT: [Row; 2] = [
     ),
 ];
 
+/// Rows whose words end before the registry's file is opened.
+static ROWS_OF_NO_FILE: [Row; 4] = [
+    (
+        "a text that isn't in form opens nothing",
+        &["--as", "Ann", "tags", "kit"],
+        1,
+        "",
+        "refused: BadName\n",
+    ),
+    (
+        "the second after the year 9999 is no moment",
+        &["--at", "253402300800", "tags", "none"],
+        2,
+        "",
+        "error: invalid value '253402300800' for '--at <SECONDS>': 253402300800 is not in 0..=253402300799\n\nFor more information, try '--help'.\n",
+    ),
+    (
+        "who serves is a user or the operator",
+        &["--as", "ann", "--operator", "serve"],
+        2,
+        "",
+        "--as excludes --operator\n",
+    ),
+    (
+        "port 0 is none",
+        &["serve", "--port", "0"],
+        2,
+        "",
+        "error: invalid value '0' for '--port <PORT>': 0 is not in 1..=65535\n\nFor more information, try '--help'.\n",
+    ),
+];
+
 // The path of a file that no other process has.
 pub fn path(rt: &HostRuntime, end: &str) -> Result<String, Fail> {
     let folder = env::temp_dir(rt)?;
@@ -174,6 +206,16 @@ fn lines_leave_what_they_should(rt: HostRuntime) -> Result<(), Fail> {
     leave_it(&rt, db.as_str(), &ROWS, Failing::None)?;
     leave_it(&rt, db.as_str(), &ROWS_OF_NO_OUTPUT, Failing::Output)?;
     forget(&rt, db.as_str())
+}
+
+// The folder is empty behind them, or it isn't removed.
+#[test]
+fn lines_that_open_no_file_leave_none(rt: HostRuntime) -> Result<(), Fail> {
+    let folder = path(&rt, "-unopened")?;
+    let db = format!(in rt.alloc(); "{}/registry.db", folder.as_str())?;
+    fs::create_dir(&rt, folder.as_str())?;
+    leave_it(&rt, db.as_str(), &ROWS_OF_NO_FILE, Failing::None)?;
+    Ok(fs::remove_dir(&rt, folder.as_str())?)
 }
 
 static FILES: [(&'static str, &'static str); 3] = [

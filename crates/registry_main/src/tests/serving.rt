@@ -1,7 +1,6 @@
 //! `serve` over loopback: a client that connects where the program says that it listens.
 
-use super::lines::{Row, case, forget, line, path};
-use super::{Failing, leaves_it};
+use super::lines::{forget, line, path};
 use crate::program::program;
 use registry_names::{FromRead, ToWrite};
 use std::alloc::Global;
@@ -14,24 +13,6 @@ const ASKS: &str = "GET /kit HTTP/1.1\r\nhost: localhost\r\n\r\n";
 
 const ANSWER: &str =
     "HTTP/1.1 404 Not Found\r\ncontent-type: application/json\r\ncontent-length: 20\r\n\r\n{\"error\":\"NotFound\"}";
-
-/// Rows whose words end before anything is opened.
-static ROWS: [Row; 2] = [
-    (
-        "who serves is a user or the operator",
-        &["--as", "ann", "--operator", "serve"],
-        2,
-        "",
-        "--as excludes --operator\n",
-    ),
-    (
-        "port 0 is none",
-        &["serve", "--port", "0"],
-        2,
-        "",
-        "error: invalid value '0' for '--port <PORT>': 0 is not in 1..=65535\n\nFor more information, try '--help'.\n",
-    ),
-];
 
 /// An output that connects a client as soon as it is told where the program listens, which it is
 /// by its first bytes. The client asks, and sends no more.
@@ -79,17 +60,6 @@ impl<R: Net> Write for Caller<'_, R> {
     fn flush(&mut self) -> io::Result<()> {
         Ok(())
     }
-}
-
-#[test]
-fn words_that_serve_nothing_are_told(rt: HostRuntime) -> Result<(), Fail> {
-    let db = path(&rt, "-unserved.db")?;
-    for row in &ROWS {
-        let case = case(row, Failing::None);
-        let words = line(rt.alloc(), db.as_str(), case.words)?;
-        leaves_it(&rt, rt.alloc(), &words, &case)?;
-    }
-    Ok(())
 }
 
 #[test]
