@@ -23,8 +23,8 @@ const UNHEARD_OF: u32 = 10_001;
 /// How many versions the hidden package has.
 const VERSIONS: u32 = 1_000;
 
-/// How many requests each turn has.
-const REQUESTS: u32 = 1_000;
+/// How often each of the two is asked for, by turns of one request.
+const TURNS: usize = 10_000;
 
 /// Prints how long a stranger's packuments take that are refused: of a package of a thousand
 /// versions that he doesn't see, and of a name that was never published.
@@ -43,7 +43,7 @@ fn print_refusals_of<R: Print + Clock, S: Alter>(
     publish_versions(alloc, registry)?;
     let hidden = refused(alloc, "a hidden package of 1000 versions", HIDDEN)?;
     let unheard_of = refused(alloc, "a name never published", UNHEARD_OF)?;
-    print_turns_of_one(rt, alloc, registry, &hidden, &unheard_of)
+    print_turns_of_one(rt, alloc, registry, (&hidden, &unheard_of), TURNS)
 }
 
 // Publishes the versions of the hidden package.
@@ -62,12 +62,10 @@ fn release(package: u32, version: u32) -> Release {
     }
 }
 
-// The stranger's queries for the packument of a package, all of them in each turn.
+// The stranger's query for the packument of a package, which is asked in each turn.
 fn refused(alloc: Global, what: &str, package: u32) -> Result<Turns, Stop> {
     let mut requests = Vec::new(alloc);
-    for _ in 0..REQUESTS {
-        requests.push(packument_for_stranger(alloc, package)?)?;
-    }
+    requests.push(packument_for_stranger(alloc, package)?)?;
     let what = format!(in alloc; "a stranger's refused packument, {what}")?;
     Ok(Turns::repeated(what, requests, Wanted::NotFound))
 }

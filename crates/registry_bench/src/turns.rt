@@ -9,7 +9,7 @@ use sqlite::Alter;
 use std::alloc::Global;
 use std::time::Clock;
 
-/// How many turns each kind has.
+/// How many turns each kind has where two registries are asked.
 const TURNS: usize = 11;
 
 /// Requests of one kind, in turns.
@@ -88,9 +88,10 @@ impl Turns {
         Measurement::since(clock, began, requests.len())
     }
 
-    fn print<R: Print>(&self, rt: &R, spread: Spread) -> Result<(), Failure> {
+    // Prints how long the requests took in so many turns.
+    fn print<R: Print>(&self, rt: &R, spread: Spread, turns: usize) -> Result<(), Failure> {
         let (what, length) = (self.what.as_str(), self.of(0).len());
-        println!(rt; "{what}: {spread} ({TURNS} turns of {length})").or(Err(Failure::Print))
+        println!(rt; "{what}: {spread} ({turns} turns of {length})").or(Err(Failure::Print))
     }
 }
 
@@ -119,11 +120,12 @@ impl Times {
     // Prints how long the requests of each take, and how many times as long as those of the second
     // those of the first.
     fn print<R: Print>(self, rt: &R, first: &Turns, second: &Turns) -> Result<(), Failure> {
-        let large = Spread::of(self.first);
-        let small = Spread::of(self.second);
-        first.print(rt, large)?;
-        second.print(rt, small)?;
-        large.print_ratio(rt, small)
+        let turns = self.first.len();
+        let one = Spread::of(self.first);
+        let other = Spread::of(self.second);
+        first.print(rt, one, turns)?;
+        second.print(rt, other, turns)?;
+        one.print_ratio(rt, other)
     }
 }
 
@@ -144,16 +146,17 @@ pub fn print_turns<R: Print + Clock, S: Alter>(
     times.print(rt, large, small)
 }
 
-/// Asks one registry requests of two kinds in turn, and prints the same of them.
+/// Asks one registry requests of two kinds in so many turns, of each kind all in each turn, and
+/// prints the same of them.
 pub fn print_turns_of_one<R: Print + Clock, S: Alter>(
     rt: &R,
     alloc: Global,
     registry: &mut Registry<S>,
-    first: &Turns,
-    second: &Turns,
+    (first, second): (&Turns, &Turns),
+    turns: usize,
 ) -> Result<(), Failure> {
     let mut times = Times::new(alloc);
-    for turn in 0..TURNS {
+    for turn in 0..turns {
         let one = first.measure(rt, alloc, registry, turn)?;
         let other = second.measure(rt, alloc, registry, turn)?;
         times.push(one, other)?;
