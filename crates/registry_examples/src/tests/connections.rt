@@ -10,7 +10,7 @@ mod source;
 ghost use Rattle.std.specs.Prelude.{None};
 
 use super::all_have_their_reply;
-use super::outcome::same;
+use super::outcome::{otherwise, same};
 use crate::beginnings::LAB_KIT;
 use registry_desk::Registry;
 use registry_http::FrontDesk;
@@ -118,7 +118,16 @@ fn is_wanted(case: &Case<'_>, served: Served, asked: u32, out: &[u8]) -> Result<
     };
     same(case.shows, served, wanted)?;
     same(case.shows, asked, case.asked)?;
-    same(case.shows, str::from_utf8(out).unwrap_or("?"), case.output)
+    same_text(case.shows, out, case.output)
+}
+
+// Whether the bytes are this text.
+fn same_text(case: &str, came_out: &[u8], wanted: &str) -> Result<(), Fail> {
+    let text = str::from_utf8(came_out).unwrap_or("no UTF-8");
+    if text == wanted {
+        return Ok(());
+    }
+    Err(otherwise(case, text, wanted))
 }
 
 // The same with all bytes at once, and with one byte a read.
