@@ -7,7 +7,7 @@ EXAMPLE := examples/lab-kit-1.0.0.publish.json
 PACKUMENT := examples/lab-kit-1.0.0.packument.json
 BODY := $(EXAMPLE)
 
-.PHONY: help try run build bench measure limits npm kill files test examples check fmt kit
+.PHONY: help try run build bench compare limits npm kill files test examples check fmt kit
 
 help:
 	@echo 'make try    run the program before any proof: some minutes, and nothing is proved'
@@ -21,7 +21,7 @@ help:
 	@echo 'make files  fill a disk by publishes, and lay what is no registry in its place'
 	@echo 'make limits  try the limits of connections to out/registry: a minute and a half'
 	@echo 'make bench  print how long requests and the reading of bodies take'
-	@echo 'make measure  print how fast out/registry serves beside a server of files, and keeps'
+	@echo 'make compare  print how fast out/registry serves beside nginx, and keeps'
 	@echo '            what is published beside SQLite: 10 minutes on a quiet machine'
 	@echo 'make fmt    lay out the files'
 
@@ -63,7 +63,7 @@ files: out/registry
 limits: out/registry
 	@tools/measure_limits --program out/registry
 
-measure: out/registry
+compare: out/registry
 	@echo 'measuring the program out/registry: this is no part of the gate' >&2
 	@tools/measure_http --program out/registry
 	@tools/measure_file --program out/registry
