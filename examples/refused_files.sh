@@ -45,9 +45,9 @@ ask() { curl -s -H 'authorization: Bearer npm_bob_000000001' -H 'expect:' "$@"; 
 : > "$work/out"
 : > "$work/errors"
 
-# The archive of a version, of 100,000 bytes, and the body that publishes it.
+# The archive of a version, of 100,000 bytes or as many as are told, and the body that publishes it.
 write_body() {
-    head -c 100000 /dev/urandom > "$work/$1.tgz"
+    head -c "${2:-100000}" /dev/urandom > "$work/$1.tgz"
     {
         printf '{"name":"kit","versions":{"%s":{"name":"kit","version":"%s"}},' "$1" "$1"
         printf '"_attachments":{"kit-%s.tgz":{"data":"' "$1"
@@ -184,18 +184,18 @@ sums() {
     if [ "${log:-}" ]; then sha512sum < "$db-wal"; fi
 }
 
-# A registry with some versions. A query has put into the file what the log had: the file by itself
-# must open, or what is made of it below shows nothing.
+# A registry with some versions. What is published stands in the log until that has 4 MB, and a
+# publish behind that puts it into the file: so the file by itself has the first of them, and must
+# open, or what is made of it below shows nothing.
 made=$work/made.db
 begin "$made"
-for number in 1 2 3 4 5; do
-    write_body "1.0.$number"
+for number in 1 2 3 4; do
+    write_body "1.0.$number" 1500000
     must "$made" --as bob publish "$work/body"
 done
-must "$made" tags kit
 cp "$made" "$db"
 must "$db" tags kit
-[ "$(cat "$work/out")" = '{"latest":"1.0.5"}' ] || fail "the copy has the tags $(cat "$work/out")"
+[ "$(cat "$work/out")" = '{"latest":"1.0.3"}' ] || fail "the file by itself has the tags $(cat "$work/out")"
 
 lay() { rm -rf "$db" "$db-wal"; what=$1; second=$2; }
 foreign="the file holds no registry, or was changed by another hand"
