@@ -32,6 +32,13 @@ next_archive c = next_number c.last_archive c.archives
 abbrev pub archive_number : Text → List ℕ → Contents → ℤ
 archive_number integrity bytes c = unwrap_or (number_of integrity bytes c.archives) (next_archive c)
 
+-- they are stored under the next number, which is counted
+abbrev pub with_next_archive : Text → List ℕ → Contents → Contents
+with_next_archive integrity bytes c = record c {
+  archives = put c.archives (next_archive c) (record { integrity = integrity; bytes = bytes });
+  last_archive = next_archive c;
+}
+
 -- they are stored: as they were, or under the next number, which is counted
 abbrev pub with_archive : Text → List ℕ → Contents → Contents
 with_archive integrity bytes c = record c {

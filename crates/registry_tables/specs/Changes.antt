@@ -24,6 +24,12 @@ with_row m k x stands = if stands then amended m k x else put m k x
 abbrev pub row_of : FormParts → ℕ → Release
 row_of f now = record (release_of f now) { archive = [] }
 
+-- the version of a form has its archive, which is stored
+abbrev pub with_archive_of : FormParts → Contents → Contents
+with_archive_of f c = record (with_archive f.integrity f.archive c) {
+  held = put c.held (f.name, version_of f) (archive_number f.integrity f.archive c);
+}
+
 -- the version of a form, published at this moment, with its archive and its needs
 abbrev pub version_put : FormParts → ℕ → Contents → Contents
 version_put f now c = record (with_archive f.integrity f.archive c) {

@@ -1,9 +1,11 @@
+pub mod Access
 pub mod Archives
 pub mod Changes
 pub mod Contents
 pub mod Creation
 pub mod Effects
 pub mod Fresh
+pub mod Laws
 pub mod Needs
 pub mod Opening
 pub mod Schema

@@ -2,12 +2,10 @@
 
 ghost use Rattle.std.specs.Prelude.{◌≡◌, IfOk, [], ◌∷◌};
 ghost use Rattle.registry_access.specs.Agreement.{SameOrganisation};
-ghost use Rattle.registry_access.specs.Callers.{role_of};
-ghost use Rattle.registry_access.specs.Positions.{has_organisation as is_there};
 ghost use Rattle.registry_access.specs.RowMaps.{state_of};
 ghost use Rattle.registry_access.specs.declared.caller.Caller.TheVariants as caller;
-ghost use Rattle.registry_access.specs.declared.rows.AccessRows.{AccessRows as Rows};
 ghost use Rattle.registry_rows.specs.Frames.{Stays};
+ghost use Rattle.registry_tables.specs.Access.{TellOrganisation, TellRole};
 ghost use Rattle.registry_tables.specs.Contents.{access_of};
 ghost use Rattle.registry_tables.specs.Effects.{InForm, Knows, Tells};
 
@@ -27,7 +25,8 @@ pub fn load_access<S: Alter>(
 ) -> Result<AccessRows, Fault>
     requires in_form { InForm S.Store tx.old }
     ensures stays { Stays S.Store tx.old tx.new }
-    ensures tells { Tells S.Store tx.old tx.new result (λ rows c. SameOrganisation (state_of rows) (access_of c) caller.now organisation.now) }
+    ensures tells { Tells S.Store tx.old tx.new result
+        (λ rows c. SameOrganisation (state_of rows) (access_of c) caller.now organisation.now) }
 {
     let organisations = organisation_rows(alloc, tx, organisation)?;
     let members = member_rows(alloc, tx, caller, organisation)?;
@@ -50,7 +49,8 @@ fn organisation_rows<S: Alter>(
 ) -> Result<Vec<Text>, Fault>
     requires in_form { InForm S.Store tx.old }
     ensures stays { Stays S.Store tx.old tx.new }
-    ensures tells { Tells S.Store tx.old tx.new result (λ names c. (rows : Rows) → rows.organisations.items ≡ names.items → is_there (state_of rows) organisation.now ≡ is_there (access_of c) organisation.now) }
+    ensures tells { Tells S.Store tx.old tx.new result
+        (λ names c. TellOrganisation names.items c organisation.now) }
 {
     if has_organisation(tx, organisation)? {
         one_name(alloc, organisation)
@@ -75,7 +75,8 @@ fn member_rows<S: Alter>(
 ) -> Result<Vec<MemberRow>, Fault>
     requires in_form { InForm S.Store tx.old }
     ensures stays { Stays S.Store tx.old tx.new }
-    ensures knows { Knows S.Store tx.old tx.new result (λ members c. (rows : Rows) → rows.members.items ≡ members.items → role_of (state_of rows) caller.now organisation.now ≡ role_of (access_of c) caller.now organisation.now) }
+    ensures knows { Knows S.Store tx.old tx.new result
+        (λ members c. TellRole members.items c caller.now organisation.now) }
 {
     match caller {
         Caller::User(user) => user_rows(alloc, tx, user, organisation),
@@ -92,7 +93,8 @@ fn user_rows<S: Alter>(
 ) -> Result<Vec<MemberRow>, Fault>
     requires in_form { InForm S.Store tx.old }
     ensures stays { Stays S.Store tx.old tx.new }
-    ensures tells { Tells S.Store tx.old tx.new result (λ members c. (rows : Rows) → rows.members.items ≡ members.items → role_of (state_of rows) (caller.User user.now) organisation.now ≡ role_of (access_of c) (caller.User user.now) organisation.now) }
+    ensures tells { Tells S.Store tx.old tx.new result
+        (λ members c. TellRole members.items c (caller.User user.now) organisation.now) }
 {
     match load_role(tx, organisation, user.text())? {
         Some(role) => one_member(alloc, organisation, user.text(), role),

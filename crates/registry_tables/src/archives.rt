@@ -8,8 +8,8 @@ ghost use Rattle.registry_names.specs.Maps.{at, erase, put};
 ghost use Rattle.registry_names.specs.Texts.{is};
 ghost use Rattle.registry_rows.specs.Columns.{blob_in, int_in};
 ghost use Rattle.registry_rows.specs.Frames.{Stays};
-ghost use Rattle.registry_rules.specs.Actions.{version_of};
-ghost use Rattle.registry_tables.specs.Archives.{archive_number, next_archive, number_of, with_archive};
+ghost use Rattle.registry_tables.specs.Archives.{archive_number, next_archive, number_of, with_archive, with_next_archive};
+ghost use Rattle.registry_tables.specs.Changes.{with_archive_of};
 ghost use Rattle.registry_tables.specs.Contents.{live_of};
 ghost use Rattle.registry_tables.specs.Effects.{InForm, IsUnderWay, Makes, Tells, shown, stored_in};
 ghost use Rattle.registry_tables.specs.Spelled.{archive_spelled, bytes_spelled, held_spelled, number_among};
@@ -32,7 +32,9 @@ pub fn load_archive<S: Alter>(
 ) -> Result<Option<Blob>, Fault>
     requires in_form { InForm S.Store tx.old }
     ensures stays { Stays S.Store tx.old tx.new }
-    ensures tells { Tells S.Store tx.old tx.new result (λ archive c. archive ≡ option_map (λ r. r.archive) (at (live_of c) (name.now, version.now))) }
+    ensures tells { Tells S.Store tx.old tx.new result
+        (λ archive c. archive
+        ≡ option_map (λ r. r.archive) (at (live_of c) (name.now, version.now))) }
 {
     if let Some(number) = held_archive(tx, name, version)? {
         return Ok(Some(load_bytes(tx, number)?));
@@ -51,7 +53,8 @@ pub(crate) fn held_archive<S: Alter>(
 ) -> Result<Option<i64>, Fault>
     requires in_form { InForm S.Store tx.old }
     ensures stays { Stays S.Store tx.old tx.new }
-    ensures tells { Tells S.Store tx.old tx.new result (λ number c. number ≡ at c.held (name.now, version.now)) }
+    ensures tells { Tells S.Store tx.old tx.new result
+        (λ number c. number ≡ at c.held (name.now, version.now)) }
 {
     let rows = read(
         tx,
@@ -83,7 +86,8 @@ fn number_in(row: &Row) -> Result<i64, Fault>
 fn load_bytes<S: Alter>(tx: &mut Transaction<'_, S>, number: i64) -> Result<Blob, Fault>
     requires in_form { InForm S.Store tx.old }
     ensures stays { Stays S.Store tx.old tx.new }
-    ensures tells { Tells S.Store tx.old tx.new result (λ bytes c. option_map (λ a. a.bytes) (at c.archives number) ≡ Some bytes) }
+    ensures tells { Tells S.Store tx.old tx.new result
+        (λ bytes c. option_map (λ a. a.bytes) (at c.archives number) ≡ Some bytes) }
 {
     let rows = read(
         tx,
@@ -110,7 +114,7 @@ pub(crate) fn put_archive<S: Alter>(
 ) -> Result<(), Fault>
     requires under_way { IsUnderWay S.Store tx.old }
     ensures stays { Stays S.Store tx.old tx.new }
-    ensures makes { Makes S.Store tx.old tx.new result (λ c. record (with_archive form.now.integrity form.now.archive c) { held = put c.held (form.now.name, version_of form.now) (archive_number form.now.integrity form.now.archive c) }) }
+    ensures makes { Makes S.Store tx.old tx.new result (with_archive_of form.now) }
 {
     let number = store(tx, form.integrity(), form.archive())?;
     hold(tx, form.name().text(), form.version().text(), number)
@@ -121,7 +125,8 @@ fn store<S: Alter>(tx: &mut Transaction<'_, S>, integrity: &str, bytes: &[u8]) -
     requires under_way { IsUnderWay S.Store tx.old }
     ensures stays { Stays S.Store tx.old tx.new }
     ensures makes { Makes S.Store tx.old tx.new result (with_archive integrity.now bytes.now) }
-    ensures number { HasCleanDisk (shown S.Store tx.new) → IfOk result (λ number. number ≡ archive_number integrity.now bytes.now (stored_in S.Store tx.old)) }
+    ensures number { HasCleanDisk (shown S.Store tx.new) → IfOk result (λ number. number
+        ≡ archive_number integrity.now bytes.now (stored_in S.Store tx.old)) }
 {
     match find(tx, integrity, bytes)? {
         Some(number) => Ok(number),
@@ -137,7 +142,8 @@ fn find<S: Alter>(
 ) -> Result<Option<i64>, Fault>
     requires in_form { InForm S.Store tx.old }
     ensures stays { Stays S.Store tx.old tx.new }
-    ensures tells { Tells S.Store tx.old tx.new result (λ number c. number ≡ number_of integrity.now bytes.now c.archives) }
+    ensures tells { Tells S.Store tx.old tx.new result
+        (λ number c. number ≡ number_of integrity.now bytes.now c.archives) }
 {
     let rows = read(
         tx,
@@ -149,7 +155,8 @@ fn find<S: Alter>(
 
 // The number of the first of these archives that has these bytes.
 fn first_with(rows: &[Row], bytes: &[u8]) -> Result<Option<i64>, Fault>
-    ensures { IfOk result (λ number. number ≡ number_among bytes.now (map archive_spelled rows.now)) }
+    ensures { IfOk result (λ number. number
+        ≡ number_among bytes.now (map archive_spelled rows.now)) }
 {
     for row in rows {
         if has_bytes(row, bytes)? {
@@ -172,8 +179,10 @@ fn has_bytes(row: &Row, bytes: &[u8]) -> Result<bool, Fault>
 fn add<S: Alter>(tx: &mut Transaction<'_, S>, integrity: &str, bytes: &[u8]) -> Result<i64, Fault>
     requires in_form { InForm S.Store tx.old }
     ensures stays { Stays S.Store tx.old tx.new }
-    ensures makes { Makes S.Store tx.old tx.new result (λ c. record c { archives = put c.archives (next_archive c) (record { integrity = integrity.now; bytes = bytes.now }); last_archive = next_archive c }) }
-    ensures number { HasCleanDisk (shown S.Store tx.new) → IfOk result (λ number. number ≡ next_archive (stored_in S.Store tx.old)) }
+    ensures makes { Makes S.Store tx.old tx.new result
+        (with_next_archive integrity.now bytes.now) }
+    ensures number { HasCleanDisk (shown S.Store tx.new) → IfOk result
+        (λ number. number ≡ next_archive (stored_in S.Store tx.old)) }
 {
     write(
         tx,
@@ -192,7 +201,8 @@ fn hold<S: Alter>(
 ) -> Result<(), Fault>
     requires in_form { InForm S.Store tx.old }
     ensures stays { Stays S.Store tx.old tx.new }
-    ensures makes { Makes S.Store tx.old tx.new result (λ c. record c { held = put c.held (name.now, version.now) number }) }
+    ensures makes { Makes S.Store tx.old tx.new result
+        (λ c. record c { held = put c.held (name.now, version.now) number }) }
 {
     write(
         tx,
@@ -224,7 +234,8 @@ pub(crate) fn free_archive<S: Alter>(
 fn is_held<S: Alter>(tx: &mut Transaction<'_, S>, number: i64) -> Result<bool, Fault>
     requires in_form { InForm S.Store tx.old }
     ensures stays { Stays S.Store tx.old tx.new }
-    ensures tells { Tells S.Store tx.old tx.new result (λ held c. held ≡ withdrawals.is_held number c) }
+    ensures tells { Tells S.Store tx.old tx.new result
+        (λ held c. held ≡ withdrawals.is_held number c) }
 {
     let rows = read(
         tx,

@@ -29,8 +29,10 @@ pub fn load_caller<S: Alter>(
 ) -> Result<Option<Caller>, Fault>
     requires in_form { InForm S.Store tx.old }
     ensures stays { Stays S.Store tx.old tx.new }
-    ensures knows { Knows S.Store tx.old tx.new result (λ caller c. caller ≡ caller_of (registry_of c) who.now) }
-    ensures nobody { HasCleanDisk (shown S.Store tx.new) → IfOk result (λ caller. caller ≡ None → Reads schema (shown S.Store tx.old) (shown S.Store tx.new)) }
+    ensures knows { Knows S.Store tx.old tx.new result
+        (λ caller c. caller ≡ caller_of (registry_of c) who.now) }
+    ensures nobody { HasCleanDisk (shown S.Store tx.new) → IfOk result (λ caller. caller ≡ None
+        → Reads schema (shown S.Store tx.old) (shown S.Store tx.new)) }
 {
     match who {
         Credential::Operator => Ok(Some(Caller::Operator)),
@@ -47,7 +49,8 @@ fn load_user<S: Alter>(
 ) -> Result<Option<Caller>, Fault>
     requires in_form { InForm S.Store tx.old }
     ensures stays { Stays S.Store tx.old tx.new }
-    ensures tells { Tells S.Store tx.old tx.new result (λ caller c. caller ≡ caller_of (registry_of c) (shown_as.User user.now)) }
+    ensures tells { Tells S.Store tx.old tx.new result
+        (λ caller c. caller ≡ caller_of (registry_of c) (shown_as.User user.now)) }
 {
     if has_user(tx, user.text())? {
         Ok(Some(Caller::User(ident_of(alloc, user.text())?)))
@@ -63,7 +66,8 @@ fn load_token<S: Alter>(
 ) -> Result<Option<Caller>, Fault>
     requires in_form { InForm S.Store tx.old }
     ensures stays { Stays S.Store tx.old tx.new }
-    ensures tells { Tells S.Store tx.old tx.new result (λ caller c. caller ≡ caller_of (registry_of c) (shown_as.Token digest.now)) }
+    ensures tells { Tells S.Store tx.old tx.new result
+        (λ caller c. caller ≡ caller_of (registry_of c) (shown_as.Token digest.now)) }
 {
     let user = load_token_user(alloc, tx, digest)?;
     Ok(user.map(Caller::User))

@@ -26,7 +26,8 @@ pub fn has_grant<S: Alter>(
 ) -> Result<bool, Fault>
     requires in_form { InForm S.Store tx.old }
     ensures stays { Stays S.Store tx.old tx.new }
-    ensures tells { Tells S.Store tx.old tx.new result (λ has c. has ≡ is_some (at c.grants (organisation.now, (team.now, name.now)))) }
+    ensures tells { Tells S.Store tx.old tx.new result
+        (λ has c. has ≡ is_some (at c.grants (organisation.now, (team.now, name.now)))) }
 {
     let rows = read(
         tx,
@@ -47,7 +48,10 @@ pub(crate) fn put_grant<S: Alter>(
 ) -> Result<(), Fault>
     requires in_form { InForm S.Store tx.old }
     ensures stays { Stays S.Store tx.old tx.new }
-    ensures makes { Makes S.Store tx.old tx.new result (λ c. record c { grants = with_row c.grants (organisation.now, (team.now, name.now)) grant stands }) }
+    ensures makes { Makes S.Store tx.old tx.new result
+        (λ c. record c {
+          grants = with_row c.grants (organisation.now, (team.now, name.now)) grant stands;
+        }) }
 {
     if stands {
         update_grant(tx, organisation, team, name, grant)
@@ -65,7 +69,8 @@ fn insert_grant<S: Alter>(
 ) -> Result<(), Fault>
     requires in_form { InForm S.Store tx.old }
     ensures stays { Stays S.Store tx.old tx.new }
-    ensures makes { Makes S.Store tx.old tx.new result (λ c. record c { grants = put c.grants (organisation.now, (team.now, name.now)) grant }) }
+    ensures makes { Makes S.Store tx.old tx.new result
+        (λ c. record c { grants = put c.grants (organisation.now, (team.now, name.now)) grant }) }
 {
     write(
         tx,
@@ -83,7 +88,10 @@ fn update_grant<S: Alter>(
 ) -> Result<(), Fault>
     requires in_form { InForm S.Store tx.old }
     ensures stays { Stays S.Store tx.old tx.new }
-    ensures makes { Makes S.Store tx.old tx.new result (λ c. record c { grants = amended c.grants (organisation.now, (team.now, name.now)) grant }) }
+    ensures makes { Makes S.Store tx.old tx.new result
+        (λ c. record c {
+          grants = amended c.grants (organisation.now, (team.now, name.now)) grant;
+        }) }
 {
     write(
         tx,
@@ -101,7 +109,8 @@ pub(crate) fn drop_grant<S: Alter>(
 ) -> Result<(), Fault>
     requires in_form { InForm S.Store tx.old }
     ensures stays { Stays S.Store tx.old tx.new }
-    ensures makes { Makes S.Store tx.old tx.new result (λ c. record c { grants = erase c.grants (organisation.now, (team.now, name.now)) }) }
+    ensures makes { Makes S.Store tx.old tx.new result
+        (λ c. record c { grants = erase c.grants (organisation.now, (team.now, name.now)) }) }
 {
     write(
         tx,
@@ -130,7 +139,8 @@ pub fn load_grants<S: Alter>(
 ) -> Result<Vec<Grant>, Fault>
     requires in_form { InForm S.Store tx.old }
     ensures stays { Stays S.Store tx.old tx.new }
-    ensures tells { Tells S.Store tx.old tx.new result (λ grants c. AreGranted c organisation.now user.now name.now grants.items) }
+    ensures tells { Tells S.Store tx.old tx.new result
+        (λ grants c. AreGranted c organisation.now user.now name.now grants.items) }
 {
     let rows = read(
         tx,
@@ -157,7 +167,8 @@ pub(crate) fn load_team_grants<S: Alter>(
 ) -> Result<Vec<Granted>, Fault>
     requires in_form { InForm S.Store tx.old }
     ensures stays { Stays S.Store tx.old tx.new }
-    ensures tells { Tells S.Store tx.old tx.new result (λ granted c. map granted_entry granted.items ≡ grants_of c organisation.now team.now) }
+    ensures tells { Tells S.Store tx.old tx.new result
+        (λ granted c. map granted_entry granted.items ≡ grants_of c organisation.now team.now) }
 {
     let rows = read(
         tx,
@@ -168,7 +179,8 @@ pub(crate) fn load_team_grants<S: Alter>(
 }
 
 fn granted_in(alloc: Global, rows: &[Row]) -> Result<Vec<Granted>, Fault>
-    ensures { IfOk result (λ granted. map granted_entry granted.items ≡ map granted_spelled rows.now) }
+    ensures { IfOk result
+        (λ granted. map granted_entry granted.items ≡ map granted_spelled rows.now) }
 {
     let rows: Vec<ListedGrant> = values_in(alloc, rows)?;
     let granted = rows.into_iter().map(|row| row.granted).collect(alloc)?;

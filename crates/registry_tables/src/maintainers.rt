@@ -23,7 +23,8 @@ pub fn is_maintainer<S: Alter>(
 ) -> Result<bool, Fault>
     requires in_form { InForm S.Store tx.old }
     ensures stays { Stays S.Store tx.old tx.new }
-    ensures tells { Tells S.Store tx.old tx.new result (λ is c. is ≡ is_some (at c.owners (name.now, user.now))) }
+    ensures tells { Tells S.Store tx.old tx.new result
+        (λ is c. is ≡ is_some (at c.owners (name.now, user.now))) }
 {
     let rows = read(
         tx,
@@ -42,7 +43,8 @@ pub fn has_other_maintainer<S: Alter>(
 ) -> Result<bool, Fault>
     requires in_form { InForm S.Store tx.old }
     ensures stays { Stays S.Store tx.old tx.new }
-    ensures tells { Tells S.Store tx.old tx.new result (λ has c. has ≡ spec.has_other_maintainer (registry_of c) name.now user.now) }
+    ensures tells { Tells S.Store tx.old tx.new result
+        (λ has c. has ≡ spec.has_other_maintainer (registry_of c) name.now user.now) }
 {
     let maintainers = load_maintainers(alloc, tx, name)?;
     Ok(maintained_by_another(&maintainers, user))
@@ -56,7 +58,8 @@ fn load_maintainers<S: Alter>(
 ) -> Result<Vec<Text>, Fault>
     requires in_form { InForm S.Store tx.old }
     ensures stays { Stays S.Store tx.old tx.new }
-    ensures tells { Tells S.Store tx.old tx.new result (λ users c. users.items ≡ keys (of c.owners name.now)) }
+    ensures tells { Tells S.Store tx.old tx.new result
+        (λ users c. users.items ≡ keys (of c.owners name.now)) }
 {
     let rows = read(
         tx,
@@ -90,7 +93,8 @@ pub(crate) fn put_maintainer<S: Alter>(
 ) -> Result<(), Fault>
     requires in_form { InForm S.Store tx.old }
     ensures stays { Stays S.Store tx.old tx.new }
-    ensures makes { Makes S.Store tx.old tx.new result (λ c. record c { owners = put c.owners (name.now, user.now) tt }) }
+    ensures makes { Makes S.Store tx.old tx.new result
+        (λ c. record c { owners = put c.owners (name.now, user.now) tt }) }
 {
     write(
         tx,
@@ -107,7 +111,8 @@ pub(crate) fn drop_maintainer<S: Alter>(
 ) -> Result<(), Fault>
     requires in_form { InForm S.Store tx.old }
     ensures stays { Stays S.Store tx.old tx.new }
-    ensures makes { Makes S.Store tx.old tx.new result (λ c. record c { owners = erase c.owners (name.now, user.now) }) }
+    ensures makes { Makes S.Store tx.old tx.new result
+        (λ c. record c { owners = erase c.owners (name.now, user.now) }) }
 {
     write(
         tx,

@@ -29,7 +29,8 @@ pub fn load_role<S: Alter>(
 ) -> Result<Option<Role>, Fault>
     requires in_form { InForm S.Store tx.old }
     ensures stays { Stays S.Store tx.old tx.new }
-    ensures tells { Tells S.Store tx.old tx.new result (λ role c. role ≡ at c.members (organisation.now, user.now)) }
+    ensures tells { Tells S.Store tx.old tx.new result
+        (λ role c. role ≡ at c.members (organisation.now, user.now)) }
 {
     let rows = read(
         tx,
@@ -54,7 +55,8 @@ pub fn load_members<S: Alter>(
 ) -> Result<Vec<Member>, Fault>
     requires in_form { InForm S.Store tx.old }
     ensures stays { Stays S.Store tx.old tx.new }
-    ensures tells { Tells S.Store tx.old tx.new result (λ members c. map member_entry members.items ≡ of c.members organisation.now) }
+    ensures tells { Tells S.Store tx.old tx.new result
+        (λ members c. map member_entry members.items ≡ of c.members organisation.now) }
 {
     let rows = read(
         tx,
@@ -65,7 +67,8 @@ pub fn load_members<S: Alter>(
 }
 
 fn members_in(alloc: Global, rows: &[Row]) -> Result<Vec<Member>, Fault>
-    ensures { IfOk result (λ members. map member_entry members.items ≡ map member_spelled rows.now) }
+    ensures { IfOk result
+        (λ members. map member_entry members.items ≡ map member_spelled rows.now) }
 {
     let rows: Vec<ListedMember> = values_in(alloc, rows)?;
     let members = rows.into_iter().map(|row| row.member).collect(alloc)?;
@@ -81,14 +84,16 @@ pub fn has_other_owner<S: Alter>(
 ) -> Result<bool, Fault>
     requires in_form { InForm S.Store tx.old }
     ensures stays { Stays S.Store tx.old tx.new }
-    ensures tells { Tells S.Store tx.old tx.new result (λ has c. has ≡ spec.has_other_owner (registry_of c) organisation.now user.now) }
+    ensures tells { Tells S.Store tx.old tx.new result
+        (λ has c. has ≡ spec.has_other_owner (registry_of c) organisation.now user.now) }
 {
     let members = load_members(alloc, tx, organisation)?;
     Ok(owned_by_another(&members, user))
 }
 
 fn owned_by_another(members: &[Member], user: &str) -> bool
-    ensures { result ≡ list_any (λ m. not (is m.user user.now) && is_owner (Some m.role)) members.now }
+    ensures { result
+        ≡ list_any (λ m. not (is m.user user.now) && is_owner (Some m.role)) members.now }
 {
     members.iter().any(|member| !names(member, user) && matches!(member.role, Role::Owner))
 }
@@ -110,7 +115,8 @@ pub(crate) fn put_member<S: Alter>(
 ) -> Result<(), Fault>
     requires in_form { InForm S.Store tx.old }
     ensures stays { Stays S.Store tx.old tx.new }
-    ensures makes { Makes S.Store tx.old tx.new result (λ c. record c { members = with_row c.members (organisation.now, user.now) role stands }) }
+    ensures makes { Makes S.Store tx.old tx.new result
+        (λ c. record c { members = with_row c.members (organisation.now, user.now) role stands }) }
 {
     if stands {
         update_member(tx, organisation, user, role)
@@ -127,7 +133,8 @@ fn insert_member<S: Alter>(
 ) -> Result<(), Fault>
     requires in_form { InForm S.Store tx.old }
     ensures stays { Stays S.Store tx.old tx.new }
-    ensures makes { Makes S.Store tx.old tx.new result (λ c. record c { members = put c.members (organisation.now, user.now) role }) }
+    ensures makes { Makes S.Store tx.old tx.new result
+        (λ c. record c { members = put c.members (organisation.now, user.now) role }) }
 {
     write(
         tx,
@@ -144,7 +151,8 @@ fn update_member<S: Alter>(
 ) -> Result<(), Fault>
     requires in_form { InForm S.Store tx.old }
     ensures stays { Stays S.Store tx.old tx.new }
-    ensures makes { Makes S.Store tx.old tx.new result (λ c. record c { members = amended c.members (organisation.now, user.now) role }) }
+    ensures makes { Makes S.Store tx.old tx.new result
+        (λ c. record c { members = amended c.members (organisation.now, user.now) role }) }
 {
     write(
         tx,

@@ -23,11 +23,14 @@ const SCHEMA: i64 = 3;
 /// A database that has tables and no number of a schema is answered by `Database`.
 pub fn opened<S: Alter>(tx: &mut Transaction<'_, S>) -> Result<Option<u32>, Fault>
     ensures same_reference { tx.new.conn.ghost_name ≡ tx.old.conn.ghost_name }
-    ensures committed { GoesOn S.Store tx.old → HasCleanDisk (shown S.Store tx.new) → KeepsCommit (shown S.Store tx.old) (shown S.Store tx.new) }
+    ensures committed { GoesOn S.Store tx.old → HasCleanDisk (shown S.Store tx.new)
+        → KeepsCommit (shown S.Store tx.old) (shown S.Store tx.new) }
     ensures survives { Survives (shown S.Store tx.old) (shown S.Store tx.new) (λ _. ⊥) }
     ensures opened { IfOk result (λ number. Opened S.Store number tx.old tx.new) }
-    ensures ours { InForm S.Store tx.old → Tells S.Store tx.old tx.new result (λ number c. IsSome number × (number ≡ at c.meta schema_key)) }
-    ensures none { HasNoTables S.Store tx.old → TellsNone S.Store tx.old tx.new result (λ number. number ≡ None) }
+    ensures ours { InForm S.Store tx.old → Tells S.Store tx.old tx.new result
+        (λ number c. IsSome number × (number ≡ at c.meta schema_key)) }
+    ensures none { HasNoTables S.Store tx.old → TellsNone S.Store tx.old tx.new result
+        (λ number. number ≡ None) }
 {
     if lacks_tables(tx)? {
         return Ok(None);
@@ -37,12 +40,16 @@ pub fn opened<S: Alter>(tx: &mut Transaction<'_, S>) -> Result<Option<u32>, Faul
 
 fn lacks_tables<S: Alter>(tx: &mut Transaction<'_, S>) -> Result<bool, Fault>
     ensures same_reference { tx.new.conn.ghost_name ≡ tx.old.conn.ghost_name }
-    ensures committed { GoesOn S.Store tx.old → HasCleanDisk (shown S.Store tx.new) → KeepsCommit (shown S.Store tx.old) (shown S.Store tx.new) }
+    ensures committed { GoesOn S.Store tx.old → HasCleanDisk (shown S.Store tx.new)
+        → KeepsCommit (shown S.Store tx.old) (shown S.Store tx.new) }
     ensures survives { Survives (shown S.Store tx.old) (shown S.Store tx.new) (λ _. ⊥) }
     ensures lists { IfOk result (λ lacks. Lists S.Store lacks tx.old tx.new) }
-    ensures ours { InForm S.Store tx.old → Tells S.Store tx.old tx.new result (λ lacks c. lacks ≡ false) }
-    ensures none { HasNoTables S.Store tx.old → TellsNone S.Store tx.old tx.new result (λ lacks. lacks ≡ true) }
-    ensures going { GoesOn S.Store tx.old → HasCleanDisk (shown S.Store tx.new) → OnOk result (GoesOn S.Store tx.new) }
+    ensures ours { InForm S.Store tx.old → Tells S.Store tx.old tx.new result
+        (λ lacks c. lacks ≡ false) }
+    ensures none { HasNoTables S.Store tx.old → TellsNone S.Store tx.old tx.new result
+        (λ lacks. lacks ≡ true) }
+    ensures going { GoesOn S.Store tx.old → HasCleanDisk (shown S.Store tx.new)
+        → OnOk result (GoesOn S.Store tx.new) }
 {
     let objects = read(tx, "SELECT name FROM sqlite_schema", &[])?;
     Ok(objects.is_empty())
@@ -50,10 +57,12 @@ fn lacks_tables<S: Alter>(tx: &mut Transaction<'_, S>) -> Result<bool, Fault>
 
 fn load_schema<S: Alter>(tx: &mut Transaction<'_, S>) -> Result<u32, Fault>
     ensures same_reference { tx.new.conn.ghost_name ≡ tx.old.conn.ghost_name }
-    ensures committed { GoesOn S.Store tx.old → HasCleanDisk (shown S.Store tx.new) → KeepsCommit (shown S.Store tx.old) (shown S.Store tx.new) }
+    ensures committed { GoesOn S.Store tx.old → HasCleanDisk (shown S.Store tx.new)
+        → KeepsCommit (shown S.Store tx.old) (shown S.Store tx.new) }
     ensures survives { Survives (shown S.Store tx.old) (shown S.Store tx.new) (λ _. ⊥) }
     ensures shows { IfOk result (λ number. ShowsNumber S.Store number tx.old tx.new) }
-    ensures ours { InForm S.Store tx.old → Tells S.Store tx.old tx.new result (λ number c. at c.meta schema_key ≡ Some number) }
+    ensures ours { InForm S.Store tx.old → Tells S.Store tx.old tx.new result
+        (λ number c. at c.meta schema_key ≡ Some number) }
 {
     let rows = read(
         tx,
@@ -64,7 +73,8 @@ fn load_schema<S: Alter>(tx: &mut Transaction<'_, S>) -> Result<u32, Fault>
 }
 
 fn first_number(rows: &[Row]) -> Result<u32, Fault>
-    ensures { IfOk result (λ number. option_map (λ r. number_in (column r 0)) (slice_get rows.now 0) ≡ Some number) }
+    ensures { IfOk result (λ number.
+        option_map (λ r. number_in (column r 0)) (slice_get rows.now 0) ≡ Some number) }
 {
     let Some(row) = rows.first() else {
         return Err(Fault::Database);
@@ -78,7 +88,8 @@ fn first_number(rows: &[Row]) -> Result<u32, Fault>
 /// Puts the number of the schema.
 pub(crate) fn put_schema<S: Alter>(tx: &mut Transaction<'_, S>) -> Result<(), Fault>
     ensures stays { Stays S.Store tx.old tx.new }
-    ensures makes { InForm S.Store tx.old → Makes S.Store tx.old tx.new result (λ c. with_number c schema_number) }
+    ensures makes { InForm S.Store tx.old → Makes S.Store tx.old tx.new result
+        (λ c. with_number c schema_number) }
     ensures puts { OnOk result (PutsNumber S.Store tx.old tx.new) }
 {
     write(

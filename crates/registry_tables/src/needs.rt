@@ -31,7 +31,8 @@ pub(crate) fn put_needs<S: Alter>(
 ) -> Result<(), Fault>
     requires under_way { IsUnderWay S.Store tx.old }
     ensures stays { Stays S.Store tx.old tx.new }
-    ensures makes { Makes S.Store tx.old tx.new result (λ c. record c { need_ranges = with_needs c.need_ranges name.now version.now needs.now }) }
+    ensures makes { Makes S.Store tx.old tx.new result
+        (λ c. record c { need_ranges = with_needs c.need_ranges name.now version.now needs.now }) }
 {
     for need in needs {
         put_need(tx, name, version, need)?;
@@ -47,7 +48,8 @@ fn put_need<S: Alter>(
 ) -> Result<(), Fault>
     requires under_way { IsUnderWay S.Store tx.old }
     ensures stays { Stays S.Store tx.old tx.new }
-    ensures makes { Makes S.Store tx.old tx.new result (λ c. record c { need_ranges = with_need c.need_ranges name.now version.now need.now }) }
+    ensures makes { Makes S.Store tx.old tx.new result
+        (λ c. record c { need_ranges = with_need c.need_ranges name.now version.now need.now }) }
 {
     if has_need(tx, name, version, need)? {
         return Ok(());
@@ -63,7 +65,8 @@ fn insert_need<S: Alter>(
 ) -> Result<(), Fault>
     requires in_form { InForm S.Store tx.old }
     ensures stays { Stays S.Store tx.old tx.new }
-    ensures makes { Makes S.Store tx.old tx.new result (λ c. record c { need_ranges = with_need c.need_ranges name.now version.now need.now }) }
+    ensures makes { Makes S.Store tx.old tx.new result
+        (λ c. record c { need_ranges = with_need c.need_ranges name.now version.now need.now }) }
 {
     write(
         tx,
@@ -81,7 +84,8 @@ fn has_need<S: Alter>(
 ) -> Result<bool, Fault>
     requires in_form { InForm S.Store tx.old }
     ensures stays { Stays S.Store tx.old tx.new }
-    ensures tells { Tells S.Store tx.old tx.new result (λ has c. has ≡ is_some (at c.need_ranges (need_key name.now version.now need.now))) }
+    ensures tells { Tells S.Store tx.old tx.new result
+        (λ has c. has ≡ is_some (at c.need_ranges (need_key name.now version.now need.now))) }
 {
     let rows = read(
         tx,

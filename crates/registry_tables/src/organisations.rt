@@ -16,7 +16,8 @@ pub fn has_organisation<S: Alter>(
 ) -> Result<bool, Fault>
     requires in_form { InForm S.Store tx.old }
     ensures stays { Stays S.Store tx.old tx.new }
-    ensures tells { Tells S.Store tx.old tx.new result (λ has c. has ≡ is_some (at c.orgs organisation.now)) }
+    ensures tells { Tells S.Store tx.old tx.new result
+        (λ has c. has ≡ is_some (at c.orgs organisation.now)) }
 {
     let rows = read(
         tx,
@@ -33,7 +34,8 @@ pub(crate) fn add_organisation<S: Alter>(
 ) -> Result<(), Fault>
     requires in_form { InForm S.Store tx.old }
     ensures stays { Stays S.Store tx.old tx.new }
-    ensures makes { Makes S.Store tx.old tx.new result (λ c. record c { orgs = put c.orgs organisation.now tt }) }
+    ensures makes { Makes S.Store tx.old tx.new result
+        (λ c. record c { orgs = put c.orgs organisation.now tt }) }
 {
     write(tx, "INSERT INTO orgs VALUES (?1)", params![organisation])
 }

@@ -47,7 +47,8 @@ const TABLES: [&str; 18] = [
 /// schema. Where a table of one of their names is there already, the answer is `Database`.
 pub fn create<S: Alter>(tx: &mut Transaction<'_, S>) -> Result<(), Fault>
     ensures stays { Stays S.Store tx.old tx.new }
-    ensures made { HasNoTables S.Store tx.old → HasCleanDisk (shown S.Store tx.new) → OnOk result (Leaves schema contents fresh (shown S.Store tx.new)) }
+    ensures made { HasNoTables S.Store tx.old → HasCleanDisk (shown S.Store tx.new)
+        → OnOk result (Leaves schema contents fresh (shown S.Store tx.new)) }
     ensures created { OnOk result (HasCreated S.Store tx.old tx.new) }
     ensures refused { InForm S.Store tx.old → HasCleanDisk (shown S.Store tx.new) → IsErr result }
 {

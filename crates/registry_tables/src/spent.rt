@@ -20,7 +20,8 @@ pub fn is_spent<S: Alter>(
 ) -> Result<bool, Fault>
     requires in_form { InForm S.Store tx.old }
     ensures stays { Stays S.Store tx.old tx.new }
-    ensures tells { Tells S.Store tx.old tx.new result (λ spent c. spent ≡ is_some (at c.spent (name.now, version.now))) }
+    ensures tells { Tells S.Store tx.old tx.new result
+        (λ spent c. spent ≡ is_some (at c.spent (name.now, version.now))) }
 {
     let rows = read(
         tx,

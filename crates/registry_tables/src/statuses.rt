@@ -19,7 +19,8 @@ pub fn load_status<S: Alter>(
 ) -> Result<Option<Status>, Fault>
     requires in_form { InForm S.Store tx.old }
     ensures stays { Stays S.Store tx.old tx.new }
-    ensures tells { Tells S.Store tx.old tx.new result (λ status c. status ≡ at c.packages name.now) }
+    ensures tells { Tells S.Store tx.old tx.new result
+        (λ status c. status ≡ at c.packages name.now) }
 {
     let rows = read(
         tx,
@@ -45,7 +46,8 @@ pub(crate) fn put_status<S: Alter>(
 ) -> Result<(), Fault>
     requires in_form { InForm S.Store tx.old }
     ensures stays { Stays S.Store tx.old tx.new }
-    ensures makes { Makes S.Store tx.old tx.new result (λ c. record c { packages = with_row c.packages name.now status stands }) }
+    ensures makes { Makes S.Store tx.old tx.new result
+        (λ c. record c { packages = with_row c.packages name.now status stands }) }
 {
     if stands {
         update_status(tx, name, status)
@@ -61,7 +63,8 @@ fn insert_status<S: Alter>(
 ) -> Result<(), Fault>
     requires in_form { InForm S.Store tx.old }
     ensures stays { Stays S.Store tx.old tx.new }
-    ensures makes { Makes S.Store tx.old tx.new result (λ c. record c { packages = put c.packages name.now status }) }
+    ensures makes { Makes S.Store tx.old tx.new result
+        (λ c. record c { packages = put c.packages name.now status }) }
 {
     write(
         tx,
@@ -77,7 +80,8 @@ fn update_status<S: Alter>(
 ) -> Result<(), Fault>
     requires in_form { InForm S.Store tx.old }
     ensures stays { Stays S.Store tx.old tx.new }
-    ensures makes { Makes S.Store tx.old tx.new result (λ c. record c { packages = amended c.packages name.now status }) }
+    ensures makes { Makes S.Store tx.old tx.new result
+        (λ c. record c { packages = amended c.packages name.now status }) }
 {
     write(
         tx,

@@ -20,7 +20,8 @@ use std::alloc::Global;
 pub fn has_tag<S: Alter>(tx: &mut Transaction<'_, S>, name: &Name, tag: &str) -> Result<bool, Fault>
     requires in_form { InForm S.Store tx.old }
     ensures stays { Stays S.Store tx.old tx.new }
-    ensures tells { Tells S.Store tx.old tx.new result (λ has c. has ≡ is_some (at c.tags (name.now, tag.now))) }
+    ensures tells { Tells S.Store tx.old tx.new result
+        (λ has c. has ≡ is_some (at c.tags (name.now, tag.now))) }
 {
     let rows = read(
         tx,
@@ -38,7 +39,8 @@ pub fn load_tag<S: Alter>(
 ) -> Result<Option<Text>, Fault>
     requires in_form { InForm S.Store tx.old }
     ensures stays { Stays S.Store tx.old tx.new }
-    ensures tells { Tells S.Store tx.old tx.new result (λ named c. named ≡ at c.tags (name.now, tag.now)) }
+    ensures tells { Tells S.Store tx.old tx.new result
+        (λ named c. named ≡ at c.tags (name.now, tag.now)) }
 {
     let rows = read(
         tx,
@@ -63,7 +65,8 @@ pub fn load_tags<S: Alter>(
 ) -> Result<Vec<DistTag>, Fault>
     requires in_form { InForm S.Store tx.old }
     ensures stays { Stays S.Store tx.old tx.new }
-    ensures tells { Tells S.Store tx.old tx.new result (λ tags c. map tag_entry tags.items ≡ of c.tags name.now) }
+    ensures tells { Tells S.Store tx.old tx.new result
+        (λ tags c. map tag_entry tags.items ≡ of c.tags name.now) }
 {
     let rows = read(
         tx,
@@ -111,7 +114,8 @@ pub(crate) fn put_tag<S: Alter>(
 ) -> Result<(), Fault>
     requires in_form { InForm S.Store tx.old }
     ensures stays { Stays S.Store tx.old tx.new }
-    ensures makes { Makes S.Store tx.old tx.new result (λ c. record c { tags = with_row c.tags (name.now, tag.now) version.now stands }) }
+    ensures makes { Makes S.Store tx.old tx.new result
+        (λ c. record c { tags = with_row c.tags (name.now, tag.now) version.now stands }) }
 {
     if stands {
         update_tag(tx, name, tag, version)
@@ -128,7 +132,8 @@ fn insert_tag<S: Alter>(
 ) -> Result<(), Fault>
     requires in_form { InForm S.Store tx.old }
     ensures stays { Stays S.Store tx.old tx.new }
-    ensures makes { Makes S.Store tx.old tx.new result (λ c. record c { tags = put c.tags (name.now, tag.now) version.now }) }
+    ensures makes { Makes S.Store tx.old tx.new result
+        (λ c. record c { tags = put c.tags (name.now, tag.now) version.now }) }
 {
     write(
         tx,
@@ -145,7 +150,8 @@ fn update_tag<S: Alter>(
 ) -> Result<(), Fault>
     requires in_form { InForm S.Store tx.old }
     ensures stays { Stays S.Store tx.old tx.new }
-    ensures makes { Makes S.Store tx.old tx.new result (λ c. record c { tags = amended c.tags (name.now, tag.now) version.now }) }
+    ensures makes { Makes S.Store tx.old tx.new result
+        (λ c. record c { tags = amended c.tags (name.now, tag.now) version.now }) }
 {
     write(
         tx,
@@ -162,7 +168,8 @@ pub(crate) fn drop_tag<S: Alter>(
 ) -> Result<(), Fault>
     requires in_form { InForm S.Store tx.old }
     ensures stays { Stays S.Store tx.old tx.new }
-    ensures makes { Makes S.Store tx.old tx.new result (λ c. record c { tags = erase c.tags (name.now, tag.now) }) }
+    ensures makes { Makes S.Store tx.old tx.new result
+        (λ c. record c { tags = erase c.tags (name.now, tag.now) }) }
 {
     write(
         tx,

@@ -22,7 +22,8 @@ pub fn is_in_team<S: Alter>(
 ) -> Result<bool, Fault>
     requires in_form { InForm S.Store tx.old }
     ensures stays { Stays S.Store tx.old tx.new }
-    ensures tells { Tells S.Store tx.old tx.new result (λ is c. is ≡ is_some (at c.team_members (organisation.now, (team.now, user.now)))) }
+    ensures tells { Tells S.Store tx.old tx.new result
+        (λ is c. is ≡ is_some (at c.team_members (organisation.now, (team.now, user.now)))) }
 {
     let rows = read(
         tx,
@@ -42,7 +43,10 @@ pub(crate) fn put_team_member<S: Alter>(
 ) -> Result<(), Fault>
     requires in_form { InForm S.Store tx.old }
     ensures stays { Stays S.Store tx.old tx.new }
-    ensures makes { Makes S.Store tx.old tx.new result (λ c. record c { team_members = put c.team_members (organisation.now, (team.now, user.now)) tt }) }
+    ensures makes { Makes S.Store tx.old tx.new result
+        (λ c. record c {
+          team_members = put c.team_members (organisation.now, (team.now, user.now)) tt;
+        }) }
 {
     write(
         tx,
@@ -60,7 +64,10 @@ pub(crate) fn drop_team_member<S: Alter>(
 ) -> Result<(), Fault>
     requires in_form { InForm S.Store tx.old }
     ensures stays { Stays S.Store tx.old tx.new }
-    ensures makes { Makes S.Store tx.old tx.new result (λ c. record c { team_members = erase c.team_members (organisation.now, (team.now, user.now)) }) }
+    ensures makes { Makes S.Store tx.old tx.new result
+        (λ c. record c {
+          team_members = erase c.team_members (organisation.now, (team.now, user.now));
+        }) }
 {
     write(
         tx,
@@ -78,7 +85,8 @@ pub fn load_team_users<S: Alter>(
 ) -> Result<Vec<Text>, Fault>
     requires in_form { InForm S.Store tx.old }
     ensures stays { Stays S.Store tx.old tx.new }
-    ensures tells { Tells S.Store tx.old tx.new result (λ users c. users.items ≡ users_of c organisation.now team.now) }
+    ensures tells { Tells S.Store tx.old tx.new result
+        (λ users c. users.items ≡ users_of c organisation.now team.now) }
 {
     let rows = read(
         tx,
@@ -97,7 +105,8 @@ pub fn load_user_teams<S: Alter>(
 ) -> Result<Vec<Text>, Fault>
     requires in_form { InForm S.Store tx.old }
     ensures stays { Stays S.Store tx.old tx.new }
-    ensures tells { Tells S.Store tx.old tx.new result (λ teams c. teams.items ≡ teams_of c organisation.now user.now) }
+    ensures tells { Tells S.Store tx.old tx.new result
+        (λ teams c. teams.items ≡ teams_of c organisation.now user.now) }
 {
     let rows = read(
         tx,

@@ -20,7 +20,8 @@ pub fn has_team<S: Alter>(
 ) -> Result<bool, Fault>
     requires in_form { InForm S.Store tx.old }
     ensures stays { Stays S.Store tx.old tx.new }
-    ensures tells { Tells S.Store tx.old tx.new result (λ has c. has ≡ is_some (at c.teams (organisation.now, team.now))) }
+    ensures tells { Tells S.Store tx.old tx.new result
+        (λ has c. has ≡ is_some (at c.teams (organisation.now, team.now))) }
 {
     let rows = read(
         tx,
@@ -38,7 +39,8 @@ pub fn load_teams<S: Alter>(
 ) -> Result<Vec<Text>, Fault>
     requires in_form { InForm S.Store tx.old }
     ensures stays { Stays S.Store tx.old tx.new }
-    ensures tells { Tells S.Store tx.old tx.new result (λ teams c. teams.items ≡ keys (of c.teams organisation.now)) }
+    ensures tells { Tells S.Store tx.old tx.new result
+        (λ teams c. teams.items ≡ keys (of c.teams organisation.now)) }
 {
     let rows = read(
         tx,
@@ -57,7 +59,8 @@ pub(crate) fn add_team<S: Alter>(
 ) -> Result<(), Fault>
     requires in_form { InForm S.Store tx.old }
     ensures stays { Stays S.Store tx.old tx.new }
-    ensures makes { Makes S.Store tx.old tx.new result (λ c. record c { teams = put c.teams (organisation.now, team.now) tt }) }
+    ensures makes { Makes S.Store tx.old tx.new result
+        (λ c. record c { teams = put c.teams (organisation.now, team.now) tt }) }
 {
     write(
         tx,

@@ -51,7 +51,8 @@ pub(crate) fn add_token<S: Alter>(
 ) -> Result<(), Fault>
     requires in_form { InForm S.Store tx.old }
     ensures stays { Stays S.Store tx.old tx.new }
-    ensures makes { Makes S.Store tx.old tx.new result (λ c. record c { tokens = put c.tokens digest.now user.now }) }
+    ensures makes { Makes S.Store tx.old tx.new result
+        (λ c. record c { tokens = put c.tokens digest.now user.now }) }
 {
     write(
         tx,

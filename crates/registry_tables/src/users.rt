@@ -13,7 +13,8 @@ use sqlite::{Alter, Transaction, params};
 pub fn has_user<S: Alter>(tx: &mut Transaction<'_, S>, user: &str) -> Result<bool, Fault>
     requires in_form { InForm S.Store tx.old }
     ensures stays { Stays S.Store tx.old tx.new }
-    ensures tells { Tells S.Store tx.old tx.new result (λ has c. has ≡ is_some (at c.users user.now)) }
+    ensures tells { Tells S.Store tx.old tx.new result
+        (λ has c. has ≡ is_some (at c.users user.now)) }
 {
     let rows = read(tx, "SELECT name FROM users WHERE name = ?1", params![user])?;
     Ok(!rows.is_empty())
@@ -23,7 +24,8 @@ pub fn has_user<S: Alter>(tx: &mut Transaction<'_, S>, user: &str) -> Result<boo
 pub(crate) fn add_user<S: Alter>(tx: &mut Transaction<'_, S>, user: &str) -> Result<(), Fault>
     requires in_form { InForm S.Store tx.old }
     ensures stays { Stays S.Store tx.old tx.new }
-    ensures makes { Makes S.Store tx.old tx.new result (λ c. record c { users = put c.users user.now tt }) }
+    ensures makes { Makes S.Store tx.old tx.new result
+        (λ c. record c { users = put c.users user.now tt }) }
 {
     write(tx, "INSERT INTO users VALUES (?1)", params![user])
 }

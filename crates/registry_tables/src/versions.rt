@@ -37,7 +37,8 @@ pub fn has_version<S: Alter>(
 ) -> Result<bool, Fault>
     requires in_form { InForm S.Store tx.old }
     ensures stays { Stays S.Store tx.old tx.new }
-    ensures tells { Tells S.Store tx.old tx.new result (λ lives c. lives ≡ is_some (at (live_of c) (name.now, version.now))) }
+    ensures tells { Tells S.Store tx.old tx.new result
+        (λ lives c. lives ≡ is_some (at (live_of c) (name.now, version.now))) }
 {
     let rows = read(
         tx,
@@ -115,7 +116,8 @@ fn all_parsed(alloc: Global, texts: &[Text]) -> Result<Vec<Ver>, Fault>
 pub fn has_live<S: Alter>(tx: &mut Transaction<'_, S>, name: &Name) -> Result<bool, Fault>
     requires in_form { InForm S.Store tx.old }
     ensures stays { Stays S.Store tx.old tx.new }
-    ensures tells { Tells S.Store tx.old tx.new result (λ lives c. lives ≡ state.has_live (registry_of c) name.now) }
+    ensures tells { Tells S.Store tx.old tx.new result
+        (λ lives c. lives ≡ state.has_live (registry_of c) name.now) }
 {
     let rows = read(
         tx,
@@ -134,7 +136,9 @@ pub fn load_versions<S: Alter>(
 ) -> Result<Vec<VersionRow>, Fault>
     requires in_form { InForm S.Store tx.old }
     ensures stays { Stays S.Store tx.old tx.new }
-    ensures tells { Tells S.Store tx.old tx.new result (λ versions c. map row_entry versions.items ≡ map (seen document) (of (live_of c) name.now)) }
+    ensures tells { Tells S.Store tx.old tx.new result
+        (λ versions c. map row_entry versions.items
+        ≡ map (seen document) (of (live_of c) name.now)) }
 {
     let rows = read(
         tx,
@@ -169,7 +173,9 @@ pub fn load_document<S: Alter>(
 ) -> Result<Option<DocumentRow>, Fault>
     requires in_form { InForm S.Store tx.old }
     ensures stays { Stays S.Store tx.old tx.new }
-    ensures tells { Tells S.Store tx.old tx.new result (λ found c. option_map document_entry found ≡ option_map document (at (live_of c) (name.now, version.now))) }
+    ensures tells { Tells S.Store tx.old tx.new result
+        (λ found c. option_map document_entry found
+        ≡ option_map document (at (live_of c) (name.now, version.now))) }
 {
     let rows = read(
         tx,
@@ -191,7 +197,8 @@ pub fn put_version<S: Alter>(
     requires in_form { InForm S.Store tx.old }
     ensures stays { Stays S.Store tx.old tx.new }
     ensures makes { Makes S.Store tx.old tx.new result (version_put form.now published) }
-    ensures was_new { HasCleanDisk (shown S.Store tx.new) → OnOk result (IsNew form.now (stored_in S.Store tx.old)) }
+    ensures was_new { HasCleanDisk (shown S.Store tx.new)
+        → OnOk result (IsNew form.now (stored_in S.Store tx.old)) }
 {
     if !may_be_put(tx, form)? {
         return Err(Fault::Database);
@@ -219,8 +226,13 @@ fn insert_version<S: Alter>(
 ) -> Result<(), Fault>
     requires in_form { InForm S.Store tx.old }
     ensures stays { Stays S.Store tx.old tx.new }
-    ensures makes { Makes S.Store tx.old tx.new result (λ c. record c { versions = put c.versions (form.now.name, actions.version_of form.now) (row_of form.now published) }) }
-    ensures was_new { HasCleanDisk (shown S.Store tx.new) → OnOk result (at (stored_in S.Store tx.old).versions (form.now.name, actions.version_of form.now) ≡ None) }
+    ensures makes { Makes S.Store tx.old tx.new result (λ c. record c {
+      versions = put c.versions
+          (form.now.name, actions.version_of form.now) (row_of form.now published);
+    }) }
+    ensures was_new { HasCleanDisk (shown S.Store tx.new) → OnOk result
+        (at (stored_in S.Store tx.old).versions (form.now.name, actions.version_of form.now)
+        ≡ None) }
 {
     write(
         tx,
