@@ -59,7 +59,8 @@ pub fn allowed(rows: &AccessRows, caller: &Caller, ask: &Ask) -> Result<Rule, Re
 /// The same of an ask about the package of a standing, as [`allowed`] answers it.
 pub fn allowed_by(standing: &Standing, caller: &Caller, ask: &Ask) -> Result<Rule, Refusal>
     requires { IsSome (asked_package ask.now) }
-    ensures of_standing { result ≡ allowed_at caller.now ask.now (position_of standing.now caller.now) }
+    ensures of_standing { result
+        ≡ allowed_at caller.now ask.now (position_of standing.now caller.now) }
     ensures of_state { (S : Access) (p : Text) → asked_package ask.now ≡ Some p
         → StandsFor standing.now S caller.now p → result ≡ allowed_in S caller.now ask.now }
 {

@@ -56,7 +56,8 @@ impl AccessRows {
 
     // What the team of a row is granted on the package.
     fn team_grant(&self, team: &TeamMemberRow, name: &str) -> Option<Grant>
-        ensures { result ≡ at (state_of self.now).grants (team.now.organisation, (team.now.team, name.now)) }
+        ensures { result ≡ at (state_of self.now).grants
+            (team.now.organisation, (team.now.team, name.now)) }
     {
         grant_of(
             &self.grants,
@@ -69,7 +70,8 @@ impl AccessRows {
     // Whether a team that the user is in has this grant on the package.
     fn is_granted(&self, user: &str, name: &str, grant: Grant) -> bool
         ensures { result ≡ list_any (λ r. texts.is r.user user.now
-            && spec.grants (at (state_of self.now).grants (r.organisation, (r.team, name.now))) grant)
+            && spec.grants
+            (at (state_of self.now).grants (r.organisation, (r.team, name.now))) grant)
             self.now.team_members.items }
     {
         self.team_members.iter().any(|row| is(&row.user, user)

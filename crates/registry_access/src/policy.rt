@@ -53,7 +53,8 @@ pub fn may_operate(caller: &Caller) -> Result<Rule, Refusal>
 
 // What the rule says to a known caller, where what he asks for is found.
 fn where_found(caller: &Caller, found: bool, rule: Rule, holds: bool) -> Result<Rule, Refusal>
-    ensures { result ≡ spec.for_known caller.now (spec.where_found found (spec.by_rule rule holds)) }
+    ensures { result
+        ≡ spec.for_known caller.now (spec.where_found found (spec.by_rule rule holds)) }
 {
     if is_anonymous(caller) {
         return Err(Refusal::NoCaller);

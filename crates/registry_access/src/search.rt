@@ -23,7 +23,8 @@ pub(crate) fn has_text(rows: &[Text], text: &str) -> bool
 }
 
 pub(crate) fn status_of(rows: &[PackageRow], name: &str) -> Option<Status>
-    ensures { result ≡ option_map (λ r. r.status) (find (λ r. spec.is r.package name.now) rows.now) }
+    ensures { result
+        ≡ option_map (λ r. r.status) (find (λ r. spec.is r.package name.now) rows.now) }
 {
     rows.iter()
         .find(|row| is(&row.package, name))
@@ -40,7 +41,8 @@ pub(crate) fn role_of(rows: &[MemberRow], organisation: &str, user: &str) -> Opt
 }
 
 pub(crate) fn has_maintainer(rows: &[MaintainerRow], name: &str, user: &str) -> bool
-    ensures { result ≡ list_any (λ r. spec.is r.package name.now && spec.is r.user user.now) rows.now }
+    ensures { result
+        ≡ list_any (λ r. spec.is r.package name.now && spec.is r.user user.now) rows.now }
 {
     rows.iter()
         .any(|row| is(&row.package, name) && is(&row.user, user))
@@ -53,8 +55,8 @@ pub(crate) fn grant_of(
     name: &str,
 ) -> Option<Grant>
     ensures { result ≡ option_map (λ r. r.grant)
-        (find (λ r. spec.is r.organisation organisation.now && (spec.is r.team team.now && spec.is r.package name.now))
-        rows.now) }
+        (find (λ r. spec.is r.organisation organisation.now
+        && (spec.is r.team team.now && spec.is r.package name.now)) rows.now) }
 {
     rows.iter()
         .find(|row| {

@@ -18,7 +18,8 @@ use std::alloc::Global;
 
 fn decoded(alloc: Global, coded: &str) -> Result<Vec<u8>, Stop>
     ensures ok { IfOk result (λ z. decode_of standard coded.now ≡ Ok z.items) }
-    ensures err { IfErr result (StopsReading ((z : List ℕ) → ¬ (decode_of standard coded.now ≡ Ok z))) }
+    ensures err { IfErr result (StopsReading
+        ((z : List ℕ) → ¬ (decode_of standard coded.now ≡ Ok z))) }
 {
     match STANDARD.decode(alloc, coded.as_bytes()) {
         Ok(archive) => Ok(archive),

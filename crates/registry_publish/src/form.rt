@@ -65,11 +65,21 @@ impl Model for PublishForm {
 
     ghost Value = { FormParts };
 
-    ghost view = { λ f. record { name = f.name; version = f.version; tag = f.tag; access = f.access; manifest = string_bytes f.manifest; archive = f.archive.items; needs = f.needs.items; integrity = f.integrity } };
+    ghost view = { λ f. record {
+      name = f.name;
+      version = f.version;
+      tag = f.tag;
+      access = f.access;
+      manifest = string_bytes f.manifest;
+      archive = f.archive.items;
+      needs = f.needs.items;
+      integrity = f.integrity;
+    } };
 
     ghost invariant = { λ f. IsName f.name × IsVersionOf (text_of_version f.version) f.version
         × (is_tag f.tag ≡ true) × IsManifestText f.name f.version (string_bytes f.manifest)
-        × (needs_of (string_bytes f.manifest) ≡ Some f.needs.items) × (f.integrity ≡ integrity_text f.archive.items) };
+        × (needs_of (string_bytes f.manifest) ≡ Some f.needs.items)
+        × (f.integrity ≡ integrity_text f.archive.items) };
 }
 
 impl PublishForm {
@@ -77,13 +87,14 @@ impl PublishForm {
     ///
     /// The body is JSON (RFC 8259), an object whose members say what is published:
     ///
-    /// | Member | Value |
-    /// |---|---|
-    /// | `name` | the name of the package |
-    /// | `versions` | an object of one member: its key is the version, its value the manifest |
-    /// | `dist-tags` | absent, an empty object, or an object of one member: its key is the tag, its value the version |
-    /// | `access` | absent, null, `public` or `restricted` |
-    /// | `_attachments` | an object of one member: an object, whose `data` is the archive in standard padded base64 (RFC 4648), and whose `length`, where present, is the number of its bytes |
+    /// - `name` is the name of the package.
+    /// - `versions` is an object of one member: its key is the version, its value the manifest.
+    /// - `dist-tags` is absent, an empty object, or an object of one member: its key is the tag,
+    ///   its value the version.
+    /// - `access` is absent, null, `public` or `restricted`.
+    /// - `_attachments` is an object of one member: an object, whose `data` is the archive in
+    ///   standard padded base64 (RFC 4648), and whose `length`, where present, is the number of its
+    ///   bytes.
     ///
     /// The manifest is an object whose `name` and `version` are the body's name and the version,
     /// with no member `deprecated`, in which each number, at any depth, is an integer that a u64

@@ -37,7 +37,8 @@ pub(crate) fn has_integrity(manifest: &Value, integrity: &str) -> bool
 }
 
 fn stated_integrity(manifest: &Value) -> Option<&Value>
-    ensures { option_map (λ stated. view stated.now) result ≡ spec.stated_integrity (view manifest.now) }
+    ensures { option_map (λ stated. view stated.now) result
+        ≡ spec.stated_integrity (view manifest.now) }
 {
     manifest.get("dist")?.get("integrity")
 }

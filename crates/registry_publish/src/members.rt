@@ -52,7 +52,8 @@ fn sole(value: &Value) -> Option<(&str, &Value)>
 }
 
 pub(crate) fn sole_at<'v>(value: &'v Value, key: &str) -> Option<(&'v str, &'v Value)>
-    ensures { option_map (λ m. (m.0.now, view m.1.now)) result ≡ spec.sole_at key.now (view value.now) }
+    ensures { option_map (λ m. (m.0.now, view m.1.now)) result
+        ≡ spec.sole_at key.now (view value.now) }
 {
     sole(value.get(key)?)
 }

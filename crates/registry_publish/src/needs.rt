@@ -33,8 +33,10 @@ fn push_members(
     needs: &mut Vec<Need>,
     members: &Map<String, Value>,
 ) -> Result<(), Stop>
-    ensures ok { OnOk result (AddsNeeds (needs_of_members (members_view members.now.entries)) needs.old.items needs.new.items) }
-    ensures err { IfErr result (StopsReading (needs_of_members (members_view members.now.entries) ≡ None)) }
+    ensures ok { OnOk result (AddsNeeds (needs_of_members (members_view members.now.entries))
+        needs.old.items needs.new.items) }
+    ensures err { IfErr result (StopsReading
+        (needs_of_members (members_view members.now.entries) ≡ None)) }
 {
     for (target, range) in members.iter() {
         let Some(text) = range.as_str() else {
@@ -51,7 +53,8 @@ fn push_needs_at(
     manifest: &Value,
     key: &str,
 ) -> Result<(), Stop>
-    ensures ok { OnOk result (AddsNeeds (needs_at key.now (view manifest.now)) needs.old.items needs.new.items) }
+    ensures ok { OnOk result (AddsNeeds (needs_at key.now (view manifest.now))
+        needs.old.items needs.new.items) }
     ensures err { IfErr result (StopsReading (needs_at key.now (view manifest.now) ≡ None)) }
 {
     let Some(member) = manifest.get(key) else {

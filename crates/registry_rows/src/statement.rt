@@ -31,7 +31,8 @@ pub fn write<S: Alter>(
     params: &[ValueRef<'_>],
 ) -> Result<(), Fault>
     ensures stays { Stays S.Store tx.old tx.new }
-    ensures wrote { OnOk result (Wrote text.now (bound params.now) (state S.Store tx.old.conn.now) (state S.Store tx.new.conn.now)) }
+    ensures wrote { OnOk result (Wrote text.now (bound params.now)
+        (state S.Store tx.old.conn.now) (state S.Store tx.new.conn.now)) }
 {
     match tx.execute(text, params) {
         Ok(_) => Ok(()),
@@ -46,7 +47,8 @@ pub fn read<S: Alter>(
     params: &[ValueRef<'_>],
 ) -> Result<Vec<Row>, Fault>
     ensures same_reference { tx.new.conn.ghost_name ≡ tx.old.conn.ghost_name }
-    ensures shown { IfOk result (λ rows. Queried text.now (bound params.now) (state S.Store tx.old.conn.now) (state S.Store tx.new.conn.now) rows.items) }
+    ensures shown { IfOk result (λ rows. Queried text.now (bound params.now)
+        (state S.Store tx.old.conn.now) (state S.Store tx.new.conn.now) rows.items) }
     ensures failed { OnErr result (Stays S.Store tx.old tx.new) }
 {
     match tx.query_all(text, params) {
@@ -67,7 +69,8 @@ pub fn values_in<T: FromRow>(alloc: Global, rows: &[Row]) -> Result<Vec<T>, Faul
 
 /// The value that the first row spells, if there is a row.
 pub fn first_in<T: FromRow>(rows: &[Row]) -> Result<Option<T>, Fault>
-    ensures { IfOk result (λ value. option_map T.seen value ≡ option_map T.spelled (slice_get rows.now 0)) }
+    ensures { IfOk result (λ value. option_map T.seen value
+        ≡ option_map T.spelled (slice_get rows.now 0)) }
 {
     match read_first(rows) {
         Ok(value) => Ok(value),

@@ -50,7 +50,8 @@ pub fn read_whole<R: ByteIn>(
     reader: &mut R,
     limit: usize,
 ) -> Result<Vec<u8>, ReadStop>
-    ensures first { IfOk result (λ v. AreFirst limit (R.bytes reader.old) (R.is_silent reader.new) v.items) }
+    ensures first { IfOk result
+        (λ v. AreFirst limit (R.bytes reader.old) (R.is_silent reader.new) v.items) }
     ensures taken { IfOk result (λ v.
         Reads (R.bytes reader.old) (R.bytes reader.new) (R.is_silent reader.new) v.items) }
     ensures bound { IfOk result (λ v. vec_len v ≤ limit) }
