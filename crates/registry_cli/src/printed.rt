@@ -22,7 +22,8 @@ pub struct Printed {
 
 /// What is printed of an answer: on standard output, with status 0, a document and a newline, the
 /// bytes of an archive as they are, `{"ok":true}` and a newline for a command that was done, or
-/// `{"count":2,"ok":true}` and a newline for a deprecation of 2 versions; on standard error, with status 1, `refused: ` and the refusal, and a newline.
+/// `{"count":2,"ok":true}` and a newline for a deprecation of 2 versions; on standard error, with
+/// status 1, `refused: ` and the refusal, and a newline.
 ///
 /// `Memory` comes where no memory is left.
 pub fn render(alloc: Global, reply: &Reply) -> Result<Printed, Fault>

@@ -19,9 +19,9 @@ pub fn untouched_packages_are_absent()
     ensures { UntouchedLeaveTheRest }
 {}
 
-/// Whatever a caller asks who has no level on a package, he is answered as if nobody had ever touched
-/// it, and what the registry holds then is the same in all else. Two requests are excepted: a
-/// withdrawal of another package, which the package may need, and a publish of the package by a
+/// Whatever a caller asks who has no level on a package, he is answered as if nobody had ever
+/// touched it, and what the registry holds then is the same in all else. Two requests are excepted:
+/// a withdrawal of another package, which the package may need, and a publish of the package by a
 /// member of its scope, whose name is taken.
 pub fn unread_packages_are_unheard_of()
     ensures replies { RepliesAreAlike }
@@ -30,8 +30,8 @@ pub fn unread_packages_are_unheard_of()
 
 /// Take two legal histories that are one list once the entries that name a package are dropped, and
 /// a caller who has no level on the package after either. Whatever list of requests he makes, but
-/// the two, at whatever moments, he is replied the same after both, up to the first fault in either.
-/// Nothing is said of the time and the memory that a reply takes.
+/// the two, at whatever moments, he is replied the same after both, up to the first fault in
+/// either. Nothing is said of the time and the memory that a reply takes.
 pub fn unread_packages_make_no_difference()
     ensures { RunsAreAlike }
 {}

@@ -17,8 +17,8 @@ pub fn turns_are_one_run<S: Alter>()
     ensures all { LogRuns (state S.Store) }
 {}
 
-/// Whatever a caller asks of a package that he doesn't read, its packument, a version, an archive or
-/// the tags, he gets the response, byte for byte, that is given of a package that was never
+/// Whatever a caller asks of a package that he doesn't read, its packument, a version, an archive
+/// or the tags, he gets the response, byte for byte, that is given of a package that was never
 /// published.
 pub fn hidden_packages_are_unheard_of()
     ensures { HiddenAreUnheardOf }

@@ -2,14 +2,14 @@
 //! names of a list, in byte order.
 //!
 //! A version's document is its manifest as it is stored, with the message of a deprecation put in
-//! where there is one. A manifest is a text that `serde_json` reads into an object: each is read for
-//! that, and nothing of it is kept. Where the manifests are compact JSON, as they are stored, so are
-//! the documents and the packument ([`laws`]). A call fails where no memory is left, and exactly
-//! where a manifest is none.
+//! where there is one. A manifest is a text that `serde_json` reads into an object: each is read
+//! for that, and nothing of it is kept. Where the manifests are compact JSON, as they are stored,
+//! so are the documents and the packument ([`laws`]). A call fails where no memory is left, and
+//! exactly where a manifest is none.
 //!
-//! The versions of a packument come from a source, which gives them one after the other, and no more
-//! than one of them is held. Its text is made whole, or is written version by version, or its bytes
-//! are counted. A fault leaves a front of what is written, and nothing else.
+//! The versions of a packument come from a source, which gives them one after the other, and no
+//! more than one of them is held. Its text is made whole, or is written version by version, or its
+//! bytes are counted. A fault leaves a front of what is written, and nothing else.
 #![tactic(auto)]
 
 mod document;

@@ -183,9 +183,9 @@ fn write_versions<W: ByteOut, S: VersionSource>(
 /// [`packument_text`](crate::packument_text).
 ///
 /// `Write` comes only where a write failed. `Source` has the source's own fault, or `Database`
-/// where a manifest is none (see [`version_text`](crate::version_text)), or `Memory` where no memory
-/// is left. After a fault a front of the packument was written, and not all of it; it ends before
-/// the document that is missing, if one is. No more than one row is held at a time.
+/// where a manifest is none (see [`version_text`](crate::version_text)), or `Memory` where no
+/// memory is left. After a fault a front of the packument was written, and not all of it; it ends
+/// before the document that is missing, if one is. No more than one row is held at a time.
 pub fn write_packument<W: ByteOut, S: VersionSource>(
     alloc: Global,
     head: &PackHead,

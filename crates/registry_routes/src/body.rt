@@ -160,7 +160,8 @@ fn text_at<'a>(value: &'a Value, key: &str) -> Option<&'a str>
 /// keys the last one counts.
 ///
 /// `BadBody` comes for no other body than one that is no such object or whose message is too long,
-/// `BadSelector` for no other than one whose selector is none, and `Memory` where no memory is left.
+/// `BadSelector` for no other than one whose selector is none, and `Memory` where no memory is
+/// left.
 pub fn deprecation_of_body(alloc: Global, body: &[u8]) -> Result<Deprecation, Stop>
     ensures ok { IfOk result (λ d. (text : Text) × IsDeprecationBody body.now text d.message
         × HasConditions text d.selector) }

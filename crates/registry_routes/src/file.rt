@@ -52,8 +52,8 @@ fn version_text<'a>(name: &Name, file: &'a str) -> Option<&'a str>
 }
 
 /// The version whose archive has this file name: the package's name or its part behind the scope, a
-/// hyphen, the version and `.tgz`. `written` is one segment of a path, or two with the slash between
-/// them.
+/// hyphen, the version and `.tgz`. `written` is one segment of a path, or two with the slash
+/// between them.
 ///
 /// `BadName` comes for no other text than one that isn't UTF-8, `NotFound` for no other than one
 /// that is no file of the package, and `Memory` where no memory is left.

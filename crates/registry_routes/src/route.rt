@@ -13,8 +13,8 @@ use crate::method::Method;
 use crate::path::{is_scope, pair, path_of, segment};
 use crate::table::{Piece, ROWS, Row};
 
-/// The values of a path, from left to right, as they are written there: decoded after routing. Where
-/// a route has fewer than three, the others are empty.
+/// The values of a path, from left to right, as they are written there: decoded after routing.
+/// Where a route has fewer than three, the others are empty.
 #[derive(Clone, Copy, Debug, PartialEq, Eq)]
 pub struct Values<'a> {
     pub first: &'a [u8],

@@ -77,9 +77,9 @@ pub fn tags_are_set_and_removed()
     ensures removed { RemovedTagsAreGone }
 {}
 
-/// A version that is withdrawn lives no more and is spent, with the moments of its publish and of its
-/// withdrawal. No tag names it then: `latest` names the greatest other live version, or is gone where
-/// there is none. Nothing else changes.
+/// A version that is withdrawn lives no more and is spent, with the moments of its publish and of
+/// its withdrawal. No tag names it then: `latest` names the greatest other live version, or is gone
+/// where there is none. Nothing else changes.
 pub fn withdrawals_spend()
     ensures versions { WithdrawalsSpend }
     ensures tags { WithdrawalsFreeTags }

@@ -177,8 +177,9 @@ pub enum Action {
         /// The tag.
         tag: TagText,
     },
-    /// The command to withdraw a live version, which is never published again. It is taken for three
-    /// days after the publish, and while no live version of another package needs the version.
+    /// The command to withdraw a live version, which is never published again. It is taken for
+    /// three days after the publish, and while no live version of another package needs the
+    /// version.
     Withdraw {
         /// The package's name.
         name: Name,

@@ -59,7 +59,8 @@ impl Answer {
     ///
     /// `Created` is 201 and any other reply 200, but for a refusal and a fault, which have their
     /// own status. The body is the document, the bytes of the archive, `{"ok":true}`,
-    /// `{"count":2,"ok":true}`, or `{"error":"NotFound"}` with the name of the refusal or the fault.
+    /// `{"count":2,"ok":true}`, or `{"error":"NotFound"}` with the name of the refusal or the
+    /// fault.
     pub fn of(outcome: Result<Reply, Fault>) -> Answer
         ensures { AnswersSo outcome result }
     {

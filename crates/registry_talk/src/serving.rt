@@ -49,8 +49,8 @@ pub fn serve<D: Desk, R: ByteIn, W: ByteOut, C: Clock>(
         (W.bytes writer.old) (W.bytes writer.new) (W.is_silent writer.new) result }
     ensures few { result.requests ≤ 1000 }
 
-    // A read fault comes where a read failed, and a thousand at most did; a write fault comes where a
-    // write failed.
+    // A read fault comes where a read failed, and a thousand at most did; a write fault comes where
+    // a write failed.
     ensures counted { ReadsFail result.end
         inbox.old.interruptions inbox.new.interruptions
         (R.failures inbox.old.reader) (R.failures inbox.new.reader) }

@@ -95,9 +95,9 @@ fn end_of(outcome: &Result<Reply, Fault>, is_last: bool, closes: bool) -> Option
     }
 }
 
-/// The turn of a whole request, asked at this moment: it is formed, answered at the desk where it is
-/// in form, and its outcome is put into an answer. `is_last` says that it is the last one that its
-/// connection may have.
+/// The turn of a whole request, asked at this moment: it is formed, answered at the desk where it
+/// is in form, and its outcome is put into an answer. `is_last` says that it is the last one that
+/// its connection may have.
 ///
 /// The connection ends after a fault, after the last request, and after one that asks for it.
 pub fn turn<D: Desk>(

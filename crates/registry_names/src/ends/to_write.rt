@@ -5,8 +5,8 @@ ghost use Rattle.std.specs.Prelude.{◌≡◌, false};
 use super::{ByteOut, WriteFailed};
 use std::io::Write;
 
-/// A writer of the standard library as an end. Each of its errors is a failed write, and so is a write that took
-/// nothing of a text that isn't empty; it is never silent.
+/// A writer of the standard library as an end. Each of its errors is a failed write, and so is a
+/// write that took nothing of a text that isn't empty; it is never silent.
 #[derive(Drop)]
 pub struct ToWrite<W: Write> {
     writer: W,

@@ -25,7 +25,8 @@ struct Failing<S> {
 impl<S: VersionSource> VersionSource for Failing<S> {
     ghost rows = { λ failing. S.rows failing.source };
 
-    ghost stopped = { λ failing. if failing.answers == 0 then Some Database else S.stopped failing.source };
+    ghost stopped = { λ failing.
+        if failing.answers == 0 then Some Database else S.stopped failing.source };
 
     ghost ordered = { λ failing. S.ordered failing.source };
 
