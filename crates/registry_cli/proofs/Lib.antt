@@ -1,5 +1,5 @@
 pub mod ActionFacts
+pub mod ArgumentFacts
 pub mod MomentFacts
-pub mod PartFacts
 pub mod RowFacts
 pub mod WholeFacts

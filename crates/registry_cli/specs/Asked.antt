@@ -8,7 +8,7 @@ use Rattle.registry_rules.specs.declared.request.Action.TheVariants as action
 use Rattle.registry_rules.specs.declared.request.Credential.{Credential}
 use Rattle.registry_rules.specs.declared.request.Credential.TheVariants as credential
 use Rattle.registry_cli.specs.Lines.{word_at}
-use Rattle.registry_cli.specs.Parts.{Reading, four, gives, one, read_then, reads_asked, reads_ident, reads_level, reads_message, reads_name, reads_role, reads_selector, reads_status, reads_tag, reads_token, reads_version, three, two}
+use Rattle.registry_cli.specs.Readings.{Reading, four, gives, one, read_then, reads_asked, reads_ident, reads_level, reads_message, reads_name, reads_role, reads_selector, reads_status, reads_tag, reads_token, reads_version, three, two}
 use Rattle.registry_cli.specs.declared.action.Verb.{Verb}
 use Rattle.registry_cli.specs.declared.action.Verb.TheVariants.{UserAdd, TokenAdd, OrgCreate, OrgSet, OrgRemove, TeamCreate, TeamDestroy, TeamAdd, TeamRemove, Grant, Revoke, SetAccess, OwnerAdd, OwnerRemove, Publish, TagSet, TagRemove, Deprecate, Withdraw, Packument, VersionDoc, Archive, Tags, Members, Teams, TeamMembers, TeamPackages}
 use Rattle.registry_cli.specs.declared.meaning.Line.{Line}

@@ -1,7 +1,7 @@
 pub mod Asked
 pub mod Lines
-pub mod Parts
 pub mod Prints
+pub mod Readings
 pub mod Spellings
 pub mod Subcommands
 pub mod Tables

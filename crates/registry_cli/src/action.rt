@@ -5,8 +5,8 @@ ghost use Rattle.registry_cli.specs.Asked as spec;
 ghost use Rattle.registry_cli.specs.Lines.{IsWhole, asks_to_serve, word_at};
 ghost use Rattle.registry_cli.specs.declared.action.Verb.TheVariants as verbs;
 
+use crate::arguments::{four, one, three, two, word_at};
 use crate::meaning::{Line, Who};
-use crate::parts::{four, one, three, two, word_at};
 use registry_names::{Ident, Stop, Text};
 use registry_publish::PublishForm;
 use registry_rules::{Action, Credential};

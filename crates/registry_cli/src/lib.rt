@@ -3,10 +3,10 @@
 #![tactic(auto)]
 
 mod action;
+mod arguments;
 mod command;
+mod from_word;
 mod meaning;
-mod part;
-mod parts;
 mod printed;
 mod reading;
 pub mod spelling;

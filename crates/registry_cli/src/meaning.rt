@@ -3,7 +3,7 @@
 ghost use Rattle.std.specs.Prelude.{◌≡◌, option_map};
 ghost use Rattle.registry_cli.specs.Lines as spec;
 
-use crate::parts::{is_same, word_at};
+use crate::arguments::{is_same, word_at};
 use crate::words::Words;
 use registry_names::{Moment, Text};
 

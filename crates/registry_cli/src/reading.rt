@@ -11,9 +11,9 @@ ghost use Rattle.registry_cli.specs.Lines.{IsWhole, are_both, are_both_in, at_in
 ghost use Rattle.registry_cli.specs.Subcommands.{registry};
 ghost use Rattle.registry_cli.specs.Usages.{IsMemoryOrBoth, said_of_both};
 
+use crate::arguments::is_same;
 use crate::command::registry;
 use crate::meaning::{Line, Who};
-use crate::parts::is_same;
 use crate::subcommand::{Word, called};
 use crate::usage::Usage;
 use crate::words::Words;

@@ -9,12 +9,12 @@ ghost use Rattle.registry_publish.specs.Views.{body_view};
 
 use crate::access::access_at;
 use crate::attachment::archive_of;
+use crate::dependencies::needs_in;
 use crate::dist_tags::tag_at;
 use crate::floats::has_float;
 use crate::json::BAD_BODY;
 use crate::members::{has_member, has_text, sole_at, text_at};
 use crate::need::Need;
-use crate::needs::needs_in;
 use registry_names::{LATEST, Status, Stop};
 use serde_json::Value;
 use std::alloc::Global;

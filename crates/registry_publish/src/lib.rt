@@ -8,6 +8,7 @@
 mod access;
 mod attachment;
 mod body;
+mod dependencies;
 mod dist_tags;
 mod floats;
 mod form;
@@ -15,12 +16,11 @@ mod integrity;
 mod json;
 mod members;
 mod need;
-mod needs;
 mod token;
 
+pub use crate::dependencies::needs_of;
 pub use crate::floats::has_float;
 pub use crate::form::{MOST_BODY_BYTES, PublishForm};
 pub use crate::integrity::integrity_of;
 pub use crate::need::Need;
-pub use crate::needs::needs_of;
 pub use crate::token::TokenDigest;

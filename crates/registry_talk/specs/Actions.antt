@@ -7,7 +7,7 @@ use Rattle.registry_routes.specs.declared.endpoint.Endpoint.TheVariants as endpo
 use Rattle.registry_rules.specs.declared.request.Action.{Action}
 use Rattle.registry_rules.specs.declared.request.Action.TheVariants.{OrgSet, OrgRemove, TeamCreate, TeamDestroy, TeamAdd, TeamRemove, Grant, Revoke, SetAccess, OwnerAdd, OwnerRemove, Withdraw, Deprecate, Publish, TagSet, TagRemove, Packument, VersionDoc, Archive, Tags, Members, Teams, TeamMembers, TeamPackages}
 use Rattle.registry_talk.specs.Bodies.{reads_deprecation, reads_file, reads_form, reads_version_in, reads_word}
-use Rattle.registry_talk.specs.Parts.{Reading, gives, one, reads_asked, reads_ident, reads_name, reads_tag, reads_version, then, three, two}
+use Rattle.registry_talk.specs.Readings.{Reading, gives, one, reads_asked, reads_ident, reads_name, reads_tag, reads_version, then, three, two}
 
 -- ---- the routes
 

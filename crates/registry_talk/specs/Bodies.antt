@@ -11,7 +11,7 @@ use Rattle.registry_routes.specs.Bodies.{IsDeprecationBody, IsNoWord, IsVersionB
 use Rattle.registry_routes.specs.declared.body.Deprecation.{Deprecation}
 use Rattle.registry_routes.specs.Files.{IsFileOf, IsNoFileOf}
 use Rattle.registry_routes.specs.Written.{StopsValue, text_of}
-use Rattle.registry_talk.specs.Parts.{Reading}
+use Rattle.registry_talk.specs.Readings.{Reading}
 
 -- the form of a publish of this package; that the body is of another is refused last
 unfoldable pub reads_form : Text → Text → Reading FormParts

@@ -9,7 +9,7 @@ use Rattle.registry_rules.specs.declared.request.Credential.{Credential}
 use Rattle.registry_rules.specs.declared.request.Credential.TheVariants.{Token, Anonymous}
 use Rattle.registry_wire.specs.declared.wanted.Authorization.{Authorization}
 use Rattle.registry_wire.specs.declared.wanted.Authorization.TheVariants.{Absent, Once, Repeated}
-use Rattle.registry_talk.specs.Parts.{Reading, gives, refuses}
+use Rattle.registry_talk.specs.Readings.{Reading, gives, refuses}
 
 -- the value bears a token in form, or none
 abbrev pub reads_bearer : Text → Reading Credential

@@ -5,7 +5,7 @@ pub mod Callers
 pub mod Courses
 pub mod Histories
 pub mod Laws
-pub mod Parts
+pub mod Readings
 pub mod Requests
 pub mod Servings
 pub mod Turns

@@ -10,7 +10,7 @@ use Rattle.registry_wire.specs.declared.method.Method.TheVariants.{Get, Put, Pos
 use Rattle.registry_wire.specs.declared.wanted.Wanted.{Wanted}
 use Rattle.registry_talk.specs.Actions.{reads_action}
 use Rattle.registry_talk.specs.Callers.{reads_caller}
-use Rattle.registry_talk.specs.Parts.{Reading, gives, refuses, then}
+use Rattle.registry_talk.specs.Readings.{Reading, gives, refuses, then}
 
 -- the method, as the table of routes has it
 abbrev pub routed : Method → routes.Method

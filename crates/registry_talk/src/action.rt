@@ -6,7 +6,7 @@ ghost use Rattle.registry_routes.specs.declared.endpoint.Endpoint.TheVariants as
 ghost use Rattle.registry_talk.specs.Actions as spec;
 
 use crate::body;
-use crate::parts::{one, three, two};
+use crate::path_values::{one, three, two};
 use registry_names::{Name, Stop};
 use registry_routes::{Deprecation, Endpoint, Values};
 use registry_rules::Action;

@@ -2,7 +2,7 @@ use Rattle.std.proofs.Common.{◌≡◌, ◌∙◌, ◌++◌, ◌∷◌, [], sym
 use Rattle.registry_publish.specs.Needs.{need}
 use Rattle.registry_publish.specs.declared.need.Need.{Need}
 use Rattle.registry_publish.proofs.NeedFacts.{need_step}
-use Rattle.registry_publish.proofs.needs.push_members.Goals as goal
+use Rattle.registry_publish.proofs.dependencies.push_members.Goals as goal
 
 pub loop-target-preserved : goal.loop-target-preserved
 loop-target-preserved c =

@@ -1,11 +1,11 @@
-//! Words in their order.
+//! The words behind a subcommand's name, in their order.
 
 ghost use Rattle.std.specs.Prelude.{◌≡◌};
 ghost use Rattle.std.specs.Str.{bytes_eq};
 ghost use Rattle.registry_cli.specs.Lines as lines;
-ghost use Rattle.registry_cli.specs.Parts as spec;
+ghost use Rattle.registry_cli.specs.Readings as spec;
 
-use crate::part::Part;
+use crate::from_word::FromWord;
 use registry_names::{Stop, Text};
 use std::alloc::Global;
 
@@ -27,15 +27,15 @@ pub(crate) fn word_at(words: &[Text], index: usize) -> &str
 }
 
 /// The word behind a subcommand's name.
-pub(crate) fn one<A: Part>(alloc: Global, words: &[Text]) -> Result<A, Stop>
+pub(crate) fn one<A: FromWord>(alloc: Global, words: &[Text]) -> Result<A, Stop>
     ensures { spec.one A.reads words.now result }
 {
     A::read(alloc, word_at(words, 1))
 }
 
 /// The two words behind a subcommand's name.
-#[tactic(auto, unfolding(crate::specs::Parts::two))]
-pub(crate) fn two<A: Part + Drop, B: Part + Drop>(
+#[tactic(auto, unfolding(crate::specs::Readings::two))]
+pub(crate) fn two<A: FromWord + Drop, B: FromWord + Drop>(
     alloc: Global,
     words: &[Text],
 ) -> Result<(A, B), Stop>
@@ -47,8 +47,8 @@ pub(crate) fn two<A: Part + Drop, B: Part + Drop>(
 }
 
 /// The three words behind a subcommand's name.
-#[tactic(auto, unfolding(crate::specs::Parts::three))]
-pub(crate) fn three<A: Part + Drop, B: Part + Drop, C: Part + Drop>(
+#[tactic(auto, unfolding(crate::specs::Readings::three))]
+pub(crate) fn three<A: FromWord + Drop, B: FromWord + Drop, C: FromWord + Drop>(
     alloc: Global,
     words: &[Text],
 ) -> Result<(A, B, C), Stop>
@@ -61,8 +61,8 @@ pub(crate) fn three<A: Part + Drop, B: Part + Drop, C: Part + Drop>(
 }
 
 /// The four words behind a subcommand's name.
-#[tactic(auto, unfolding(crate::specs::Parts::four))]
-pub(crate) fn four<A: Part + Drop, B: Part + Drop, C: Part + Drop, D: Part + Drop>(
+#[tactic(auto, unfolding(crate::specs::Readings::four))]
+pub(crate) fn four<A: FromWord + Drop, B: FromWord + Drop, C: FromWord + Drop, D: FromWord + Drop>(
     alloc: Global,
     words: &[Text],
 ) -> Result<(A, B, C, D), Stop>

@@ -2,7 +2,7 @@
 
 ghost use Rattle.std.specs.Prelude.{List, ℕ, Result};
 ghost use Rattle.registry_names.specs.declared.stop.Stop.{Stop};
-ghost use Rattle.registry_talk.specs.Parts as spec;
+ghost use Rattle.registry_talk.specs.Readings as spec;
 
 use registry_names::{Ident, Name, Stop, TagText, Ver};
 use registry_routes::{decoded, ident_in, name_in, tag_in, version_in};
@@ -10,7 +10,7 @@ use registry_rules::Asked;
 use std::alloc::Global;
 
 /// What a value of a path is read as. A value that isn't in form gives its refusal.
-pub(crate) trait Part: Sized {
+pub(crate) trait FromPath: Sized {
     // Holds of what is written and each answer that `read` may give for it.
     ghost reads: { List ℕ → Result Self Stop → Type 0 };
 
@@ -19,7 +19,7 @@ pub(crate) trait Part: Sized {
         ensures { reads written.now result };
 }
 
-impl Part for Ident {
+impl FromPath for Ident {
     ghost reads = { spec.reads_ident };
 
     fn read(alloc: Global, written: &[u8]) -> Result<Ident, Stop> {
@@ -27,7 +27,7 @@ impl Part for Ident {
     }
 }
 
-impl Part for Name {
+impl FromPath for Name {
     ghost reads = { spec.reads_name };
 
     fn read(alloc: Global, written: &[u8]) -> Result<Name, Stop> {
@@ -35,7 +35,7 @@ impl Part for Name {
     }
 }
 
-impl Part for Ver {
+impl FromPath for Ver {
     ghost reads = { spec.reads_version };
 
     fn read(alloc: Global, written: &[u8]) -> Result<Ver, Stop> {
@@ -43,7 +43,7 @@ impl Part for Ver {
     }
 }
 
-impl Part for TagText {
+impl FromPath for TagText {
     ghost reads = { spec.reads_tag };
 
     fn read(alloc: Global, written: &[u8]) -> Result<TagText, Stop> {
@@ -51,7 +51,7 @@ impl Part for TagText {
     }
 }
 
-impl Part for Asked {
+impl FromPath for Asked {
     ghost reads = { spec.reads_asked };
 
     fn read(alloc: Global, written: &[u8]) -> Result<Asked, Stop> {

@@ -3,7 +3,7 @@ use Rattle.std.proofs.lemmas.Result.{MatchResult-weaker, err_from_is_err_and}
 use Rattle.serde_json.specs.View.{view}
 use Rattle.registry_publish.proofs.NeedFacts.{needs_of_text, needs_of_no_text}
 use Rattle.registry_publish.proofs.StopFacts.{memory_or_bad}
-use Rattle.registry_publish.proofs.needs.needs_of.Goals as goal
+use Rattle.registry_publish.proofs.dependencies.needs_of.Goals as goal
 
 pub returns-in_err-value-clause-err : goal.returns-in_err-value-clause-err
 returns-in_err-value-clause-err c =

@@ -2,7 +2,7 @@ use Rattle.std.proofs.Common.{◌≡◌, ◌++◌, List, option_map}
 use Rattle.serde_json.specs.View.{members_view}
 use Rattle.registry_publish.specs.Needs.{needs_of_members}
 use Rattle.registry_publish.specs.declared.need.Need.{Need}
-use Rattle.registry_publish.proofs.needs.push_members.Given as goal
+use Rattle.registry_publish.proofs.dependencies.push_members.Given as goal
 
 abbrev pub invariant-loop-target : goal.invariant-loop-target
 invariant-loop-target l =

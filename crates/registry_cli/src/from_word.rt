@@ -2,7 +2,7 @@
 
 ghost use Rattle.std.specs.Prelude.{List, ℕ, Result};
 ghost use Rattle.registry_names.specs.declared.stop.Stop.{Stop};
-ghost use Rattle.registry_cli.specs.Parts as spec;
+ghost use Rattle.registry_cli.specs.Readings as spec;
 
 use crate::spelling;
 use registry_access::{Grant, Role};
@@ -13,7 +13,7 @@ use registry_rules::Asked;
 use std::alloc::Global;
 
 /// What a word is read as. A word that isn't in form gives its refusal.
-pub(crate) trait Part: Sized {
+pub(crate) trait FromWord: Sized {
     // Holds of a text and each answer that `read` may give for it.
     ghost reads: { List ℕ → Result Self Stop → Type 0 };
 
@@ -22,7 +22,7 @@ pub(crate) trait Part: Sized {
         ensures { reads text.now result };
 }
 
-impl Part for Ident {
+impl FromWord for Ident {
     ghost reads = { spec.reads_ident };
 
     fn read(alloc: Global, text: &str) -> Result<Ident, Stop> {
@@ -30,7 +30,7 @@ impl Part for Ident {
     }
 }
 
-impl Part for Name {
+impl FromWord for Name {
     ghost reads = { spec.reads_name };
 
     fn read(alloc: Global, text: &str) -> Result<Name, Stop> {
@@ -38,7 +38,7 @@ impl Part for Name {
     }
 }
 
-impl Part for Ver {
+impl FromWord for Ver {
     ghost reads = { spec.reads_version };
 
     fn read(alloc: Global, text: &str) -> Result<Ver, Stop> {
@@ -46,7 +46,7 @@ impl Part for Ver {
     }
 }
 
-impl Part for TagText {
+impl FromWord for TagText {
     ghost reads = { spec.reads_tag };
 
     fn read(alloc: Global, text: &str) -> Result<TagText, Stop> {
@@ -54,7 +54,7 @@ impl Part for TagText {
     }
 }
 
-impl Part for TokenDigest {
+impl FromWord for TokenDigest {
     ghost reads = { spec.reads_token };
 
     fn read(_alloc: Global, text: &str) -> Result<TokenDigest, Stop> {
@@ -65,7 +65,7 @@ impl Part for TokenDigest {
     }
 }
 
-impl Part for Role {
+impl FromWord for Role {
     ghost reads = { spec.reads_role };
 
     fn read(_alloc: Global, text: &str) -> Result<Role, Stop> {
@@ -76,7 +76,7 @@ impl Part for Role {
     }
 }
 
-impl Part for Grant {
+impl FromWord for Grant {
     ghost reads = { spec.reads_level };
 
     fn read(_alloc: Global, text: &str) -> Result<Grant, Stop> {
@@ -87,7 +87,7 @@ impl Part for Grant {
     }
 }
 
-impl Part for Status {
+impl FromWord for Status {
     ghost reads = { spec.reads_status };
 
     fn read(_alloc: Global, text: &str) -> Result<Status, Stop> {
@@ -98,7 +98,7 @@ impl Part for Status {
     }
 }
 
-impl Part for Selector {
+impl FromWord for Selector {
     ghost reads = { spec.reads_selector };
 
     fn read(alloc: Global, text: &str) -> Result<Selector, Stop> {
@@ -106,7 +106,7 @@ impl Part for Selector {
     }
 }
 
-impl Part for Message {
+impl FromWord for Message {
     ghost reads = { spec.reads_message };
 
     fn read(alloc: Global, text: &str) -> Result<Message, Stop> {
@@ -114,7 +114,7 @@ impl Part for Message {
     }
 }
 
-impl Part for Asked {
+impl FromWord for Asked {
     ghost reads = { spec.reads_asked };
 
     fn read(alloc: Global, text: &str) -> Result<Asked, Stop> {

@@ -1,24 +1,24 @@
 //! The values of a path, from left to right.
 
 ghost use Rattle.registry_routes.specs.Readings.{values_view};
-ghost use Rattle.registry_talk.specs.Parts as spec;
+ghost use Rattle.registry_talk.specs.Readings as spec;
 
-use crate::part::Part;
+use crate::from_path::FromPath;
 use registry_names::Stop;
 use registry_routes::Values;
 use std::alloc::Global;
 
 /// The first value.
-#[tactic(auto, unfolding(crate::specs::Parts::one))]
-pub(crate) fn one<A: Part>(alloc: Global, values: Values<'_>) -> Result<A, Stop>
+#[tactic(auto, unfolding(crate::specs::Readings::one))]
+pub(crate) fn one<A: FromPath>(alloc: Global, values: Values<'_>) -> Result<A, Stop>
     ensures { spec.one A.reads (values_view values.entry) result }
 {
     A::read(alloc, values.first)
 }
 
 /// The first two values.
-#[tactic(auto, unfolding(crate::specs::Parts::two))]
-pub(crate) fn two<A: Part + Drop, B: Part + Drop>(
+#[tactic(auto, unfolding(crate::specs::Readings::two))]
+pub(crate) fn two<A: FromPath + Drop, B: FromPath + Drop>(
     alloc: Global,
     values: Values<'_>,
 ) -> Result<(A, B), Stop>
@@ -30,8 +30,8 @@ pub(crate) fn two<A: Part + Drop, B: Part + Drop>(
 }
 
 /// The three values.
-#[tactic(auto, unfolding(crate::specs::Parts::three))]
-pub(crate) fn three<A: Part + Drop, B: Part + Drop, C: Part + Drop>(
+#[tactic(auto, unfolding(crate::specs::Readings::three))]
+pub(crate) fn three<A: FromPath + Drop, B: FromPath + Drop, C: FromPath + Drop>(
     alloc: Global,
     values: Values<'_>,
 ) -> Result<(A, B, C), Stop>

@@ -3,7 +3,7 @@ use Rattle.std.proofs.lemmas.Result.{err_from_is_err_and}
 use Rattle.serde_json.specs.View.{view}
 use Rattle.registry_publish.proofs.NeedFacts.{needs_added, needs_of_no_object, no_dependencies, no_optional, no_peers}
 use Rattle.registry_publish.proofs.StopFacts.{stops_whole}
-use Rattle.registry_publish.proofs.needs.needs_in.Goals as goal
+use Rattle.registry_publish.proofs.dependencies.needs_in.Goals as goal
 
 pub returns-then-not-is_object : goal.returns-then-not-is_object
 returns-then-not-is_object c = (refl, needs_of_no_object (view c.args.manifest.now) (search rules))
