@@ -1,11 +1,12 @@
 -- What words are read as: what may be answered of a text.
-use Rattle.std.specs.Prelude.{◌≡◌, ◌⊎◌, ℕ, true, false, List, Some, None, Result, Ok, Err, codes}
+use Rattle.std.specs.Prelude.{◌≡◌, ◌⊎◌, ℕ, true, false, List, Some, None, Result, Ok, Err}
 use Rattle.std.specs.Str.{bytes_eq}
 use Rattle.registry_names.specs.Texts.{Text}
 use Rattle.registry_names.specs.Faults.{IsMemoryOr}
 use Rattle.registry_names.specs.Idents.{is_ident}
 use Rattle.registry_names.specs.Messages.{is_message}
 use Rattle.registry_names.specs.Names.{IsName}
+use Rattle.registry_names.specs.Tags.{latest}
 use Rattle.registry_names.specs.declared.status.Status.{Status}
 use Rattle.registry_names.specs.Versions.{IsVersion, IsVersionOf, VersionParts}
 use Rattle.registry_names.specs.declared.refusal.Refusal.TheVariants.{BadName, BadVersion, RangeTag, BadTag, BadBody, BadSelector}
@@ -70,9 +71,9 @@ reads_message t (Err stop) = IsMemoryOr BadBody (is_message t ≡ false) stop
 
 -- `latest`, or a version
 abbrev pub reads_asked : Text → Reading Asked
-reads_asked t (Ok Latest) = bytes_eq t (codes "latest") ≡ true
-reads_asked t (Ok (Exact v)) = (bytes_eq t (codes "latest") ≡ false) × IsVersionOf t v
-reads_asked t (Err stop) = (bytes_eq t (codes "latest") ≡ false) × IsMemoryOr BadVersion (¬ IsVersion t) stop
+reads_asked t (Ok Latest) = bytes_eq t latest ≡ true
+reads_asked t (Ok (Exact v)) = (bytes_eq t latest ≡ false) × IsVersionOf t v
+reads_asked t (Err stop) = (bytes_eq t latest ≡ false) × IsMemoryOr BadVersion (¬ IsVersion t) stop
 
 -- ---- words in their order
 

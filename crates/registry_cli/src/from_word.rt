@@ -6,7 +6,7 @@ ghost use Rattle.registry_cli.specs.Readings as spec;
 
 use crate::spelling;
 use registry_access::{Grant, Role};
-use registry_names::{Ident, Message, Name, Refusal, Status, Stop, TagText, Ver};
+use registry_names::{Ident, LATEST, Message, Name, Refusal, Status, Stop, TagText, Ver};
 use registry_publish::TokenDigest;
 use registry_ranges::{Selector, tag};
 use registry_rules::Asked;
@@ -119,7 +119,7 @@ impl FromWord for Asked {
 
     fn read(alloc: Global, text: &str) -> Result<Asked, Stop> {
         match text {
-            "latest" => Ok(Asked::Latest),
+            LATEST => Ok(Asked::Latest),
             _ => Ok(Asked::Exact(Ver::parse(alloc, text)?)),
         }
     }

@@ -3,12 +3,11 @@
 use crate::ending::{Ending, Failure, Obstacle};
 use crate::publication::packument_of;
 use crate::words::answer_words;
-use registry_names::{ByteIn, ByteOut, Fault, Text, read_whole, write_whole};
-use registry_publish::MOST_BODY_BYTES;
+use registry_names::{BODY_LIMIT, ByteIn, ByteOut, Fault, Text, read_whole, write_whole};
 use std::alloc::Global;
 
 /// One byte more than a body may have: enough to see that it is too large.
-pub(crate) const MOST_READ: usize = MOST_BODY_BYTES + 1;
+pub(crate) const MOST_READ: usize = BODY_LIMIT + 1;
 
 /// Runs the program on the words after its name, and answers its exit status.
 ///

@@ -1,3 +1,4 @@
+pub mod Bodies
 pub mod Ends
 pub mod Faults
 pub mod Greatest

@@ -1,12 +1,13 @@
 //! The words that every other crate of the registry speaks: names, versions, tags, messages and
 //! moments, each a type whose values are exactly the texts or numbers in form; the refusals and
 //! faults that an answer can be, with what is printed of them; texts and bytes as contracts see
-//! them; and the ends that bytes come in by and go out by.
+//! them; the size of a body; and the ends that bytes come in by and go out by.
 //!
 //! A value exists exactly for a text in form, and its text is the text that was read.
 #![tactic(auto)]
 
 mod blob;
+mod body;
 mod dist_tag;
 mod ends;
 mod form;
@@ -23,6 +24,7 @@ mod text;
 mod version;
 
 pub use crate::blob::Blob;
+pub use crate::body::BODY_LIMIT;
 pub use crate::dist_tag::DistTag;
 pub use crate::ends::{
     ByteIn, ByteOut, FromRead, RETRY_LIMIT, ReadFailed, ReadStop, ToWrite, WriteFailed, read_whole,

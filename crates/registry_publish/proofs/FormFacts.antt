@@ -3,6 +3,7 @@ use Rattle.std.proofs.Common.{◌≡◌, ◌∙◌, ◌≤◌, ◌⊎◌, inl, i
 use Rattle.serde_json.specs.Data.{Data, depth}
 use Rattle.serde_json.specs.Read.{read, max_depth}
 use Rattle.serde_json.specs.Written.{has_float, compact_text}
+use Rattle.registry_names.specs.Bodies.{body_limit}
 use Rattle.registry_names.specs.Names.{IsName}
 use Rattle.registry_names.specs.Tags.{is_tag}
 use Rattle.registry_names.specs.Versions.{VersionParts, IsVersion, IsVersionOf, text_of_version}
@@ -11,7 +12,7 @@ use Rattle.registry_names.specs.declared.stop.Stop.TheVariants.{Refused, Fault a
 use Rattle.registry_names.specs.declared.stop.Fault.TheVariants.{Memory, Database}
 use Rattle.registry_names.specs.declared.refusal.Refusal.TheVariants.{BadName, BadVersion, RangeTag, BadTag}
 use Rattle.registry_publish.specs.Body.{BodyParts, IsBody, is_manifest, tag_of}
-use Rattle.registry_publish.specs.Form.{FormParts, IsFormOf, IsManifestText, IsTextOf, StopsForm, most_bytes}
+use Rattle.registry_publish.specs.Form.{FormParts, IsFormOf, IsManifestText, IsTextOf, StopsForm}
 use Rattle.registry_ranges.specs.Grammar.{IsRangeText}
 use Rattle.registry_publish.specs.Integrity.{has_integrity, integrity_text}
 use Rattle.registry_publish.specs.Needs.{needs_of}
@@ -22,12 +23,12 @@ use Rattle.registry_publish.proofs.DepthFacts.{manifest_depth}
 use Rattle.registry_publish.proofs.NeedFacts.{needs_of_text}
 
 -- bytes that aren't too large, and are no JSON
-pub stops_document : (b : List ℕ) → length b ≤ most_bytes → (e : Stop) → StopsReading (IsUtf8 b → read b ≡ None) e → StopsForm b e
+pub stops_document : (b : List ℕ) → length b ≤ body_limit → (e : Stop) → StopsReading (IsUtf8 b → read b ≡ None) e → StopsForm b e
 stops_document b short (Refused r) h = rw h.0 (short, no_body_of_none b h.1)
 stops_document b short (Faulted Memory) h = short
 stops_document b short (Faulted Database) h = h
 
-pub stops_body : (b : List ℕ) (d : Data) → length b ≤ most_bytes → read b ≡ Some d
+pub stops_body : (b : List ℕ) (d : Data) → length b ≤ body_limit → read b ≡ Some d
     → (e : Stop) → StopsReading ((p : BodyParts) → ¬ (IsBody d p)) e → StopsForm b e
 stops_body b d short is (Refused r) h = rw h.0 (short, no_body_of b d is h.1)
 stops_body b d short is (Faulted Memory) h = short
@@ -58,7 +59,7 @@ stops_texts b p i name version tag n (Faulted Memory) h = i.short
 stops_texts b p i name version tag n (Faulted Database) h = h
 
 -- a body that was read, of bytes that aren't too large
-pub read_body : (b : List ℕ) (d : Data) (p : BodyParts) → length b ≤ most_bytes → IsUtf8 b × (read b ≡ Some d) → depth d ≤ max_depth → IsBody d p → IsReadBody b p
+pub read_body : (b : List ℕ) (d : Data) (p : BodyParts) → length b ≤ body_limit → IsUtf8 b × (read b ≡ Some d) → depth d ≤ max_depth → IsBody d p → IsReadBody b p
 read_body b d p short is low body = record {
   short = short;
   body = (d, is.0, is.1, body);

@@ -3,6 +3,7 @@ use Rattle.std.specs.Prelude.{◌≡◌, ◌≤◌, ◌<◌, ℕ, true, false, L
 use Rattle.serde_json.specs.Data.{Data}
 use Rattle.serde_json.specs.Read.{read}
 use Rattle.serde_json.specs.Written.{compact_text}
+use Rattle.registry_names.specs.Bodies.{body_limit}
 use Rattle.registry_names.specs.Names.{IsName}
 use Rattle.registry_names.specs.Tags.{is_tag}
 use Rattle.registry_names.specs.Versions.{VersionParts, IsVersion, IsVersionOf, text_of_version}
@@ -29,10 +30,6 @@ pub record FormParts : Type 0 where
   pub needs : List Need
   pub integrity : List ℕ
 
--- 4 MiB
-abbrev pub most_bytes : ℕ
-most_bytes = 4194304
-
 -- the text is the compact JSON of this value, and reads back to it
 abbrev pub IsTextOf : Data → List ℕ → Type 0
 IsTextOf m text = (text ≡ compact_text m) × (read text ≡ Some m)
@@ -43,12 +40,12 @@ IsManifestText name version text = (m : Data) × (is_manifest name (text_of_vers
 
 -- the body isn't too large, and P holds of its parts
 abbrev pub HasBody : List ℕ → (BodyParts → Type 0) → Type 0
-HasBody b P = (p : BodyParts) × (length b ≤ most_bytes) × IsBodyOf b p × P p
+HasBody b P = (p : BodyParts) × (length b ≤ body_limit) × IsBodyOf b p × P p
 
 -- the body has this form: what it says, with the manifest written as a text
 pub record IsFormOf (b : List ℕ) (f : FormParts) : Type 0 where
   pub parts : BodyParts
-  pub short : length b ≤ most_bytes
+  pub short : length b ≤ body_limit
   pub body : IsBodyOf b parts
   pub name : (f.name ≡ parts.name) × IsName parts.name
   pub version : IsVersionOf parts.version f.version
@@ -61,8 +58,8 @@ pub record IsFormOf (b : List ℕ) (f : FormParts) : Type 0 where
 
 -- the body is refused so: of the reasons that hold, this is the first
 abbrev pub IsRefusedBody : List ℕ → Refusal → Type 0
-IsRefusedBody b TooLarge = most_bytes < length b
-IsRefusedBody b BadBody = (length b ≤ most_bytes) × ((p : BodyParts) → ¬ (IsBodyOf b p))
+IsRefusedBody b TooLarge = body_limit < length b
+IsRefusedBody b BadBody = (length b ≤ body_limit) × ((p : BodyParts) → ¬ (IsBodyOf b p))
 IsRefusedBody b BadName = HasBody b (λ p. ¬ (IsName p.name))
 IsRefusedBody b BadVersion = HasBody b (λ p. IsName p.name × (¬ (IsVersion p.version)))
 IsRefusedBody b RangeTag = HasBody b (λ p. IsName p.name × IsVersion p.version × IsRangeText (tag_of p))
@@ -74,5 +71,5 @@ IsRefusedBody b _ = ⊥
 -- why no form is read; a body that is too large takes no memory
 abbrev pub StopsForm : List ℕ → Stop → Type 0
 StopsForm b (Refused r) = IsRefusedBody b r
-StopsForm b (Faulted Memory) = length b ≤ most_bytes
+StopsForm b (Faulted Memory) = length b ≤ body_limit
 StopsForm b (Faulted Database) = ⊥

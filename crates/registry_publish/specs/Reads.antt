@@ -2,6 +2,7 @@
 use Rattle.std.specs.Prelude.{◌≡◌, ◌≤◌, ⊤, ℕ, false, List, length}
 use Rattle.serde_json.specs.Data.{depth}
 use Rattle.serde_json.specs.Read.{max_depth}
+use Rattle.registry_names.specs.Bodies.{body_limit}
 use Rattle.registry_names.specs.Names.{IsName}
 use Rattle.registry_names.specs.Versions.{VersionParts, IsVersionOf}
 use Rattle.registry_names.specs.declared.refusal.Refusal.TheVariants.{BadIntegrity}
@@ -10,12 +11,11 @@ use Rattle.registry_names.specs.declared.stop.Stop.TheVariants.{Refused, Fault a
 use Rattle.registry_names.specs.declared.stop.Fault.TheVariants.{Memory, Database}
 use Rattle.registry_ranges.specs.Tags.{IsTag}
 use Rattle.registry_publish.specs.Body.{BodyParts, IsBodyOf, tag_of}
-use Rattle.registry_publish.specs.Form.{most_bytes}
 use Rattle.registry_publish.specs.Integrity.{has_integrity, integrity_text}
 
 -- the bytes aren't too large, and a body that says this, with a manifest that nests as one that is read
 pub record IsReadBody (b : List ℕ) (p : BodyParts) : Type 0 where
-  pub short : length b ≤ most_bytes
+  pub short : length b ≤ body_limit
   pub body : IsBodyOf b p
   pub nests : depth p.manifest ≤ max_depth
 

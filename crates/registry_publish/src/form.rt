@@ -16,12 +16,9 @@ use crate::body::{Body, body_of};
 use crate::integrity::{has_integrity, integrity_of};
 use crate::json::document;
 use crate::need::Need;
-use registry_names::{Name, Refusal, Status, Stop, TagText, Text, Ver};
+use registry_names::{BODY_LIMIT, Name, Refusal, Status, Stop, TagText, Text, Ver};
 use std::alloc::Global;
 use std::marker::Model;
-
-/// The greatest number of bytes of a body that is read: 4 MiB.
-pub const MOST_BODY_BYTES: usize = 4_194_304;
 
 /// What a publication asks for: the package's name and the version, the tag that is to name the
 /// version, the status that is to be set, and the version's manifest and archive, with what the
@@ -105,7 +102,7 @@ impl PublishForm {
     ///
     /// The first of these that holds is answered:
     ///
-    /// 1. `TooLarge`: the body has more than [`MOST_BODY_BYTES`] bytes.
+    /// 1. `TooLarge`: the body has more than [`BODY_LIMIT`] bytes.
     /// 2. `BadBody`: it isn't JSON of the form above.
     /// 3. `BadName`: its name is no name of a package ([`Name`]).
     /// 4. `BadVersion`: its version is no version ([`Ver`]), as one of
@@ -120,7 +117,7 @@ impl PublishForm {
     pub fn read(alloc: Global, body: &[u8]) -> Result<PublishForm, Stop>
         ensures { MatchResult result (IsFormOf body.now) (StopsForm body.now) }
     {
-        if body.len() > MOST_BODY_BYTES {
+        if body.len() > BODY_LIMIT {
             return Err(Stop::Refused(Refusal::TooLarge));
         }
         let value = document(alloc, body)?;

@@ -20,7 +20,7 @@ mod token;
 
 pub use crate::dependencies::needs_of;
 pub use crate::floats::has_float;
-pub use crate::form::{MOST_BODY_BYTES, PublishForm};
+pub use crate::form::PublishForm;
 pub use crate::integrity::integrity_of;
 pub use crate::need::Need;
 pub use crate::token::TokenDigest;

@@ -1,8 +1,9 @@
 -- What values of a path are read as: what may be answered of what is written.
-use Rattle.std.specs.Prelude.{◌≡◌, ◌≢◌, ◌⊎◌, true, false, Result, Ok, Err, codes}
+use Rattle.std.specs.Prelude.{◌≡◌, ◌≢◌, ◌⊎◌, true, false, Result, Ok, Err}
 use Rattle.registry_names.specs.Texts.{Text}
 use Rattle.registry_names.specs.Idents.{is_ident}
 use Rattle.registry_names.specs.Names.{IsName}
+use Rattle.registry_names.specs.Tags.{latest}
 use Rattle.registry_names.specs.Versions.{IsVersion, IsVersionOf, VersionParts}
 use Rattle.registry_names.specs.declared.refusal.Refusal.{Refusal}
 use Rattle.registry_names.specs.declared.refusal.Refusal.TheVariants.{BadName, BadVersion}
@@ -38,9 +39,9 @@ reads_tag written (Err stop) = StopsTag written stop
 
 -- `latest`, or a version
 abbrev pub reads_asked : Text → Reading Asked
-reads_asked written (Ok Latest) = text_of written ≡ codes "latest"
-reads_asked written (Ok (Exact version)) = (text_of written ≢ codes "latest") × IsVersionOf (text_of written) version
-reads_asked written (Err stop) = StopsValue written BadVersion (λ t. (t ≢ codes "latest") × ¬ (IsVersion t)) stop
+reads_asked written (Ok Latest) = text_of written ≡ latest
+reads_asked written (Ok (Exact version)) = (text_of written ≢ latest) × IsVersionOf (text_of written) version
+reads_asked written (Err stop) = StopsValue written BadVersion (λ t. (t ≢ latest) × ¬ (IsVersion t)) stop
 
 -- ---- values in their order
 

@@ -4,7 +4,7 @@ ghost use Rattle.std.specs.Prelude.{List, ℕ, Result};
 ghost use Rattle.registry_names.specs.declared.stop.Stop.{Stop};
 ghost use Rattle.registry_talk.specs.Readings as spec;
 
-use registry_names::{Ident, Name, Stop, TagText, Ver};
+use registry_names::{Ident, LATEST, Name, Stop, TagText, Ver};
 use registry_routes::{decoded, ident_in, name_in, tag_in, version_in};
 use registry_rules::Asked;
 use std::alloc::Global;
@@ -57,7 +57,7 @@ impl FromPath for Asked {
     fn read(alloc: Global, written: &[u8]) -> Result<Asked, Stop> {
         let text = decoded(alloc, written)?;
         match text.as_str() {
-            "latest" => Ok(Asked::Latest),
+            LATEST => Ok(Asked::Latest),
             version => Ok(Asked::Exact(Ver::parse(alloc, version)?)),
         }
     }

@@ -5,6 +5,7 @@ use Rattle.std.specs.Char.{to_ascii_lowercase, is_ascii_digit}
 use Rattle.std.specs.Str.Parse.{digits_value}
 use Rattle.httparse.specs.Grammar.{RequestHead, trim_ows}
 use Rattle.httparse.specs.Spans.{name_and_value}
+use Rattle.registry_names.specs.Bodies.{body_limit}
 use Rattle.registry_names.specs.declared.refusal.Refusal.{Refusal}
 use Rattle.registry_names.specs.declared.refusal.Refusal.TheVariants.{BadBody, TooLarge}
 
@@ -38,10 +39,6 @@ abbrev pub said : List ℕ → Fields → Said
 said name fs = said_by (values name fs)
 
 -- ---- the length of the body
-
--- the most bytes of a body
-abbrev pub body_limit : ℕ
-body_limit = 4194304
 
 -- the field says that the body isn't sent as it is
 abbrev pub codes_body : List ℕ × List ℕ → Bool

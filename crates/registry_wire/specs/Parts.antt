@@ -1,7 +1,8 @@
 -- What the code finds in a head, on its way to the request.
 use Rattle.std.specs.Prelude.{◌≡◌, ◌≤◌, ℕ, List, length, drop, codes, IfOk}
 use Rattle.httparse.specs.Grammar.{RequestHead}
-use Rattle.registry_wire.specs.Fields.{Said, absent, once, repeated, said, body_len, body_limit, fields_of}
+use Rattle.registry_names.specs.Bodies.{body_limit}
+use Rattle.registry_wire.specs.Fields.{Said, absent, once, repeated, said, body_len, fields_of}
 use Rattle.registry_wire.specs.Asked.{method_of, closes_of}
 use Rattle.registry_wire.specs.Spelling.{HasHead, LacksHead, NeverHasHead}
 use Rattle.registry_wire.specs.declared.field.Values.{Values}

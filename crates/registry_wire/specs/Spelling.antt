@@ -1,9 +1,10 @@
 -- What a list of bytes spells: requests, one after the other, and an end.
 use Rattle.std.specs.Prelude.{◌≡◌, ◌<◌, ◌≤◌, ◌⊎◌, ◌+◌, ℕ, List, [], ◌∷◌, ◌++◌, length, drop, Ok, Err}
 use Rattle.httparse.specs.Grammar.{RequestHead, ReadsRequest, HasNoRequest, MayBecomeRequest, print_request}
+use Rattle.registry_names.specs.Bodies.{body_limit}
 use Rattle.registry_names.specs.declared.refusal.Refusal.{Refusal}
 use Rattle.registry_names.specs.declared.refusal.Refusal.TheVariants.{BadBody}
-use Rattle.registry_wire.specs.Fields.{body_len, body_limit, fields_of}
+use Rattle.registry_wire.specs.Fields.{body_len, fields_of}
 use Rattle.registry_wire.specs.Asked.{wanted_of}
 use Rattle.registry_wire.specs.declared.wanted.Wanted.{Wanted}
 use Rattle.registry_wire.specs.declared.first.Ending.{Ending}

@@ -1,17 +1,17 @@
 //! The fields of a head, as spans of the bytes that it stands in.
 
-ghost use Rattle.std.specs.Prelude.{◌≡◌, ◌≤◌, ◌==◌, ◌||◌, length, map, All, reverse, min, bytes_eq, codes, true, IfOk};
+ghost use Rattle.std.specs.Prelude.{◌≡◌, ◌≤◌, ◌+◌, ◌==◌, ◌||◌, length, map, All, reverse, min, bytes_eq, codes, true, IfOk};
 ghost use Rattle.std.specs.List.{list_all, list_any};
 ghost use Rattle.std.specs.Char.{digit_value, is_ascii_digit};
 ghost use Rattle.std.specs.Str.Parse.{digits_value};
 ghost use Rattle.httparse.specs.Grammar.{skip_ows, trim_ows};
 ghost use Rattle.httparse.specs.Spans.{IsHeaderWithin, header_bytes};
+ghost use Rattle.registry_names.specs.Bodies.{body_limit};
 ghost use Rattle.registry_wire.specs.Fields as spec;
 ghost use Rattle.registry_wire.specs.Parts.{said_of, said_before};
 
-use crate::first::BODY_LIMIT;
 use httparse::spans::HeaderSpan;
-use registry_names::Refusal;
+use registry_names::{BODY_LIMIT, Refusal};
 
 /// What the fields of one name say.
 #[derive(Clone, Copy)]
@@ -54,7 +54,7 @@ fn with_earlier<'a>(value: &'a [u8], later: Values<'a>) -> Values<'a>
 pub fn body_len(bytes: &[u8], headers: &[HeaderSpan]) -> Result<usize, Refusal>
     requires { All (IsHeaderWithin (length bytes.now)) headers.now }
     ensures value { result ≡ spec.body_len (map (header_bytes bytes.now) headers.now) }
-    ensures bound { IfOk result (λ n. n ≤ spec.body_limit) }
+    ensures bound { IfOk result (λ n. n ≤ body_limit) }
 {
     if is_coded(bytes, headers) {
         return Err(Refusal::BadBody);
@@ -90,7 +90,7 @@ fn is_identity(value: &[u8]) -> bool
 
 fn said_len(values: Values<'_>) -> Result<usize, Refusal>
     ensures value { result ≡ spec.said_len (said_of values.entry) }
-    ensures bound { IfOk result (λ n. n ≤ spec.body_limit) }
+    ensures bound { IfOk result (λ n. n ≤ body_limit) }
 {
     match values {
         Values::Absent => Ok(0),
@@ -101,7 +101,7 @@ fn said_len(values: Values<'_>) -> Result<usize, Refusal>
 
 fn written_len(text: &[u8]) -> Result<usize, Refusal>
     ensures value { result ≡ spec.written_len text.now }
-    ensures bound { IfOk result (λ n. n ≤ spec.body_limit) }
+    ensures bound { IfOk result (λ n. n ≤ body_limit) }
 {
     if !is_number(text) {
         return Err(Refusal::BadBody);
@@ -129,7 +129,7 @@ fn all_digits(text: &[u8]) -> bool
 // The number that the digits write, or one more than the limit where it is greater.
 fn number(digits: &[u8]) -> usize
     requires { spec.is_number digits.now ≡ true }
-    ensures { result ≡ min (digits_value 10 digits.now) 4194305 }
+    ensures { result ≡ min (digits_value 10 digits.now) (body_limit + 1) }
 {
     let mut n = 0;
     for byte in digits {

@@ -20,9 +20,6 @@ pub const HEAD_LIMIT: usize = 16_384;
 /// The most fields of a head.
 pub const FIELD_LIMIT: usize = 64;
 
-/// The most bytes of a body.
-pub const BODY_LIMIT: usize = 4_194_304;
-
 /// What the bytes that have come say of the first request.
 #[derive(Debug, Drop)]
 pub enum First {
@@ -49,8 +46,8 @@ pub enum Ending {
 /// `BadBody` is a head that `httparse` refuses, one with more than `FIELD_LIMIT` fields or that
 /// doesn't end within `HEAD_LIMIT` bytes, one with a `transfer-encoding` or with a
 /// `content-encoding` other than `identity`, and one with two `content-length` or with one that
-/// isn't digits; `TooLarge` is a length above `BODY_LIMIT` in any other. The length is 0 where the
-/// head says none.
+/// isn't digits; `TooLarge` is a length above [`BODY_LIMIT`](registry_names::BODY_LIMIT) in any
+/// other. The length is 0 where the head says none.
 pub fn first_in(alloc: Global, bytes: &[u8]) -> Result<First, Fault>
     ensures says { IfOk result (Says bytes.now) }
     ensures fault { IfErr result (λ fault. fault ≡ Memory) }

@@ -3,8 +3,8 @@
 ghost use Rattle.std.specs.Prelude.{◌≡◌, ◌≤◌, length, take, IfOk};
 ghost use Rattle.httparse.specs.Grammar.{RequestHead};
 ghost use Rattle.httparse.specs.Spans.{IsRequestAt, IsRequestWithin};
+ghost use Rattle.registry_names.specs.Bodies.{body_limit};
 ghost use Rattle.registry_wire.specs.Asked.{is_other};
-ghost use Rattle.registry_wire.specs.Fields.{body_limit};
 ghost use Rattle.registry_wire.specs.Parts.{ArePartsOf, SaysHead};
 ghost use Rattle.registry_wire.specs.Spelling.{head_limit};
 

@@ -20,7 +20,7 @@ mod response;
 mod short_text;
 mod wanted;
 
-pub use crate::first::{BODY_LIMIT, Ending, FIELD_LIMIT, First, HEAD_LIMIT, ending_of, first_in};
+pub use crate::first::{Ending, FIELD_LIMIT, First, HEAD_LIMIT, ending_of, first_in};
 pub use crate::inbox::{INTERRUPTION_LIMIT, Inbox, Taken};
 pub use crate::method::Method;
 pub use crate::response::{ContentKind, Response, write_response};

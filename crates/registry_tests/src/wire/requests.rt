@@ -3,10 +3,8 @@
 use super::reader::{Drip, Faltering, Halting};
 use crate::outcome::same;
 use crate::parts::{around, as_text, concat, joined, repeated, shown, string};
-use registry_names::{ByteIn, FromRead, Refusal};
-use registry_wire::{
-    Authorization, BODY_LIMIT, Ending, First, Inbox, Taken, Wanted, ending_of, first_in,
-};
+use registry_names::{BODY_LIMIT, ByteIn, FromRead, Refusal};
+use registry_wire::{Authorization, Ending, First, Inbox, Taken, Wanted, ending_of, first_in};
 use std::alloc::Global;
 use std::io::ErrorKind;
 use std::process::Abort;

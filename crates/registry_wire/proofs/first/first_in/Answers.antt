@@ -1,5 +1,6 @@
 use Rattle.std.proofs.Common.{arith, ap, ◌<◌, ◌≤◌, length, take, drop, ◌∙◌, sym, refl, inl, inr}
 use Rattle.std.proofs.lemmas.List.{length-drop, length-take}
+use Rattle.registry_names.specs.Bodies.{body_limit}
 use Rattle.registry_wire.specs.Spelling.{head_limit}
 use Rattle.registry_wire.proofs.HeadFacts.{head-of_front, never-of_front, lacks-of_front}
 use Rattle.registry_wire.proofs.RequestFacts.{has-request}
@@ -52,7 +53,7 @@ returns-then-after-len-clause-short c = λ _.
     let bytes = c.args.bytes.now in
     let found = rw c.front_of.ensures.value at c.in-Whole.ensures in
     let few : c.in-Whole.parts.len ≤ head_limit = omega (arith, found.len, length-take head_limit bytes) in
-    let bound : c.in-Ok.len ≤ 4194304 = rw c.in-Ok.is at found.bound in
+    let bound : c.in-Ok.len ≤ body_limit = rw c.in-Ok.is at found.bound in
     omega (arith, few, bound, c.split_at.ensures.back_len)
 
 pub returns-clause-says : goal.returns-clause-says
