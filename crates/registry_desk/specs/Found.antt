@@ -11,7 +11,7 @@ use Rattle.registry_access.specs.declared.grant.Grant.{Grant}
 use Rattle.registry_publish.specs.Form.{FormParts}
 use Rattle.registry_rules.specs.Actions.{is_command, version_of}
 use Rattle.registry_rules.specs.Callers.{caller_of}
-use Rattle.registry_rules.specs.State.{State, Release, has_grant, has_live, has_other_maintainer, has_other_owner, has_team, has_user, is_in_team, is_live, is_member, is_owned_by, is_published, is_spent, stands}
+use Rattle.registry_rules.specs.State.{State, Release, has_grant, has_live, has_maintainer, has_other_maintainer, has_other_owner, has_team, has_user, is_in_team, is_live, is_member, is_published, is_spent, stands}
 use Rattle.registry_rules.specs.Withdrawals.{is_depended, last_withdrawal, live_versions, published_at, tags_of}
 use Rattle.registry_rules.specs.declared.request.Action.{Action}
 use Rattle.registry_rules.specs.declared.request.Action.TheVariants.{Deprecate, Packument, VersionDoc, Archive, Tags, Members, Teams, TeamMembers, TeamPackages}
@@ -89,9 +89,9 @@ pub record IsLife (life : Life) (S : State) (p : Text) (v : VersionParts) : Type
 -- the user is there or not, and a maintainer already or not
 pub record IsNewcomer (newcomer : Newcomer) (S : State) (p u : Text) : Type 0 where
   pub user_exists : newcomer.user_exists ≡ has_user S u
-  pub is_owner : newcomer.is_owner ≡ is_owned_by S p u
+  pub is_maintainer : newcomer.is_maintainer ≡ has_maintainer S p u
 
 -- the user is a maintainer or not, and another is or none
 pub record IsLeaver (leaver : Leaver) (S : State) (p u : Text) : Type 0 where
-  pub is_owner : leaver.is_owner ≡ is_owned_by S p u
-  pub other_owner : leaver.other_owner ≡ has_other_maintainer S p u
+  pub is_maintainer : leaver.is_maintainer ≡ has_maintainer S p u
+  pub other_maintainer : leaver.other_maintainer ≡ has_other_maintainer S p u

@@ -33,7 +33,7 @@ pub(crate) fn new_maintainer<S: Alter>(
     Ok(About::OwnerAdd {
         standing,
         user_exists: newcomer.user_exists,
-        is_owner: newcomer.is_owner,
+        is_maintainer: newcomer.is_maintainer,
     })
 }
 
@@ -41,7 +41,7 @@ pub(crate) fn new_maintainer<S: Alter>(
 #[derive(Drop)]
 struct Newcomer {
     user_exists: bool,
-    is_owner: bool,
+    is_maintainer: bool,
 }
 
 fn find_newcomer<S: Alter>(
@@ -56,7 +56,7 @@ fn find_newcomer<S: Alter>(
 {
     Ok(Newcomer {
         user_exists: has_user(tx, user)?,
-        is_owner: is_maintainer(tx, name, user)?,
+        is_maintainer: is_maintainer(tx, name, user)?,
     })
 }
 
@@ -77,16 +77,16 @@ pub(crate) fn old_maintainer<S: Alter>(
     let leaver = find_leaver(alloc, tx, name, user.text())?;
     Ok(About::OwnerRemove {
         standing,
-        is_owner: leaver.is_owner,
-        other_owner: leaver.other_owner,
+        is_maintainer: leaver.is_maintainer,
+        other_maintainer: leaver.other_maintainer,
     })
 }
 
 // What a user is who is to be a maintainer no more.
 #[derive(Drop)]
 struct Leaver {
-    is_owner: bool,
-    other_owner: bool,
+    is_maintainer: bool,
+    other_maintainer: bool,
 }
 
 fn find_leaver<S: Alter>(
@@ -101,7 +101,7 @@ fn find_leaver<S: Alter>(
         (λ leaver c. IsLeaver leaver (registry_of c) name.now user.now) }
 {
     Ok(Leaver {
-        is_owner: is_maintainer(tx, name, user)?,
-        other_owner: has_other_maintainer(alloc, tx, name, user)?,
+        is_maintainer: is_maintainer(tx, name, user)?,
+        other_maintainer: has_other_maintainer(alloc, tx, name, user)?,
     })
 }

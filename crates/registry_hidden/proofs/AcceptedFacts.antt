@@ -26,7 +26,7 @@ use Rattle.registry_rules.specs.Actions.{is_command, names, version_of}
 use Rattle.registry_rules.specs.Callers.{is_known}
 use Rattle.registry_rules.specs.Permissions.{permission}
 use Rattle.registry_rules.specs.Refusals.{grant_refusal, is_restricted, publish_refusal, refuse, refusal_by, state_refusal, tag_refusal, unless_allowed, unless_there, withdraw_refusal}
-use Rattle.registry_rules.specs.State.{State, Release, Withdrawal, asked_version, has_live, has_other_maintainer, has_team, is_empty, is_live, is_owned_by, lives}
+use Rattle.registry_rules.specs.State.{State, Release, Withdrawal, asked_version, has_live, has_maintainer, has_other_maintainer, has_team, is_empty, is_live, lives}
 use Rattle.registry_rules.specs.Withdrawals.{is_depended, is_less_than_a_day_ago, is_need_of, is_too_old, is_waiting, last_of, needs_in, published_at}
 use Rattle.registry_rules.specs.declared.request.Action.{Action}
 use Rattle.registry_rules.specs.declared.request.Action.TheVariants as command
@@ -131,8 +131,8 @@ module _ (S : State) (p q : Text) (other : is q p ≡ false) where
   same_published_at : (v : Text) → published_at (without S p) q v ≡ published_at S q v
   same_published_at v = ap (option_map (λ (r : Release). r.at)) (at_other p q other S.live v)
 
-  same_last : (u : Text) → refuse (not (is_owned_by (without S p) q u)) NotFound (refuse (not (has_other_maintainer (without S p) q u)) LastOwner None)
-      ≡ refuse (not (is_owned_by S q u)) NotFound (refuse (not (has_other_maintainer S q u)) LastOwner None)
+  same_last : (u : Text) → refuse (not (has_maintainer (without S p) q u)) NotFound (refuse (not (has_other_maintainer (without S p) q u)) LastOwner None)
+      ≡ refuse (not (has_maintainer S q u)) NotFound (refuse (not (has_other_maintainer S q u)) LastOwner None)
   same_last u =
       ap₂ (λ (o : Option (Unit {0})) (es : List (Text × Unit {0})). refuse (not (is_some o)) NotFound (refuse (not (list_any (λ (e : Text × Unit {0}). not (is e.0 u)) es)) LastOwner None))
       (at_other p q other S.access.maintainers u) (of_other p q other S.access.maintainers)

@@ -18,7 +18,7 @@ use Rattle.registry_publish.specs.Form.{FormParts}
 use Rattle.registry_rules.specs.Actions.{names, version_of}
 use Rattle.registry_rules.specs.Changes.{release_of}
 use Rattle.registry_rules.specs.Effects.{step_by}
-use Rattle.registry_rules.specs.State.{State, Release, developers, is_owned_by, stands}
+use Rattle.registry_rules.specs.State.{State, Release, developers, has_maintainer, stands}
 use Rattle.registry_rules.specs.Withdrawals.{live_versions, others, selected, tags_of}
 use Rattle.registry_rules.specs.declared.request.Action.{Action}
 use Rattle.registry_rules.specs.declared.request.Action.TheVariants as command
@@ -124,7 +124,7 @@ left_gone S now who (Revoke o t q) p named =
 left_gone S now who (SetAccess q status) p named =
     ap (λ m. record (without S p) { access = record (access.without S.access p) { statuses = m } }) (status_gone p q named S.access.statuses status)
 left_gone S now who (OwnerAdd q u) p named =
-    ap (λ m. record (without S p) { access = record (access.without S.access p) { maintainers = m } }) (joined_gone p q named S.access.maintainers (is_owned_by S q u) u)
+    ap (λ m. record (without S p) { access = record (access.without S.access p) { maintainers = m } }) (joined_gone p q named S.access.maintainers (has_maintainer S q u) u)
 left_gone S now who (OwnerRemove q u) p named =
     ap (λ m. record (without S p) { access = record (access.without S.access p) { maintainers = m } }) (erase_gone p q named S.access.maintainers u)
 left_gone S now who (Publish f) p named = published_gone S now who f p named

@@ -21,7 +21,7 @@ use Rattle.registry_ranges.specs.Selectors.{Condition}
 use Rattle.registry_rules.specs.Actions.{names, version_of}
 use Rattle.registry_rules.specs.Changes.{release_of}
 use Rattle.registry_rules.specs.Effects.{new_status, step_by}
-use Rattle.registry_rules.specs.State.{State, Release, developers, is_owned_by, stands}
+use Rattle.registry_rules.specs.State.{State, Release, developers, has_maintainer, stands}
 use Rattle.registry_rules.specs.Withdrawals.{live_versions, others, selected, tags_of}
 use Rattle.registry_rules.specs.declared.request.Action.{Action}
 use Rattle.registry_rules.specs.declared.request.Action.TheVariants as command
@@ -171,7 +171,7 @@ left_alike S now who (SetAccess q status) p other =
     ap (λ m. record (without S p) { access = record (access.without S.access p) { statuses = m } }) (status_put p q other S.access.statuses status)
 left_alike S now who (OwnerAdd q u) p other =
     ap (λ m. record (without S p) { access = record (access.without S.access p) { maintainers = m } })
-    (ap (λ o. joined (apart S.access.maintainers p) (is_some o) (q, u)) (at_other p q other S.access.maintainers u) ∙ joined_alike p q other S.access.maintainers (is_owned_by S q u) u)
+    (ap (λ o. joined (apart S.access.maintainers p) (is_some o) (q, u)) (at_other p q other S.access.maintainers u) ∙ joined_alike p q other S.access.maintainers (has_maintainer S q u) u)
 left_alike S now who (OwnerRemove q u) p other =
     ap (λ m. record (without S p) { access = record (access.without S.access p) { maintainers = m } }) (pair_erased p q other S.access.maintainers u)
 left_alike S now who (Publish f) p other = published_alike S now who f p other

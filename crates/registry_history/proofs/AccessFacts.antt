@@ -14,7 +14,7 @@ use Rattle.registry_access.specs.declared.grant.Grant.{Grant}
 use Rattle.registry_access.specs.declared.grant.Grant.TheVariants.{ReadWrite}
 use Rattle.registry_access.specs.declared.role.Role.{Role}
 use Rattle.registry_access.specs.declared.role.Role.TheVariants.{Owner}
-use Rattle.registry_rules.specs.State.{State, developers, is_owned_by}
+use Rattle.registry_rules.specs.State.{State, developers, has_maintainer}
 use Rattle.registry_rules.specs.declared.request.Action.{Action}
 use Rattle.registry_rules.specs.declared.request.Action.TheVariants as command
 use Rattle.registry_rules.specs.declared.request.Action.TheVariants.{UserAdd, TokenAdd, OrgCreate, OrgSet, OrgRemove, TeamCreate, TeamDestroy, TeamAdd, TeamRemove, Revoke, OwnerAdd, OwnerRemove, Publish}
@@ -193,8 +193,8 @@ module _ (S : State) (now : ℕ) (who : Caller) (h : List Entry) (has : HasAcces
   maintainers_step : (what : Action) (p u : Text)
       → is_some (at (left_by S now who what).access.maintainers (p, u)) ≡ (makes_maintainer who what (is_published h p) p u || (not (ends_maintainer what p u) && maintains h p u))
   maintainers_step (OwnerAdd q v) p u =
-      ap is_some (at-joined pair_key S.access.maintainers (is_owned_by S q v) (q, v) (p, u))
-      ∙ joined_after (is q p && is v u) (is_owned_by S q v) _ _ (λ e. ap (λ k. is_some (at S.access.maintainers k)) (same_true pair_key (q, v) (p, u) e)) (has.maintainers p u)
+      ap is_some (at-joined pair_key S.access.maintainers (has_maintainer S q v) (q, v) (p, u))
+      ∙ joined_after (is q p && is v u) (has_maintainer S q v) _ _ (λ e. ap (λ k. is_some (at S.access.maintainers k)) (same_true pair_key (q, v) (p, u) e)) (has.maintainers p u)
   maintainers_step (OwnerRemove q v) p u = ap is_some (at-erase pair_key S.access.maintainers (q, v) (p, u)) ∙ erased_after (is q p && is v u) _ _ (has.maintainers p u)
   maintainers_step (Publish f) p u =
       maintained_published S.access.maintainers who f.name p u (at S.access.statuses f.name) (is_published h p) _ (had_status f.name p) (has.maintainers p u)

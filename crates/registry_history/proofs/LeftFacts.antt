@@ -10,9 +10,9 @@ use Rattle.registry_access.specs.declared.caller.Caller.{Caller}
 use Rattle.registry_access.specs.declared.role.Role.{Role}
 use Rattle.registry_rules.specs.Actions.{version_of}
 use Rattle.registry_rules.specs.Changes.{all_made, release_of}
-use Rattle.registry_rules.specs.Effects.{joining, membership, owning, step_by}
+use Rattle.registry_rules.specs.Effects.{joining, maintaining, membership, step_by}
 use Rattle.registry_rules.specs.Operations.{with_grant, with_status, with_tag}
-use Rattle.registry_rules.specs.State.{State, Release, Withdrawal, developers, has_grant, is_in_team, is_owned_by, is_published, stands}
+use Rattle.registry_rules.specs.State.{State, Release, Withdrawal, developers, has_grant, has_maintainer, is_in_team, is_published, stands}
 use Rattle.registry_rules.specs.Withdrawals.{live_versions, others, selected, tags_of}
 use Rattle.registry_rules.specs.declared.request.Action.{Action}
 use Rattle.registry_rules.specs.declared.request.Action.TheVariants as command
@@ -56,7 +56,7 @@ left_by S now who (OrgSet o u role) = record S {
 left_by S now who (TeamAdd o t u) = record S { access = record S.access { team_members = joined S.access.team_members (is_in_team S o t u) (o, (t, u)) } }
 left_by S now who (command.Grant o t p grant) = with_grant S o t p grant
 left_by S now who (SetAccess p status) = with_status S p status
-left_by S now who (OwnerAdd p u) = record S { access = record S.access { maintainers = joined S.access.maintainers (is_owned_by S p u) (p, u) } }
+left_by S now who (OwnerAdd p u) = record S { access = record S.access { maintainers = joined S.access.maintainers (has_maintainer S p u) (p, u) } }
 left_by S now who (Publish f) = after_publish S who f.name (version_of f) f.tag (release_of f now) (status_of S f) (stands S f.name latest || is f.tag latest)
 left_by S now who (TagSet p t v) = with_tag S p t (text_of_version v)
 left_by S now who (Withdraw p v) = taken S now p (text_of_version v) (at S.live (p, text_of_version v))
@@ -75,7 +75,7 @@ team_left S o t u true = refl
 team_left S o t u false = refl
 
 owner_left : (S : State) (p u : Text) (already : Bool)
-    → all_made S (owning p u already) ≡ record S { access = record S.access { maintainers = joined S.access.maintainers already (p, u) } }
+    → all_made S (maintaining p u already) ≡ record S { access = record S.access { maintainers = joined S.access.maintainers already (p, u) } }
 owner_left S p u true = refl
 owner_left S p u false = refl
 
@@ -84,7 +84,7 @@ left_is S now who (OrgSet o u role) = role_left S o u role (at S.access.roles (o
 left_is S now who (TeamAdd o t u) = team_left S o t u (is_in_team S o t u)
 left_is S now who (command.Grant o t p grant) = grant_put S o t p grant (has_grant S o t p) (λ there. there)
 left_is S now who (SetAccess p status) = status_put S p status (is_published S p) (λ there. there)
-left_is S now who (OwnerAdd p u) = owner_left S p u (is_owned_by S p u)
+left_is S now who (OwnerAdd p u) = owner_left S p u (has_maintainer S p u)
 left_is S now who (Publish f) = published_is S who f now
 left_is S now who (TagSet p t v) = tag_put S p t (text_of_version v) (stands S p t) (λ there. there)
 left_is S now who (Withdraw p v) = taken_is S now p (text_of_version v) (at S.live (p, text_of_version v))

@@ -21,12 +21,12 @@ use Rattle.registry_publish.specs.Form.{FormParts}
 use Rattle.registry_rules.specs.Actions.{version_of}
 use Rattle.registry_rules.specs.Callers.{caller_of, is_known}
 use Rattle.registry_rules.specs.Changes.{PutGrant, PutStatus, made, all_made, release_of}
-use Rattle.registry_rules.specs.Effects.{effects_for, joining, membership, owning, publication, step, step_by}
+use Rattle.registry_rules.specs.Effects.{effects_for, joining, maintaining, membership, publication, step, step_by}
 use Rattle.registry_rules.specs.Kept.{IsReleaseOf, IsWithdrawalOf, IsTagOf, IsSpelled, IsSound, IsKept}
 use Rattle.registry_rules.specs.Operations.{with_tag, without_tag}
 use Rattle.registry_rules.specs.Refusals.{publish_refusal, refusal, refusal_by, refusal_for}
 use Rattle.registry_rules.specs.Requests.{ArePartsInForm, IsInForm, IsActionInForm}
-use Rattle.registry_rules.specs.State.{State, Release, Withdrawal, nothing, developers, is_in_team, has_grant, is_published, is_owned_by, is_live, stands}
+use Rattle.registry_rules.specs.State.{State, Release, Withdrawal, nothing, developers, is_in_team, has_grant, is_published, has_maintainer, is_live, stands}
 use Rattle.registry_rules.specs.Withdrawals.{live_versions, selected}
 use Rattle.registry_rules.specs.declared.request.Action.{Action}
 use Rattle.registry_rules.specs.declared.request.Action.TheVariants as asked
@@ -308,7 +308,7 @@ status_kept S p status name sound kept =
       statuses = some_before text_key S.access.statuses p status IsName spelled.statuses name;
     }) still kept) sound
 
-owning_kept : (S : State) (p u : Text) (already : Bool) → IsSound (all_made S (owning p u already)).access → IsKept S → IsKept (all_made S (owning p u already))
+owning_kept : (S : State) (p u : Text) (already : Bool) → IsSound (all_made S (maintaining p u already)).access → IsKept S → IsKept (all_made S (maintaining p u already))
 owning_kept S p u true sound kept = kept
 owning_kept S p u false sound kept = unspelled_kept S _ refl refl refl refl refl sound kept
 
@@ -341,7 +341,7 @@ action_kept S now who (TeamRemove o t u) moment form known may kept =
 action_kept S now who (asked.Grant o t p grant) moment form known may kept = grant_kept S o t p grant (step_sound S now who (asked.Grant o t p grant) known may kept.sound) kept
 action_kept S now who (Revoke o t p) moment form known may kept = unspelled_kept S _ refl refl refl refl refl (step_sound S now who (Revoke o t p) known may kept.sound) kept
 action_kept S now who (SetAccess p status) moment form known may kept = status_kept S p status form (step_sound S now who (SetAccess p status) known may kept.sound) kept
-action_kept S now who (OwnerAdd p u) moment form known may kept = owning_kept S p u (is_owned_by S p u) (step_sound S now who (OwnerAdd p u) known may kept.sound) kept
+action_kept S now who (OwnerAdd p u) moment form known may kept = owning_kept S p u (has_maintainer S p u) (step_sound S now who (OwnerAdd p u) known may kept.sound) kept
 action_kept S now who (OwnerRemove p u) moment form known may kept = unspelled_kept S _ refl refl refl refl refl (step_sound S now who (OwnerRemove p u) known may kept.sound) kept
 action_kept S now who (Publish f) moment form known may kept =
     publish_kept S who f now form moment (state_passed S now who (Publish f) may) (step_sound S now who (Publish f) known may kept.sound) kept

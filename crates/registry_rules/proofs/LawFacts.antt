@@ -26,10 +26,10 @@ use Rattle.registry_names.specs.Names.{scope_of}
 use Rattle.registry_publish.specs.Form.{FormParts}
 use Rattle.registry_rules.specs.Actions.{version_of, ends_team}
 use Rattle.registry_rules.specs.Changes.{all_made, release_of}
-use Rattle.registry_rules.specs.Effects.{deprecation, first_status, joining, membership, owning, new_status}
+use Rattle.registry_rules.specs.Effects.{deprecation, first_status, joining, membership, maintaining, new_status}
 use Rattle.registry_rules.specs.Laws.{SpendsVersion, FreesTags, WithdrawalsSpend, WithdrawalsFreeTags, Deprecates, DeprecationsMark, GivesFirstRight, IsGrantChange, IsMaintainerChange, SetsAccess, GrantsAreGiven, GrantsAreRevoked, StatusesAreSet, MaintainersAreAdded, MaintainersAreRemoved, PublishesGiveFirstRights, SetsRole, OrganisationsAreCreated, RolesAreSet, MembersAreRemoved, UsersAreAdded, TokensAreAdded, AddsVersion, SetsTags, SetsStatus, IsTagChange, IsApart, DestroysTeam, IsTeamMemberChange, TeamsAreCreated, NewTeamsAreEmpty, TeamsAreDestroyed, TeamMembersAreAdded, TeamMembersAreRemoved, PublishesAddVersions, PublishesSetTags, PublishesSetStatuses, SetTagsName, RemovedTagsAreGone, QueriesChangeNothing, PackagesStandApart}
 use Rattle.registry_rules.specs.Operations.{without_team, with_grant, with_status, with_tag, without_tag}
-use Rattle.registry_rules.specs.State.{State, Release, developers, is_in_team, has_grant, is_published, is_owned_by, stands}
+use Rattle.registry_rules.specs.State.{State, Release, developers, is_in_team, has_grant, is_published, has_maintainer, stands}
 use Rattle.registry_rules.specs.declared.request.Action.{Action}
 use Rattle.registry_rules.specs.declared.request.Action.TheVariants as asked
 use Rattle.registry_rules.specs.declared.request.Action.TheVariants.{UserAdd, TokenAdd, OrgCreate, OrgSet, OrgRemove, TeamCreate, TeamDestroy, TeamAdd, TeamRemove, Revoke, SetAccess, OwnerAdd, OwnerRemove, Publish, TagSet, TagRemove, Withdraw, Deprecate}
@@ -200,7 +200,7 @@ access_set S p status = record {
 pub statuses_are_set : StatusesAreSet
 statuses_are_set S now who p status = subst (λ T. SetsAccess S T p status) (sym (status_put S p status (is_published S p) (λ there. there))) (access_set S p status)
 
-maintainer_added : (S : State) (p u : Text) (already : Bool) → is_owned_by S p u ≡ already → let T = all_made S (owning p u already) in IsSome (at T.access.maintainers (p, u)) × IsMaintainerChange S T p u
+maintainer_added : (S : State) (p u : Text) (already : Bool) → has_maintainer S p u ≡ already → let T = all_made S (maintaining p u already) in IsSome (at T.access.maintainers (p, u)) × IsMaintainerChange S T p u
 maintainer_added S p u true e = (e, record { maintainers = λ k differ. refl; rest = refl })
 maintainer_added S p u false e = (
   put_there pair_key S.access.maintainers (p, u) tt,
@@ -208,7 +208,7 @@ maintainer_added S p u false e = (
 )
 
 pub maintainers_are_added : MaintainersAreAdded
-maintainers_are_added S now who p u = maintainer_added S p u (is_owned_by S p u) refl
+maintainers_are_added S now who p u = maintainer_added S p u (has_maintainer S p u) refl
 
 pub maintainers_are_removed : MaintainersAreRemoved
 maintainers_are_removed S now who p u = (
@@ -512,7 +512,7 @@ apart_from_publish S now who f p other = record {
 granted_elsewhere : (o t q r s p : Text) → is q p ≡ false → triple_is (o, (t, q)) (r, (s, p)) ≡ false
 granted_elsewhere o t q r s p other = and_right (is o r) (is t s && is q p) (and_right (is t s) (is q p) other)
 
-apart_from_owning : (S : State) (q u : Text) (already : Bool) (p : Text) → is q p ≡ false → IsApart S (all_made S (owning q u already)) (OwnerAdd q u) p
+apart_from_owning : (S : State) (q u : Text) (already : Bool) (p : Text) → is q p ≡ false → IsApart S (all_made S (maintaining q u already)) (OwnerAdd q u) p
 apart_from_owning S q u true p other = same_of_itself S (OwnerAdd q u) p (λ o t. refl)
 apart_from_owning S q u false p other = apart_in_access S _ (OwnerAdd q u) p refl (λ w. at-put_other pair_key S.access.maintainers (q, u) tt (p, w) (elsewhere q p u w other)) (λ o t. refl)
 
@@ -589,7 +589,7 @@ packages_stand_apart S now who (Revoke o t q) p other =
 packages_stand_apart S now who (SetAccess q status) p other =
     subst (λ T. IsApart S T (SetAccess q status) p) (sym (status_put S q status (is_published S q) (λ there. there)))
     (apart_in_access S _ (SetAccess q status) p (at-put_other text_key S.access.statuses q status p other) (λ w. refl) (λ o t. refl))
-packages_stand_apart S now who (OwnerAdd q u) p other = apart_from_owning S q u (is_owned_by S q u) p other
+packages_stand_apart S now who (OwnerAdd q u) p other = apart_from_owning S q u (has_maintainer S q u) p other
 packages_stand_apart S now who (OwnerRemove q u) p other =
     apart_in_access S _ (OwnerRemove q u) p refl (λ w. at-erase_other pair_key S.access.maintainers (q, u) (p, w) (elsewhere q p u w other)) (λ o t. refl)
 packages_stand_apart S now who (Publish f) p other = subst (λ T. IsApart S T (Publish f) p) (sym (published_is S who f now)) (apart_from_publish S now who f p other)

@@ -22,12 +22,12 @@ use Rattle.registry_access.specs.declared.role.Role.TheVariants.{Owner, Admin, D
 use Rattle.registry_publish.specs.Form.{FormParts}
 use Rattle.registry_rules.specs.Callers.{is_known}
 use Rattle.registry_rules.specs.Changes.{PutGrant, PutStatus, made, all_made}
-use Rattle.registry_rules.specs.Effects.{joining, membership, owning, publication, step_by}
+use Rattle.registry_rules.specs.Effects.{joining, maintaining, membership, publication, step_by}
 use Rattle.registry_rules.specs.Operations.{without_maintainer, without_member, without_team}
 use Rattle.registry_rules.specs.Kept.{IsSound}
 use Rattle.registry_rules.specs.Permissions.{permission}
 use Rattle.registry_rules.specs.Refusals.{grant_refusal, is_restricted, publish_refusal, refusal_by, refuse, state_refusal, unless_allowed}
-use Rattle.registry_rules.specs.State.{State, nothing, developers, has_grant, has_other_maintainer, has_team, has_user, is_in_team, is_last_owner, is_member, is_owned_by, is_published, stands}
+use Rattle.registry_rules.specs.State.{State, nothing, developers, has_grant, has_other_maintainer, has_team, has_user, is_in_team, is_last_owner, is_member, has_maintainer, is_published, stands}
 use Rattle.registry_rules.specs.declared.request.Action.{Action}
 use Rattle.registry_rules.specs.declared.request.Action.TheVariants as asked
 use Rattle.registry_rules.specs.declared.request.Action.TheVariants.{UserAdd, TokenAdd, OrgCreate, OrgSet, OrgRemove, TeamCreate, TeamDestroy, TeamAdd, TeamRemove, Revoke, SetAccess, OwnerAdd, OwnerRemove, Publish, TagSet, Withdraw, Deprecate}
@@ -126,13 +126,13 @@ status_sound S who p status policy may sound =
     subst (λ (T : State). IsSound T.access) (sym (made.status_put S p status (is_published S p) (λ there. there)))
     (change.status_put S.access p status (published_where_read S.access who p read) (status_allowed p status shut.0) sound)
 
-owning_sound : (S : State) (p u : Text) (already : Bool) → IsSome (at S.access.statuses p) → IsSome (at S.access.users u) → IsSound S.access → IsSound (all_made S (owning p u already)).access
+owning_sound : (S : State) (p u : Text) (already : Bool) → IsSome (at S.access.statuses p) → IsSome (at S.access.users u) → IsSound S.access → IsSound (all_made S (maintaining p u already)).access
 owning_sound S p u true was there sound = sound
 owning_sound S p u false was there sound = change.maintainer_put S.access p u was there sound
 
-disowned_sound : (S : State) (p u : Text) → refuse (not (is_owned_by S p u)) NotFound (refuse (not (has_other_maintainer S p u)) LastOwner None) ≡ None → IsSound S.access → IsSound (without_maintainer S p u).access
+disowned_sound : (S : State) (p u : Text) → refuse (not (has_maintainer S p u)) NotFound (refuse (not (has_other_maintainer S p u)) LastOwner None) ≡ None → IsSound S.access → IsSound (without_maintainer S p u).access
 disowned_sound S p u may sound =
-    let owner = passed (not (is_owned_by S p u)) NotFound _ may in
+    let owner = passed (not (has_maintainer S p u)) NotFound _ may in
     let more = passed (not (has_other_maintainer S p u)) LastOwner None owner.1 in
     let other = other_maintainer S p u (not_false _ more.0) in
     change.maintainer_dropped S.access p u (other.0, ap is_some (at-erase_other pair_key S.access.maintainers (p, u) (p, other.0) (and_right (is p p) (is u other.0) other.1)) ∙ other.2) sound
@@ -170,7 +170,7 @@ step_sound S now who (Revoke o t p) known may sound = change.grant_dropped S.acc
 step_sound S now who (SetAccess p status) known may sound =
     status_sound S who p status (policy_passed S now who (SetAccess p status) may) (state_passed S now who (SetAccess p status) may) sound
 step_sound S now who (OwnerAdd p u) known may sound =
-    owning_sound S p u (is_owned_by S p u) (published_where_read S.access who p (found_there who (reads (level_at (position_in S.access who p))) _ (policy_passed S now who (OwnerAdd p u) may)))
+    owning_sound S p u (has_maintainer S p u) (published_where_read S.access who p (found_there who (reads (level_at (position_in S.access who p))) _ (policy_passed S now who (OwnerAdd p u) may)))
     (is_there _ (state_passed S now who (OwnerAdd p u) may)) sound
 step_sound S now who (OwnerRemove p u) known may sound = disowned_sound S p u (state_passed S now who (OwnerRemove p u) may) sound
 step_sound S now who (Publish f) known may sound =

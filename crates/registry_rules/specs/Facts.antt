@@ -15,7 +15,7 @@ use Rattle.registry_access.specs.declared.rows.AccessRows.{AccessRows}
 use Rattle.registry_publish.specs.Form.{FormParts}
 use Rattle.registry_rules.specs.Actions.{version_of}
 use Rattle.registry_rules.specs.Callers.{caller_of}
-use Rattle.registry_rules.specs.State.{State, has_user, has_team, is_member, is_in_team, has_grant, is_published, is_owned_by, has_other_maintainer, has_other_owner, has_token, is_live, is_spent, has_live, stands, asked_version, lives}
+use Rattle.registry_rules.specs.State.{State, has_user, has_team, is_member, is_in_team, has_grant, is_published, has_maintainer, has_other_maintainer, has_other_owner, has_token, is_live, is_spent, has_live, stands, asked_version, lives}
 use Rattle.registry_rules.specs.Withdrawals.{is_depended, last_withdrawal, live_versions, published_at, tags_of}
 use Rattle.registry_rules.specs.declared.facts.About.{About}
 use Rattle.registry_rules.specs.declared.facts.About.TheVariants as about
@@ -73,12 +73,12 @@ pub record AreGrantFacts (rows : AccessRows) (there published stood : Bool) (S :
 pub record AreOwnerAddFacts (standing : Standing) (exists already : Bool) (S : State) (who : Caller) (p u : Text) : Type 0 where
   pub standing_tells : TellsOf standing S who p
   pub user_exists : exists ≡ has_user S u
-  pub is_owner : already ≡ is_owned_by S p u
+  pub is_maintainer : already ≡ has_maintainer S p u
 
-pub record AreOwnerRemoveFacts (standing : Standing) (owner other : Bool) (S : State) (who : Caller) (p u : Text) : Type 0 where
+pub record AreOwnerRemoveFacts (standing : Standing) (maintainer other : Bool) (S : State) (who : Caller) (p u : Text) : Type 0 where
   pub standing_tells : TellsOf standing S who p
-  pub is_owner : owner ≡ is_owned_by S p u
-  pub other_owner : other ≡ has_other_maintainer S p u
+  pub is_maintainer : maintainer ≡ has_maintainer S p u
+  pub other_maintainer : other ≡ has_other_maintainer S p u
 
 pub record AreTagSetFacts (standing : Standing) (lives stood : Bool) (S : State) (who : Caller) (p t v : Text) : Type 0 where
   pub standing_tells : TellsOf standing S who p
@@ -106,8 +106,8 @@ StandsAbout (about.TeamRemove rows team_exists inside) S who (TeamRemove o t u) 
 StandsAbout (about.Grant rows team_exists published stood) S who (Grant o t p grant) = AreGrantFacts rows team_exists published stood S who o t p
 StandsAbout (about.Revoke rows stood) S who (Revoke o t p) = SayOf rows S who o × (stood ≡ has_grant S o t p)
 StandsAbout (about.SetAccess standing) S who (SetAccess p status) = TellsOf standing S who p
-StandsAbout (about.OwnerAdd standing user_exists owner) S who (OwnerAdd p u) = AreOwnerAddFacts standing user_exists owner S who p u
-StandsAbout (about.OwnerRemove standing owner other_owner) S who (OwnerRemove p u) = AreOwnerRemoveFacts standing owner other_owner S who p u
+StandsAbout (about.OwnerAdd standing user_exists already) S who (OwnerAdd p u) = AreOwnerAddFacts standing user_exists already S who p u
+StandsAbout (about.OwnerRemove standing maintainer other) S who (OwnerRemove p u) = AreOwnerRemoveFacts standing maintainer other S who p u
 StandsAbout (about.Publish facts) S who (Publish f) = ArePublishFacts facts S who f
 StandsAbout (about.TagSet standing version_lives tag_stands) S who (TagSet p t v) = AreTagSetFacts standing version_lives tag_stands S who p t (text_of_version v)
 StandsAbout (about.TagRemove standing tag_stands) S who (TagRemove p t) = TellsOf standing S who p × (tag_stands ≡ stands S p t)

@@ -18,7 +18,7 @@ use Rattle.registry_publish.specs.Form.{FormParts}
 use Rattle.registry_rules.specs.Actions.{version_of}
 use Rattle.registry_rules.specs.Callers.{caller_of}
 use Rattle.registry_rules.specs.Permissions.{permission}
-use Rattle.registry_rules.specs.State.{State, developers, has_user, has_token, is_member, has_team, is_in_team, has_grant, is_published, is_owned_by, has_other_maintainer, is_last_owner, is_live, is_spent, has_live, stands, asked_version, lives}
+use Rattle.registry_rules.specs.State.{State, developers, has_user, has_token, is_member, has_team, is_in_team, has_grant, is_published, has_maintainer, has_other_maintainer, is_last_owner, is_live, is_spent, has_live, stands, asked_version, lives}
 use Rattle.registry_rules.specs.Withdrawals.{is_depended, is_too_old, is_waiting, published_at}
 use Rattle.registry_rules.specs.declared.request.Action.{Action}
 use Rattle.registry_rules.specs.declared.request.Action.TheVariants.{UserAdd, TokenAdd, OrgCreate, OrgSet, OrgRemove, TeamCreate, TeamDestroy, TeamAdd, TeamRemove, Grant, Revoke, SetAccess, OwnerAdd, OwnerRemove, Publish, TagSet, TagRemove, Withdraw, Deprecate, Packument, VersionDoc, Archive, Tags, Members, Teams, TeamMembers, TeamPackages}
@@ -87,7 +87,7 @@ state_refusal S now (Grant o t p grant) = grant_refusal (has_team S o t) (is_pub
 state_refusal S now (Revoke o t p) = unless_there (has_grant S o t p)
 state_refusal S now (SetAccess p status) = refuse (is_restricted (Some status) && is_none (scope_of p)) AlwaysPublic None
 state_refusal S now (OwnerAdd p u) = unless_there (has_user S u)
-state_refusal S now (OwnerRemove p u) = refuse (not (is_owned_by S p u)) NotFound (refuse (not (has_other_maintainer S p u)) LastOwner None)
+state_refusal S now (OwnerRemove p u) = refuse (not (has_maintainer S p u)) NotFound (refuse (not (has_other_maintainer S p u)) LastOwner None)
 state_refusal S now (Publish f) = publish_refusal S now f
 state_refusal S now (TagSet p t v) = unless_there (is_live S p (text_of_version v))
 state_refusal S now (TagRemove p t) = tag_refusal (stands S p t) t

@@ -76,8 +76,8 @@ abbrev pub is_published : State → Text → Bool
 is_published S p = is_some (at S.access.statuses p)
 
 -- the user is a maintainer of the package
-abbrev pub is_owned_by : State → Text → Text → Bool
-is_owned_by S p u = is_some (at S.access.maintainers (p, u))
+abbrev pub has_maintainer : State → Text → Text → Bool
+has_maintainer S p u = is_some (at S.access.maintainers (p, u))
 
 -- another user than this is a maintainer of the package
 abbrev pub has_other_maintainer : State → Text → Text → Bool

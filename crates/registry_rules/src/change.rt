@@ -101,14 +101,14 @@ pub enum Change<'a> {
         package: &'a Name,
     },
     /// The user is a maintainer of the package.
-    PutOwner {
+    PutMaintainer {
         /// The package.
         package: &'a Name,
         /// The user.
         user: &'a Ident,
     },
     /// The user is no maintainer of the package.
-    DropOwner {
+    DropMaintainer {
         /// The package.
         package: &'a Name,
         /// The user.

@@ -12,7 +12,7 @@ ghost use Rattle.registry_access.specs.declared.caller.Caller.{Caller};
 
 use crate::change::{Change, Changes};
 use crate::facts::{About, Facts};
-use crate::grants::{grant_refusal, owner_remove_refusal, owning, status_refusal};
+use crate::grants::{grant_refusal, maintaining, owner_remove_refusal, status_refusal};
 use crate::organisations::{creation, membership, org_remove_refusal, org_set_refusal};
 use crate::policy::permission;
 use crate::publish::{publish_changes, publish_refusal};
@@ -170,12 +170,12 @@ fn state_refusal(about: &About, action: &Action, now: &Moment) -> Option<Refusal
         }
         (
             About::OwnerRemove {
-                is_owner,
-                other_owner,
+                is_maintainer,
+                other_maintainer,
                 ..
             },
             Action::OwnerRemove { .. },
-        ) => { owner_remove_refusal(*is_owner, *other_owner) }
+        ) => { owner_remove_refusal(*is_maintainer, *other_maintainer) }
         (About::Publish(facts), Action::Publish { form }) => publish_refusal(facts, form, now),
         (About::TagSet { version_lives, .. }, Action::TagSet { .. }) => unless_there(
             *version_lives,
@@ -340,12 +340,12 @@ fn changes<'a>(
             };
             Ok(vec![in alloc; change]?)
         }
-        (About::OwnerAdd { is_owner, .. }, Action::OwnerAdd { name, user }) => {
-            owning(alloc, name, user, *is_owner)
+        (About::OwnerAdd { is_maintainer, .. }, Action::OwnerAdd { name, user }) => {
+            maintaining(alloc, name, user, *is_maintainer)
         }
         (About::OwnerRemove { .. }, Action::OwnerRemove { name, user }) => {
             Ok(vec![in alloc;
-                Change::DropOwner {
+                Change::DropMaintainer {
                     package: name,
                     user
                 },

@@ -129,16 +129,16 @@ pub enum About {
         /// Whether the user is there.
         user_exists: bool,
         /// Whether he is a maintainer already.
-        is_owner: bool,
+        is_maintainer: bool,
     },
     /// Of a maintainer who is to be none.
     OwnerRemove {
         /// The caller and the package.
         standing: Standing,
         /// Whether the user is a maintainer.
-        is_owner: bool,
+        is_maintainer: bool,
         /// Whether another user is.
-        other_owner: bool,
+        other_maintainer: bool,
     },
     /// Of a query about a team.
     Team {

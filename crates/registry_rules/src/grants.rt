@@ -71,34 +71,34 @@ pub(crate) fn status_refusal(status: Option<Status>, name: &Name) -> Option<Refu
 }
 
 /// Why a maintainer can't go, if he can't: he is none, or the last one.
-pub(crate) fn owner_remove_refusal(is_owner: bool, other_owner: bool) -> Option<Refusal>
-    ensures { result ≡ spec.refuse (not is_owner) refusal.NotFound
-        (spec.refuse (not other_owner) refusal.LastOwner None) }
+pub(crate) fn owner_remove_refusal(is_maintainer: bool, other_maintainer: bool) -> Option<Refusal>
+    ensures { result ≡ spec.refuse (not is_maintainer) refusal.NotFound
+        (spec.refuse (not other_maintainer) refusal.LastOwner None) }
 {
-    if !is_owner {
+    if !is_maintainer {
         return Some(Refusal::NotFound);
     }
-    if !other_owner {
+    if !other_maintainer {
         return Some(Refusal::LastOwner);
     }
     None
 }
 
 /// The user is a maintainer. Where he is already, nothing changes.
-pub(crate) fn owning<'a>(
+pub(crate) fn maintaining<'a>(
     alloc: Global,
     name: &'a Name,
     user: &'a Ident,
-    is_owner: bool,
+    is_maintainer: bool,
 ) -> Result<Changes<'a>, AllocError>
     ensures { IfOk result (λ changes. map change_of changes.items
-        ≡ effects.owning name.now user.now is_owner) }
+        ≡ effects.maintaining name.now user.now is_maintainer) }
 {
-    if is_owner {
+    if is_maintainer {
         return Ok(Vec::new(alloc));
     }
     Ok(vec![in alloc;
-        Change::PutOwner {
+        Change::PutMaintainer {
             package: name,
             user
         },
@@ -125,7 +125,7 @@ pub(crate) fn first_right<'a>(
             grant: Grant::ReadWrite,
             stands: false,
         }),
-        (None, Caller::User(user)) => Some(Change::PutOwner {
+        (None, Caller::User(user)) => Some(Change::PutMaintainer {
             package: name,
             user,
         }),

@@ -4,7 +4,7 @@ use Rattle.std.specs.declared.cmp.Ordering.{Ordering}
 use Rattle.registry_names.specs.Maps.{MapBy, at, put, erase}
 use Rattle.registry_publish.specs.Form.{FormParts}
 use Rattle.registry_rules.specs.Actions.{version_of}
-use Rattle.registry_rules.specs.Changes.{Change, AddUser, AddToken, AddOrg, PutMember, DropMember, AddTeam, PutTeamMember, DropTeamMember, DropTeam, PutGrant, DropGrant, PutOwner, DropOwner, PutStatus, AddVersion, RetireVersion, PutDeprecation, PutTag, DropTag, release_of}
+use Rattle.registry_rules.specs.Changes.{Change, AddUser, AddToken, AddOrg, PutMember, DropMember, AddTeam, PutTeamMember, DropTeamMember, DropTeam, PutGrant, DropGrant, PutMaintainer, DropMaintainer, PutStatus, AddVersion, RetireVersion, PutDeprecation, PutTag, DropTag, release_of}
 use Rattle.registry_rules.specs.State.{Release}
 use Rattle.registry_tables.specs.Archives.{archive_number, with_archive}
 use Rattle.registry_tables.specs.Contents.{Contents}
@@ -50,8 +50,8 @@ stored_by (DropTeamMember o t u) c = record c { team_members = erase c.team_memb
 stored_by (DropTeam o t) c = without_team o t c
 stored_by (PutGrant o t p grant stands) c = record c { grants = with_row c.grants (o, (t, p)) grant stands }
 stored_by (DropGrant o t p) c = record c { grants = erase c.grants (o, (t, p)) }
-stored_by (PutOwner p u) c = record c { owners = put c.owners (p, u) tt }
-stored_by (DropOwner p u) c = record c { owners = erase c.owners (p, u) }
+stored_by (PutMaintainer p u) c = record c { owners = put c.owners (p, u) tt }
+stored_by (DropMaintainer p u) c = record c { owners = erase c.owners (p, u) }
 stored_by (PutStatus p status stands) c = record c { packages = with_row c.packages p status stands }
 stored_by (AddVersion f now) c = version_put f now c
 stored_by (RetireVersion p v published withdrawn) c = version_retired p v published withdrawn c

@@ -67,8 +67,12 @@ pub fn make<S: Alter>(tx: &mut Transaction<'_, S>, change: &Change<'_>) -> Resul
             team,
             package,
         } => drop_grant(tx, organisation, team, package.text()),
-        Change::PutOwner { package, user } => put_maintainer(tx, package.text(), user.text()),
-        Change::DropOwner { package, user } => drop_maintainer(tx, package.text(), user.text()),
+        Change::PutMaintainer { package, user } => put_maintainer(tx, package.text(), user.text()),
+        Change::DropMaintainer { package, user } => drop_maintainer(
+            tx,
+            package.text(),
+            user.text(),
+        ),
         Change::PutStatus {
             package,
             status,

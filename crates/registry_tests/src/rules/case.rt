@@ -287,15 +287,15 @@ fn about(rt: &impl Abort, alloc: Global, by: &By, held: &Held, ask: &Ask) -> Abo
             tag_stands: held.has_tag(tag),
         },
         Ask::SetAccess(..) => About::SetAccess { standing },
-        Ask::OwnerAdd(_, user_exists, is_owner) => About::OwnerAdd {
+        Ask::OwnerAdd(_, user_exists, is_maintainer) => About::OwnerAdd {
             standing,
             user_exists,
-            is_owner,
+            is_maintainer,
         },
-        Ask::OwnerRemove(_, is_owner, other_owner) => About::OwnerRemove {
+        Ask::OwnerRemove(_, is_maintainer, other_maintainer) => About::OwnerRemove {
             standing,
-            is_owner,
-            other_owner,
+            is_maintainer,
+            other_maintainer,
         },
         _ => about_query(standing, held, ask),
     }

@@ -58,7 +58,7 @@ static FIRST_PUBLICATIONS: [Case; 5] = [
         Publish(OF_NOBODY, "null"),
         Ok(&[
             "PutStatus kit Public false",
-            "PutOwner kit bob",
+            "PutMaintainer kit bob",
             "AddVersion kit 1.0.0 100",
             "PutTag kit latest 1.0.0 false",
         ]),
@@ -380,7 +380,7 @@ static STATUSES_AND_MAINTAINERS: [Case; 15] = [
         Maintainer("bob"),
         PUBLIC,
         OwnerAdd(OF_NOBODY, true, false),
-        Ok(&["PutOwner kit eve"]),
+        Ok(&["PutMaintainer kit eve"]),
     ),
     (
         "once more",
@@ -415,7 +415,7 @@ static STATUSES_AND_MAINTAINERS: [Case; 15] = [
         Maintainer("bob"),
         PUBLIC,
         OwnerRemove(OF_NOBODY, true, true),
-        Ok(&["DropOwner kit eve"]),
+        Ok(&["DropMaintainer kit eve"]),
     ),
     (
         "the last one stays",

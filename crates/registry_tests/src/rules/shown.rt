@@ -91,11 +91,11 @@ fn told_of_grant(rt: &impl Abort, alloc: Global, change: Change<'_>) -> String {
 
 fn told_of_package(rt: &impl Abort, alloc: Global, change: Change<'_>) -> String {
     match change {
-        Change::PutOwner { package, user } => {
-            joined(rt, alloc, &["PutOwner", package.text(), user.text()])
+        Change::PutMaintainer { package, user } => {
+            joined(rt, alloc, &["PutMaintainer", package.text(), user.text()])
         }
-        Change::DropOwner { package, user } => {
-            joined(rt, alloc, &["DropOwner", package.text(), user.text()])
+        Change::DropMaintainer { package, user } => {
+            joined(rt, alloc, &["DropMaintainer", package.text(), user.text()])
         }
         Change::PutStatus {
             package,

@@ -25,5 +25,5 @@ returns-clause-tells g c clean =
       reads_then schema (shown g.S.Store c.args.tx.now) (shown g.S.Store c.load_standing.new.tx) (shown g.S.Store c.find_newcomer.new.tx) stands.0 found.0,
       λ sound.
           let newcomer = subst₂ (λ (d : Database) (u : Text). IsNewcomer c.in_ok-newcomer.newcomer (registry_of (contents d.trees)) c.args.name.now u) stands.0.same c.text.ensures.text found.1 in
-          record { standing_tells = stands.1 sound; user_exists = newcomer.user_exists; is_owner = newcomer.is_owner },
+          record { standing_tells = stands.1 sound; user_exists = newcomer.user_exists; is_maintainer = newcomer.is_maintainer },
     )

@@ -25,5 +25,5 @@ returns-clause-tells g c clean =
       reads_then schema (shown g.S.Store c.args.tx.now) (shown g.S.Store c.load_standing.new.tx) (shown g.S.Store c.find_leaver.new.tx) stands.0 found.0,
       λ sound.
           let leaver = subst₂ (λ (d : Database) (u : Text). IsLeaver c.in_ok-leaver.leaver (registry_of (contents d.trees)) c.args.name.now u) stands.0.same c.text.ensures.text found.1 in
-          record { standing_tells = stands.1 sound; is_owner = leaver.is_owner; other_owner = leaver.other_owner },
+          record { standing_tells = stands.1 sound; is_maintainer = leaver.is_maintainer; other_maintainer = leaver.other_maintainer },
     )

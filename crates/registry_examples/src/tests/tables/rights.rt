@@ -140,7 +140,7 @@ fn put_maintainer<S: Alter>(
     ensures in_form { OnOk result (InForm S.Store tx.new) }
 {
     let user = &Ident::parse(alloc, user)?;
-    made(tx, &Change::PutOwner { package, user })
+    made(tx, &Change::PutMaintainer { package, user })
 }
 
 fn drop_maintainer<S: Alter>(
@@ -154,7 +154,7 @@ fn drop_maintainer<S: Alter>(
     ensures in_form { OnOk result (InForm S.Store tx.new) }
 {
     let user = &Ident::parse(alloc, user)?;
-    made(tx, &Change::DropOwner { package, user })
+    made(tx, &Change::DropMaintainer { package, user })
 }
 
 fn other_maintainer<S: Alter>(
