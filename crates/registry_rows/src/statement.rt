@@ -1,17 +1,15 @@
 //! Statements inside a transaction. An error of the database is answered as a fault.
 
-ghost use Rattle.std.specs.Prelude.{◌≡◌, IfOk, OnErr, OnOk, map, option_map, slice_get};
+ghost use Rattle.std.specs.Prelude.{◌≡◌, IfOk, OnErr, OnOk};
 ghost use Rattle.sqlite.specs.Held.{state};
 ghost use Rattle.sqlite.specs.Values.{bound};
 ghost use Rattle.registry_rows.specs.Faults.{as_fault};
 ghost use Rattle.registry_rows.specs.Frames.{Stays, Wrote};
 ghost use Rattle.registry_rows.specs.Ready.{Queried};
 
-use crate::from_row::{FromRow, read_first, read_rows};
 use registry_names::Fault;
 use sqlite::types::ValueRef;
 use sqlite::{Alter, Error, ErrorCode, Row, Transaction};
-use std::alloc::Global;
 
 /// The fault that is answered where the database answers this error: `Memory` where it had no
 /// memory left, and else `Database`.
@@ -53,27 +51,6 @@ pub fn read<S: Alter>(
 {
     match tx.query_all(text, params) {
         Ok(rows) => Ok(rows),
-        Err(error) => Err(fault_of(error)),
-    }
-}
-
-/// The values that the rows spell, in the order of the rows.
-pub fn values_in<T: FromRow>(alloc: Global, rows: &[Row]) -> Result<Vec<T>, Fault>
-    ensures { IfOk result (λ values. map T.seen values.items ≡ map T.spelled rows.now) }
-{
-    match read_rows(alloc, rows) {
-        Ok(values) => Ok(values),
-        Err(error) => Err(fault_of(error)),
-    }
-}
-
-/// The value that the first row spells, if there is a row.
-pub fn first_in<T: FromRow>(rows: &[Row]) -> Result<Option<T>, Fault>
-    ensures { IfOk result (λ value. option_map T.seen value
-        ≡ option_map T.spelled (slice_get rows.now 0)) }
-{
-    match read_first(rows) {
-        Ok(value) => Ok(value),
         Err(error) => Err(fault_of(error)),
     }
 }
