@@ -1,7 +1,8 @@
 //! The words that every other crate of the registry speaks: names, versions, tags, messages and
 //! moments, each a type whose values are exactly the texts or numbers in form; the refusals and
 //! faults that an answer can be, with what is printed of them; texts and bytes as contracts see
-//! them; the size of a body; and the ends that bytes come in by and go out by.
+//! them; the methods of HTTP's requests and the size of a body; and the ends that bytes come in by
+//! and go out by.
 //!
 //! A value exists exactly for a text in form, and its text is the text that was read.
 #![tactic(auto)]
@@ -14,6 +15,7 @@ mod form;
 mod ident;
 pub mod laws;
 mod message;
+mod method;
 mod moment;
 mod name;
 mod refusal;
@@ -32,6 +34,7 @@ pub use crate::ends::{
 };
 pub use crate::ident::Ident;
 pub use crate::message::Message;
+pub use crate::method::Method;
 pub use crate::moment::Moment;
 pub use crate::name::Name;
 pub use crate::refusal::{Refusal, Rule};

@@ -5,6 +5,7 @@ use Rattle.std.specs.List.{list_all}
 use Rattle.std.proofs.lemmas.Bool.{cases_Bool}
 use Rattle.std.specs.Char.{is_digit}
 use Rattle.percent_encoding.specs.Percent.{is_escape, percent_decode}
+use Rattle.registry_names.specs.declared.method.Method.{Method}
 use Rattle.registry_routes.proofs.LawFacts.{and-left, and-right, same-text, begins, row_begins, table-begins}
 use Rattle.registry_routes.specs.Laws.{IsEscapedSlash, NamesAlike, RoutesAlike, EscapesAreSlashes, begins_with_name}
 use Rattle.registry_routes.specs.Paths.{begins_with_at, has_escaped_slash, is_escaped_slash, is_scope}
@@ -12,7 +13,6 @@ use Rattle.registry_routes.specs.Pieces.{Piece, literal, name, value, file, is_d
 use Rattle.registry_routes.specs.Routes.{Route, Values, before, is_same, joined, or_later, route_in, route_of, values_in, values_of_row}
 use Rattle.registry_routes.specs.Table.{Row, table}
 use Rattle.registry_routes.specs.declared.endpoint.Endpoint.{Endpoint}
-use Rattle.registry_routes.specs.declared.method.Method.{Method}
 
 abbrev Text : Type 0
 Text = List ℕ

@@ -5,13 +5,13 @@ use Rattle.std.specs.List.{list_all}
 use Rattle.std.proofs.lemmas.Bool.{cases_Bool}
 use Rattle.std.proofs.lemmas.List.Sums.{take_while-cons}
 use Rattle.std.proofs.lemmas.Slice.Eq.{bytes_eq-Decides}
+use Rattle.registry_names.specs.declared.method.Method.{Method}
+use Rattle.registry_names.specs.declared.method.Method.TheVariants.{Get, Put, Post, Delete, Other}
 use Rattle.registry_routes.specs.Laws.{QueriesChangeNothing, Excludes, OneRowTakes, DashIsNoName, begins_with_name}
 use Rattle.registry_routes.specs.Paths.{path_of, segments_of}
 use Rattle.registry_routes.specs.Pieces.{Piece, literal, name, value, file, is_dash}
 use Rattle.registry_routes.specs.Routes.{Route, Values, is_same, or_later, piece_of, route_in, route_of, values_in, values_of_row, with_later, with_piece}
 use Rattle.registry_routes.specs.Table.{Row, table}
-use Rattle.registry_routes.specs.declared.method.Method.{Method}
-use Rattle.registry_routes.specs.declared.method.Method.TheVariants.{Get, Put, Post, Delete, Other}
 
 abbrev Text : Type 0
 Text = List ℕ

@@ -2,13 +2,13 @@
 use Rattle.std.proofs.Common.{◌≡◌, ℕ, List, [], ◌∷◌, Some, None, Option, true, false, refl, sym, ap, ◌∙◌, inl, inr}
 use Rattle.std.specs.Prelude.{bytes_eq, option_map, option_and_then}
 use Rattle.std.proofs.lemmas.Bool.{cases_Bool}
+use Rattle.registry_names.specs.declared.method.Method.{Method}
 use Rattle.registry_routes.specs.Paths.{path_of, segments_of, is_scope}
 use Rattle.registry_routes.specs.Pieces.{Piece, literal, name, value, file, is_dash}
 use Rattle.registry_routes.specs.Routes.{Values, Route, joined, piece_of, with_piece, values_in, values_of_row, or_later, route_in, route_of, is_same}
 use Rattle.registry_routes.specs.Routes as routes
 use Rattle.registry_routes.specs.Table.{Row, table}
 use Rattle.registry_routes.specs.Readings.{segment_at, piece_at, literal_from, name_from, file_from, with_later, values_at, values_at_row, route_at}
-use Rattle.registry_routes.specs.declared.method.Method.{Method}
 use Rattle.registry_routes.proofs.SegmentFacts.{with_segments, no-segments, more-segments}
 
 abbrev Text : Type 0

@@ -3,13 +3,13 @@
 use Rattle.std.specs.Prelude.{◌≡◌, ◌⊎◌, ◌++◌, ◌∷◌, codes, Bool, true, false, not, List, Option, Some, None, AllPairs, IsNone, IsSome}
 use Rattle.percent_encoding.specs.Percent.{percent_decode}
 use Rattle.registry_names.specs.Texts.{Text}
+use Rattle.registry_names.specs.declared.method.Method.{Method}
 use Rattle.registry_routes.specs.Paths.{is_scope, path_of, segments_of}
 use Rattle.registry_routes.specs.Pieces.{is_dash}
 use Rattle.registry_routes.specs.Routes.{Route, Values, route_of, values_of_row}
 use Rattle.registry_routes.specs.Table.{Row, table}
 use Rattle.registry_routes.specs.declared.endpoint.Endpoint.{Endpoint}
 use Rattle.registry_routes.specs.declared.endpoint.Endpoint.TheVariants.{Packument, Publish, VersionDoc, Archive}
-use Rattle.registry_routes.specs.declared.method.Method.{Method}
 
 -- what follows the first `?` of a target changes nothing
 abbrev pub QueriesChangeNothing : Type 0

@@ -3,6 +3,7 @@
 use Rattle.std.specs.Prelude.{ℕ, ◌&&◌, not, Bool, List, [], ◌∷◌, length, drop, take_while, bytes_eq, map, Option, Some, None, option_map, option_and_then, if◌then◌else◌}
 use Rattle.std.specs.Borrow.{Bor}
 use Rattle.registry_names.specs.Texts.{Text}
+use Rattle.registry_names.specs.declared.method.Method.{Method}
 use Rattle.registry_routes.specs.Paths.{is_slash, has_bytes, is_scope}
 use Rattle.registry_routes.specs.Pieces as piece
 use Rattle.registry_routes.specs.Pieces.{is_dash}
@@ -10,7 +11,6 @@ use Rattle.registry_routes.specs.Routes as route
 use Rattle.registry_routes.specs.Routes.{joined, no_values, with_piece, is_same, or_later}
 use Rattle.registry_routes.specs.Table as rows
 use Rattle.registry_routes.specs.declared.endpoint.Endpoint.{Endpoint}
-use Rattle.registry_routes.specs.declared.method.Method.{Method}
 use Rattle.registry_routes.specs.declared.route.Route.{Route}
 use Rattle.registry_routes.specs.declared.route.Values.{Values}
 use Rattle.registry_routes.specs.declared.table.Piece.{Piece}

@@ -1,12 +1,12 @@
 -- The route that a method and a target take, and the values in the target's path.
 use Rattle.std.specs.Prelude.{Bool, true, false, List, [], ◌∷◌, ◌++◌, bytes_eq, Option, Some, None, option_map, option_and_then, if◌then◌else◌}
 use Rattle.registry_names.specs.Texts.{Text}
+use Rattle.registry_names.specs.declared.method.Method.{Method}
+use Rattle.registry_names.specs.declared.method.Method.TheVariants.{Get, Put, Post, Delete, Other}
 use Rattle.registry_routes.specs.Paths.{path_of, segments_of, is_scope}
 use Rattle.registry_routes.specs.Pieces.{Piece, literal, name, value, file, is_dash}
 use Rattle.registry_routes.specs.Table.{Row, table}
 use Rattle.registry_routes.specs.declared.endpoint.Endpoint.{Endpoint}
-use Rattle.registry_routes.specs.declared.method.Method.{Method}
-use Rattle.registry_routes.specs.declared.method.Method.TheVariants.{Get, Put, Post, Delete, Other}
 
 -- the values of a path, from left to right, as they are written there; where a route has fewer than
 -- three, the others are empty

@@ -1,10 +1,10 @@
 -- The table of routes: a method, the pieces of a path, and what is asked for.
 use Rattle.std.specs.Prelude.{List, [], ◌∷◌, codes}
+use Rattle.registry_names.specs.declared.method.Method.{Method}
+use Rattle.registry_names.specs.declared.method.Method.TheVariants.{Get, Put, Post, Delete}
 use Rattle.registry_routes.specs.Pieces.{Piece, literal, name, value, file}
 use Rattle.registry_routes.specs.declared.endpoint.Endpoint.{Endpoint}
 use Rattle.registry_routes.specs.declared.endpoint.Endpoint.TheVariants.{Packument, Publish, VersionDoc, Archive, Tags, TagSet, TagRemove, SetAccess, OwnerAdd, OwnerRemove, Deprecate, Withdraw, Members, OrgSet, OrgRemove, Teams, TeamMembers, TeamCreate, TeamDestroy, TeamAdd, TeamRemove, TeamPackages, Grant, Revoke}
-use Rattle.registry_routes.specs.declared.method.Method.{Method}
-use Rattle.registry_routes.specs.declared.method.Method.TheVariants.{Get, Put, Post, Delete}
 
 pub record Row : Type 0 where
   pub method : Method

@@ -12,7 +12,6 @@ mod body;
 mod endpoint;
 mod file;
 pub mod laws;
-mod method;
 mod path;
 mod route;
 mod table;
@@ -24,6 +23,5 @@ pub use crate::body::{
 };
 pub use crate::endpoint::Endpoint;
 pub use crate::file::version_of_file;
-pub use crate::method::Method;
 pub use crate::route::{Route, Values, route_of};
 pub use crate::value::{decoded, ident_in, name_in, tag_in, version_in};

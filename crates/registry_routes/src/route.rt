@@ -9,9 +9,9 @@ ghost use Rattle.registry_routes.specs.Routes as routes;
 ghost use Rattle.registry_routes.specs.Routes.{is_same, with_piece};
 
 use crate::endpoint::Endpoint;
-use crate::method::Method;
 use crate::path::{is_scope, pair, path_of, segment};
 use crate::table::{Piece, ROWS, Row};
+use registry_names::Method;
 
 /// The values of a path, from left to right, as they are written there: decoded after routing.
 /// Where a route has fewer than three, the others are empty.

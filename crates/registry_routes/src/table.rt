@@ -6,8 +6,8 @@ use crate::endpoint::Endpoint::{
     Publish, Revoke, SetAccess, TagRemove, TagSet, Tags, TeamAdd, TeamCreate, TeamDestroy,
     TeamMembers, TeamPackages, TeamRemove, Teams, VersionDoc, Withdraw,
 };
-use crate::method::Method;
-use crate::method::Method::{Delete, Get, Post, Put};
+use registry_names::Method;
+use registry_names::Method::{Delete, Get, Post, Put};
 
 /// A piece of a route's path.
 #[derive(Clone, Copy)]

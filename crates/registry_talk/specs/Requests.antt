@@ -2,23 +2,11 @@
 use Rattle.std.specs.Prelude.{ℕ, Option, Some, None}
 use Rattle.registry_names.specs.declared.refusal.Refusal.TheVariants.{NotFound}
 use Rattle.registry_routes.specs.Routes.{Route, route_of}
-use Rattle.registry_routes.specs.declared.method.Method as routes
-use Rattle.registry_routes.specs.declared.method.Method.TheVariants as route
 use Rattle.registry_rules.specs.declared.request.Request.{Request}
-use Rattle.registry_wire.specs.declared.method.Method.{Method}
-use Rattle.registry_wire.specs.declared.method.Method.TheVariants.{Get, Put, Post, Delete, Other}
 use Rattle.registry_wire.specs.declared.wanted.Wanted.{Wanted}
 use Rattle.registry_talk.specs.Actions.{reads_action}
 use Rattle.registry_talk.specs.Callers.{reads_caller}
 use Rattle.registry_talk.specs.Readings.{Reading, gives, refuses, then}
-
--- the method, as the table of routes has it
-abbrev pub routed : Method → routes.Method
-routed Get = route.Get
-routed Put = route.Put
-routed Post = route.Post
-routed Delete = route.Delete
-routed Other = route.Other
 
 -- what the route asks for, and then who asks
 abbrev pub reads_routed : Option Route → Wanted → ℕ → Reading Request
@@ -28,4 +16,4 @@ reads_routed (Some r) w at = then (reads_action r.endpoint r.values w.body) (λ 
 
 -- the route first, then the values of the path, the body, and the authorization
 abbrev pub reads_request : Wanted → ℕ → Reading Request
-reads_request w at = reads_routed (route_of (routed w.method) w.target) w at
+reads_request w at = reads_routed (route_of w.method w.target) w at

@@ -1,28 +1,14 @@
 //! The request of the registry that a request of HTTP spells.
 
-ghost use Rattle.std.specs.Prelude.{◌≡◌};
 ghost use Rattle.registry_talk.specs.Requests as spec;
 
 use crate::action::action;
 use crate::caller::credential;
 use registry_names::{Moment, Refusal, Stop};
-use registry_routes as routes;
 use registry_routes::route_of;
 use registry_rules::Request;
-use registry_wire::{Method, Wanted};
+use registry_wire::Wanted;
 use std::alloc::Global;
-
-fn routed(method: Method) -> routes::Method
-    ensures { result ≡ spec.routed method }
-{
-    match method {
-        Method::Get => routes::Method::Get,
-        Method::Put => routes::Method::Put,
-        Method::Post => routes::Method::Post,
-        Method::Delete => routes::Method::Delete,
-        Method::Other => routes::Method::Other,
-    }
-}
 
 /// The request that a whole request of HTTP spells, asked at this moment.
 ///
@@ -32,7 +18,7 @@ fn routed(method: Method) -> routes::Method
 pub fn request_of(alloc: Global, wanted: &Wanted, at: Moment) -> Result<Request, Stop>
     ensures { spec.reads_request wanted.now at result }
 {
-    let Some(route) = route_of(routed(wanted.method), wanted.target.as_slice()) else {
+    let Some(route) = route_of(wanted.method, wanted.target.as_slice()) else {
         return Err(Stop::Refused(Refusal::NotFound));
     };
     let what = action(alloc, route.endpoint, route.values, wanted.body.as_slice())?;

@@ -5,13 +5,14 @@ mod bodies;
 mod values;
 
 use crate::outcome::same;
+use registry_names::Method;
+use registry_names::Method::{Delete, Get, Other, Post, Put};
 use registry_routes::Endpoint::{
     Archive, Deprecate, Grant, Members, OrgRemove, OrgSet, OwnerAdd, OwnerRemove, Packument,
     Publish, Revoke, SetAccess, TagRemove, TagSet, Tags, TeamAdd, TeamCreate, TeamDestroy,
     TeamMembers, TeamPackages, TeamRemove, Teams, VersionDoc, Withdraw,
 };
-use registry_routes::Method::{Delete, Get, Other, Post, Put};
-use registry_routes::{Endpoint, Method, Route, Values, route_of};
+use registry_routes::{Endpoint, Route, Values, route_of};
 use std::process::Abort;
 
 /// A method and a target, what they ask for, and the values of the path, with a space between them.

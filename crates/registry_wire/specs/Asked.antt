@@ -2,9 +2,9 @@
 use Rattle.std.specs.Prelude.{ℕ, ◌==◌, ◌||◌, Bool, true, false, List, if◌then◌else◌, codes, bytes_eq}
 use Rattle.std.specs.List.{list_any}
 use Rattle.httparse.specs.Grammar.{RequestHead}
+use Rattle.registry_names.specs.declared.method.Method.{Method}
+use Rattle.registry_names.specs.declared.method.Method.TheVariants.{Get, Put, Post, Delete, Other}
 use Rattle.registry_wire.specs.Fields.{Said, absent, once, repeated, said, fields_of, asks_to_close}
-use Rattle.registry_wire.specs.declared.method.Method.{Method}
-use Rattle.registry_wire.specs.declared.method.Method.TheVariants.{Get, Put, Post, Delete, Other}
 use Rattle.registry_wire.specs.declared.wanted.Authorization.{Authorization}
 use Rattle.registry_wire.specs.declared.wanted.Authorization.TheVariants as authorization
 use Rattle.registry_wire.specs.declared.wanted.Wanted.{Wanted}

@@ -10,10 +10,10 @@ ghost use Rattle.registry_wire.specs.Spelling.{head_limit};
 
 use crate::field::{Values, body_len, is_last, said};
 use crate::first::{FIELD_LIMIT, HEAD_LIMIT};
-use crate::method::Method;
+use crate::method::method_of;
 use httparse::Status;
 use httparse::spans::{EMPTY_HEADER_SPAN, HeaderSpan, RequestSpans, parse_request};
-use registry_names::Refusal;
+use registry_names::{Method, Refusal};
 
 /// What a head says.
 #[derive(Clone, Copy)]
@@ -64,7 +64,7 @@ fn parts<'a>(bytes: &'a [u8], headers: &[HeaderSpan], spans: RequestSpans) -> He
     ensures bound { IfOk result.body (λ n. n ≤ body_limit) }
 {
     let (fields, _) = headers.split_at(spans.headers);
-    let method = Method::of(spans.method.of(bytes));
+    let method = method_of(spans.method.of(bytes));
     HeadParts {
         method,
         target: spans.path.of(bytes),

@@ -22,7 +22,6 @@ mod wanted;
 
 pub use crate::first::{Ending, FIELD_LIMIT, First, HEAD_LIMIT, ending_of, first_in};
 pub use crate::inbox::{INTERRUPTION_LIMIT, Inbox, Taken};
-pub use crate::method::Method;
 pub use crate::response::{ContentKind, Response, write_response};
 pub use crate::short_text::{SHORT_LIMIT, ShortText};
 pub use crate::wanted::{Authorization, Wanted};

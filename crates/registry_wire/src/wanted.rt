@@ -1,7 +1,6 @@
 //! What a request asks for, before it is looked at closer.
 
-use crate::method::Method;
-use registry_names::Blob;
+use registry_names::{Blob, Method};
 
 /// A whole request.
 #[derive(Debug)]

@@ -4,13 +4,14 @@
 use crate::outcome::same;
 use crate::parts::concat;
 use matchit::Router;
+use registry_names::Method;
+use registry_names::Method::{Delete, Get, Other, Post, Put};
 use registry_routes::Endpoint::{
     Archive, Deprecate, Grant, Members, OrgRemove, OrgSet, OwnerAdd, OwnerRemove, Packument,
     Publish, Revoke, SetAccess, TagRemove, TagSet, Tags, TeamAdd, TeamCreate, TeamDestroy,
     TeamMembers, TeamPackages, TeamRemove, Teams, VersionDoc, Withdraw,
 };
-use registry_routes::Method::{Delete, Get, Other, Post, Put};
-use registry_routes::{Endpoint, Method, Route, Values, route_of};
+use registry_routes::{Endpoint, Route, Values, route_of};
 use std::alloc::Global;
 use std::process::Abort;
 

@@ -2,11 +2,11 @@
 
 use crate::outcome::{is_refused, same};
 use crate::parts::{blob, joined, shown, string};
-use registry_names::{Moment, Refusal};
+use registry_names::Method::{Delete, Get, Other, Post, Put};
+use registry_names::{Method, Moment, Refusal};
 use registry_rules::{Action, Asked, Credential, Request};
 use registry_talk::request_of;
-use registry_wire::Method::{Delete, Get, Other, Post, Put};
-use registry_wire::{Authorization, Method, Wanted};
+use registry_wire::{Authorization, Wanted};
 use std::alloc::Global;
 use std::process::Abort;
 
