@@ -1,4 +1,5 @@
--- States that agree on what an ask concerns allow the same, and a standing that stands for a state says what the state says.
+-- States that agree on what an ask concerns allow the same, and a standing that stands for a state
+-- says what the state says.
 use Rattle.std.proofs.Common.{◌≡◌, Some, None, Option, is_some, refl, ap, ap₂, ◌∙◌}
 use Rattle.registry_names.specs.Texts.{Text}
 use Rattle.registry_names.specs.Names.{scope_of}

@@ -1,4 +1,5 @@
--- What a caller is in organisations, teams and packages. The operator and the anonymous caller are in none.
+-- What a caller is in organisations, teams and packages. The operator and the anonymous caller are
+-- in none.
 use Rattle.std.specs.Prelude.{Bool, true, false, ◌&&◌, is_some, Option, Some, None, if◌then◌else◌}
 use Rattle.std.specs.List.{list_any}
 use Rattle.registry_names.specs.Texts.{Text, is}

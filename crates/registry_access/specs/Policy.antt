@@ -1,4 +1,5 @@
--- The policy: for each thing that can be asked for, the rule that allows it, or the first of NoCaller, NotFound and Denied that refuses it.
+-- The policy: for each thing that can be asked for, the rule that allows it, or the first of
+-- NoCaller, NotFound and Denied that refuses it.
 use Rattle.std.specs.Prelude.{Bool, is_some, Option, Result, Ok, Err, if◌then◌else◌}
 use Rattle.registry_names.specs.Names.{scope_of}
 use Rattle.registry_names.specs.declared.refusal.Rule.{Rule}
@@ -65,12 +66,14 @@ may_write caller at = for_known caller (where_found (reads (level_at at)) (by_ru
 abbrev pub may_manage_maintainers : Caller → Position → Verdict
 may_manage_maintainers caller at = for_known caller (where_found (reads (level_at at)) (by_rule A7 at.maintainer))
 
--- a name without a scope. A5, for its first version: any user. A6, for a further one: whoever writes it
+-- a name without a scope. A5, for its first version: any user. A6, for a further one: whoever
+-- writes it
 abbrev pub may_publish_unscoped : Caller → Position → Verdict
 may_publish_unscoped caller at =
     for_known caller (if is_some at.status then by_rule A6 (writes (level_at at)) else by_rule A5 (is_user caller))
 
--- a name with a scope. A4, for its first version: a member. A6, for a further one: a member who writes it
+-- a name with a scope. A4, for its first version: a member. A6, for a further one: a member who
+-- writes it
 abbrev pub may_publish_scoped : Caller → Position → Verdict
 may_publish_scoped caller at =
     for_known caller (where_found at.organisation (if is_some at.role
@@ -80,7 +83,8 @@ may_publish_scoped caller at =
 abbrev pub may_publish : Caller → Bool → Position → Verdict
 may_publish caller scoped at = if scoped then may_publish_scoped caller at else may_publish_unscoped caller at
 
--- what an ask about a package comes to, by how the caller stands to it. An ask about none finds nothing
+-- what an ask about a package comes to, by how the caller stands to it. An ask about none finds
+-- nothing
 abbrev pub allowed_at : Caller → Ask → Position → Verdict
 allowed_at caller (Publish p) at = may_publish caller (is_some (scope_of p.now)) at
 allowed_at caller (Write p) at = may_write caller at

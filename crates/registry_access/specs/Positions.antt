@@ -37,7 +37,8 @@ position_in S caller p = record {
   grant = greatest (granted S caller p);
 }
 
--- Nothing on a package that was never published. Else what one who writes has, or the greater of what everybody has and what is granted
+-- Nothing on a package that was never published. Else what one who writes has, or the greater of
+-- what everybody has and what is granted
 abbrev pub level_by : Option Status → Bool → Option Grant → Level
 level_by None may_write grant = Nothing
 level_by (Some status) may_write grant = if may_write then Write else larger (open_level status) (level_granted grant)

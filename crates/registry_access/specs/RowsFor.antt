@@ -16,11 +16,11 @@ use Rattle.registry_access.specs.declared.ask.Ask.TheVariants.{Operate, OrgMembe
 use Rattle.registry_access.specs.declared.rows.AccessRows.{AccessRows}
 use Rattle.registry_access.specs.declared.standing.Standing.{Standing}
 
--- Rows stand for a state, at what a caller asks, where they say the same of it. For an ask about an organisation these
--- rows are enough: the organisation's, and the caller's membership in it. For one about a package: those of the
--- organisation of its scope, the package's, the caller's among its maintainers, and of each team that the caller is in
--- and that is granted something on the package, the caller's row in the team and the grant. More rows of the state do
--- no harm.
+-- Rows stand for a state, at what a caller asks, where they say the same of it. For an ask about an
+-- organisation these rows are enough: the organisation's, and the caller's membership in it. For
+-- one about a package: those of the organisation of its scope, the package's, the caller's among
+-- its maintainers, and of each team that the caller is in and that is granted something on the
+-- package, the caller's row in the team and the grant. More rows of the state do no harm.
 abbrev pub StandFor : AccessRows → Access → Caller → Ask → Type 0
 StandFor rows S caller ask = SameFor (state_of rows) S caller ask
 
@@ -28,7 +28,8 @@ StandFor rows S caller ask = SameFor (state_of rows) S caller ask
 abbrev pub StandForPackage : AccessRows → Access → Caller → Text → Type 0
 StandForPackage rows S caller p = SamePackage (state_of rows) S caller p
 
--- A standing stands for a state at a caller and a package. In `grants` neither the order counts nor how often a grant stands there.
+-- A standing stands for a state at a caller and a package. In `grants` neither the order counts nor
+-- how often a grant stands there.
 pub record StandsFor (standing : Standing) (S : Access) (caller : Caller) (p : Text) : Type 0 where
   pub organisation : standing.org ≡ has_scope S (scope_of p)
   pub role : standing.role ≡ scope_role S caller (scope_of p)

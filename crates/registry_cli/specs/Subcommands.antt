@@ -1,4 +1,5 @@
--- The words that the program takes: its options, and its subcommands with their words, a line for each.
+-- The words that the program takes: its options, and its subcommands with their words, a line for
+-- each.
 use Rattle.std.specs.Prelude.{ℕ, pos, true, List, [], ◌∷◌, fold, Some, codes}
 use Rattle.clap.specs.Walk.{Rule, Text}
 use Rattle.clap.specs.Simple.{App, Shape, new_app, new_rule, on_top, with_rule, with_subcommand}

@@ -1,4 +1,5 @@
--- What the registry and the registry without a package say to an action that isn't about the package.
+-- What the registry and the registry without a package say to an action that isn't about the
+-- package.
 use Rattle.std.proofs.Common.{◌≡◌, ℕ, Bool, true, false, not, ◌&&◌, ◌||◌, refl, sym, ap, ap₂, ◌∙◌, true≢false, Some, None, Option, option_map, List, [], ◌∷◌, is_some, is_none, filter, if◌then◌else◌}
 use Rattle.std.specs.List.{list_any}
 use Rattle.std.specs.Option.{option_or}

@@ -1,4 +1,5 @@
--- A command that doesn't name a package makes of the registry without the package what it makes of the registry.
+-- A command that doesn't name a package makes of the registry without the package what it makes of
+-- the registry.
 use Rattle.std.proofs.Common.{◌≡◌, ℕ, Bool, true, false, cond, not, ◌&&◌, ◌||◌, refl, sym, ap, ap₂, ◌∙◌, Some, None, Option, List, is_some, filter}
 use Rattle.registry_names.specs.Greatest.{greatest}
 use Rattle.registry_names.specs.Maps.{TextMap, PairMap, TripleMap, among, at, put, erase, keep, keys, of}

@@ -1,4 +1,5 @@
--- What concerns a package that a caller doesn't read is refused to him for the same reason on the registry and on the registry without the package.
+-- What concerns a package that a caller doesn't read is refused to him for the same reason on the
+-- registry and on the registry without the package.
 use Rattle.std.proofs.Common.{◌≡◌, ℕ, Bool, true, false, not, ◌&&◌, ◌||◌, refl, sym, ap, ◌∙◌, true≢false, Some, None, Ok, Err, Option, is_some, if◌then◌else◌}
 use Rattle.std.specs.Option.{option_or}
 use Rattle.registry_names.specs.Maps.{at}

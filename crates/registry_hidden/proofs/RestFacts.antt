@@ -1,4 +1,5 @@
--- Of a package that was never published a legal history leaves nothing, so that the registry without it is the registry.
+-- Of a package that was never published a legal history leaves nothing, so that the registry
+-- without it is the registry.
 use Rattle.std.proofs.Common.{◌≡◌, Bool, true, false, cond, not, ◌&&◌, ◌||◌, refl, sym, ap, ◌∙◌, true≢false, Some, None, Option, List, [], ◌∷◌, is_some, Ordering}
 use Rattle.std.specs.List.{list_any}
 use Rattle.std.specs.Prelude.{IsSome}

@@ -1,4 +1,5 @@
--- Two runs of one caller's requests, after histories that differ in what named a package that he doesn't read.
+-- Two runs of one caller's requests, after histories that differ in what named a package that he
+-- doesn't read.
 use Rattle.std.proofs.Common.{◌≡◌, ◌⊎◌, inl, inr, Bool, true, false, ◌&&◌, if◌then◌else◌, refl, sym, ap, ◌∙◌, subst, Some, None, Ok, Err, List, [], ◌∷◌, is_some}
 use Rattle.registry_names.specs.Maps.{at}
 use Rattle.registry_names.specs.Names.{scope_of}
@@ -52,14 +53,16 @@ tell_alike : (S T : State) (who : Caller) (what : Action) (p : Text) → scope_r
 tell_alike S T who (Publish f) p same = ap (λ r. is f.name p && is_some r) same
 tell_alike S T who _ p same = refl
 
--- he has no level on the package, is neither an owner nor an admin of its scope, and has the role there that he had at the start
+-- he has no level on the package, is neither an owner nor an admin of its scope, and has the role
+-- there that he had at the start
 record StandsApart (p o : Text) (who : Caller) (shown : Credential) (start S : State) : Type 0 where
   known : caller_of S shown ≡ Some who
   nothing : level_in S.access who p ≡ Nothing
   unmanaging : is_owner_or_admin (role_of S.access who o) ≡ false
   role : role_of S.access who o ≡ role_of start.access who o
 
--- two registries, as legal histories leave them, that differ in the package alone, and he stands so in both
+-- two registries, as legal histories leave them, that differ in the package alone, and he stands so
+-- in both
 record AreNear (p o : Text) (who : Caller) (shown : Credential) (start S T : State) : Type 0 where
   history : List Entry
   other_history : List Entry
@@ -184,7 +187,8 @@ module _ (g h : List Entry) (p : Text) (who : Caller) (shown : Credential) (diff
     other_stands = record { known = known_there; nothing = differ.other_unread; unmanaging = ap is_owner_or_admin (roles_there o) ∙ unmanaging; role = roles_there o };
   }
 
-  -- in a registry the package was never published, or it has a scope in which he is neither an owner nor an admin
+  -- in a registry the package was never published, or it has a scope in which he is neither an
+  -- owner nor an admin
   abbrev Apart : State → Type 0
   Apart S = (at S.access.statuses p ≡ None) ⊎ ((o : Text) × (scope_of p ≡ Some o) × (is_owner_or_admin (role_of S.access who o) ≡ false))
 

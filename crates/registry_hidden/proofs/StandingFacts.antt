@@ -1,4 +1,5 @@
--- Who doesn't read a package, and is neither an owner nor an admin of its scope, gains nothing by what he asks: neither a level on it nor a role in its scope.
+-- Who doesn't read a package, and is neither an owner nor an admin of its scope, gains nothing by
+-- what he asks: neither a level on it nor a role in its scope.
 use Rattle.std.proofs.Common.{◌≡◌, ℕ, Bool, true, false, cond, not, ◌&&◌, ◌||◌, refl, sym, ap, ap₂, ◌∙◌, subst, true≢false, Some, None, Option, option_map, is_some, if◌then◌else◌}
 use Rattle.std.specs.Prelude.{IsSome}
 use Rattle.registry_names.specs.Keys.{Triple, triple_is}
@@ -40,14 +41,16 @@ use Rattle.registry_hidden.proofs.RefusedFacts.{AreRefused, concerned_refused}
 
 -- ---- levels
 
--- the level depends on the status, on the role in the scope, on whether he is a maintainer, and on what his teams are granted
+-- the level depends on the status, on the role in the scope, on whether he is a maintainer, and on
+-- what his teams are granted
 level_alike : (A B : Access) (who : Caller) (p : Text) → at A.statuses p ≡ at B.statuses p → scope_role A who (scope_of p) ≡ scope_role B who (scope_of p) → is_maintainer A who p ≡ is_maintainer B who p
     → ((o t : Text) → team_grant A who o t p ≡ team_grant B who o t p) → level_in A who p ≡ level_in B who p
 level_alike A B who p status role maintainer grants =
     let grant = greatest_alike (granted A who p) (granted B who p) (granted_alike A B who p grants) in
     λ i. level_by (status i) (is_owner_or_admin (role i) || maintainer i) (grant i)
 
--- ---- what a user's commands leave him in an organisation of which he is neither an owner nor an admin
+-- ---- what a user's commands leave him in an organisation of which he is neither an owner nor an
+-- admin
 
 -- his role and his teams there, and who is known
 record KeepsPlace (S T : State) (what : Action) (o u : Text) : Type 0 where

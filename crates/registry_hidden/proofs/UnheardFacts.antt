@@ -1,4 +1,5 @@
--- To one who doesn't read a package the registry replies as if the package had never been published.
+-- To one who doesn't read a package the registry replies as if the package had never been
+-- published.
 use Rattle.std.proofs.Common.{◌≡◌, ◌⊎◌, inl, inr, ℕ, Bool, true, false, ◌||◌, refl, sym, ap, ap₂, ◌∙◌, true≢false, Some, None, Ok, Option, if◌then◌else◌}
 use Rattle.registry_names.specs.Maps.{at}
 use Rattle.registry_names.specs.Names.{scope_of}

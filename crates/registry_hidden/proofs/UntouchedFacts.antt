@@ -1,4 +1,5 @@
--- The entries of a legal history that don't name a package are legal, and leave the registry without the package.
+-- The entries of a legal history that don't name a package are legal, and leave the registry
+-- without the package.
 use Rattle.std.proofs.Common.{◌≡◌, Bool, true, false, cond, refl, sym, ap, ◌∙◌, subst, None, Option, List, [], ◌∷◌, if◌then◌else◌, Ordering}
 use Rattle.registry_names.specs.Keys.{IsKey}
 use Rattle.registry_names.specs.Maps.{empty, erase, keep}

@@ -1,4 +1,5 @@
--- Which package an action is about, and which of them tell of a package that their caller doesn't read.
+-- Which package an action is about, and which of them tell of a package that their caller doesn't
+-- read.
 use Rattle.std.specs.Prelude.{Bool, false, not, ◌&&◌, ◌||◌, is_some}
 use Rattle.registry_names.specs.Names.{scope_of}
 use Rattle.registry_names.specs.Texts.{Text, is}

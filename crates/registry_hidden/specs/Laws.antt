@@ -28,7 +28,8 @@ left S r = next S r (Ok (answer S r))
 abbrev pub NamedLeaveTheRest : Type 0
 NamedLeaveTheRest = (S : State) (now : ℕ) (who : Caller) (what : Action) (p : Text) → names what p ≡ true → without (step_by S now who what) p ≡ without S p
 
--- any other makes of the registry without the package what it makes of the registry, without the package
+-- any other makes of the registry without the package what it makes of the registry, without the
+-- package
 abbrev pub OthersMakeTheSame : Type 0
 OthersMakeTheSame = (S : State) (now : ℕ) (who : Caller) (what : Action) (p : Text) → names what p ≡ false → step_by (without S p) now who what ≡ without (step_by S now who what) p
 
@@ -39,19 +40,22 @@ OthersAreAccepted = (S : State) (now : ℕ) (who : Caller) (what : Action) (p : 
 
 -- ---- a history
 
--- the entries that don't name the package are a legal history, and what they leave is the registry without the package
+-- the entries that don't name the package are a legal history, and what they leave is the registry
+-- without the package
 abbrev pub UntouchedLeaveTheRest : Type 0
 UntouchedLeaveTheRest = (h : List Entry) (p : Text) → Legal h → Legal (untouched h p) × (after (untouched h p) ≡ without (after h) p)
 
 -- ---- one request of a caller who has no level on the package
 
--- But where it withdraws a version of another package, or he publishes the package as a member of its scope, its reply is that of the registry without the package
+-- But where it withdraws a version of another package, or he publishes the package as a member of
+-- its scope, its reply is that of the registry without the package
 abbrev pub RepliesAreAlike : Type 0
 RepliesAreAlike = (h : List Entry) (p : Text) (who : Caller) (r : Request) → Legal h → caller_of (after h) r.who ≡ Some who
     → level_in (after h).access who p ≡ Nothing → may_tell (after h) who r.what p ≡ false
     → answer (after h) r ≡ answer (without (after h) p) r
 
--- and what the registry holds then agrees, in all but the package, with what the request makes of the registry without it
+-- and what the registry holds then agrees, in all but the package, with what the request makes of
+-- the registry without it
 abbrev pub RestsAreAlike : Type 0
 RestsAreAlike = (h : List Entry) (p : Text) (who : Caller) (r : Request) → Legal h → caller_of (after h) r.who ≡ Some who
     → level_in (after h).access who p ≡ Nothing → may_tell (after h) who r.what p ≡ false

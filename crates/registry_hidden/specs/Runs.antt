@@ -13,7 +13,8 @@ use Rattle.registry_history.specs.Runs.{Outcome, Answers}
 use Rattle.registry_hidden.specs.Concerns.{may_tell}
 use Rattle.registry_hidden.specs.Histories.{untouched}
 
--- Two legal histories that are one list once the entries that name the package are dropped. The credential is the caller's, who has no level on the package after either
+-- Two legal histories that are one list once the entries that name the package are dropped. The
+-- credential is the caller's, who has no level on the package after either
 pub record DifferUnseen (g h : List Entry) (p : Text) (who : Caller) (shown : Credential) : Type 0 where
   pub legal : Legal g
   pub other_legal : Legal h
@@ -22,7 +23,8 @@ pub record DifferUnseen (g h : List Entry) (p : Text) (who : Caller) (shown : Cr
   pub unread : level_in (after g).access who p ≡ Nothing
   pub other_unread : level_in (after h).access who p ≡ Nothing
 
--- each request comes with this credential, and is none of the two whose reply may tell the caller of the package, as he stands in S
+-- each request comes with this credential, and is none of the two whose reply may tell the caller
+-- of the package, as he stands in S
 abbrev pub AreAsked : State → Caller → Credential → Text → List Request → Type 0
 AreAsked S who shown p [] = Unit {0}
 AreAsked S who shown p (r ∷ rs) = (r.who ≡ shown) × (may_tell S who r.what p ≡ false) × AreAsked S who shown p rs

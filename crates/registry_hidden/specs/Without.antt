@@ -1,4 +1,5 @@
--- The registry without a package: all that it holds but the package's own, as if nobody had ever touched the package.
+-- The registry without a package: all that it holds but the package's own, as if nobody had ever
+-- touched the package.
 use Rattle.std.specs.Prelude.{not}
 use Rattle.registry_names.specs.Keys.{Pair}
 use Rattle.registry_names.specs.Maps.{PairMap, keep}

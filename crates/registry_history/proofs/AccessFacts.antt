@@ -1,4 +1,5 @@
--- Users, tokens, organisations, roles, teams, members of teams, grants and maintainers are the history's.
+-- Users, tokens, organisations, roles, teams, members of teams, grants and maintainers are the
+-- history's.
 use Rattle.std.proofs.Common.{◌≡◌, ℕ, Bool, true, false, cond, not, ◌&&◌, ◌||◌, List, [], ◌∷◌, Option, Some, None, is_some, is_none, refl, sym, ap, ◌∙◌, subst, true≢false, Ordering}
 use Rattle.registry_names.specs.Keys.{IsKey, Pair}
 use Rattle.registry_names.specs.Maps.{MapBy, PairMap, TripleMap, at}
@@ -48,7 +49,8 @@ joined_after true false old said stood same = refl
 joined_after false true old said stood same = same
 joined_after false false old said stood same = same
 
--- `here`, `first` and `he` say that it is of this organisation, of its first team, and of this user; `member` that he had a role before
+-- `here`, `first` and `he` say that it is of this organisation, of its first team, and of this
+-- user; `member` that he had a role before
 member_after : (here first he member : Bool) (before : Option Role) (old : Option (Unit {0})) (said : Bool) → (here ≡ true → he ≡ true → is_some before ≡ member) → is_some old ≡ said
     → is_some (cond member old (cond (here && (first && he)) (Some tt) old)) ≡ ((here && (first && he) && is_none before) || said)
 member_after true true true true None old said was same = absurd (true≢false (sym (was refl refl)))
@@ -66,7 +68,8 @@ dropped_after : {X : Type 0} (b : Bool) (old said : Option X) → old ≡ said �
 dropped_after true old said same = refl
 dropped_after false old said same = same
 
--- ---- a first publish; `here` says that it is of this package, and `before` that this was published
+-- ---- a first publish; `here` says that it is of this package, and `before` that this was
+-- published
 
 -- a further publish gives no right
 gives_none : (a b here before : Bool) → (here ≡ true → before ≡ true) → (a && (b && here) && not before) ≡ false

@@ -1,4 +1,5 @@
--- What a withdrawal leaves of a package: which versions remain, as the map and as the history say it, and what its tags name.
+-- What a withdrawal leaves of a package: which versions remain, as the map and as the history say
+-- it, and what its tags name.
 use Rattle.std.proofs.Common.{◌≡◌, Bool, true, false, cond, not, ◌&&◌, ◌||◌, List, [], ◌∷◌, map, filter, refl, sym, ap, ap₂, ◌∙◌, true≢false, Some, None, Option, is_some, if◌then◌else◌}
 use Rattle.std.proofs.lemmas.Bool.{and_from}
 use Rattle.registry_names.specs.Keys.{Pair, pair_is}
@@ -27,7 +28,8 @@ none_passes : (b : Bool) → false ≡ (b && false)
 none_passes true = refl
 none_passes false = refl
 
--- the first of the pairs, and the others; `here` and `this` say that it is of this package and this version
+-- the first of the pairs, and the others; `here` and `this` say that it is of this package and this
+-- version
 first_or_others : (here this passed mine later : Bool) → (here ≡ true → this ≡ true → passed ≡ mine)
     → cond (here && passed) (this || (mine && later)) (mine && later) ≡ (mine && ((here && this) || later))
 first_or_others true true true true later same = refl

@@ -1,6 +1,6 @@
--- What a history says of who is there, in what, and of what he may do, by the last entry that speaks of it, and a state of which it says so.
--- No reading shares a word with what a step makes: each is a recursion over the entries, and an entry
--- that speaks of something else says nothing.
+-- What a history says of who is there, in what, and of what he may do, by the last entry that
+-- speaks of it, and a state of which it says so. No reading shares a word with what a step makes:
+-- each is a recursion over the entries, and an entry that speaks of something else says nothing.
 use Rattle.std.specs.Prelude.{◌≡◌, Bool, false, not, ◌&&◌, ◌||◌, List, [], ◌∷◌, is_some, is_none, Option, Some, None, if◌then◌else◌}
 use Rattle.registry_names.specs.Texts.{Text, is}
 use Rattle.registry_names.specs.Maps.{at}
@@ -87,14 +87,16 @@ abbrev pub team_stands : List Entry → Text → Text → Bool
 team_stands [] o t = false
 team_stands (e ∷ h) o t = creates_team e.what o t || (not (destroys e.what o t) && team_stands h o t)
 
--- Whether a command brings a user into a team: the owner with whom an organisation is created, and who is given a role in it and had none before, come into the first one
+-- Whether a command brings a user into a team: the owner with whom an organisation is created, and
+-- who is given a role in it and had none before, come into the first one
 abbrev pub joins : Action → Option Role → Text → Text → Text → Bool
 joins (OrgCreate q v) before o t u = is q o && (is developers t && is v u)
 joins (OrgSet q v r) before o t u = is q o && (is developers t && is v u) && is_none before
 joins (TeamAdd q s v) before o t u = is q o && (is s t && is v u)
 joins _ before o t u = false
 
--- whether it takes the user out of the team: out of it alone, or out of the organisation, or the team is destroyed
+-- whether it takes the user out of the team: out of it alone, or out of the organisation, or the
+-- team is destroyed
 abbrev pub leaves : Action → Text → Text → Text → Bool
 leaves (TeamRemove q s v) o t u = is q o && (is s t && is v u)
 leaves (OrgRemove q v) o t u = is q o && is v u
@@ -113,13 +115,15 @@ abbrev pub is_of : Text → Option Text → Bool
 is_of o None = false
 is_of o (Some q) = is q o
 
--- What a command grants a team on a package, which was published before or wasn't: the first publish of a scope's package grants the first team all
+-- What a command grants a team on a package, which was published before or wasn't: the first
+-- publish of a scope's package grants the first team all
 abbrev pub gives_grant : Action → Bool → Text → Text → Text → Option Grant
 gives_grant (command.Grant q s r grant) before o t p = if is q o && (is s t && is r p) then Some grant else None
 gives_grant (Publish f) before o t p = if is_of o (scope_of f.name) && (is developers t && is f.name p) && not before then Some ReadWrite else None
 gives_grant _ before o t p = None
 
--- whether it ends what the team is granted on the package: that is revoked, or the team is destroyed
+-- whether it ends what the team is granted on the package: that is revoked, or the team is
+-- destroyed
 abbrev pub ends_grant : Action → Text → Text → Text → Bool
 ends_grant (Revoke q s r) o t p = is q o && (is s t && is r p)
 ends_grant (TeamDestroy q s) o t p = is q o && is s t
@@ -137,7 +141,8 @@ abbrev pub is_he : Caller → Text → Bool
 is_he (User v) u = is v u
 is_he _ u = false
 
--- Whether a command of this caller makes a user a maintainer of a package, which was published before or wasn't: the first publish of a package without a scope makes its publisher one
+-- Whether a command of this caller makes a user a maintainer of a package, which was published
+-- before or wasn't: the first publish of a package without a scope makes its publisher one
 abbrev pub makes_maintainer : Caller → Action → Bool → Text → Text → Bool
 makes_maintainer who (OwnerAdd q v) before p u = is q p && is v u
 makes_maintainer who (Publish f) before p u = is_none (scope_of f.name) && (is f.name p && is_he who u) && not before
@@ -155,7 +160,8 @@ maintains (e ∷ h) p u = makes_maintainer e.who e.what (is_published h p) p u |
 
 -- ---- a state of which the history speaks
 
--- Users, tokens, organisations, roles, teams, members of teams, grants and maintainers are the history's.
+-- Users, tokens, organisations, roles, teams, members of teams, grants and maintainers are the
+-- history's.
 pub record HasAccess (h : List Entry) (A : Access) : Type 0 where
   pub users : (u : Text) → is_some (at A.users u) ≡ user_added h u
   pub tokens : (digest : Text) → at A.tokens digest ≡ token_user h digest

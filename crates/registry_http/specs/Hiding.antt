@@ -30,7 +30,8 @@ IsHidden S who p = (c : Caller) × (caller_of S who ≡ Some c) × (reads (level
 abbrev pub IsUnheardOf : State → Credential → Text → Type 0
 IsUnheardOf S who p = (c : Caller) × (caller_of S who ≡ Some c) × (at S.access.statuses p ≡ None)
 
--- Whatever query a caller makes on a package that he doesn't read, he gets the response, byte for byte, of any query on one that was never published, in the same registry or another
+-- Whatever query a caller makes on a package that he doesn't read, he gets the response, byte for
+-- byte, of any query on one that was never published, in the same registry or another
 abbrev pub HiddenAreUnheardOf : Type 0
 HiddenAreUnheardOf = (S T : State) (r s : Request) (p q : Text) (closes : Bool) → IsQueryOf p r.what → IsQueryOf q s.what → IsHidden S r.who p → IsUnheardOf T s.who q
     → response_to (Ok (answer S r)) closes ≡ response_to (Ok (answer T s)) closes

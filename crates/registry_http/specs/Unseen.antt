@@ -1,4 +1,5 @@
--- What two runs of one caller's requests give over HTTP, after histories that differ in what named a package that he has no level on.
+-- What two runs of one caller's requests give over HTTP, after histories that differ in what named
+-- a package that he has no level on.
 use Rattle.std.specs.Prelude.{◌≡◌, Bool, List, [], ◌∷◌, Ok, Err}
 use Rattle.registry_names.specs.Texts.{Text}
 use Rattle.registry_access.specs.declared.caller.Caller.{Caller}
@@ -9,7 +10,8 @@ use Rattle.registry_history.specs.Runs.{Outcome, Answers}
 use Rattle.registry_hidden.specs.Runs.{AreAsked, DifferUnseen}
 use Rattle.registry_talk.specs.Answers.{response_to}
 
--- as many outcomes, and the same responses, byte for byte, up to the first fault in either, where each ends its connection and where it doesn't
+-- as many outcomes, and the same responses, byte for byte, up to the first fault in either, where
+-- each ends its connection and where it doesn't
 abbrev pub AreAnsweredAlike : List Outcome → List Outcome → Type 0
 AreAnsweredAlike [] [] = Unit {0}
 AreAnsweredAlike [] (q ∷ qs) = ⊥

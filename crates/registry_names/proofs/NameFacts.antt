@@ -1,4 +1,5 @@
--- Where a name may be cut: a scope holds no slash. So the scope that a name begins with is the one of the grammar.
+-- Where a name may be cut: a scope holds no slash. So the scope that a name begins with is the one
+-- of the grammar.
 use Rattle.std.proofs.Common.{◌≡◌, ◌≢◌, ℕ, suc, ◌+◌, ◌<◌, ◌==◌, ◌&&◌, not, cond, Bool, true, false, true≢false, Option, Some, None, MatchOption, Bor, List, [], ◌∷◌, ◌++◌, length, take, get_or, slice_index, refl, sym, ap, ◌∙◌, lit<, arith, if◌then◌else◌}
 use Rattle.std.specs.List.{before_first, list_all}
 use Rattle.std.proofs.lemmas.Bool.{eqb-true}

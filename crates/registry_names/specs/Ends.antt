@@ -1,4 +1,5 @@
--- Ends of bytes. An end shows the bytes that it tells, if any, how many of its calls failed, and whether it is silent, so that it tells its bytes no more.
+-- Ends of bytes. An end shows the bytes that it tells, if any, how many of its calls failed, and
+-- whether it is silent, so that it tells its bytes no more.
 use Rattle.std.specs.Prelude.{◌≡◌, ℕ, zero, suc, ◌-◌, ◌+◌, ◌^◌, ◌<◌, ◌≤◌, min, Bool, false, List, length, take, Result, Ok, Err, Option, IfSome}
 use Rattle.std.specs.Io.KnownBytes.{Appends, Consumes}
 
@@ -34,7 +35,8 @@ pub record WritesFront (old new : Option (List ℕ)) (silent : Bool) (text : Lis
   pub is_less : count < length text
   pub wrote : Writes old new silent (take count text)
 
--- Over some calls the end gave bs, the first of the bytes that it told before, unless it is silent now.
+-- Over some calls the end gave bs, the first of the bytes that it told before, unless it is silent
+-- now.
 pub record Reads (old new : Option (List ℕ)) (silent : Bool) (bs : List ℕ) : Type 0 where
   pub told : silent ≡ false → Consumes old new bs
 
@@ -44,6 +46,7 @@ pub record ReadsUpTo (limit : ℕ) (old new : Option (List ℕ)) (silent : Bool)
   pub is_within : length given ≤ limit
   pub read : Reads old new silent given
 
--- Unless the end is silent now, these are the first of the bytes that it told before, up to a limit.
+-- Unless the end is silent now, these are the first of the bytes that it told before, up to a
+-- limit.
 abbrev pub AreFirst : ℕ → Option (List ℕ) → Bool → List ℕ → Type 0
 AreFirst limit old silent bs = silent ≡ false → IfSome old (λ left. bs ≡ take limit left)

@@ -1,4 +1,5 @@
--- What is printed of a fault and of a stop, the status code of a fault in HTTP, and why a text isn't read.
+-- What is printed of a fault and of a stop, the status code of a fault in HTTP, and why a text
+-- isn't read.
 use Rattle.std.specs.Prelude.{◌≡◌, ◌⊎◌, ℕ, List, codes, Result, Err}
 use Rattle.registry_names.specs.Refusals.{refusal_text}
 use Rattle.registry_names.specs.declared.refusal.Refusal.{Refusal}

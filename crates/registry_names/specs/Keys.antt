@@ -32,7 +32,8 @@ triple_cmp = by_first pair_cmp
 abbrev pub triple_is : Triple → Triple → Bool
 triple_is = both pair_is
 
--- what a key needs: a total order, which ties equal keys alone, and a test that holds just where the order ties
+-- what a key needs: a total order, which ties equal keys alone, and a test that holds just where
+-- the order ties
 pub record IsKey {K : Type 0} (cmp : K → K → Ordering) (same : K → K → Bool) : Type 0 where
   pub total : IsTotalOrder cmp
   pub exact : (a b : K) → cmp a b ≡ Equal → a ≡ b

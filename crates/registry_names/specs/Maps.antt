@@ -45,7 +45,8 @@ module _ {K X : Type 0} {cmp : K → K → Ordering} where
   unfoldable pub revise : MapBy cmp X → (K → X → X) → MapBy cmp X
   revise m f = fin.from_entries (map (λ e. (e.0, f e.0 e.1)) (fin.entries m))
 
--- the map that a list of rows gives, under keys that `cmp` orders. Where a key stands twice, its first row counts
+-- the map that a list of rows gives, under keys that `cmp` orders. Where a key stands twice, its
+-- first row counts
 unfoldable pub rows : {K X : Type 0} (cmp : K → K → Ordering) → List (K × X) → MapBy cmp X
 rows cmp es = fin.from_entries es
 

@@ -43,7 +43,8 @@ refusal_text OtherScope = codes "OtherScope"
 refusal_text AlwaysPublic = codes "AlwaysPublic"
 refusal_text Waiting = codes "Waiting"
 
--- Bad Request 400, Unauthorized 401, Forbidden 403, Not Found 404, Conflict 409, Content Too Large 413
+-- Bad Request 400, Unauthorized 401, Forbidden 403, Not Found 404, Conflict 409, Content Too Large
+-- 413
 abbrev pub refusal_status : Refusal → ℕ
 refusal_status BadName = 400
 refusal_status BadVersion = 400

@@ -1,4 +1,5 @@
--- Versions of SemVer 2.0.0 without build metadata, of at most 256 characters, with numbers below 2^53.
+-- Versions of SemVer 2.0.0 without build metadata, of at most 256 characters, with numbers below
+-- 2^53.
 use Rattle.std.specs.Prelude.{◌≡◌, ◌≤◌, ℕ, true, List, [], length}
 use Rattle.std.specs.Ordering.{nat_cmp, ordering_then}
 use Rattle.std.specs.declared.cmp.Ordering.{Ordering}

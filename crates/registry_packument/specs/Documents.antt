@@ -11,7 +11,8 @@ use Rattle.serde_json.specs.Written.{members_have_float}
 use Rattle.registry_names.specs.Texts.{text_cmp}
 use Rattle.registry_publish.specs.Form.{IsTextOf}
 
--- the members of a manifest, which is a text that serde_json reads into an object; no other text is one
+-- the members of a manifest, which is a text that serde_json reads into an object; no other text is
+-- one
 abbrev pub manifest_members : List ℕ → Option value.Members
 manifest_members text = option_and_then as_object (read text)
 
@@ -39,7 +40,8 @@ abbrev pub placed : List ℕ → Json → Members → Members
 placed k i no_members = member k i no_members
 placed k i (member l j ms) = if is_lt (text_cmp k l) then member k i (member l j ms) else member l j (placed k i ms)
 
--- the manifest without spaces, with the message under `deprecated`, in its place by key and instead of what stood under it
+-- the manifest without spaces, with the message under `deprecated`, in its place by key and instead
+-- of what stood under it
 abbrev pub deprecated_text : List ℕ → List ℕ → List ℕ
 deprecated_text manifest message =
     let key = codes "deprecated" in print (json_tokens (object (placed key (string message) (without key (written_members manifest)))))
@@ -60,6 +62,7 @@ abbrev pub document_members : value.Members → List ℕ → value.Members
 document_members ms [] = ms
 document_members ms (c ∷ message) = value.put (codes "deprecated") (value.string (c ∷ message)) ms
 
--- the text is the compact JSON of an object with these members, whose numbers are integers of 64 bits, and reads back to it
+-- the text is the compact JSON of an object with these members, whose numbers are integers of 64
+-- bits, and reads back to it
 abbrev pub IsCompact : value.Members → List ℕ → Type 0
 IsCompact ms text = (members_have_float ms ≡ false) × IsTextOf (value.object ms) text

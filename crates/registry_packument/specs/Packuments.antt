@@ -32,7 +32,8 @@ pack_pairs name tags versions =
     ∷ (codes "versions", object_text versions)
     ∷ []
 
--- the packument of the package of this name, with these tags and versions, unless a version has no document
+-- the packument of the package of this name, with these tags and versions, unless a version has no
+-- document
 abbrev pub packument_of : List ℕ → List DistTag → List VersionRow → Option (List ℕ)
 packument_of name tags versions = option_map (λ ps. object_text (pack_pairs name tags ps)) (version_pairs versions)
 

@@ -16,7 +16,8 @@ use Rattle.registry_packument.specs.declared.stream.PackFault.TheVariants.{Write
 abbrev pub row_front : Bool → VersionRow → List ℕ
 row_front later r = member_text later (r.version, unwrap_or (document_text r.manifest r.message) [])
 
--- the versions that are left and the end, or what of these stands before the first document that is missing
+-- the versions that are left and the end, or what of these stands before the first document that is
+-- missing
 abbrev pub versions_front : Bool → List VersionRow → List ℕ
 versions_front later [] = 125 ∷ 125 ∷ []
 versions_front later (r ∷ rs) =

@@ -1,4 +1,5 @@
--- What a step and the actions that it sets off leave of each table, where nothing cascades any further.
+-- What a step and the actions that it sets off leave of each table, where nothing cascades any
+-- further.
 use Rattle.std.proofs.Common.{◌≡◌, ◌≢◌, ◌==◌, ◌+◌, inl, inr, ℕ, zero, suc, ℤ, List, [], ◌∷◌, ◌++◌, filter, Bool, true, false, not, ◌&&◌, ◌||◌, Some, Ok, Err, refl, sym, ap, subst, ◌∙◌, true≢false, append-nil, nat_lt}
 use Rattle.std.specs.List.{AllByRecursion, list_any}
 use Rattle.std.specs.Bool.{MatchBool}

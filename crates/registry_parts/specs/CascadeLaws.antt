@@ -13,7 +13,8 @@ use Rattle.registry_rows.specs.Laws.{EachLeaves}
 use Rattle.registry_parts.specs.Cascades.{Child, HasChildren, all_erased}
 
 module _ {S : Type 0} (store : Ghosts S) {C X : Type 0} (schema : Schema) (contents : Trees → C) (place : ℕ) (table : Table) (more : ℕ) (value : Row → X) (change : C → TextsMap more X → C) where
-  -- DELETE FROM t WHERE the key erases what is there, and in each table that refers to it exactly what referred to that
+  -- DELETE FROM t WHERE the key erases what is there, and in each table that refers to it exactly
+  -- what referred to that
   abbrev pub DeleteCascades : Type 0
   DeleteCascades = (sql : List ℕ) → Means schema sql (delete_where place table (by_texts more 1 0)) → (children : List (Child C more)) → HasChildren schema contents table children → (q : Texts more)
       → EachLeaves store schema contents sql (texts_row more q) (λ db. all_erased children q (change (contents db) (erase (map_of more value (db table.tree)) q)))

@@ -20,7 +20,8 @@ use Rattle.registry_parts.specs.Places.{Places, are_places, columns_at, texts_at
 
 -- ---- the foreign keys of a schema
 
--- one that acts where rows of its parent go: whose it is, what it does to a row that refers to them, and the key that this refers to
+-- one that acts where rows of its parent go: whose it is, what it does to a row that refers to
+-- them, and the key that this refers to
 pub record Link : Type 0 where
   pub child : Table
   pub ref : Reference
@@ -41,7 +42,8 @@ links schema tree = flat_map (λ child. filter_map (link_for schema tree child) 
 
 -- ---- the tables that refer to one
 
--- a table whose rows go with the row that they refer to, by these places of their own key, and what it makes of the contents that those of a key go
+-- a table whose rows go with the row that they refer to, by these places of their own key, and what
+-- it makes of the contents that those of a key go
 pub record Child (C : Type 0) (more : ℕ) : Type 0 where
   pub table : Table
   pub places : Places more
@@ -51,7 +53,8 @@ pub record Child (C : Type 0) (more : ℕ) : Type 0 where
 abbrev pub link_of : {C : Type 0} {more : ℕ} → Table → Child C more → Link
 link_of {more = more} parent c = record { child = c.table; ref = reference (columns_at more c.places) parent.name Cascade; deed = Delete; key = (parent.tree, places_from more 1, plain) }
 
--- The table at a place of the schema is such a one. Its key has `key_more` texts behind the first, and nothing goes with its own rows.
+-- The table at a place of the schema is such a one. Its key has `key_more` texts behind the first,
+-- and nothing goes with its own rows.
 pub record IsChild {C : Type 0} {more : ℕ} (schema : Schema) (contents : Trees → C) (c : Child C more) : Type 0 where
   pub place : ℕ
   pub key_more : ℕ

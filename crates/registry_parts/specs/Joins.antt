@@ -1,4 +1,5 @@
--- A query on two tables whose WHERE compares texts of their keys with each other and with parameters.
+-- A query on two tables whose WHERE compares texts of their keys with each other and with
+-- parameters.
 use Rattle.std.specs.Prelude.{◌≡◌, ℕ, suc, Bool, true, false, ◌&&◌, List, [], ◌∷◌, None, Some, pos, negsuc}
 use Rattle.sqlite.specs.declared.types.Value.{Value}
 use Rattle.sqlite.specs.declared.types.Value.TheVariants as value
@@ -17,7 +18,8 @@ use Rattle.registry_rows.specs.Columns.{text_in}
 use Rattle.registry_rows.specs.TextKeys.{Texts, TextsMap}
 use Rattle.registry_parts.specs.Places.{text_of, is_place}
 
--- one side of a comparison: a parameter, or the text at a place of the key of the first or the second row
+-- one side of a comparison: a parameter, or the text at a place of the key of the first or the
+-- second row
 pub data Side : Type 0 where
   given : ℕ → Side
   first : ℕ → Side

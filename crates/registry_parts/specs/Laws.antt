@@ -7,7 +7,8 @@ use Rattle.sqlite_schema.specs.declared.schema.Table.{Table}
 use Rattle.registry_rows.specs.TextKeys.{TextsMap}
 use Rattle.registry_rows.specs.Ready.{IsMapped}
 
--- a law of a table with a key of texts, of which `more` stand behind the first, that gives one map to X of the contents C
+-- a law of a table with a key of texts, of which `more` stand behind the first, that gives one map
+-- to X of the contents C
 abbrev pub TextLaw : Type 0 → Type 0 → Type 1
 TextLaw C X = (schema : Schema) (contents : Trees → C) (place : ℕ) (table : Table) (more : ℕ) (value : Row → X) → (C → TextsMap more X → C) → Type 0
 

@@ -21,7 +21,8 @@ module _ {S : Type 0} (store : Ghosts S) {C X : Type 0} (schema : Schema) (conte
       → EachLeaves store schema contents sql (texts_row rest q) (λ db. change (contents db) (keep (map_of more value (db table.tree)) (λ k. not (texts_are rest q (picked more rest places k)))))
 
 module _ {S : Type 0} (store : Ghosts S) (Y : Type 0) {C X : Type 0} (schema : Schema) (contents : Trees → C) (place : ℕ) (table : Table) (more : ℕ) (value : Row → X) (change : C → TextsMap more X → C) where
-  -- SELECT .. WHERE these texts of the key ORDER BY the key shows the entries whose keys have them, in the order of their keys. The texts that are asked for needn't be shown again
+  -- SELECT .. WHERE these texts of the key ORDER BY the key shows the entries whose keys have them,
+  -- in the order of their keys. The texts that are asked for needn't be shown again
   abbrev pub SelectShowsPart : Type 0
   SelectShowsPart = (rest : ℕ) (places : Places rest) → are_places more rest places ≡ true → (sql : List ℕ) (project : List Term) (names : List (List ℕ)) → MeansQuery schema sql (select_where table project (by_places rest places 0) (in_order more 1) names)
       → (q : Texts rest) (read : Row → Texts more × Y) (g : X → Y) → ((id : Value) (vs : Row) → texts_are rest q (picked more rest places (texts_from more 0 vs)) ≡ true → read (shown_by project (texts_row rest q) (id ∷ vs)) ≡ (texts_from more 0 vs, g (value vs)))

@@ -1,4 +1,5 @@
--- Some of the texts of a key, by their places in it. Places count from 0, and the text at a place stands in the column of that place.
+-- Some of the texts of a key, by their places in it. Places count from 0, and the text at a place
+-- stands in the column of that place.
 use Rattle.std.specs.Prelude.{ℕ, zero, suc, Bool, true, false, ◌&&◌, List, [], ◌∷◌}
 use Rattle.sqlite_value.specs.Order.{Row, column}
 use Rattle.sqlite_value.specs.declared.keys.Collation.TheVariants.{Binary}

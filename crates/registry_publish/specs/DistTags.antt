@@ -10,6 +10,7 @@ tag_in v no_members = Some None
 tag_in v (member k d no_members) = if is_text v d then Some (Some k) else None
 tag_in v (member k d (member l e ms)) = None
 
--- the tag, if any, that `dist-tags` gives the version v, if it is there; None where it isn't in form
+-- the tag, if any, that `dist-tags` gives the version v, if it is there; None where it isn't in
+-- form
 abbrev pub tag_at : List ℕ → Data → Option (Option (List ℕ))
 tag_at v d = unwrap_or (option_map (λ tags. option_and_then (tag_in v) (as_object tags)) (get (codes "dist-tags") d)) (Some None)

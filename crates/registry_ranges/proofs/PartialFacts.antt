@@ -1,4 +1,5 @@
--- What is read as a partial is one and prints as what was read, and what a partial prints is read again.
+-- What is read as a partial is one and prints as what was read, and what a partial prints is read
+-- again.
 use Rattle.std.proofs.Common.{◌≡◌, ◌<◌, ◌≤◌, ℕ, ◌==◌, ◌++◌, List, [], ◌∷◌, length, Ok, Err, Some, None, Option, Bool, true, false, refl, ap, ◌∙◌, arith, inl, inr, subst, append_assoc, Result}
 use Rattle.std.proofs.lemmas.Bool.{cases_Bool, eq-eqb, eqb-true, lt-ltb, ltb-true}
 use Rattle.std.proofs.lemmas.Bool.Decides.{nat_tests}

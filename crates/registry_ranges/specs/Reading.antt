@@ -1,4 +1,5 @@
--- Reading partial versions and simples from the front of a text: what is read, and the text after it.
+-- Reading partial versions and simples from the front of a text: what is read, and the text after
+-- it.
 use Rattle.std.specs.Prelude.{ℕ, Bool, ◌==◌, ◌||◌, ◌&&◌, nat_le, nat_lt, length, drop, take_while, List, [], ◌∷◌, Option, Some, None, Result, Ok, Err, if◌then◌else◌}
 use Rattle.std.specs.Borrow.{Bor}
 use Rattle.semver.specs.Grammar.{is_identifier_byte, is_pre_release, is_build}

@@ -8,8 +8,8 @@ abbrev pub behind_spaces : Text → Text
 behind_spaces [] = []
 behind_spaces (b ∷ bs) = if b == 32 then behind_spaces bs else b ∷ bs
 
--- the value is the scheme `Bearer`, its letters in either case, a space, and behind all spaces there
--- the token, which is UTF-8
+-- the value is the scheme `Bearer`, its letters in either case, a space, and behind all spaces
+-- there the token, which is UTF-8
 pub record IsBearer (value token : Text) : Type 0 where
   pub scheme : Text
   pub rest : Text

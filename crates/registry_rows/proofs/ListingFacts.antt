@@ -1,4 +1,5 @@
--- What SELECT by key, by a test of the key and the value, and in the order of the key, show of the map that a table gives.
+-- What SELECT by key, by a test of the key and the value, and in the order of the key, show of the
+-- map that a table gives.
 use Rattle.std.proofs.Common.{◌≡◌, inl, inr, ℕ, suc, List, [], ◌∷◌, map, filter, drop, Bool, true, false, cond, Option, None, Some, option_map, refl, sym, ap, ap₂, ◌∙◌, true≢false, Ordering, Less, Equal, Greater, is_lt, is_eq}
 use Rattle.std.specs.Cmp.{tied_itself}
 use Rattle.std.specs.FinMap.Entries.{below_all}

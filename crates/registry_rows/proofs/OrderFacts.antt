@@ -1,4 +1,5 @@
--- The rows that a query shows, one for each key and in the order of the keys, are the entries of a map.
+-- The rows that a query shows, one for each key and in the order of the keys, are the entries of a
+-- map.
 use Rattle.std.proofs.Common.{◌≡◌, ◌+◌, suc, Bool, true, false, cond, List, [], ◌∷◌, map, filter, refl, sym, ◌∙◌, ap, ap₂, subst, true≢false, Some, None, Option, option_map, inl, inr, arith, Ordering, Less, Equal, Greater, get_or}
 use Rattle.std.specs.Ordering.{is_lt, on, ordering_reverse}
 use Rattle.std.specs.List.{IsDistinct, AllByRecursion}

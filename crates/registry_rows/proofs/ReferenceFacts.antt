@@ -12,7 +12,8 @@ use Rattle.sqlite_rules.proofs.ListLemmas.{all_has, test_has, some_has}
 use Rattle.sqlite.specs.State.{State}
 use Rattle.registry_rows.specs.Ready.{IsReady}
 
--- a reference of a table to the columns at these places of the table in this tree, whose collations are SQLite's own
+-- a reference of a table to the columns at these places of the table in this tree, whose collations
+-- are SQLite's own
 module _ (schema : Schema) (s : State) (ready : IsReady schema s) (child : Table) (listed : Has schema.tables child) (ref : Reference) (named : Has child.references ref)
     (tree : ℕ) (places : List ℕ) (to : parent_key schema.tables ref ≡ Some (tree, places, plain)) where
   pub parent_of : (r : Row) → Has (s.now.trees child.tree) r → has_null ref.columns r ≡ false → (p : Row) × Has (s.now.trees tree) p × (agree plain places p ref.columns r ≡ true)

@@ -19,7 +19,8 @@ use Rattle.registry_rows.specs.Statements.{Means, ignores_updates, insert_values
 use Rattle.registry_rows.specs.Ready.{Leaves, with_rows, IsNumbered}
 use Rattle.registry_rows.specs.Laws.{EachAnswer}
 
--- the number that the rows of sqlite_sequence have for a table: that of the first row of its name, or 0
+-- the number that the rows of sqlite_sequence have for a table: that of the first row of its name,
+-- or 0
 abbrev pub count_in : List ℕ → List Row → ℤ
 count_in name counters = count_of (find (λ r. is_eq (value_cmp (column r 1) (Text name))) counters)
 
@@ -31,7 +32,8 @@ last_number m = fold (λ _ e. e.0) (pos 0) (entries m)
 abbrev pub next_number : {X : Type 0} → ℤ → NumberMap X → ℤ
 next_number count m = int_max count (last_number m) +ℤ pos 1
 
--- The table counts in the rows of this tree, which is that of sqlite_sequence, and what they say of it is a part of the contents. Where the contents leave it out, `count` changes nothing.
+-- The table counts in the rows of this tree, which is that of sqlite_sequence, and what they say of
+-- it is a part of the contents. Where the contents leave it out, `count` changes nothing.
 pub record IsCounted {C : Type 0} (schema : Schema) (contents : Trees → C) (table : Table) (counters : ℕ) (count : C → ℤ → C) : Type 0 where
   pub counts : table.is_counted ≡ true
   pub sequence_is : sequence schema ≡ Some (sequence_table counters)

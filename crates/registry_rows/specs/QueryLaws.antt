@@ -24,7 +24,8 @@ module _ {S : Type 0} (store : Ghosts S) (Y : Type 0) {C X : Type 0} (k : KeyKin
       → (read : Row → Y) (g : X → Y) → ((id : Value) (vs : Row) → read (shown_by project (k.params q) (id ∷ vs)) ≡ g (value vs))
       → EachShows store schema sql (k.params q) read (λ db. listed (option_map g (at (map_by k value (db table.tree)) q)))
 
-  -- SELECT .. WHERE a column is ?1 ORDER BY the key shows the entries whose values have it, in the order of their keys
+  -- SELECT .. WHERE a column is ?1 ORDER BY the key shows the entries whose values have it, in the
+  -- order of their keys
   abbrev pub SelectHas : Type 0
   SelectHas = (at : ℕ) (q : Value) → takes table.columns at q ≡ true → (has : X → Bool) → ((vs : Row) → equals q (column vs at) ≡ has (value vs))
       → (sql : List ℕ) (project : List Term) (names : List (List ℕ)) → MeansQuery schema sql (select_where table project (by_column at) k.order names)
@@ -38,7 +39,8 @@ module _ {S : Type 0} (store : Ghosts S) (Y : Type 0) {C X : Type 0} (k : KeyKin
       → EachShows store schema sql [] read (λ db. map (seen g) (entries (map_by k value (db table.tree))))
 
 module _ {S : Type 0} (store : Ghosts S) (Y : Type 0) {C X : Type 0} (schema : Schema) (contents : Trees → C) (place : ℕ) (table : Table) (more : ℕ) (value : Row → X) where
-  -- SELECT .. WHERE the first text ORDER BY the rest of the key shows the map's part, in the order of the rests
+  -- SELECT .. WHERE the first text ORDER BY the rest of the key shows the map's part, in the order
+  -- of the rests
   abbrev pub SelectLists : Type 0
   SelectLists = (sql : List ℕ) (project : List Term) (names : List (List ℕ)) → MeansQuery schema sql (select_where table project (by_texts 0 1 0) (in_order more 2) names) → (p : Text)
       → (read : Row → Texts more × Y) (g : X → Y) → ((id : Value) (vs : Row) → read (shown_by project (Stored p ∷ []) (id ∷ vs)) ≡ (texts_from more 1 vs, g (value vs)))

@@ -15,7 +15,8 @@ use Rattle.registry_rows.specs.Statements.{Means, IsUncascaded, ignores_updates,
 use Rattle.registry_rows.specs.Ready.{IsReady, Leaves}
 use Rattle.registry_rows.specs.Laws.{OfEachState, EachAnswer, EachLeaves}
 
--- The text is UPDATE t SET .. WHERE the key, with these parameters: of a value it makes `set`, and a row keeps its key.
+-- The text is UPDATE t SET .. WHERE the key, with these parameters: of a value it makes `set`, and
+-- a row keeps its key.
 pub record SetsColumns {X : Type 0} (k : KeyKind) (schema : Schema) (place : ℕ) (table : Table) (value : Row → X) (sql : List ℕ) (sets : List (Option ℕ)) (params : Row) (set : X → X) : Type 0 where
   pub means : Means schema sql (update_where place table sets k.wanted)
   pub quiet : ignores_updates schema ≡ true

@@ -46,7 +46,8 @@ has_new_status m p (Some s) old e = put_there text_key m p s
 has_new_status m p None (Some s) e = ap is_some e
 has_new_status m p None None e = put_there text_key m p _
 
--- a version that may be published was never withdrawn, and its package isn't restricted where it has no scope
+-- a version that may be published was never withdrawn, and its package isn't restricted where it
+-- has no scope
 publish_passed : (live spent closed waits : Bool) → refuse live Published (refuse spent Spent (refuse closed AlwaysPublic (refuse waits Waiting None))) ≡ None → (spent ≡ false) × (closed ≡ false)
 publish_passed true b c d h = cc
 publish_passed false true c d h = cc
@@ -64,7 +65,8 @@ new_is_public p None None may u e = public (scope_of p) u e
     public None h e = cc
     public (Some s) h e = cc
 
--- a publish leaves its package with a status, and one that nothing refuses restricts no package without a scope
+-- a publish leaves its package with a status, and one that nothing refuses restricts no package
+-- without a scope
 pub published_has_status : (S : State) (f : FormParts) → IsSome (at (statuses_after S.access.statuses f.name (status_of S f)) f.name)
 published_has_status S f = has_new_status S.access.statuses f.name f.access _ refl
 

@@ -1,4 +1,5 @@
--- A change of who is there, and of what he may do, leaves what stands referring to what is there. Nothing is asked of how names are spelled.
+-- A change of who is there, and of what he may do, leaves what stands referring to what is there.
+-- Nothing is asked of how names are spelled.
 use Rattle.std.proofs.Common.{◌≡◌, ◌≢◌, Bool, true, false, cond, not, ◌&&◌, Option, Some, None, is_some, refl, sym, ap, ◌∙◌, subst, true≢false}
 use Rattle.std.proofs.lemmas.Bool.{and_right}
 use Rattle.std.specs.Prelude.{length, IsSome, IsTrue}

@@ -1,4 +1,5 @@
--- What stands refers to what is there, from nothing on, through each action that nothing refuses. Nothing is asked of how names are spelled.
+-- What stands refers to what is there, from nothing on, through each action that nothing refuses.
+-- Nothing is asked of how names are spelled.
 use Rattle.std.proofs.Common.{◌≡◌, ℕ, Bool, true, false, not, ◌&&◌, is_none, is_some, Option, Some, None, refl, sym, ap, ◌∙◌, subst, true≢false}
 use Rattle.std.proofs.lemmas.Bool.{and_parts, and_right}
 use Rattle.std.specs.Prelude.{IsSome}

@@ -1,4 +1,5 @@
--- What an action is. A case that names its actions says so of these, and the last case of all others.
+-- What an action is. A case that names its actions says so of these, and the last case of all
+-- others.
 use Rattle.std.specs.Prelude.{Bool, true, false, ◌&&◌}
 use Rattle.registry_names.specs.Texts.{Text, is}
 use Rattle.registry_names.specs.Versions.{text_of_version}

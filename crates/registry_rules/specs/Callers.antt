@@ -7,7 +7,8 @@ use Rattle.registry_rules.specs.State.{State, has_user}
 use Rattle.registry_rules.specs.declared.request.Credential.{Credential}
 use Rattle.registry_rules.specs.declared.request.Credential.TheVariants.{Operator, User, Token, Anonymous}
 
--- The caller of a credential, on what the registry holds: a user who is there, or the one whose token it is. None where it names nobody
+-- The caller of a credential, on what the registry holds: a user who is there, or the one whose
+-- token it is. None where it names nobody
 abbrev pub caller_of : State → Credential → Option Caller
 caller_of S Operator = Some caller.Operator
 caller_of S (User u) = if has_user S u then Some (caller.User u) else None

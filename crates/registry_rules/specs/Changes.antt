@@ -25,7 +25,8 @@ pub data Change : Type 0 where
   PutTeamMember : (organisation team user : Text) → Change
   DropTeamMember : (organisation team user : Text) → Change
   DropTeam : (organisation team : Text) → Change
-  -- a team of an organisation, a package, what the team is granted on it, and whether it is granted something already
+  -- a team of an organisation, a package, what the team is granted on it, and whether it is granted
+  -- something already
   PutGrant : (organisation team name : Text) (grant : Grant) (stands : Bool) → Change
   DropGrant : (organisation team name : Text) → Change
   -- a package, and its maintainer

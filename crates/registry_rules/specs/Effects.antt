@@ -1,4 +1,5 @@
--- What each command changes where nothing refuses it: one equation a command. A query changes nothing.
+-- What each command changes where nothing refuses it: one equation a command. A query changes
+-- nothing.
 use Rattle.std.specs.Prelude.{ℕ, Bool, List, [], ◌∷◌, ◌++◌, map, ◌||◌, true, false, is_some, Option, Some, None, if◌then◌else◌}
 use Rattle.std.specs.Option.{option_to_list}
 use Rattle.registry_names.specs.Greatest.{greatest}
@@ -47,7 +48,8 @@ joining o t u inside = if inside then [] else PutTeamMember o t u ∷ []
 abbrev pub first_status : Text → Status
 first_status p = if is_some (scope_of p) then Restricted else Public
 
--- The status that a publish sets: the one that it asks for; else, where the package has none yet, the first; else none
+-- The status that a publish sets: the one that it asks for; else, where the package has none yet,
+-- the first; else none
 abbrev pub new_status : Option Status → Option Status → Text → Option Status
 new_status (Some asked) old p = Some asked
 new_status None (Some old) p = None
@@ -58,7 +60,8 @@ abbrev pub put_status : Text → Option Status → Option Status → List Change
 put_status p None old = []
 put_status p (Some status) old = PutStatus p status (is_some old) ∷ []
 
--- The right to a new package: the first team of its scope reads and writes it; without a scope its publisher maintains it
+-- The right to a new package: the first team of its scope reads and writes it; without a scope its
+-- publisher maintains it
 abbrev pub right_to : Caller → Text → Option Text → Option Change
 right_to who p (Some o) = Some (PutGrant o developers p ReadWrite false)
 right_to (User u) p None = Some (PutMaintainer p u)
@@ -80,12 +83,14 @@ publication S now who f = put_status f.name (new_status f.access (at S.access.st
 
 -- ---- a withdrawal
 
--- A tag that names a version that goes: `latest` is to name the other version, if there is one, and each other tag goes
+-- A tag that names a version that goes: `latest` is to name the other version, if there is one, and
+-- each other tag goes
 abbrev pub freed : Text → Option Text → Text → Change
 freed p None t = DropTag p t
 freed p (Some other) t = if is t latest then PutTag p t other true else DropTag p t
 
--- Of a version that lives since a moment, if it does: the tags that name it first, of which `latest` is to name the greatest of the others that live, and then itself
+-- Of a version that lives since a moment, if it does: the tags that name it first, of which
+-- `latest` is to name the greatest of the others that live, and then itself
 abbrev pub withdrawal : ℕ → Text → Text → Option ℕ → List Text → List Text → List Change
 withdrawal now p v None live tags = []
 withdrawal now p v (Some published) live tags = map (freed p (greatest (others live v))) tags ++ RetireVersion p v published now ∷ []

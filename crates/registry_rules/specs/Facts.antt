@@ -92,7 +92,8 @@ pub record AreWithdrawFacts (standing : Standing) (since : Option ℕ) (needed :
   pub tags : named ≡ tags_of S p (text_of_version v)
   pub live : map text_of_version living ≡ live_versions S p
 
--- What is told of a caller's action is so. What is told of another kind of action stands for no state
+-- What is told of a caller's action is so. What is told of another kind of action stands for no
+-- state
 abbrev pub StandsAbout : About → State → Caller → Action → Type 0
 StandsAbout (about.UserAdd exists) S who (UserAdd u) = exists ≡ has_user S u
 StandsAbout (about.TokenAdd user_exists exists) S who (TokenAdd u digest) = (user_exists ≡ has_user S u) × (exists ≡ has_token S digest)
@@ -123,7 +124,8 @@ StandsAbout (about.Team rows exists) S who (TeamMembers o t) = SayOf rows S who 
 StandsAbout (about.Team rows exists) S who (TeamPackages o t) = SayOf rows S who o × (exists ≡ has_team S o t)
 StandsAbout _ S who _ = ⊥
 
--- The facts are what the registry holds for the request. Of an action of nobody nothing has to be told
+-- The facts are what the registry holds for the request. Of an action of nobody nothing has to be
+-- told
 pub record StandsFor (facts : Facts) (S : State) (r : Request) : Type 0 where
   pub caller : facts.caller ≡ caller_of S r.who
   pub about : (who : Caller) → facts.caller ≡ Some who → StandsAbout facts.about S who r.what

@@ -1,4 +1,5 @@
--- What holds of all that the registry comes to hold, from nothing on: of each entry of each map, and of its key.
+-- What holds of all that the registry comes to hold, from nothing on: of each entry of each map,
+-- and of its key.
 use Rattle.std.specs.Prelude.{◌≡◌, ◌≤◌, false, length, Some, None, IsSome, IsTrue}
 use Rattle.registry_names.specs.Idents.{is_ident}
 use Rattle.registry_names.specs.Maps.{at}

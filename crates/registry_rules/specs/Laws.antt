@@ -47,7 +47,8 @@ TokensAreAdded = (S : State) (now : ℕ) (who : Caller) (u digest : Text) → Ad
 
 -- ---- organisations
 
--- the organisation is there, with an owner and its first team, in which he is; nothing else has changed
+-- the organisation is there, with an owner and its first team, in which he is; nothing else has
+-- changed
 pub record CreatesOrganisation (S T : State) (o u : Text) : Type 0 where
   pub organisation : IsSome (at T.access.organisations o)
   pub owner : at T.access.roles (o, u) ≡ Some Owner
@@ -75,7 +76,8 @@ pub record SetsRole (S T : State) (o u : Text) (new : Role) : Type 0 where
   pub team_members : (k : Triple) → k ≢ (o, (developers, u)) → at T.access.team_members k ≡ at S.access.team_members k
   pub rest : T ≡ record S { access = record S.access { roles = T.access.roles; team_members = T.access.team_members } }
 
--- the user is no member, and in no team of the organisation; every other member stays, in all his teams
+-- the user is no member, and in no team of the organisation; every other member stays, in all his
+-- teams
 pub record RemovesMember (S T : State) (o u : Text) : Type 0 where
   pub role : at T.access.roles (o, u) ≡ None
   pub roles : (k : Pair) → k ≢ (o, u) → at T.access.roles k ≡ at S.access.roles k
@@ -197,7 +199,8 @@ pub record SetsTags (S T : State) (f : FormParts) : Type 0 where
   pub latest_stays : IsSome (at S.tags (f.name, latest)) → f.tag ≢ latest → at T.tags (f.name, latest) ≡ at S.tags (f.name, latest)
   pub tags : (k : Pair) → k ≢ (f.name, f.tag) → k ≢ (f.name, latest) → at T.tags k ≡ at S.tags k
 
--- Its package has the status that it asks for; else the one that it had; else, with a scope, it is restricted, and without one public
+-- Its package has the status that it asks for; else the one that it had; else, with a scope, it is
+-- restricted, and without one public
 pub record SetsStatus (S T : State) (f : FormParts) : Type 0 where
   pub asked : (status : Status) → f.access ≡ Some status → at T.access.statuses f.name ≡ Some status
   pub later : f.access ≡ None → IsSome (at S.access.statuses f.name) → at T.access.statuses f.name ≡ at S.access.statuses f.name
@@ -205,7 +208,8 @@ pub record SetsStatus (S T : State) (f : FormParts) : Type 0 where
   pub first_unscoped : f.access ≡ None → at S.access.statuses f.name ≡ None → scope_of f.name ≡ None → at T.access.statuses f.name ≡ Some Public
   pub statuses : (p : Text) → p ≢ f.name → at T.access.statuses p ≡ at S.access.statuses p
 
--- The first team of a new package's scope reads and writes it, and without a scope its publisher maintains it. Else nobody is let in or shut out
+-- The first team of a new package's scope reads and writes it, and without a scope its publisher
+-- maintains it. Else nobody is let in or shut out
 pub record GivesFirstRight (S T : State) (who : Caller) (f : FormParts) : Type 0 where
   pub later : IsSome (at S.access.statuses f.name) → T.access ≡ record S.access { statuses = T.access.statuses }
   pub scoped : (o : Text) → at S.access.statuses f.name ≡ None → scope_of f.name ≡ Some o → at T.access.grants (o, (developers, f.name)) ≡ Some ReadWrite
@@ -255,7 +259,8 @@ pub record SpendsVersion (S T : State) (now : ℕ) (p v : Text) (release : Relea
   pub others : (k : Pair) → k ≢ (p, v) → at T.spent k ≡ at S.spent k
   pub access : T.access ≡ S.access
 
--- No tag names it: `latest`, where it did, names the greatest other live version, or is gone where there is none, and each other tag that did is gone. All that named another version stay
+-- No tag names it: `latest`, where it did, names the greatest other live version, or is gone where
+-- there is none, and each other tag that did is gone. All that named another version stay
 pub record FreesTags (S T : State) (p v : Text) : Type 0 where
   pub moved : at S.tags (p, latest) ≡ Some v → at T.tags (p, latest) ≡ greatest (others (live_versions S p) v)
   pub gone : (t : Text) → t ≢ latest → at S.tags (p, t) ≡ Some v → at T.tags (p, t) ≡ None
@@ -272,7 +277,8 @@ WithdrawalsFreeTags = (S : State) (now : ℕ) (who : Caller) (p : Text) (v : Ver
 
 -- ---- a deprecation
 
--- each live version of the package that the conditions select has the message, and nothing else has changed
+-- each live version of the package that the conditions select has the message, and nothing else has
+-- changed
 pub record Deprecates (S T : State) (p : Text) (conditions : List (List Condition)) (message : Text) : Type 0 where
   pub selected : (v : Text) (release : Release) → selects conditions v ≡ true → at S.live (p, v) ≡ Some release → at T.live (p, v) ≡ Some (record release { message = message })
   pub unselected : (v : Text) → selects conditions v ≡ false → at T.live (p, v) ≡ at S.live (p, v)
@@ -288,7 +294,8 @@ DeprecationsMark = (S : State) (now : ℕ) (who : Caller) (p : Text) (conditions
 abbrev pub QueriesChangeNothing : Type 0
 QueriesChangeNothing = (S : State) (now : ℕ) (who : Caller) (what : Action) → is_command what ≡ false → step_by S now who what ≡ S
 
--- all that is held of the package is the same, but that a team that this action ends is granted nothing on it
+-- all that is held of the package is the same, but that a team that this action ends is granted
+-- nothing on it
 pub record IsApart (S T : State) (what : Action) (p : Text) : Type 0 where
   pub live : (v : Text) → at T.live (p, v) ≡ at S.live (p, v)
   pub spent : (v : Text) → at T.spent (p, v) ≡ at S.spent (p, v)

@@ -1,4 +1,5 @@
--- Why a request is turned away, on what the registry holds: the first reason that holds, if one does.
+-- Why a request is turned away, on what the registry holds: the first reason that holds, if one
+-- does.
 use Rattle.std.specs.Prelude.{ℕ, Bool, true, false, not, ◌&&◌, ◌||◌, is_none, Option, Some, None, Result, Ok, Err, if◌then◌else◌}
 use Rattle.std.specs.Option.{option_or}
 use Rattle.registry_names.specs.Tags.{latest}
@@ -47,14 +48,16 @@ unless_allowed (Err r) = Some r
 
 -- ---- what stands in the way of an action
 
--- A live version is never published again, and neither is one that was withdrawn; a package without a scope is never restricted; and one of which all versions were withdrawn waits a day
+-- A live version is never published again, and neither is one that was withdrawn; a package without
+-- a scope is never restricted; and one of which all versions were withdrawn waits a day
 abbrev pub publish_refusal : State → ℕ → FormParts → Option Refusal
 publish_refusal S now f = refuse (is_live S f.name (version_of f)) Published
     (refuse (is_spent S f.name (version_of f)) Spent
     (refuse (is_restricted f.access && is_none (scope_of f.name)) AlwaysPublic
     (refuse (is_waiting S now f.name) Waiting None)))
 
--- Of a version that lives since a moment, if it does: it isn't withdrawn later than three days from then, nor while another package needs it
+-- Of a version that lives since a moment, if it does: it isn't withdrawn later than three days from
+-- then, nor while another package needs it
 abbrev pub withdraw_refusal : ℕ → Option ℕ → Bool → Option Refusal
 withdraw_refusal now None depended = Some NotFound
 withdraw_refusal now (Some published) depended = refuse (is_too_old now published) TooLate (refuse depended Depended None)
@@ -68,11 +71,15 @@ abbrev pub is_scope : Text → Option Text → Bool
 is_scope o None = false
 is_scope o (Some s) = is s o
 
--- A team is granted something on a package of its organisation's scope that was published. Of a package of another scope it isn't told whether it was
+-- A team is granted something on a package of its organisation's scope that was published. Of a
+-- package of another scope it isn't told whether it was
 abbrev pub grant_refusal : Bool → Bool → Text → Text → Option Refusal
 grant_refusal team published o p = refuse (not team || (is_scope o (scope_of p) && not published)) NotFound (refuse (not (is_scope o (scope_of p))) OtherScope None)
 
--- At this moment. What is there already isn't added, and what isn't there isn't found. An organisation keeps an owner and its first team, and a package its last maintainer; members alone are in teams. A tag is set to a live version alone, and only such a one has a document and an archive; a package without a live version has no packument and no tags
+-- At this moment. What is there already isn't added, and what isn't there isn't found. An
+-- organisation keeps an owner and its first team, and a package its last maintainer; members alone
+-- are in teams. A tag is set to a live version alone, and only such a one has a document and an
+-- archive; a package without a live version has no packument and no tags
 abbrev pub state_refusal : State → ℕ → Action → Option Refusal
 state_refusal S now (UserAdd u) = unless_new (has_user S u)
 state_refusal S now (TokenAdd u digest) = refuse (not (has_user S u)) NotFound (unless_new (has_token S digest))
@@ -104,7 +111,8 @@ state_refusal S now (TeamPackages o t) = unless_there (has_team S o t)
 
 -- ---- requests
 
--- why an action of this caller is turned away: by the policy first, and then by what stands in its way
+-- why an action of this caller is turned away: by the policy first, and then by what stands in its
+-- way
 abbrev pub refusal_by : State → ℕ → Caller → Action → Option Refusal
 refusal_by S now who what = option_or (unless_allowed (permission S.access who what)) (state_refusal S now what)
 

@@ -1,4 +1,5 @@
--- When a version may be withdrawn, when a package may be published again, and what is about a version that goes.
+-- When a version may be withdrawn, when a package may be published again, and what is about a
+-- version that goes.
 use Rattle.std.specs.Prelude.{ℕ, ◌+◌, Bool, false, not, ◌&&◌, List, [], ◌∷◌, filter, max, nat_le, nat_lt, Option, Some, None, unwrap_or, option_map, if◌then◌else◌}
 use Rattle.std.specs.Borrow.{Bor}
 use Rattle.std.specs.List.{list_any}
@@ -20,7 +21,8 @@ use Rattle.registry_rules.specs.State.{State, Release, Withdrawal, has_live}
 abbrev pub oldest : ℕ
 oldest = 259200
 
--- The version was published too long ago to be withdrawn now. After a clock that went back it is of age 0
+-- The version was published too long ago to be withdrawn now. After a clock that went back it is of
+-- age 0
 abbrev pub is_too_old : ℕ → ℕ → Bool
 is_too_old now published = nat_le (published + oldest) now
 

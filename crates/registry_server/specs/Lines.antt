@@ -21,7 +21,8 @@ abbrev pub body_in : Option Turned → List ℕ
 body_in None = []
 body_in (Some turned) = body_bytes turned.answer.body
 
--- the bytes that came and aren't used yet, those of a response that aren't sent, how many requests it may still have, and how it ends once all is sent, if it does
+-- the bytes that came and aren't used yet, those of a response that aren't sent, how many requests
+-- it may still have, and how it ends once all is sent, if it does
 pub record Pending : Type 0 where
   pub held : List ℕ
   pub unsent : List ℕ
@@ -50,7 +51,8 @@ pub record IsStarved (old new : Pending) : Type 0 where
   pub line : new ≡ pending old.held (bytes_of turned) old.left turned.end
 
 module _ {D : Type 0} (answers : Answers D) where
-  -- One turn was taken of what was held, at a desk and a clock, and its response is to be sent. Over says that no more bytes come.
+  -- One turn was taken of what was held, at a desk and a clock, and its response is to be sent.
+  -- Over says that no more bytes come.
   pub record TakesTurn (old new : Pending) (M N : D) (readings readings2 : Option (List ℕ)) (over : Bool) : Type 0 where
     pub cause : Cause
     pub turned : Turned
@@ -67,7 +69,8 @@ module _ {D : Type 0} (answers : Answers D) where
     pub desk : N ≡ M
     pub unasked : readings2 ≡ readings
 
-  -- what a turn does: where a request, or what is none, has come it is answered; what may become a request is waited for; and behind the last byte nothing is
+  -- what a turn does: where a request, or what is none, has come it is answered; what may become a
+  -- request is waited for; and behind the last byte nothing is
   abbrev pub Does : Pending → Pending → D → D → Option (List ℕ) → Option (List ℕ) → Bool → Progress → Type 0
   Does old new M N readings readings2 over Answered = TakesTurn old new M N readings readings2 over
   Does old new M N readings readings2 over Waits = TakesNone old new M N readings readings2 × IsUnfinished old.held × (over ≡ false)

@@ -1,4 +1,5 @@
--- How a line stands for one of the connections that take turns at a desk, and what its calls make of all of them.
+-- How a line stands for one of the connections that take turns at a desk, and what its calls make
+-- of all of them.
 use Rattle.std.specs.Prelude.{◌≡◌, ◌+◌, ◌==◌, ◌<◌, ◌++◌, [], ℕ, Bool, true, false, List, Option, None, length, drop}
 use Rattle.registry_talk.specs.Courses.{GoOn}
 use Rattle.registry_talk.specs.Histories.{Reached, World, start, turns_of}
@@ -11,7 +12,9 @@ pub record MayHave (ts : List Turn) (left : ℕ) : Type 0 where
   pub some : 0 < left
   pub all : length ts + left ≡ request_limit
 
--- The line shows the connection of this number: the bytes that no turn was taken for, whether more come, what was answered and isn't sent, and, while it goes on, how many requests it may still have.
+-- The line shows the connection of this number: the bytes that no turn was taken for, whether more
+-- come, what was answered and isn't sent, and, while it goes on, how many requests it may still
+-- have.
 pub record StandsFor {D : Type 0} (w : World D) (k : ℕ) (over : Bool) (p : Pending) : Type 0 where
   pub held : (w.lines k).rest ≡ p.held
   pub shut : (w.lines k).shut ≡ over
@@ -19,7 +22,8 @@ pub record StandsFor {D : Type 0} (w : World D) (k : ℕ) (over : Bool) (p : Pen
   pub may_have : p.ends ≡ None → MayHave (turns_of k w.log) p.left
 
 module _ {D : Type 0} (answers : Answers D) where
-  -- From a world another is reached, at this desk, in which this line stands for this connection. What stood for another one still does.
+  -- From a world another is reached, at this desk, in which this line stands for this connection.
+  -- What stood for another one still does.
   pub record LeadsTo (M : D) (w : World D) (k : ℕ) (over : Bool) (p : Pending) (N : D) : Type 0 where
     pub world : World D
     pub reached : Reached answers M world

@@ -1,4 +1,5 @@
--- What the join of team_members and grants shows: what a user's teams are granted. Those of a package's scope are all that he has.
+-- What the join of team_members and grants shows: what a user's teams are granted. Those of a
+-- package's scope are all that he has.
 use Rattle.std.proofs.Common.{◌≡◌, inl, inr, ℕ, List, [], ◌∷◌, map, codes, Bool, true, false, ◌&&◌, Option, Some, None, refl, sym, ap, ap₂, subst, ◌∙◌, true≢false}
 use Rattle.std.specs.Prelude.{◌↔◌, IsSome, is_some}
 use Rattle.std.specs.List.{list_any}

@@ -1,4 +1,5 @@
--- The archives and the needs that are stored stay those of live versions, when one is withdrawn or deprecated.
+-- The archives and the needs that are stored stay those of live versions, when one is withdrawn or
+-- deprecated.
 use Rattle.std.proofs.Common.{◌≡◌, inl, inr, ℕ, ℤ, Bool, true, false, not, ◌||◌, cond, true≢false, List, [], ◌∷◌, Option, Some, None, is_some, option_map, refl, sym, ap, ◌∙◌, if◌then◌else◌}
 use Rattle.std.specs.Prelude.{option_and_then, unwrap_or}
 use Rattle.std.specs.List.{list_any}

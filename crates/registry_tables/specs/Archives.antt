@@ -52,7 +52,8 @@ with_archive integrity bytes c = record c {
 abbrev pub HeldAreStored : Contents → Type 0
 HeldAreStored c = (k : Pair) (n : ℤ) → at c.held k ≡ Some n → is_some (at c.archives n) ≡ true
 
--- The archives that are stored are those of live versions, each once, and no row of a version has bytes of its own.
+-- The archives that are stored are those of live versions, each once, and no row of a version has
+-- bytes of its own.
 pub record HoldsArchives (c : Contents) : Type 0 where
   -- a version has an archive exactly where it lives
   pub lives : (k : Pair) → is_some (at c.held k) ≡ is_some (at c.versions k)

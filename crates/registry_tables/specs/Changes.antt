@@ -68,7 +68,8 @@ all_stored (change ∷ changes) c = all_stored changes (stored_by change c)
 abbrev pub is_unspent : FormParts → Contents → Bool
 is_unspent f c = is_some (at c.packages f.name) && not (is_some (at c.spent (f.name, version_of f)))
 
--- what a version's publication asks of the tables: the version neither lives nor was withdrawn, and its package has a status
+-- what a version's publication asks of the tables: the version neither lives nor was withdrawn, and
+-- its package has a status
 pub record IsNew (f : FormParts) (c : Contents) : Type 0 where
   pub not_live : at c.versions (f.name, version_of f) ≡ None
   pub not_spent : is_some (at c.spent (f.name, version_of f)) ≡ false

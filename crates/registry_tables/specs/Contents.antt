@@ -1,4 +1,5 @@
--- What the rows of the tables say, and the registry's state that follows from it. Where a row had a value of another type, it would say nothing there, 0 or the empty text.
+-- What the rows of the tables say, and the registry's state that follows from it. Where a row had a
+-- value of another type, it would say nothing there, 0 or the empty text.
 use Rattle.std.specs.Prelude.{◌==◌, ℕ, ℤ, List, [], option_map, option_and_then, unwrap_or, if◌then◌else◌}
 use Rattle.sqlite_value.specs.Order.{Row, column}
 use Rattle.sqlite_trees.specs.Tree.{Trees}

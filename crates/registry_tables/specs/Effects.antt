@@ -1,4 +1,5 @@
--- What a call inside a transaction finds, makes and tells. `old` and `new` are the transaction at its entry and at its exit.
+-- What a call inside a transaction finds, makes and tells. `old` and `new` are the transaction at
+-- its entry and at its exit.
 use Rattle.std.specs.Prelude.{◌≡◌, Result, IfOk, IsTrue, OnOk}
 use Rattle.sqlite.specs.Held.{state}
 use Rattle.sqlite.specs.State.{State as Shown, HasCleanDisk, KeepsCommit}
@@ -34,7 +35,8 @@ module _ {S : Type 0} (store : Ghosts S) where
   abbrev pub stored_in : Transaction S → Contents
   stored_in tx = stored (shown tx)
 
-  -- the tables are in form: the schema is ours, the database obeys it, and rowids rise. That is so as long as the disk is clean and the connection open
+  -- the tables are in form: the schema is ours, the database obeys it, and rowids rise. That is so
+  -- as long as the disk is clean and the connection open
   abbrev pub InForm : Transaction S → Type 0
   InForm tx = Ready schema (shown tx)
 
@@ -42,12 +44,14 @@ module _ {S : Type 0} (store : Ghosts S) where
   abbrev pub HasNoTables : Transaction S → Type 0
   HasNoTables tx = Ready no_tables (shown tx)
 
-  -- a statement has run in the transaction: it goes on, and the tables are in form, as long as the disk is clean
+  -- a statement has run in the transaction: it goes on, and the tables are in form, as long as the
+  -- disk is clean
   abbrev pub IsUnderWay : Transaction S → Type 0
   IsUnderWay tx = HasCleanDisk (shown tx) → Leaves schema contents (stored_in tx) (shown tx)
 
   module _ {R E : Type 0} (old new : Transaction S) (result : Result R E) where
-    -- an answer leaves what is stored changed by f, the tables in form, and the transaction going on
+    -- an answer leaves what is stored changed by f, the tables in form, and the transaction going
+    -- on
     abbrev pub Makes : (Contents → Contents) → Type 0
     Makes f = HasCleanDisk (shown new) → OnOk result (Leaves schema contents (f (stored_in old)) (shown new))
 

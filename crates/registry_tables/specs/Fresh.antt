@@ -16,7 +16,8 @@ use Rattle.registry_tables.specs.Effects.{shown}
 abbrev pub first_tables : ℕ → Schema
 first_tables n = record { tables = take n keyed; indexes = map key_index (take n keyed); views = [] }
 
--- what the first so many of the texts make: the 16 tables with such a key, then that of the archives with the one that counts beside it, and then the index
+-- what the first so many of the texts make: the 16 tables with such a key, then that of the
+-- archives with the one that counts beside it, and then the index
 abbrev pub schema_after : ℕ → Schema
 schema_after n = record {
   tables = if nat_lt 16 n then schema.tables else take n keyed;
@@ -42,6 +43,7 @@ no_contents = record { users = empty; tokens = empty; orgs = empty; members = em
 abbrev pub fresh : Contents
 fresh = with_number no_contents schema_number
 
--- what the first so many texts make is there and empty, and the transaction goes on, as long as the disk is clean
+-- what the first so many texts make is there and empty, and the transaction goes on, as long as the
+-- disk is clean
 abbrev pub HasMade : {S : Type 0} → Ghosts S → ℕ → Transaction S → Type 0
 HasMade store n tx = HasCleanDisk (shown store tx) → Blank (schema_after n) (shown store tx)

@@ -34,7 +34,8 @@ abbrev pub names_if_any : Text → Text → Option (List Need) → Bool
 names_if_any target range None = false
 names_if_any target range (Some needs) = names_range target range needs
 
--- the manifest of the live version names the target with this range. False where the version doesn't live
+-- the manifest of the live version names the target with this range. False where the version
+-- doesn't live
 abbrev pub is_needed : PairMap Release → Text → Text → Text → Text → Bool
 is_needed live p v target range = names_if_any target range (option_and_then (λ release. needs_of release.manifest) (at live (p, v)))
 

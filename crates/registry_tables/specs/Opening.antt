@@ -1,4 +1,5 @@
--- What the calls that open a database and make its tables asked of it, whatever it holds. `old` and `new` are the transaction at the entry and at the exit.
+-- What the calls that open a database and make its tables asked of it, whatever it holds. `old` and
+-- `new` are the transaction at the entry and at the exit.
 use Rattle.std.specs.Prelude.{◌≡◌, ℕ, zero, suc, Bool, true, false, ◌==◌, List, [], ◌∷◌, Option, None, Some, Ok, length, option_map, pos, get_or, slice_get, codes}
 use Rattle.sqlite.specs.declared.types.Value.TheVariants.{Int, Text as Stored}
 use Rattle.sqlite_value.specs.Order.{Row, column}
@@ -60,7 +61,8 @@ module _ {S : Type 0} (store : Ghosts S) where
   abbrev pub ShowsNumber : ℕ → Transaction S → Transaction S → Type 0
   ShowsNumber number old new = (rows : List Row) × Queried number_query (Stored schema_key ∷ []) (shown store old) (shown store new) rows × (option_map (λ r. number_in (column r 0)) (slice_get rows 0) ≡ Some number)
 
-  -- what an answer was read from: none where the database showed that it has nothing, and a number where it showed something and then that number
+  -- what an answer was read from: none where the database showed that it has nothing, and a number
+  -- where it showed something and then that number
   abbrev pub Opened : Option ℕ → Transaction S → Transaction S → Type 0
   Opened None old new = Lists true old new
   Opened (Some number) old new = (between : Transaction S) × Lists false old between × ShowsNumber number between new
@@ -71,7 +73,8 @@ module _ {S : Type 0} (store : Ghosts S) where
 
   -- ---- making the tables
 
-  -- the first so many of the texts that make the tables were run, one after another, each understood by the schema that it found
+  -- the first so many of the texts that make the tables were run, one after another, each
+  -- understood by the schema that it found
   abbrev pub HasRun : ℕ → Transaction S → Transaction S → Type 0
   HasRun zero old new = new ≡ old
   HasRun (suc n) old new = (between : Transaction S) × HasRun n old between × Wrote (get_or creation n []) [] (shown store between) (shown store new)

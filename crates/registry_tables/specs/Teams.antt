@@ -1,4 +1,5 @@
--- What goes with a member and with a team, who is in a team, and what its members are granted by that.
+-- What goes with a member and with a team, who is in a team, and what its members are granted by
+-- that.
 use Rattle.std.specs.Prelude.{◌≡◌, Bool, not, ◌&&◌, List, map, filter, Some, IsSome, is_some}
 use Rattle.std.specs.List.{list_any}
 use Rattle.sqlite_value.specs.Order.{Row, column}
@@ -49,7 +50,8 @@ teams_of c o u = map (λ e. e.0.1.0) (filter (λ e. pair_is (o, u) (e.0.0, e.0.1
 abbrev pub granted_in : Contents → Text → Text → Text → Grant → Bool
 granted_in c o u p g = list_any (λ k. pair_is (o, u) (k.0, k.1.1) && grants (at c.grants (k.0, (k.1.0, p))) g) (keys (entries c.team_members))
 
--- the list has what is granted so, and nothing else. Neither the order counts nor how often a grant stands there
+-- the list has what is granted so, and nothing else. Neither the order counts nor how often a grant
+-- stands there
 abbrev pub AreGranted : Contents → Text → Text → Text → List Grant → Type 0
 AreGranted c o u p gs = (g : Grant) → is_listed gs g ≡ granted_in c o u p g
 
@@ -66,7 +68,8 @@ pub record AreTeamsSound (c : Contents) : Type 0 where
   pub members : TeamsAreOfMembers c
   pub grants : GrantsInScope c
 
--- the list has what the caller is granted on the package, where it is told right whether he is a member of the organisation of its scope
+-- the list has what the caller is granted on the package, where it is told right whether he is a
+-- member of the organisation of its scope
 abbrev pub AreHis : Contents → Caller → Text → Bool → List Grant → Type 0
 AreHis c who p is_member gs = AreTeamsSound c → is_member ≡ is_some (scope_role (access_of c) who (scope_of p)) → (g : Grant) → is_listed gs g ≡ granted (access_of c) who p g
 

@@ -16,7 +16,8 @@ use Rattle.registry_tables.specs.Contents.{Archive, Contents}
 abbrev pub is_held : ℤ → Contents → Bool
 is_held n c = list_any (λ (e : Pair × ℤ). int_eq n e.1) (entries c.held)
 
--- the archives that are left where a version went that had the one of this number: that one goes, unless another version has it
+-- the archives that are left where a version went that had the one of this number: that one goes,
+-- unless another version has it
 abbrev pub archives_left : Option ℤ → Contents → NumberMap Archive
 archives_left None c = c.archives
 archives_left (Some n) c = if is_held n c then c.archives else erase c.archives n
@@ -30,7 +31,8 @@ without_rows p v c = record c {
   held = erase c.held (p, v);
 }
 
--- the version was published and withdrawn at these moments, and its archive is there only where another version has it
+-- the version was published and withdrawn at these moments, and its archive is there only where
+-- another version has it
 abbrev pub version_retired : Text → Text → ℕ → ℕ → Contents → Contents
 version_retired p v published withdrawn c = record (without_rows p v c) {
   archives = archives_left (at c.held (p, v)) (without_rows p v c);

@@ -1,4 +1,5 @@
--- The turns of one connection, one after the other: what they take, what they write, and how it ends.
+-- The turns of one connection, one after the other: what they take, what they write, and how it
+-- ends.
 use Rattle.std.specs.Prelude.{◌≡◌, ◌≤◌, ◌+◌, ◌==◌, ◌++◌, ◌∷◌, ◌⊎◌, [], ℕ, Bool, true, false, List, length, Option, Some, None, if◌then◌else◌}
 use Rattle.std.specs.Io.KnownBytes.{IsAtEnd}
 use Rattle.registry_names.specs.Ends.{Reads, RisesBetween, Writes, WritesFront}
@@ -52,7 +53,8 @@ taken_for (request w at) = taken.Whole w
 taken_for (bad_input r) = taken.Bad r
 taken_for no_memory = taken.Faulted Memory
 
--- The turns were taken of these bytes, one after the other, and what is held follows them. AtEnd says that no more bytes are left
+-- The turns were taken of these bytes, one after the other, and what is held follows them. AtEnd
+-- says that no more bytes are left
 abbrev pub Took : List ℕ → List Turn → List ℕ → Type 0 → Type 0
 Took came [] held AtEnd = held ≡ came
 Took came (t ∷ ts) held AtEnd = (rest : List ℕ) × Took came ts rest ⊥ × TakenOf rest held AtEnd (taken_for t.cause)
@@ -64,7 +66,8 @@ Gave (Some readings) new ms = length ms ≤ length readings → (rest : List ℕ
 
 -- ---- a connection
 
--- a desk, what came on a connection and isn't used yet, what its reader tells, and what the clock tells
+-- a desk, what came on a connection and isn't used yet, what its reader tells, and what the clock
+-- tells
 pub record Side (D : Type 0) : Type 0 where
   pub desk : D
   pub held : List ℕ
@@ -97,7 +100,8 @@ EndsAs s ts (Faulted fault) = EndedBy ts (Faulted fault)
 abbrev pub EndsUnasked : {D : Type 0} → Side D → End → Type 0
 EndsUnasked s e = ((e ≡ Closed) × EndsWith s.held ending.Closed × AtEndOf s) ⊎ ((e ≡ ReadFault) × IsUnfinished s.held)
 
--- How many reads failed, and how many were interrupted: at a read fault at least one failed, and no more than the inbox admitted; at any other end all that failed were interrupted, and tried again
+-- How many reads failed, and how many were interrupted: at a read fault at least one failed, and no
+-- more than the inbox admitted; at any other end all that failed were interrupted, and tried again
 abbrev pub ReadsFail : End → ℕ → ℕ → ℕ → ℕ → Type 0
 ReadsFail Closed count count2 failures failures2 = CountsInterrupted count count2 failures failures2
 ReadsFail Limit count count2 failures failures2 = CountsInterrupted count count2 failures failures2

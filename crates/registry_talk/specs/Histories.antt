@@ -1,4 +1,5 @@
--- Many connections that take turns at one desk: what may come about, and the one list of turns that it comes to.
+-- Many connections that take turns at one desk: what may come about, and the one list of turns that
+-- it comes to.
 use Rattle.std.specs.Prelude.{◌≡◌, ◌+◌, ◌==◌, ◌++◌, ◌∷◌, [], ℕ, Bool, true, false, List, length, if◌then◌else◌}
 use Rattle.registry_wire.specs.Reading.{TakenOf}
 use Rattle.registry_talk.specs.Courses.{GoOn, Took, taken_for, written}
@@ -81,7 +82,8 @@ EndsOnce [] = Unit {0}
 EndsOnce (t ∷ ts) = GoOn ts
 
 module _ {D : Type 0} (answers : Answers D) where
-  -- What may come about, from a desk: bytes come on a connection, or their end; a turn is taken on one that goes on; some of what was answered is sent
+  -- What may come about, from a desk: bytes come on a connection, or their end; a turn is taken on
+  -- one that goes on; some of what was answered is sent
   pub data Reached (M : D) : World D → Type 0 where
     begins : Reached M (start M)
     comes : (w : World D) → Reached M w → (on : ℕ) (bytes : List ℕ) → (w.lines on).shut ≡ false → Reached M (on_line w on (with_bytes bytes))
@@ -96,7 +98,8 @@ module _ {D : Type 0} (answers : Answers D) where
   FollowAll M [] N = N ≡ M
   FollowAll M (e ∷ es) N = (K : D) × FollowAll M es K × IsTurn answers K (is_last (turns_of e.from es)) e.turn N
 
-  -- There is one list of turns: the desk is what they leave, and each connection is what its own turns among them make of it
+  -- There is one list of turns: the desk is what they leave, and each connection is what its own
+  -- turns among them make of it
   pub record IsOneHistory (M : D) (w : World D) : Type 0 where
     pub desk : FollowAll M w.log w.desk
     pub lines : (k : ℕ) → IsLine (turns_of k w.log) (w.lines k)

@@ -16,7 +16,8 @@ abbrev pub wanted_of : List Turn → List Wanted
 wanted_of [] = []
 wanted_of (t ∷ ts) = wanted_of ts ++ wanted_by t.cause
 
--- the requests of the turns are the first that the bytes spell: what the rest spells follows them. Whether more may come is no matter
+-- the requests of the turns are the first that the bytes spell: what the rest spells follows them.
+-- Whether more may come is no matter
 abbrev pub TurnsAreSpelled : Type 0
 TurnsAreSpelled = (came rest : List ℕ) (ts : List Turn) (vs : List Wanted) (e : Ending) → Took came ts rest (Unit {0}) → Spells rest vs e → Spells came (wanted_of ts ++ vs) e
 

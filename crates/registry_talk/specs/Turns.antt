@@ -1,4 +1,5 @@
--- What one turn of a connection is: what it is taken for, what is answered, and whether the connection ends.
+-- What one turn of a connection is: what it is taken for, what is answered, and whether the
+-- connection ends.
 use Rattle.std.specs.Prelude.{◌≡◌, ◌⊎◌, ◌+◌, ◌++◌, ◌∷◌, [], ℕ, Bool, true, false, List, Option, Some, None, is_some, Ok, Err, if◌then◌else◌}
 use Rattle.registry_names.specs.declared.refusal.Refusal.{Refusal}
 use Rattle.registry_names.specs.declared.stop.Fault.TheVariants.{Memory}
@@ -17,7 +18,8 @@ use Rattle.registry_talk.specs.declared.turning.Turned.{Turned}
 abbrev pub request_limit : ℕ
 request_limit = 1000
 
--- what a turn is taken for: a whole request, asked at a moment; what is no request; or want of memory while one was read
+-- what a turn is taken for: a whole request, asked at a moment; what is no request; or want of
+-- memory while one was read
 pub data Cause : Type 0 where
   request : Wanted → ℕ → Cause
   bad_input : Refusal → Cause
@@ -42,7 +44,8 @@ abbrev pub stopped : Stop → Outcome
 stopped (stop.Refused r) = Ok (Refused r)
 stopped (stop.Fault f) = Err f
 
--- how the connection ends after a request, if it does: by a fault, by the last request that it has, or since it was asked to
+-- how the connection ends after a request, if it does: by a fault, by the last request that it has,
+-- or since it was asked to
 abbrev pub end_of : Outcome → Bool → Bool → Option End
 end_of (Err fault) last closes = Some (Faulted fault)
 end_of (Ok reply) last closes = if last then Some Limit else (if closes then Some Closed else None)
@@ -58,7 +61,8 @@ IsTurnAway (bad_input r) o ended = (o ≡ Ok (Refused r)) × (ended ≡ Some Bad
 IsTurnAway no_memory o ended = (o ≡ Err Memory) × (ended ≡ Some (Faulted Memory))
 
 module _ {D : Type 0} (answers : Answers D) where
-  -- a request in form is answered at the desk; another is answered by what is out of form, and the desk isn't asked
+  -- a request in form is answered at the desk; another is answered by what is out of form, and the
+  -- desk isn't asked
   abbrev pub IsAnswered : D → Wanted → ℕ → Outcome → D → Type 0
   IsAnswered M w at o N = ((r : Request) × reads_request w at (Ok r) × answers M r o N)
       ⊎ ((s : Stop) × reads_request w at (Err s) × (o ≡ stopped s) × (N ≡ M))

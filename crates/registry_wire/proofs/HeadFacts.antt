@@ -15,7 +15,8 @@ front-within a b p r e low =
     let front : take (length p) a ≡ p = sym (take-append-le (length p) a b low) ∙ ap (take (length p)) e ∙ take_at p r (length p) refl in
     sym (take-append-drop (length p) a) ∙ ap (λ (l : List ℕ). l ++ drop (length p) a) front
 
--- a head of the grammar that was found has no more fields than there was room for, and no more bytes than were looked at
+-- a head of the grammar that was found has no more fields than there was room for, and no more
+-- bytes than were looked at
 pub found-head : (bytes : List ℕ) (headers : List HeaderSpan) (spans : RequestSpans) (h : RequestHead) → length headers ≡ 64 → length bytes ≤ head_limit
     → IsRequestWithin bytes headers spans → IsRequestAt bytes headers spans h → HasHead bytes h (drop spans.len bytes)
 found-head bytes headers spans h room few within at =

@@ -29,7 +29,8 @@ authorization_of absent = authorization.Absent
 authorization_of (once value) = authorization.Once value
 authorization_of repeated = authorization.Repeated
 
--- the connection ends after the response: by HTTP/1.0, by a field, or by a method that is never served
+-- the connection ends after the response: by HTTP/1.0, by a field, or by a method that is never
+-- served
 abbrev pub closes_of : RequestHead → Bool
 closes_of h = (h.minor == 0) || (list_any asks_to_close (fields_of h) || is_other (method_of h.method))
 

@@ -6,11 +6,13 @@ use Rattle.std.specs.Coded.{Coded, code_by, coded×, coded_list, coded_ℕ}
 abbrev pub interruption_limit : ℕ
 interruption_limit = 1000
 
--- how many reads may fail until an inbox with this count of interrupted ones gives up: as many as bring the count to the limit, and one at least
+-- how many reads may fail until an inbox with this count of interrupted ones gives up: as many as
+-- bring the count to the limit, and one at least
 abbrev pub failures_admitted : ℕ → ℕ
 failures_admitted count = max 1 (interruption_limit - count)
 
--- a reader, the bytes that it gave and that are not used yet, and how many of its reads were interrupted
+-- a reader, the bytes that it gave and that are not used yet, and how many of its reads were
+-- interrupted
 pub record Unread (R : Type 0) : Type 0 where
   pub reader : R
   pub held : List ℕ

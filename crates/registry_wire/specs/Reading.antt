@@ -9,7 +9,8 @@ use Rattle.registry_wire.specs.declared.first.Ending.TheVariants.{Closed, BadInp
 use Rattle.registry_wire.specs.declared.inbox.Taken.{Taken}
 use Rattle.registry_wire.specs.declared.inbox.Taken.TheVariants as taken
 
--- What was taken once all these bytes were held, and what is held then: but for a whole request nothing is lost.
+-- What was taken once all these bytes were held, and what is held then: but for a whole request
+-- nothing is lost.
 abbrev pub TakenOf : List ℕ → List ℕ → Type 0 → Taken → Type 0
 TakenOf all held AtEnd (taken.Whole w) = HasRequest all w held
 TakenOf all held AtEnd taken.Closed = (held ≡ all) × EndsWith all Closed × AtEnd
@@ -31,7 +32,8 @@ pub record Takes (held : List ℕ) (left : Option (List ℕ)) (held2 : List ℕ)
   pub gave : Reads left left2 silent got
   pub took : TakenOf (held ++ got) held2 (silent ≡ false → IsAtEnd left2) r
 
--- Some reads failed: all of them were interrupted, and are counted. None of them brought the count to the limit.
+-- Some reads failed: all of them were interrupted, and are counted. None of them brought the count
+-- to the limit.
 pub record CountsInterrupted (count count2 failures failures2 : ℕ) : Type 0 where
   pub failed : ℕ
   pub counted : count2 ≡ count + failed

@@ -79,7 +79,8 @@ request_limit = head_limit + body_limit
 
 -- ---- all the bytes of a connection
 
--- These are the last bytes: there are none, or they begin with what is no request, or with one that is cut.
+-- These are the last bytes: there are none, or they begin with what is no request, or with one that
+-- is cut.
 abbrev pub EndsWith : List ℕ → Ending → Type 0
 EndsWith bytes Closed = bytes ≡ []
 EndsWith bytes (BadInput r) = IsBad bytes r ⊎ ((r ≡ BadBody) × (0 < length bytes) × IsUnfinished bytes)
