@@ -2,7 +2,7 @@ use Rattle.std.proofs.Common.{◌∙◌, arith, ap, is_some}
 use Rattle.sqlite.specs.Effect.{Database}
 use Rattle.sqlite.specs.State.{HasCleanDisk}
 use Rattle.registry_rows.proofs.QuietFacts.{stays_then, reads_then}
-use Rattle.registry_rules.specs.State.{has_grant, is_published, stands}
+use Rattle.registry_rules.specs.State.{has_grant, is_published}
 use Rattle.registry_tables.specs.Contents.{contents, registry_of}
 use Rattle.registry_tables.specs.Effects.{shown}
 use Rattle.registry_tables.specs.Schema.{schema}

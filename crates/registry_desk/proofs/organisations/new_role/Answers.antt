@@ -1,7 +1,6 @@
 use Rattle.std.proofs.Common.{arith, subst, subst₂}
 use Rattle.sqlite.specs.Effect.{Database}
 use Rattle.sqlite.specs.State.{HasCleanDisk}
-use Rattle.registry_names.specs.Maps.{at}
 use Rattle.registry_names.specs.Texts.{Text}
 use Rattle.registry_rows.proofs.QuietFacts.{stays_then, reads_then}
 use Rattle.registry_tables.specs.Contents.{contents, registry_of}

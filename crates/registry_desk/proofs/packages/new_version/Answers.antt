@@ -4,7 +4,6 @@ use Rattle.sqlite.specs.State.{HasCleanDisk}
 use Rattle.registry_names.specs.Texts.{Text}
 use Rattle.registry_rows.proofs.QuietFacts.{stays_then, reads_then}
 use Rattle.registry_rules.specs.Facts.{TellsOf}
-use Rattle.registry_rules.specs.Withdrawals.{last_withdrawal}
 use Rattle.registry_tables.specs.Contents.{contents, registry_of}
 use Rattle.registry_tables.specs.Effects.{shown}
 use Rattle.registry_tables.specs.Schema.{schema}

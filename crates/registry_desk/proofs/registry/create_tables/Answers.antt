@@ -44,3 +44,13 @@ returns-in-Err-clause-survives g c =
     (survives_begin g.S.Store old mid _ (rw c.transaction-tx.ensures.begun at c.create.ensures.stays.survives)) c.commit.ensures.survives in
     let same : c.commit.new.self.0 ≡ c.conn-2-1.given.0 = search rules in
     subst (λ h. Survives (state g.S.Store old) (state g.S.Store h) P) same whole
+
+pub returns-in_err-create-clause-survives : goal.returns-in_err-create-clause-survives
+returns-in_err-create-clause-survives g c =
+    let old = c.args.conn.now in
+    let mid = state g.S.Store c.create.new.tx.conn.now in
+    let P = λ (db : Trees). contents db ≡ fresh in
+    let before = survives_begin g.S.Store old mid _ (rw c.transaction-tx.ensures.begun at c.create.ensures.stays.survives) in
+    let whole = survives_then (state g.S.Store old) mid (state g.S.Store c.drop-tx.new.self.0) _ _ P (λ _ _ none. absurd none) (λ _ _ none. absurd none) before c.drop-tx.ensures.survives in
+    let same : c.drop-tx.new.self.0 ≡ c.conn-1.given.0 = search rules in
+    subst (λ h. Survives (state g.S.Store old) (state g.S.Store h) P) same whole

@@ -1,10 +1,8 @@
 use Rattle.std.proofs.Common.{arith, subst, subst₂}
 use Rattle.sqlite.specs.Effect.{Database}
 use Rattle.sqlite.specs.State.{HasCleanDisk}
-use Rattle.registry_names.specs.Maps.{at}
 use Rattle.registry_names.specs.Texts.{Text}
 use Rattle.registry_rows.proofs.QuietFacts.{stays_then, reads_then}
-use Rattle.registry_rules.specs.State.{is_in_team, is_member}
 use Rattle.registry_tables.specs.Contents.{contents, registry_of}
 use Rattle.registry_tables.specs.Effects.{shown}
 use Rattle.registry_tables.specs.Schema.{schema}
