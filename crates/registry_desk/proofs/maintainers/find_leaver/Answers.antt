@@ -25,5 +25,5 @@ returns-clause-tells g c clean =
     let owner = c.in_ok-is_maintainer.ensures.tells clean_one in
     let other = c.in_ok-has_other_maintainer.ensures.tells clean in (
       reads_then schema was one (shown g.S.Store c.has_other_maintainer.new.tx) owner.0 other.0,
-      record { is_owner = owner.1; other_owner = other.1 ∙ ap (λ (d : Database). has_other_maintainer (registry_of (contents d.trees)) c.args.name.now c.args.user.now) owner.0.same },
+      record { is_maintainer = owner.1; other_maintainer = other.1 ∙ ap (λ (d : Database). has_other_maintainer (registry_of (contents d.trees)) c.args.name.now c.args.user.now) owner.0.same },
     )

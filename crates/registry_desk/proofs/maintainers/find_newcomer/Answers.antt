@@ -2,7 +2,7 @@ use Rattle.std.proofs.Common.{◌∙◌, arith, ap}
 use Rattle.sqlite.specs.Effect.{Database}
 use Rattle.sqlite.specs.State.{HasCleanDisk}
 use Rattle.registry_rows.proofs.QuietFacts.{stays_then, reads_then}
-use Rattle.registry_rules.specs.State.{is_owned_by}
+use Rattle.registry_rules.specs.State.{has_maintainer}
 use Rattle.registry_tables.specs.Contents.{contents, registry_of}
 use Rattle.registry_tables.specs.Effects.{shown}
 use Rattle.registry_tables.specs.Schema.{schema}
@@ -25,5 +25,5 @@ returns-clause-tells g c clean =
     let user = c.in_ok-has_user.ensures.tells clean_one in
     let owner = c.in_ok-is_maintainer.ensures.tells clean in (
       reads_then schema was one (shown g.S.Store c.is_maintainer.new.tx) user.0 owner.0,
-      record { user_exists = user.1; is_owner = owner.1 ∙ ap (λ (d : Database). is_owned_by (registry_of (contents d.trees)) c.args.name.now c.args.user.now) user.0.same },
+      record { user_exists = user.1; is_maintainer = owner.1 ∙ ap (λ (d : Database). has_maintainer (registry_of (contents d.trees)) c.args.name.now c.args.user.now) user.0.same },
     )
