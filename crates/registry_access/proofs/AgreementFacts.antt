@@ -1,15 +1,21 @@
 -- States that agree on what an ask concerns allow the same, and a standing that stands for a state
 -- says what the state says.
-use Rattle.std.proofs.Common.{◌≡◌, Some, None, Option, is_some, refl, ap, ap₂, ◌∙◌}
+use Rattle.std.proofs.Common.{◌≡◌, Bool, true, false, ◌||◌, Some, None, Option, Ok, Err, is_some, refl, ap, ap₂, ◌∙◌, if◌then◌else◌}
 use Rattle.registry_names.specs.Texts.{Text}
 use Rattle.registry_names.specs.Names.{scope_of}
+use Rattle.registry_names.specs.declared.refusal.Refusal.TheVariants.{Denied}
+use Rattle.registry_names.specs.declared.refusal.Rule.TheVariants.{A4, A5, A6, A7, A8}
+use Rattle.registry_names.specs.declared.status.Status.{Status}
 use Rattle.registry_access.specs.Access.{Access}
 use Rattle.registry_access.specs.Agreement.{SameOrganisation, SamePackage, SameFor}
-use Rattle.registry_access.specs.Callers.{is_maintainer, granted}
-use Rattle.registry_access.specs.Policy.{may_manage_members, may_manage_teams, may_see_organisation, may_read, may_write, may_manage_maintainers, may_publish, allowed_at, allowed_in}
-use Rattle.registry_access.specs.Positions.{has_scope, scope_role, position_in}
+use Rattle.registry_access.specs.Callers.{is_maintainer, is_user, granted}
+use Rattle.registry_access.specs.Levels.{greatest, is_owner_or_admin, reads, writes}
+use Rattle.registry_access.specs.Policy.{may_manage_members, may_manage_teams, may_see_organisation, may_read, may_write, may_manage_maintainers, may_publish, allowed_at, allowed_in, by_rule, for_known, where_found}
+use Rattle.registry_access.specs.Positions.{has_scope, scope_role, position_in, level_at, level_by, level_in}
 use Rattle.registry_access.specs.RowsFor.{StandsFor, asked_package}
 use Rattle.registry_access.specs.Standings.{is_listed, position_of}
+use Rattle.registry_access.specs.declared.grant.Grant.{Grant}
+use Rattle.registry_access.specs.declared.position.Position.{Position}
 use Rattle.registry_access.specs.declared.role.Role.{Role}
 use Rattle.registry_access.specs.declared.caller.Caller.{Caller}
 use Rattle.registry_access.specs.declared.caller.Caller.TheVariants.{Operator, User, Anonymous}
@@ -49,14 +55,66 @@ anonymous_role : (S : Access) (s : Option Text) → ◌≡◌ {A = Option Role} 
 anonymous_role S None = refl
 anonymous_role S (Some o) = refl
 
-pub standing_position : (s : Standing) (S : Access) (caller : Caller) (p : Text) → StandsFor s S caller p → position_of s caller ≡ position_in S caller p
-standing_position s S Operator p h =
-    λ i. record { organisation = h.organisation i; role = operator_role S (scope_of p) i; status = h.status i; maintainer = is_maintainer S Operator p; grant = (position_in S Operator p).grant }
-standing_position s S (User u) p h =
-    let grant = greatest_alike (is_listed s.grants.items) (granted S (User u) p) h.grants in
-    λ i. record { organisation = h.organisation i; role = h.role i; status = h.status i; maintainer = h.maintainer i; grant = grant i }
-standing_position s S Anonymous p h =
-    λ i. record { organisation = h.organisation i; role = anonymous_role S (scope_of p) i; status = h.status i; maintainer = is_maintainer S Anonymous p; grant = (position_in S Anonymous p).grant }
+-- positions that are alike in all that the policy reads of them: of the grant alone the level
+record AreAlike (P Q : Position) : Type 0 where
+  organisation : P.organisation ≡ Q.organisation
+  role : P.role ≡ Q.role
+  status : P.status ≡ Q.status
+  maintainer : P.maintainer ≡ Q.maintainer
+  level : level_at P ≡ level_at Q
+
+same_alike : (P Q : Position) → P ≡ Q → AreAlike P Q
+same_alike P Q e = record {
+  organisation = ap (λ (R : Position). R.organisation) e;
+  role = ap (λ (R : Position). R.role) e;
+  status = ap (λ (R : Position). R.status) e;
+  maintainer = ap (λ (R : Position). R.maintainer) e;
+  level = ap level_at e;
+}
+
+-- the grant counts only of one who is neither owner nor admin
+level_alike : (status : Option Status) (leads maintainer : Bool) (g h : Option Grant) → (leads ≡ false → g ≡ h)
+    → level_by status (leads || maintainer) g ≡ level_by status (leads || maintainer) h
+level_alike None leads maintainer g h same = refl
+level_alike (Some status) true maintainer g h same = refl
+level_alike (Some status) false maintainer g h same = ap (level_by (Some status) maintainer) (same refl)
+
+standing_alike : (s : Standing) (S : Access) (caller : Caller) (p : Text) → StandsFor s S caller p → AreAlike (position_of s caller) (position_in S caller p)
+standing_alike s S Operator p h = same_alike _ _
+    (λ i. record { organisation = h.organisation i; role = operator_role S (scope_of p) i; status = h.status i; maintainer = is_maintainer S Operator p; grant = (position_in S Operator p).grant })
+standing_alike s S (User u) p h = record {
+  organisation = h.organisation;
+  role = h.role;
+  status = h.status;
+  maintainer = h.maintainer;
+  level =
+      level_alike s.status (is_owner_or_admin s.role) s.maintainer _ _ (λ other. greatest_alike (is_listed s.grants.items) (granted S (User u) p) (h.grants other))
+      ∙ (λ i. level_by (h.status i) (is_owner_or_admin (h.role i) || h.maintainer i) (greatest (granted S (User u) p)));
+}
+standing_alike s S Anonymous p h = same_alike _ _
+    (λ i. record { organisation = h.organisation i; role = anonymous_role S (scope_of p) i; status = h.status i; maintainer = is_maintainer S Anonymous p; grant = (position_in S Anonymous p).grant })
+
+pub standing_level : (s : Standing) (S : Access) (caller : Caller) (p : Text) → StandsFor s S caller p → level_at (position_of s caller) ≡ level_in S caller p
+standing_level s S caller p h = (standing_alike s S caller p h).level
+
+-- ---- the policy says the same where positions are alike
+
+module _ (caller : Caller) (P Q : Position) (same : AreAlike P Q) where
+  publish_alike : (scoped : Bool) → may_publish caller scoped P ≡ may_publish caller scoped Q
+  publish_alike true = λ i. for_known caller (where_found (same.organisation i) (if is_some (same.role i)
+      then (if is_some (same.status i) then by_rule A6 (writes (same.level i)) else Ok A4)
+      else Err (Denied A4)))
+  publish_alike false = λ i. for_known caller (if is_some (same.status i) then by_rule A6 (writes (same.level i)) else by_rule A5 (is_user caller))
+
+  verdict_alike : (ask : Ask) → allowed_at caller ask P ≡ allowed_at caller ask Q
+  verdict_alike Operate = refl
+  verdict_alike (OrgMembers o) = refl
+  verdict_alike (OrgTeams o) = refl
+  verdict_alike (Publish p) = publish_alike (is_some (scope_of p.now))
+  verdict_alike (Write p) = λ i. for_known caller (where_found (reads (same.level i)) (by_rule A6 (writes (same.level i))))
+  verdict_alike (Owners p) = λ i. for_known caller (where_found (reads (same.level i)) (by_rule A7 (same.maintainer i)))
+  verdict_alike (Read p) = λ i. where_found (reads (same.level i)) (Ok A8)
+  verdict_alike (OrgRead o) = refl
 
 -- an ask about a package is decided by how the caller stands to it
 pub asked_at : (S : Access) (caller : Caller) (ask : Ask) (p : Text) → asked_package ask ≡ Some p → allowed_at caller ask (position_in S caller p) ≡ allowed_in S caller ask
@@ -71,4 +129,4 @@ asked_at S caller (OrgRead o) p e = cc
 
 pub standing_allowed : (s : Standing) (S : Access) (caller : Caller) (ask : Ask) (p : Text) → asked_package ask ≡ Some p → StandsFor s S caller p
     → allowed_at caller ask (position_of s caller) ≡ allowed_in S caller ask
-standing_allowed s S caller ask p e h = ap (allowed_at caller ask) (standing_position s S caller p h) ∙ asked_at S caller ask p e
+standing_allowed s S caller ask p e h = verdict_alike caller _ _ (standing_alike s S caller p h) ask ∙ asked_at S caller ask p e

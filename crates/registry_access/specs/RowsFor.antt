@@ -1,11 +1,12 @@
 -- Rows, and standings, that stand for a state.
-use Rattle.std.specs.Prelude.{◌≡◌, Option, Some, None}
+use Rattle.std.specs.Prelude.{◌≡◌, false, Option, Some, None}
 use Rattle.registry_names.specs.Texts.{Text}
 use Rattle.registry_names.specs.Maps.{at}
 use Rattle.registry_names.specs.Names.{scope_of}
 use Rattle.registry_access.specs.Access.{Access}
 use Rattle.registry_access.specs.Agreement.{SamePackage, SameFor}
 use Rattle.registry_access.specs.Callers.{is_maintainer, granted}
+use Rattle.registry_access.specs.Levels.{is_owner_or_admin}
 use Rattle.registry_access.specs.Positions.{has_scope, scope_role}
 use Rattle.registry_access.specs.RowMaps.{state_of}
 use Rattle.registry_access.specs.Standings.{is_listed}
@@ -28,14 +29,16 @@ StandFor rows S caller ask = SameFor (state_of rows) S caller ask
 abbrev pub StandForPackage : AccessRows → Access → Caller → Text → Type 0
 StandForPackage rows S caller p = SamePackage (state_of rows) S caller p
 
--- A standing stands for a state at a caller and a package. In `grants` neither the order counts nor
--- how often a grant stands there.
+-- A standing stands for a state at a caller and a package. Only of one who is neither owner nor admin
+-- it has to tell what his teams are granted: the role of those alone lets them write. In `grants`
+-- neither the order counts nor how often a grant stands there.
 pub record StandsFor (standing : Standing) (S : Access) (caller : Caller) (p : Text) : Type 0 where
   pub organisation : standing.org ≡ has_scope S (scope_of p)
   pub role : standing.role ≡ scope_role S caller (scope_of p)
   pub status : standing.status ≡ at S.statuses p
   pub maintainer : standing.maintainer ≡ is_maintainer S caller p
-  pub grants : (g : Grant) → is_listed standing.grants.items g ≡ granted S caller p g
+  pub grants : is_owner_or_admin standing.role ≡ false
+      → (g : Grant) → is_listed standing.grants.items g ≡ granted S caller p g
 
 -- the package that is asked about
 abbrev pub asked_package : Ask → Option Text

@@ -15,6 +15,7 @@ pub struct Standing {
     pub status: Option<Status>,
     /// Whether the caller is a maintainer of the package.
     pub maintainer: bool,
-    /// What the caller's teams are granted on the package, in any order.
+    /// What the caller's teams are granted on the package, in any order. Nothing need be told of an
+    /// owner or admin, whose role alone lets him write.
     pub grants: Vec<Grant>,
 }

@@ -25,7 +25,7 @@ use Rattle.registry_rules.specs.declared.request.Action.{Action}
 use Rattle.registry_rules.specs.declared.request.Action.TheVariants.{UserAdd, TokenAdd, OrgCreate, OrgSet, OrgRemove, TeamCreate, TeamDestroy, TeamAdd, TeamRemove, Grant, Revoke, SetAccess, OwnerAdd, OwnerRemove, Publish, TagSet, TagRemove, Withdraw, Deprecate, Packument, VersionDoc, Archive, Tags, Members, Teams, TeamMembers, TeamPackages}
 use Rattle.registry_rules.specs.declared.request.Request.{Request}
 
--- the standing says of the caller and the package what the registry holds
+-- the standing stands for what the registry holds of the caller and the package
 abbrev pub TellsOf : Standing → State → Caller → Text → Type 0
 TellsOf standing S who p = access.StandsFor standing S.access who p
 
