@@ -1,6 +1,6 @@
 -- What goes with a member and with a team, who is in a team, and what its members are granted by
 -- that.
-use Rattle.std.specs.Prelude.{◌≡◌, Bool, not, ◌&&◌, List, map, filter, Some, IsSome, is_some}
+use Rattle.std.specs.Prelude.{◌≡◌, Bool, false, not, ◌&&◌, List, map, filter, Option, Some, IsSome}
 use Rattle.std.specs.List.{list_any}
 use Rattle.sqlite_value.specs.Order.{Row, column}
 use Rattle.registry_names.specs.Texts.{Text}
@@ -8,11 +8,12 @@ use Rattle.registry_names.specs.Names.{scope_of}
 use Rattle.registry_names.specs.Keys.{pair_is}
 use Rattle.registry_names.specs.Maps.{at, erase, keep, entries, keys, pairs_of, parts}
 use Rattle.registry_access.specs.Callers.{granted, grants}
-use Rattle.registry_access.specs.Levels.{reads}
+use Rattle.registry_access.specs.Levels.{is_owner_or_admin, reads}
 use Rattle.registry_access.specs.Positions.{level_in, scope_role}
 use Rattle.registry_access.specs.Standings.{is_listed}
 use Rattle.registry_access.specs.declared.caller.Caller.{Caller}
 use Rattle.registry_access.specs.declared.grant.Grant.{Grant}
+use Rattle.registry_access.specs.declared.role.Role.{Role}
 use Rattle.registry_packument.specs.declared.list.Granted.{Granted}
 use Rattle.registry_rows.specs.Columns.{text_in, number_in}
 use Rattle.registry_tables.specs.Contents.{Contents, access_of, grant_of}
@@ -68,10 +69,11 @@ pub record AreTeamsSound (c : Contents) : Type 0 where
   pub members : TeamsAreOfMembers c
   pub grants : GrantsInScope c
 
--- the list has what the caller is granted on the package, where it is told right whether he is a
--- member of the organisation of its scope
-abbrev pub AreHis : Contents → Caller → Text → Bool → List Grant → Type 0
-AreHis c who p is_member gs = AreTeamsSound c → is_member ≡ is_some (scope_role (access_of c) who (scope_of p)) → (g : Grant) → is_listed gs g ≡ granted (access_of c) who p g
+-- the list has what the caller is granted on the package, where it is told right what his role is in
+-- the organisation of its scope. Of an owner or admin nothing is said
+abbrev pub AreHis : Contents → Caller → Text → Option Role → List Grant → Type 0
+AreHis c who p role gs = AreTeamsSound c → role ≡ scope_role (access_of c) who (scope_of p)
+    → is_owner_or_admin role ≡ false → (g : Grant) → is_listed gs g ≡ granted (access_of c) who p g
 
 -- what a team is granted, in byte order of the packages
 abbrev pub grants_of : Contents → Text → Text → List (Text × Grant)

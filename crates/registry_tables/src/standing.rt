@@ -4,7 +4,6 @@ ghost use Rattle.std.specs.Prelude.{◌≡◌};
 ghost use Rattle.registry_access.specs.Callers as callers;
 ghost use Rattle.registry_access.specs.Positions as positions;
 ghost use Rattle.registry_access.specs.RowsFor.{StandsFor};
-ghost use Rattle.registry_access.specs.declared.caller.Caller.TheVariants as caller;
 ghost use Rattle.registry_names.specs.Names.{scope_of};
 ghost use Rattle.registry_rows.specs.Frames.{Stays};
 ghost use Rattle.registry_tables.specs.Contents.{access_of};
@@ -17,14 +16,15 @@ use crate::members::load_role;
 use crate::organisations::has_organisation;
 use crate::statuses::load_status;
 use registry_access::{Caller, Grant, Role, Standing};
-use registry_names::{Fault, Ident, Name};
+use registry_names::{Fault, Name};
 use sqlite::{Alter, Transaction};
 use std::alloc::Global;
 
 /// How a caller stands to a package: all that the policy asks of him and it.
 ///
 /// A package without a scope is in no organisation, and only a member of an organisation is in its
-/// teams: of others no grant is asked for.
+/// teams: of others no grant is asked for, nor of an owner or admin, whose role alone lets him
+/// write.
 pub fn load_standing<S: Alter>(
     alloc: Global,
     tx: &mut Transaction<'_, S>,
@@ -40,7 +40,7 @@ pub fn load_standing<S: Alter>(
     let org = has_scope(tx, name)?;
     let role = load_scope_role(tx, caller, name)?;
     let maintainer = maintains(tx, caller, name)?;
-    let grants = load_granted(alloc, tx, caller, name, role.is_some())?;
+    let grants = load_granted(alloc, tx, caller, name, role)?;
     Ok(Standing {
         org,
         role,
@@ -97,44 +97,24 @@ fn maintains<S: Alter>(
     }
 }
 
-// What the caller's teams are granted on the package. `is_member` says whether he is a member of
-// the organisation of its scope.
+// What the caller's teams are granted on the package, where his role in the organisation of its
+// scope alone doesn't let him write.
 fn load_granted<S: Alter>(
     alloc: Global,
     tx: &mut Transaction<'_, S>,
     caller: &Caller,
     name: &Name,
-    is_member: bool,
+    role: Option<Role>,
 ) -> Result<Vec<Grant>, Fault>
     requires in_form { InForm S.Store tx.old }
     ensures stays { Stays S.Store tx.old tx.new }
     ensures knows { Knows S.Store tx.old tx.new result (λ grants c.
-        AreHis c caller.now name.now is_member grants.items) }
+        AreHis c caller.now name.now role grants.items) }
 {
-    match caller {
-        Caller::User(user) => load_user_grants(alloc, tx, user, name, is_member),
-        Caller::Operator | Caller::Anonymous => Ok(Vec::new(alloc)),
-    }
-}
-
-// The same of a user.
-fn load_user_grants<S: Alter>(
-    alloc: Global,
-    tx: &mut Transaction<'_, S>,
-    user: &Ident,
-    name: &Name,
-    is_member: bool,
-) -> Result<Vec<Grant>, Fault>
-    requires in_form { InForm S.Store tx.old }
-    ensures stays { Stays S.Store tx.old tx.new }
-    ensures knows { Knows S.Store tx.old tx.new result (λ grants c.
-        AreHis c (caller.User user.now) name.now is_member grants.items) }
-{
-    if !is_member {
-        return Ok(Vec::new(alloc));
-    }
-    match name.scope() {
-        Some(organisation) => load_grants(alloc, tx, organisation, user.text(), name),
-        None => Ok(Vec::new(alloc)),
+    match (caller, role, name.scope()) {
+        (Caller::User(user), Some(Role::Developer), Some(organisation)) => {
+            load_grants(alloc, tx, organisation, user.text(), name)
+        }
+        _ => Ok(Vec::new(alloc)),
     }
 }

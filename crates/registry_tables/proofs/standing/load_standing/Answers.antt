@@ -1,4 +1,4 @@
-use Rattle.std.proofs.Common.{◌∙◌, ap, arith, is_some}
+use Rattle.std.proofs.Common.{◌∙◌, ap, arith}
 use Rattle.sqlite.specs.Effect.{Database}
 use Rattle.sqlite.specs.State.{HasCleanDisk}
 use Rattle.registry_access.specs.Callers.{is_maintainer}
@@ -37,7 +37,7 @@ returns-clause-tells g c clean =
         status = status.1;
         maintainer = maintainer.1 ∙ ap (λ (d : Database). is_maintainer (access_of (contents d.trees)) who name) three.same;
         grants = grants_before who name _ _ (shown g.S.Store c.maintains.new.tx).now old.now four.same grants.1 sound
-            (c.is_some.ensures ∙ ap is_some (role.1 ∙ ap (λ (d : Database). scope_role (access_of (contents d.trees)) who (scope_of name)) two.same));
+            (role.1 ∙ ap (λ (d : Database). scope_role (access_of (contents d.trees)) who (scope_of name)) two.same);
       },
     )
 
