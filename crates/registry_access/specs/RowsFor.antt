@@ -29,9 +29,9 @@ StandFor rows S caller ask = SameFor (state_of rows) S caller ask
 abbrev pub StandForPackage : AccessRows → Access → Caller → Text → Type 0
 StandForPackage rows S caller p = SamePackage (state_of rows) S caller p
 
--- A standing stands for a state at a caller and a package. Only of one who is neither owner nor admin
--- it has to tell what his teams are granted: the role of those alone lets them write. In `grants`
--- neither the order counts nor how often a grant stands there.
+-- A standing stands for a state at a caller and a package. Of an owner or admin, whose role alone
+-- lets him write, it need not tell what his teams are granted. In `grants` neither the order counts
+-- nor how often a grant stands there.
 pub record StandsFor (standing : Standing) (S : Access) (caller : Caller) (p : Text) : Type 0 where
   pub organisation : standing.org ≡ has_scope S (scope_of p)
   pub role : standing.role ≡ scope_role S caller (scope_of p)

@@ -69,8 +69,8 @@ pub record AreTeamsSound (c : Contents) : Type 0 where
   pub members : TeamsAreOfMembers c
   pub grants : GrantsInScope c
 
--- the list has what the caller is granted on the package, where it is told right what his role is in
--- the organisation of its scope. Of an owner or admin nothing is said
+-- the list has what the caller is granted on the package, where it is told right what his role is
+-- in the organisation of its scope. Of an owner or admin nothing is said
 abbrev pub AreHis : Contents → Caller → Text → Option Role → List Grant → Type 0
 AreHis c who p role gs = AreTeamsSound c → role ≡ scope_role (access_of c) who (scope_of p)
     → is_owner_or_admin role ≡ false → (g : Grant) → is_listed gs g ≡ granted (access_of c) who p g
