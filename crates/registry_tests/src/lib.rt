@@ -32,6 +32,8 @@ mod server;
 #[cfg(test)]
 mod talk;
 #[cfg(test)]
+mod texts;
+#[cfg(test)]
 mod wire;
 #[cfg(test)]
 mod words;

@@ -1,0 +1,4 @@
+pub mod StoreFacts
+pub mod FrontFacts
+pub mod NamedFacts
+pub mod RightFacts

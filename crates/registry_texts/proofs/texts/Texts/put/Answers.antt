@@ -1,0 +1,21 @@
+use Rattle.std.proofs.Common.{◌≡◌, ◌+◌, ◌≤◌, ap, ◌∙◌, arith}
+use Rattle.registry_names.specs.Texts.{is}
+use Rattle.registry_names.specs.Maps.{first_at}
+use Rattle.registry_texts.specs.Stores.{Store, kept, size}
+use Rattle.registry_texts.proofs.FrontFacts.{room_fits}
+use Rattle.registry_texts.proofs.StoreFacts.{none_in_front, none_under}
+use Rattle.registry_texts.proofs.texts.Texts.put.Goals as goal
+
+pub add-requires-clause-new : goal.add-requires-clause-new
+add-requires-clause-new c =
+    ap (λ (s : Store). kept s c.args.name.now) c.make_room-2.ensures
+    ∙ none_in_front _ c.forget.new.self.entries c.args.name.now (ap (λ (s : Store). first_at is s.entries c.args.name.now) c.forget.ensures ∙ none_under c.args.name.now c.args.self.now.entries)
+
+pub add-requires-clause-room : goal.add-requires-clause-room
+add-requires-clause-room c =
+    let fits = room_fits _ _ _ c.forget.new.self.entries c.make_room-2.ensures in
+    let limit = ap (λ (s : Store). s.limit) c.make_room-2.ensures in
+    let same = ap (λ (s : Store). s.limit) c.self.view_is in
+    let again = ap (λ (s : Store). s.limit) c.make_room.view_is in
+    let low = c.if-len-self.false in
+    omega arith

@@ -1,0 +1,62 @@
+-- What a store of texts keeps.
+use Rattle.std.specs.Prelude.{◌≡◌, ℕ, ◌+◌, ◌-◌, nat_le, not, List, [], ◌∷◌, length, filter, Option, Some, if◌then◌else◌, refl}
+use Rattle.std.specs.Option.{option_map_or}
+use Rattle.std.specs.Coded.{Coded, code_by, coded×, coded_list, coded_ℕ}
+use Rattle.registry_names.specs.Texts.{Text, is}
+use Rattle.registry_names.specs.Maps.{first_at}
+
+-- names with their texts
+abbrev pub Entries : Type 0
+Entries = List (Text × Text)
+
+-- each name with its text, the latest asked first, and how many bytes the texts may have together
+pub record Store : Type 0 where
+  pub entries : Entries
+  pub limit : ℕ
+
+abbrev pub store : Entries → ℕ → Store
+store es limit = record { entries = es; limit = limit }
+
+-- a store is kept as the pair of its fields
+abbrev pub store_code : Coded Store
+store_code = code_by (Entries × ℕ) (coded× (coded_list (coded× (coded_list coded_ℕ) (coded_list coded_ℕ))) coded_ℕ) (λ s. (s.entries, s.limit)) (λ p. store p.0 p.1) (λ _. refl)
+
+-- the bytes of all texts together
+abbrev pub size : Entries → ℕ
+size [] = 0
+size (e ∷ es) = length e.1 + size es
+
+-- without what stands under the name
+abbrev pub without : Text → Entries → Entries
+without name es = filter (λ e. not (is e.0 name)) es
+
+-- the longest front whose texts have no more bytes than these
+abbrev pub front : ℕ → Entries → Entries
+front room [] = []
+front room (e ∷ es) = if nat_le (length e.1) room then e ∷ front (room - length e.1) es else []
+
+module _ (s : Store) (name : Text) where
+  -- the text that is kept under the name
+  abbrev pub kept : Option Text
+  kept = first_at is s.entries name
+
+  -- nothing is kept under the name, and all else as it was
+  abbrev pub forgotten : Store
+  forgotten = store (without name s.entries) s.limit
+
+  -- the same is kept, and the name with its text stands first, if there is one
+  abbrev pub asked : Store
+  asked = store (option_map_or (λ text. (name, text) ∷ without name s.entries) kept s.entries) s.limit
+
+  module _ (text : Text) where
+    -- as much of the others as leaves room for the text
+    abbrev pub with_room : Store
+    with_room = store (front (s.limit - length text) (without name s.entries)) s.limit
+
+    -- the text is kept under the name, with as much of the others as leaves room for it. One that has no room alone isn't kept
+    abbrev pub with_text : Store
+    with_text = if nat_le (length text) s.limit then store ((name, text) ∷ with_room.entries) s.limit else forgotten
+
+-- what is kept is right: of each name and its text R holds
+pub record AreRight (R : Text → Text → Type 0) (s : Store) : Type 0 where
+  pub right : (name text : Text) → kept s name ≡ Some text → R name text
