@@ -4,5 +4,6 @@ mod LoadedFacts
 mod MakingFacts
 mod OpenedFacts
 mod SettlingFacts
+mod ShelfFacts
 pub mod AnswerFacts
 pub mod StoredFacts

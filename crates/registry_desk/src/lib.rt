@@ -16,6 +16,7 @@ mod registry;
 mod reply;
 mod rows;
 mod same;
+mod shelf;
 mod teams;
 mod withdrawals;
 

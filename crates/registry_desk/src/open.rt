@@ -14,11 +14,12 @@ ghost use Rattle.registry_desk.specs.Opened.{HoldsEach, HoldsFound, IsFreshIfEmp
 ghost use Rattle.registry_desk.specs.Promises.{IsSure};
 ghost use Rattle.registry_desk.specs.Resting.{Rests};
 
-use crate::registry::{Registry, create_tables};
+use crate::registry::{Registry, TEXT_LIMIT, create_tables};
 use crate::same::is_same_schema;
 use registry_names::Fault;
 use registry_rows::fault_of;
 use registry_tables::opened;
+use registry_texts::Texts;
 use sqlite::{
     Alter, Connection, File, FileFrom, FileStore, Files, Leftover, Options, Start, Unknown,
 };
@@ -155,8 +156,12 @@ fn held<S: Alter>(alloc: Global, conn: Connection<S>) -> Result<Registry<S>, (Fa
         → IsLeftOf (state S.Store conn).now db)) }
 {
     let mut conn = conn;
+    let texts = match Texts::new(alloc, TEXT_LIMIT) {
+        Ok(texts) => texts,
+        Err(_) => return Err((Fault::Memory, conn)),
+    };
     match settle(alloc, &mut conn) {
-        Ok(()) => Ok(Registry { conn }),
+        Ok(()) => Ok(Registry { conn, texts }),
         Err(fault) => Err((fault, conn)),
     }
 }

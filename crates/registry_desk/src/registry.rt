@@ -13,35 +13,43 @@ ghost use Rattle.registry_tables.specs.Needs.{HoldsNeeds};
 ghost use Rattle.registry_history.specs.Headline.{Headline};
 ghost use Rattle.registry_desk.specs.Promises.{Answered, GrowsHistory, HasHeadline, Keeps, KeepsForm, KeepsSound, Moves, RanTo, Served, Stays, StaysRun, Stepped, Stored, SurvivesOne, SurvivesRun, WasOpen, WritesHistory};
 ghost use Rattle.registry_desk.specs.Resting.{Rests};
+ghost use Rattle.registry_desk.specs.Shelves.{HasPackuments, ShowsRight};
 
 use crate::answer::answered_inside;
+use crate::shelf::keep_answer;
 use registry_names::Fault;
 use registry_rows::fault_of;
 use registry_rules::laws::requests_are_in_form;
 use registry_rules::{Reply, Request};
 use registry_tables::create;
+use registry_texts::Texts;
 use sqlite::{Alter, Connection, MemStore};
 use std::alloc::Global;
 use std::marker::Model;
 
+/// The most bytes that the texts of packuments have together which a registry keeps.
+pub(crate) const TEXT_LIMIT: usize = 64 << 20;
+
 /// A registry of packages, over any store that keeps its tables. Contracts see the connection.
 ///
-/// Between requests it has no transaction, its tables are in form, and all that it sees was
+/// It keeps the texts of the packuments that were asked for last, each as long as it is the
+/// packument of what is stored. Between requests it has no transaction, its tables are in form, and all that it sees was
 /// committed. A fault of the disk may shut it for good: then every request is answered by a fault.
 pub struct Registry<S: Alter> {
     pub(crate) conn: Connection<S>,
+    pub(crate) texts: Texts,
 }
 
 // Written out, so that to drop a registry is one call and not one for each part.
 impl<S: Alter + Drop> Drop for Registry<S> {
     fn drop(self) {
-        let Registry { conn: _ } = self;
+        let Registry { conn: _, texts: _ } = self;
     }
 }
 
 impl<S: Alter> Model for Registry<S> {
     ghost use Rattle.sqlite.specs.Held.{Held, held_code, state};
-    ghost use Rattle.registry_desk.specs.Resting.{Rests};
+    ghost use Rattle.registry_desk.specs.Shelves.{IsShelved};
 
     ghost Value = { Held S };
 
@@ -49,7 +57,7 @@ impl<S: Alter> Model for Registry<S> {
 
     ghost view = { λ r. r.conn };
 
-    ghost invariant = { λ r. Rests (state S.Store r.conn) };
+    ghost invariant = { λ r. IsShelved (state S.Store r.conn) r.texts };
 }
 
 impl Registry<MemStore> {
@@ -65,7 +73,8 @@ impl Registry<MemStore> {
             return Err(Fault::Memory);
         };
         create_tables(&mut conn)?;
-        Ok(Registry { conn })
+        let texts = Texts::new(alloc, TEXT_LIMIT)?;
+        Ok(Registry { conn, texts })
     }
 
     /// Answers requests on a new registry in memory, in their order, and gives the registry that
@@ -113,7 +122,9 @@ impl<S: Alter> Registry<S> {
         ensures stays { Stays (state S.Store self.new) result }
     {
         requests_are_in_form(request);
-        answered(alloc, &mut self.conn, request)
+        let outcome = answered(alloc, &mut self.conn, &mut self.texts, request);
+        keep_answer(&mut self.texts, &request.what, &outcome);
+        outcome
     }
 
     /// Answers requests in their order, as [`apply`](Registry::apply) does. Room for all outcomes
@@ -162,7 +173,7 @@ impl<S: Alter> Registry<S> {
         ensures same { result ≡ self }
         ensures rests { Rests (state S.Store result) }
     {
-        let Registry { conn } = self;
+        let Registry { conn, texts: _ } = self;
         conn
     }
 }
@@ -191,20 +202,25 @@ pub(crate) fn create_tables<S: Alter>(conn: &mut Connection<S>) -> Result<(), Fa
 fn answered<S: Alter>(
     alloc: Global,
     conn: &mut Connection<S>,
+    texts: &mut Texts,
     request: &Request,
 ) -> Result<Reply, Fault>
     requires rests { Rests (state S.Store conn.old) }
     ensures rests { Rests (state S.Store conn.new) }
-    ensures answer { Answered (state S.Store conn.old) (state S.Store conn.new)
-        request.now result }
+    ensures answer { HasPackuments (state S.Store conn.old) texts.old
+        → Answered (state S.Store conn.old) (state S.Store conn.new) request.now result }
     ensures served { Served (state S.Store conn.old) (state S.Store conn.new) result }
     ensures opened { WasOpen (state S.Store conn.old) (state S.Store conn.new) }
     ensures step { Stepped (state S.Store conn.old) (state S.Store conn.new) request.now result }
     ensures survives { SurvivesOne (state S.Store conn.old) (state S.Store conn.new) request.now }
     ensures stays { Stays (state S.Store conn.new) result }
+    ensures right { HasPackuments (state S.Store conn.old) texts.old
+        → HasPackuments (state S.Store conn.new) texts.new }
+    ensures shows { HasPackuments (state S.Store conn.old) texts.old
+        → ShowsRight (state S.Store conn.new) request.now.what result }
 {
     let mut tx = conn.transaction();
-    let reply = answered_inside(alloc, &mut tx, request)?;
+    let reply = answered_inside(alloc, &mut tx, texts, request)?;
     match tx.commit() {
         Ok(()) => Ok(reply),
         Err(error) => Err(fault_of(error)),

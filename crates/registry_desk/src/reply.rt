@@ -26,6 +26,7 @@ use registry_packument::{
 use registry_ranges::Selector;
 use registry_rules::{Action, Reply};
 use registry_tables::DocumentRow;
+use registry_texts::SharedText;
 use std::alloc::Global;
 
 /// The reply to a caller's action, of the rows that answer it.
@@ -59,24 +60,26 @@ pub(crate) fn reply(alloc: Global, what: &Action, rows: Rows) -> Result<Reply, F
             Ok(Reply::Count(count(selector, &live)))
         }
         (Action::Packument { name }, Rows::Packument { versions, tags }) => {
-            Ok(Reply::Doc(packument(alloc, name, versions, tags)?))
+            doc(packument(alloc, name, versions, tags)?)
         }
-        (Action::VersionDoc { .. }, Rows::Document(Some(row))) => {
-            Ok(Reply::Doc(document(alloc, &row)?))
-        }
+        (Action::Packument { .. }, Rows::Known(text)) => Ok(Reply::Doc(text)),
+        (Action::VersionDoc { .. }, Rows::Document(Some(row))) => { doc(document(alloc, &row)?) }
         (Action::Archive { .. }, Rows::Archive(Some(archive))) => Ok(Reply::Bytes(archive)),
-        (Action::Tags { .. }, Rows::Tags(tags)) => Ok(Reply::Doc(tags_of(alloc, tags)?)),
-        (Action::Members { .. }, Rows::Members(members)) => {
-            Ok(Reply::Doc(members_of(alloc, members)?))
-        }
+        (Action::Tags { .. }, Rows::Tags(tags)) => doc(tags_of(alloc, tags)?),
+        (Action::Members { .. }, Rows::Members(members)) => { doc(members_of(alloc, members)?) }
         (Action::Teams { .. } | Action::TeamMembers { .. }, Rows::Names(names)) => {
-            Ok(Reply::Doc(list_text(alloc, &List::Names(names))?))
+            doc(list_text(alloc, &List::Names(names))?)
         }
-        (Action::TeamPackages { .. }, Rows::Grants(granted)) => {
-            Ok(Reply::Doc(grants_of(alloc, granted)?))
-        }
+        (Action::TeamPackages { .. }, Rows::Grants(granted)) => { doc(grants_of(alloc, granted)?) }
         _ => Err(Fault::Database),
     }
+}
+
+// The reply that is this text, which others may share.
+fn doc(text: Text) -> Result<Reply, Fault>
+    ensures { IfOk result (λ told. told ≡ Reply.Doc text) }
+{
+    Ok(Reply::Doc(SharedText::from_text(text)?))
 }
 
 // How many of the versions the selector selects.

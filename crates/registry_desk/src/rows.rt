@@ -1,6 +1,6 @@
 //! The rows that answer an action which nothing refuses. Nothing is changed.
 
-ghost use Rattle.std.specs.Prelude.{◌≡◌, List, option_map};
+ghost use Rattle.std.specs.Prelude.{◌≡◌, List, option_map, IfSome};
 ghost use Rattle.registry_access.specs.declared.caller.Caller.{Caller};
 ghost use Rattle.registry_history.specs.Answers.{asked_release};
 ghost use Rattle.registry_names.specs.Texts.{Text as Word};
@@ -10,7 +10,9 @@ ghost use Rattle.registry_tables.specs.Contents.{registry_of};
 ghost use Rattle.registry_tables.specs.Effects.{InForm, Knows, Tells};
 ghost use Rattle.registry_tables.specs.Spelled.{document, document_entry};
 ghost use Rattle.registry_tables.specs.Teams.{AreTeamsSound};
+ghost use Rattle.registry_texts.specs.Stores.{kept};
 ghost use Rattle.registry_desk.specs.Found.{AreRowsOf};
+ghost use Rattle.registry_desk.specs.Shelves.{ArePackuments};
 ghost use Rattle.registry_rules.specs.declared.request.Action.TheVariants as asked;
 ghost use Rattle.registry_rules.specs.declared.request.Asked.TheVariants as which;
 
@@ -22,6 +24,7 @@ use registry_tables::{
     DocumentRow, load_archive, load_document, load_live, load_members, load_tag, load_tags,
     load_team_packages, load_team_users, load_teams, load_versions,
 };
+use registry_texts::{SharedText, Texts};
 use sqlite::{Alter, Transaction};
 use std::alloc::Global;
 
@@ -39,6 +42,8 @@ pub(crate) enum Rows {
         /// The tags, in byte order.
         tags: Vec<DistTag>,
     },
+    /// Of a packument: its text, which was made before.
+    Known(SharedText),
     /// The manifest and the message of a version, if that lives.
     Document(Option<DocumentRow>),
     /// The archive of a version, if that lives.
@@ -57,13 +62,18 @@ pub(crate) enum Rows {
 pub(crate) fn rows_for<S: Alter>(
     alloc: Global,
     tx: &mut Transaction<'_, S>,
+    texts: &Texts,
     caller: &Caller,
     what: &Action,
 ) -> Result<Rows, Fault>
     requires in_form { InForm S.Store tx.old }
     ensures stays { Stays S.Store tx.old tx.new }
     ensures knows { Knows S.Store tx.old tx.new result
-        (λ rows c. AreTeamsSound c → AreRowsOf rows (registry_of c) caller.now what.now) }
+        (λ rows c. AreTeamsSound c → ArePackuments c texts.now
+        → AreRowsOf rows (registry_of c) caller.now what.now) }
+    ensures packument { Knows S.Store tx.old tx.new result (λ rows c. (p : Word)
+        → what.now ≡ asked.Packument p → ArePackuments c texts.now
+        → AreRowsOf rows (registry_of c) caller.now what.now) }
 {
     match what {
         Action::UserAdd { .. }
@@ -85,7 +95,7 @@ pub(crate) fn rows_for<S: Alter>(
         | Action::TagRemove { .. }
         | Action::Withdraw { .. } => Ok(Rows::Nothing),
         Action::Deprecate { name, .. } => live_rows(alloc, tx, name),
-        Action::Packument { name } => packument_rows(alloc, tx, name),
+        Action::Packument { name } => packument_rows(alloc, tx, texts, name),
         Action::VersionDoc { name, version } => document_row(tx, name, version),
         Action::Archive { name, version } => archive_row(tx, name, version),
         Action::Tags { name } => tag_rows(alloc, tx, name),
@@ -115,6 +125,31 @@ fn live_rows<S: Alter>(
 }
 
 fn packument_rows<S: Alter>(
+    alloc: Global,
+    tx: &mut Transaction<'_, S>,
+    texts: &Texts,
+    name: &Name,
+) -> Result<Rows, Fault>
+    requires in_form { InForm S.Store tx.old }
+    ensures stays { Stays S.Store tx.old tx.new }
+    ensures knows { Knows S.Store tx.old tx.new result (λ rows c. (who : Caller)
+        → ArePackuments c texts.now
+        → AreRowsOf rows (registry_of c) who (asked.Packument name.now)) }
+{
+    match known_text(texts, name) {
+        Some(text) => Ok(Rows::Known(text)),
+        None => stored_rows(alloc, tx, name),
+    }
+}
+
+// The text that is kept of a packument. None where it can't be shared.
+fn known_text(texts: &Texts, name: &Name) -> Option<SharedText>
+    ensures { IfSome result (λ text. kept texts.now name.now ≡ Some text) }
+{
+    texts.peek(name.text())?.share().ok()
+}
+
+fn stored_rows<S: Alter>(
     alloc: Global,
     tx: &mut Transaction<'_, S>,
     name: &Name,

@@ -1,4 +1,5 @@
 mod AccessFacts
+pub mod ApartFacts
 pub mod FreedFacts
 mod LegalFacts
 pub mod LeftFacts

@@ -1,5 +1,6 @@
 pub mod AccessReadings
 pub mod Answers
+pub mod Apart
 pub mod Headline
 pub mod History
 pub mod Readings

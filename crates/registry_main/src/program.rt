@@ -85,7 +85,8 @@ fn print_packument<I: ByteIn, O: ByteOut>(
     output: &mut O,
 ) -> Result<u8, Ending> {
     let body = read_whole(alloc, input, MOST_READ)?;
-    let mut text = packument_of(alloc, &body)?.into_string();
+    let packument = packument_of(alloc, &body)?;
+    let mut text = String::from_str(alloc, packument.as_str())?;
     text.push('\n')?;
     match write_whole(output, text.as_bytes()) {
         Ok(()) => Ok(0),

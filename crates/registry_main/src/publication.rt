@@ -2,9 +2,10 @@
 
 use crate::ending::Ending;
 use registry_desk::Registry;
-use registry_names::{Fault, Ident, Moment, Name, Stop, Text};
+use registry_names::{Fault, Ident, Moment, Name, Stop};
 use registry_publish::PublishForm;
 use registry_rules::{Action, Credential, Reply, Request};
+use registry_texts::SharedText;
 use std::alloc::Global;
 
 /// The user who publishes.
@@ -12,7 +13,7 @@ const PUBLISHER: &str = "first";
 
 /// The packument of the one package of an empty registry to which the user `first` publishes the
 /// body. The organisation of the package's scope, if it has one, is his.
-pub fn packument_of(alloc: Global, body: &[u8]) -> Result<Text, Ending> {
+pub fn packument_of(alloc: Global, body: &[u8]) -> Result<SharedText, Ending> {
     let requests = requests_of(alloc, body)?;
     let (_registry, outcomes) = Registry::run_in_memory(alloc, &requests)?;
     document_in(outcomes)
@@ -60,7 +61,7 @@ fn request(who: Credential, what: Action) -> Request {
 }
 
 // The document among the outcomes, where no request before it was turned away.
-fn document_in(outcomes: Vec<Result<Reply, Fault>>) -> Result<Text, Ending> {
+fn document_in(outcomes: Vec<Result<Reply, Fault>>) -> Result<SharedText, Ending> {
     for outcome in outcomes {
         match outcome? {
             Reply::Created | Reply::Done | Reply::Count(_) | Reply::Bytes(_) => {}

@@ -1,6 +1,7 @@
 //! What the registry answers.
 
-use registry_names::{Blob, Refusal, Text};
+use registry_names::{Blob, Refusal};
+use registry_texts::SharedText;
 
 /// The answer to a request.
 #[derive(Debug, PartialEq, Eq, Drop)]
@@ -11,8 +12,8 @@ pub enum Reply {
     Done,
     /// So many versions were deprecated, or aren't any more.
     Count(u64),
-    /// A document in JSON (RFC 8259).
-    Doc(Text),
+    /// A document in JSON (RFC 8259), which others may have too.
+    Doc(SharedText),
     /// The bytes of an archive.
     Bytes(Blob),
     /// The request is turned away, and nothing has changed.

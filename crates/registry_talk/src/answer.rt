@@ -7,8 +7,9 @@ ghost use Rattle.registry_talk.specs.Answers as spec;
 ghost use Rattle.registry_talk.specs.Answers.{AnswersSo, answer_bytes, body_bytes};
 
 use http::StatusCode;
-use registry_names::{Blob, Fault, Refusal, Text};
+use registry_names::{Blob, Fault, Refusal};
 use registry_rules::Reply;
+use registry_texts::SharedText;
 use registry_wire::{ContentKind, Response, ShortText};
 
 /// The body of an answer.
@@ -16,8 +17,8 @@ use registry_wire::{ContentKind, Response, ShortText};
 pub enum Body {
     /// A text that takes no memory.
     Short(ShortText),
-    /// A document of the registry.
-    Doc(Text),
+    /// A document of the registry, which others may have too.
+    Doc(SharedText),
     /// The bytes of an archive.
     Bytes(Blob),
 }

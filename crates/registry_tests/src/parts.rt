@@ -1,6 +1,7 @@
 //! Values in form, of which the cases are made.
 
 use registry_names::{Blob, Ident, Name, Text, Ver};
+use registry_texts::SharedText;
 use std::alloc::Global;
 use std::fmt::Debug;
 use std::process::Abort;
@@ -8,6 +9,10 @@ use std::str;
 
 pub fn text(rt: &impl Abort, alloc: Global, text: &str) -> Text {
     Text::from_str(alloc, text).expect(rt, "memory")
+}
+
+pub fn shared(rt: &impl Abort, alloc: Global, text: &str) -> SharedText {
+    SharedText::from_str(alloc, text).expect(rt, "memory")
 }
 
 pub fn texts(rt: &impl Abort, alloc: Global, words: &[&str]) -> Vec<Text> {

@@ -1,7 +1,7 @@
 //! What is printed of answers, and how roles, levels and statuses are spelled.
 
 use crate::outcome::same;
-use crate::parts::{blob, text};
+use crate::parts::{blob, shared};
 use registry_access::{Grant, Role};
 use registry_cli::render;
 use registry_cli::spelling::{level, role, status};
@@ -27,7 +27,7 @@ fn answers_are_printed(rt: HostRuntime) {
     is_printed(&rt, alloc, Reply::Created, OK, "", 0);
     is_printed(&rt, alloc, Reply::Done, OK, "", 0);
     is_printed(&rt, alloc, Reply::Count(12), COUNTED, "", 0);
-    let document = text(&rt, alloc, "{\"latest\":\"1.0.0\"}");
+    let document = shared(&rt, alloc, "{\"latest\":\"1.0.0\"}");
     is_printed(
         &rt,
         alloc,

@@ -1,10 +1,10 @@
 //! A store of texts, step by step, and a text that is shared.
 
 use crate::outcome::same;
-use registry_names::Text;
+use crate::parts::{shared, text};
 use registry_texts::{SharedText, Texts};
 use std::alloc::Global;
-use std::test::Fail;
+use std::process::Abort;
 
 /// What is asked of a store. A look-up has with it what it is to find.
 enum Step {
@@ -73,43 +73,45 @@ static STAGES: [Stage; 12] = [
     },
 ];
 
-fn shown(text: Option<&SharedText>) -> Option<&str> {
-    match text {
+// Takes a step, and sees that a look-up finds what it is to find.
+fn take(rt: &impl Abort, alloc: Global, store: &mut Texts, step: &Step) {
+    match *step {
+        Step::Put(name, text) => {
+            let text = shared(rt, alloc, text);
+            store.put(name, text).expect(rt, "memory");
+        }
+        Step::Get(name, wanted) => {
+            let found = store.get(name).expect(rt, "few owners");
+            is_found(rt, name, found.as_ref(), wanted);
+        }
+        Step::Peek(name, wanted) => is_found(rt, name, store.peek(name), wanted),
+        Step::Forget(name) => store.forget(name),
+    }
+}
+
+fn is_found(rt: &impl Abort, name: &str, found: Option<&SharedText>, wanted: Option<&str>) {
+    let found = match found {
         Some(text) => Some(text.as_str()),
         None => None,
-    }
-}
-
-fn take(alloc: Global, store: &mut Texts, step: &Step) -> Result<(), Fail> {
-    match step {
-        Step::Put(name, text) => {
-            store.put(name, SharedText::from_str(alloc, text)?)?;
-            Ok(())
-        }
-        Step::Get(name, wanted) => same(*name, shown(store.get(name)?.as_ref()), *wanted),
-        Step::Peek(name, wanted) => same(*name, shown(store.peek(name)), *wanted),
-        Step::Forget(name) => {
-            store.forget(name);
-            Ok(())
-        }
-    }
+    };
+    same(rt, name, found, wanted);
 }
 
 #[test]
-fn the_latest_asked_are_kept(rt: HostRuntime) -> Result<(), Fail> {
-    let mut store = Texts::new(rt.alloc(), LIMIT)?;
+fn the_latest_asked_are_kept(rt: HostRuntime) {
+    let mut store = Texts::new(rt.alloc(), LIMIT).expect(&rt, "memory");
     for stage in &STAGES {
-        take(rt.alloc(), &mut store, &stage.step)?;
-        same("size", store.size(), stage.size)?;
+        take(&rt, rt.alloc(), &mut store, &stage.step);
+        same(&rt, "size", store.size(), stage.size);
     }
-    same("limit", store.limit(), LIMIT)
+    same(&rt, "limit", store.limit(), LIMIT);
 }
 
 #[test]
-fn a_shared_text_outlives_the_others(rt: HostRuntime) -> Result<(), Fail> {
-    let text = SharedText::from_text(Text::from_str(rt.alloc(), "four")?)?;
-    let copy = text.share()?;
-    same("equal", text == copy, true)?;
+fn a_shared_text_outlives_the_others(rt: HostRuntime) {
+    let text = SharedText::from_text(text(&rt, rt.alloc(), "four")).expect(&rt, "memory");
+    let copy = text.share().expect(&rt, "few owners");
+    same(&rt, "equal", text == copy, true);
     drop(text);
-    same("copy", copy.as_str(), "four")
+    same(&rt, "copy", copy.as_str(), "four");
 }

@@ -1,7 +1,7 @@
 //! What outcomes are in HTTP.
 
 use crate::outcome::same;
-use crate::parts::{as_text, blob, text};
+use crate::parts::{as_text, blob, shared};
 use registry_names::{Fault, Refusal, Rule, ToWrite};
 use registry_rules::Reply;
 use registry_talk::Answer;
@@ -25,7 +25,7 @@ fn outcome_of(rt: &impl Abort, alloc: Global, outcome: &Outcome) -> Result<Reply
         Outcome::Created => Ok(Reply::Created),
         Outcome::Done => Ok(Reply::Done),
         Outcome::Count(count) => Ok(Reply::Count(count)),
-        Outcome::Doc(document) => Ok(Reply::Doc(text(rt, alloc, document))),
+        Outcome::Doc(document) => Ok(Reply::Doc(shared(rt, alloc, document))),
         Outcome::Bytes(bytes) => Ok(Reply::Bytes(blob(rt, alloc, bytes))),
         Outcome::Refused(refusal) => Ok(Reply::Refused(refusal)),
         Outcome::Faulted(fault) => Err(fault),

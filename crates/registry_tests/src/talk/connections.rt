@@ -5,9 +5,10 @@ ghost use Rattle.std.specs.Prelude.{None};
 use crate::outcome::same;
 use crate::parts::{around, as_text, repeated};
 use crate::wire::reader::{Drip, Faltering, Narrow};
-use registry_names::{ByteIn, Fault, FromRead, Moment, Refusal, Text, ToWrite};
+use registry_names::{ByteIn, Fault, FromRead, Moment, Refusal, ToWrite};
 use registry_rules::{Action, Credential, Reply, Request};
 use registry_talk::{Clock, Desk, End, Served, serve};
+use registry_texts::SharedText;
 use registry_wire::Inbox;
 use std::alloc::Global;
 use std::io::ErrorKind;
@@ -26,7 +27,7 @@ impl Desk for Shelf {
         self.asked.push(request.at.seconds())?;
         match (&request.what, &request.who) {
             (Action::Tags { name: _ }, Credential::Token(_)) => {
-                Ok(Reply::Doc(Text::from_str(alloc, "{\"latest\":\"1.0.0\"}")?))
+                Ok(Reply::Doc(SharedText::from_str(alloc, "{\"latest\":\"1.0.0\"}")?))
             }
             (Action::Teams { organisation: _ }, _) => Err(Fault::Database),
             (Action::OrgSet { .. }, _) => Ok(Reply::Refused(Refusal::NoCaller)),

@@ -1,4 +1,4 @@
-use Rattle.std.proofs.Common.{◌≡◌, ◌∙◌, arith, ap, refl, sym, subst, Some}
+use Rattle.std.proofs.Common.{◌≡◌, ◌∙◌, arith, ap, refl, sym, subst, Some, IfOk}
 use Rattle.std.proofs.lemmas.Result.{IfOk-weaker}
 use Rattle.sqlite.specs.Effect.{Database}
 use Rattle.sqlite.specs.State.{HasCleanDisk}
@@ -11,6 +11,7 @@ use Rattle.registry_tables.specs.Schema.{schema}
 use Rattle.registry_tables.specs.Teams.{AreTeamsSound}
 use Rattle.registry_history.specs.Answers.{answer}
 use Rattle.registry_desk.specs.Resting.{settled_by}
+use Rattle.registry_desk.specs.Shelves.{ArePackuments, Tends}
 use Rattle.registry_desk.proofs.AnswerFacts.{known_stands}
 use Rattle.registry_desk.proofs.answer.answered_to.Goals as goal
 
@@ -25,7 +26,7 @@ pub returns-clause-stays : goal.returns-clause-stays
 returns-clause-stays g c = stays_then g.S.Store c.args.tx.now c.facts.new.tx c.answered_by.new.tx c.facts.ensures.stays c.answered_by.ensures.stays
 
 pub returns-clause-answers : goal.returns-clause-answers
-returns-clause-answers g c known sound needs clean =
+returns-clause-answers g c known sound needs right clean =
     let was = stored_in g.S.Store c.args.tx.now in
     let r = c.args.request.now in
     let were : HasCleanDisk (shown g.S.Store c.facts.new.tx) = omega (arith, c.answered_by.ensures.stays.survives.clean, clean) in
@@ -33,7 +34,7 @@ returns-clause-answers g c known sound needs clean =
     let same : stored_in g.S.Store c.facts.new.tx ≡ was = ap (λ (d : Database). contents d.trees) told.0.same in
     let stands = known_stands (registry_of was) c.args.caller c.in_ok-about.about r known (told.1 sound needs) in
     IfOk-weaker c.answered_by.result _ _ (λ _ e. e ∙ ap (λ (d : Contents). answer (registry_of d) r) same)
-    (c.answered_by.ensures.answers (subst (λ (d : Contents). StandsFor (record { caller = Some c.args.caller; about = c.in_ok-about.about }) (registry_of d) r) (sym same) stands) (subst AreTeamsSound (sym same) sound) clean)
+    (c.answered_by.ensures.answers (subst (λ (d : Contents). StandsFor (record { caller = Some c.args.caller; about = c.in_ok-about.about }) (registry_of d) r) (sym same) stands) (subst AreTeamsSound (sym same) sound) (subst (λ (d : Contents). ArePackuments d c.args.texts.now) (sym same) right) clean)
 
 pub returns-clause-settles : goal.returns-clause-settles
 returns-clause-settles g c known sound needs clean =
@@ -50,3 +51,9 @@ pub returns-clause-served : goal.returns-clause-served
 returns-clause-served g c clean =
     let were : HasCleanDisk (shown g.S.Store c.facts.new.tx) = omega (arith, c.answered_by.ensures.stays.survives.clean, clean) in
     on_answer c.answered_by.result (λ _. (c.in_ok-about.ensures.tells were).0.was_open) (c.answered_by.ensures.goes_on clean)
+
+pub returns-clause-tends : goal.returns-clause-tends
+returns-clause-tends g c clean =
+    let were : HasCleanDisk (shown g.S.Store c.facts.new.tx) = omega (arith, c.answered_by.ensures.stays.survives.clean, clean) in
+    let same : stored_in g.S.Store c.facts.new.tx ≡ stored_in g.S.Store c.args.tx.now = ap (λ (d : Database). contents d.trees) (c.in_ok-about.ensures.tells were).0.same in
+    subst (λ (d : Contents). IfOk c.answered_by.result (Tends d (stored_in g.S.Store c.answered_by.new.tx) c.args.request.now.what c.args.texts.now c.answered_by.new.texts)) same (c.answered_by.ensures.tends clean)

@@ -1,5 +1,7 @@
 use Rattle.std.proofs.Common.{subst, sym}
 use Rattle.sqlite.proofs.Callers.{memory_is_clean}
+use Rattle.registry_texts.specs.Stores.{AreRight}
+use Rattle.registry_texts.proofs.RightFacts.{new_right}
 use Rattle.registry_tables.specs.Archives.{HoldsArchives}
 use Rattle.registry_tables.specs.Contents.{Contents, registry_of}
 use Rattle.registry_tables.specs.Needs.{HoldsNeeds}
@@ -12,7 +14,10 @@ use Rattle.registry_tables.proofs.KeptArchiveFacts.{fresh_archives}
 use Rattle.registry_desk.proofs.registry.Registry+MemStore.in_memory.Goals as goal
 
 pub invariant_of-result : goal.invariant_of-result
-invariant_of-result c = c.in_ok-create_tables.ensures.rests
+invariant_of-result c = record {
+  rests = c.in_ok-create_tables.ensures.rests;
+  right = λ clean on. subst (AreRight _) (sym c.in_ok-texts.ensures) (new_right _ _);
+}
 
 pub returns-clause-fresh : goal.returns-clause-fresh
 returns-clause-fresh c = c.in_ok-create_tables.ensures.made (memory_is_clean c.create_tables.new.conn)
