@@ -1,17 +1,19 @@
--- What the texts that are kept have to do with what is stored. `old` and `new` are what a store keeps at the entry and at the exit.
-use Rattle.std.specs.Prelude.{◌≡◌, ◌⊎◌, true, List, IsTrue, Some, None, Ok}
-use Rattle.std.specs.List.{list_any}
+-- What the texts that are kept have to do with what is stored. `old` and `new` are what a store
+-- keeps at the entry and at the exit.
+use Rattle.std.specs.Prelude.{◌≡◌, ◌⊎◌, true, false, List, IsTrue, Some, None, Ok}
 use Rattle.sqlite.specs.State.{State as Shown, HasCleanDisk}
-use Rattle.registry_names.specs.Texts.{Text}
+use Rattle.registry_names.specs.Texts.{Text, is}
 use Rattle.registry_texts.specs.Stores.{Store, AreRight, kept}
-use Rattle.registry_rules.specs.Changes.{Change, is_about}
+use Rattle.registry_rules.specs.Changes.{Change}
 use Rattle.registry_rules.specs.declared.reply.Reply.{Reply}
 use Rattle.registry_rules.specs.declared.reply.Reply.TheVariants.{Doc}
 use Rattle.registry_rules.specs.declared.request.Action.{Action}
-use Rattle.registry_rules.specs.declared.request.Action.TheVariants.{Packument}
+use Rattle.registry_rules.specs.declared.request.Action.TheVariants.{Packument, TeamPackages}
 use Rattle.registry_tables.specs.Contents.{Contents, registry_of}
 use Rattle.registry_tables.specs.Effects.{registry_in, stored}
+use Rattle.registry_tables.specs.Teams.{AreTeamsSound}
 use Rattle.registry_history.specs.Answers.{packument_in}
+use Rattle.registry_history.specs.Apart.{are_about, is_about}
 use Rattle.registry_history.specs.Runs.{Outcome}
 use Rattle.registry_desk.specs.Resting.{Rests}
 
@@ -28,27 +30,25 @@ pub record IsShelved (s : Shown) (texts : Store) : Type 0 where
   pub rests : Rests s
   pub right : HasPackuments s texts
 
+-- ---- what is forgotten
+
 -- no text comes, under any name
 abbrev pub Loses : Store → Store → Type 0
 Loses old new = (p text : Text) → kept new p ≡ Some text → kept old p ≡ Some text
 
 -- nothing is kept of a package of which these change a version or a tag
 abbrev pub Forgets : List Change → Store → Type 0
-Forgets changes texts = (p : Text) → list_any (λ change. is_about change p) changes ≡ true → kept texts p ≡ None
+Forgets changes texts = (p : Text) → are_about changes p ≡ true → kept texts p ≡ None
 
--- a packument that is answered is the package's
-abbrev pub ShowsPackument : Contents → Store → Action → Reply → Type 0
-ShowsPackument c texts what given = (p text : Text) → ArePackuments c texts → what ≡ Packument p → given ≡ Doc text → text ≡ packument_in (registry_of c) p
+-- the change is about this package alone, and about none
+module _ (change : Change) where
+  abbrev pub IsAbout : Text → Type 0
+  IsAbout name = (p : Text) → is_about change p ≡ is name p
 
--- the contents go from c to d: what is kept is of packages whose packuments stay, and a packument that is answered is the package's, before and after
-pub record Tends (c d : Contents) (what : Action) (old new : Store) (given : Reply) : Type 0 where
-  pub still : (p text : Text) → kept new p ≡ Some text → packument_in (registry_of d) p ≡ packument_in (registry_of c) p
-  pub shown : ShowsPackument c old what given
-  pub asked : (p : Text) → what ≡ Packument p → packument_in (registry_of d) p ≡ packument_in (registry_of c) p
+  abbrev pub IsAboutNone : Type 0
+  IsAboutNone = (p : Text) → is_about change p ≡ false
 
--- a packument that is answered is the package's, as it stands after the request
-abbrev pub ShowsRight : Shown → Action → Outcome → Type 0
-ShowsRight new what o = HasCleanDisk new → IsTrue new.is_open → (p text : Text) → what ≡ Packument p → o ≡ Ok (Doc text) → text ≡ packument_in (registry_in new) p
+-- ---- what is kept of an answer
 
 -- nothing is kept but what was, and the text under the name
 abbrev pub HoldsMore : Text → Text → Store → Store → Type 0
@@ -57,3 +57,27 @@ HoldsMore name text old new = (p found : Text) → kept new p ≡ Some found →
 -- nothing is kept but what was, and a packument that is answered
 abbrev pub KeepsAnswer : Action → Outcome → Store → Store → Type 0
 KeepsAnswer what o old new = (p text : Text) → kept new p ≡ Some text → (kept old p ≡ Some text) ⊎ ((what ≡ Packument p) × (o ≡ Ok (Doc text)))
+
+-- ---- a request
+
+-- What is stored and kept is sound for an action: for a packument the texts that are kept, and for
+-- what a team is granted the teams
+abbrev pub IsSoundFor : Action → Contents → Store → Type 0
+IsSoundFor (Packument p) c texts = ArePackuments c texts
+IsSoundFor (TeamPackages o t) c texts = AreTeamsSound c
+IsSoundFor _ c texts = Unit {0}
+
+-- a packument that is answered is the package's
+abbrev pub ShowsPackument : Contents → Store → Action → Reply → Type 0
+ShowsPackument c texts what given = (p text : Text) → ArePackuments c texts → what ≡ Packument p → given ≡ Doc text → text ≡ packument_in (registry_of c) p
+
+-- The contents go from c to d: what is kept is of packages whose packuments stay, and a packument
+-- that is answered is the package's, before and after
+pub record Tends (c d : Contents) (what : Action) (old new : Store) (given : Reply) : Type 0 where
+  pub still : (p text : Text) → kept new p ≡ Some text → packument_in (registry_of d) p ≡ packument_in (registry_of c) p
+  pub shown : ShowsPackument c old what given
+  pub asked : (p : Text) → what ≡ Packument p → packument_in (registry_of d) p ≡ packument_in (registry_of c) p
+
+-- a packument that is answered is the package's, as it stands after the request
+abbrev pub ShowsRight : Shown → Action → Outcome → Type 0
+ShowsRight new what o = HasCleanDisk new → IsTrue new.is_open → (p text : Text) → what ≡ Packument p → o ≡ Ok (Doc text) → text ≡ packument_in (registry_in new) p

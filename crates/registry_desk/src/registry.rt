@@ -32,9 +32,11 @@ pub(crate) const TEXT_LIMIT: usize = 64 << 20;
 
 /// A registry of packages, over any store that keeps its tables. Contracts see the connection.
 ///
-/// It keeps the texts of the packuments that were asked for last, each as long as it is the
-/// packument of what is stored. Between requests it has no transaction, its tables are in form, and all that it sees was
+/// Between requests it has no transaction, its tables are in form, and all that it sees was
 /// committed. A fault of the disk may shut it for good: then every request is answered by a fault.
+///
+/// It keeps the texts of the packuments that were asked for last. Between requests each is the
+/// packument of what is stored.
 pub struct Registry<S: Alter> {
     pub(crate) conn: Connection<S>,
     pub(crate) texts: Texts,

@@ -12,7 +12,7 @@ ghost use Rattle.registry_tables.specs.Spelled.{document, document_entry};
 ghost use Rattle.registry_tables.specs.Teams.{AreTeamsSound};
 ghost use Rattle.registry_texts.specs.Stores.{kept};
 ghost use Rattle.registry_desk.specs.Found.{AreRowsOf};
-ghost use Rattle.registry_desk.specs.Shelves.{ArePackuments};
+ghost use Rattle.registry_desk.specs.Shelves.{ArePackuments, IsSoundFor};
 ghost use Rattle.registry_rules.specs.declared.request.Action.TheVariants as asked;
 ghost use Rattle.registry_rules.specs.declared.request.Asked.TheVariants as which;
 
@@ -68,11 +68,7 @@ pub(crate) fn rows_for<S: Alter>(
 ) -> Result<Rows, Fault>
     requires in_form { InForm S.Store tx.old }
     ensures stays { Stays S.Store tx.old tx.new }
-    ensures knows { Knows S.Store tx.old tx.new result
-        (λ rows c. AreTeamsSound c → ArePackuments c texts.now
-        → AreRowsOf rows (registry_of c) caller.now what.now) }
-    ensures packument { Knows S.Store tx.old tx.new result (λ rows c. (p : Word)
-        → what.now ≡ asked.Packument p → ArePackuments c texts.now
+    ensures knows { Knows S.Store tx.old tx.new result (λ rows c. IsSoundFor what.now c texts.now
         → AreRowsOf rows (registry_of c) caller.now what.now) }
 {
     match what {

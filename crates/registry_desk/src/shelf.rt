@@ -1,9 +1,11 @@
 //! The texts of packuments that a registry keeps.
 
-ghost use Rattle.registry_desk.specs.Shelves.{HoldsMore, KeepsAnswer};
+ghost use Rattle.std.specs.Prelude.{[], ◌∷◌, map, IfNone, IfSome};
+ghost use Rattle.registry_rules.specs.Changes.{change_of};
+ghost use Rattle.registry_desk.specs.Shelves.{Forgets, HoldsMore, IsAbout, IsAboutNone, KeepsAnswer, Loses};
 
 use registry_names::{Fault, Name};
-use registry_rules::{Action, Reply};
+use registry_rules::{Action, Change, Reply};
 use registry_texts::{SharedText, Texts};
 
 /// Keeps what was answered to the query of a packument, as the latest asked. It is no fault where
@@ -30,5 +32,40 @@ fn put(texts: &mut Texts, name: &Name, text: &SharedText)
 {
     if let Ok(text) = text.share() {
         let _kept = texts.put(name.text(), text);
+    }
+}
+
+/// Forgets the packument of each package of which a version or a tag is changed.
+pub(crate) fn forget_changed(texts: &mut Texts, changes: &[Change<'_>])
+    ensures loses { Loses texts.old texts.new }
+    ensures forgets { Forgets (map change_of changes.now) texts.new }
+{
+    for change in changes {
+        forget(texts, change);
+    }
+}
+
+fn forget(texts: &mut Texts, change: &Change<'_>)
+    ensures loses { Loses texts.old texts.new }
+    ensures forgets { Forgets (change_of change.now ∷ []) texts.new }
+{
+    match changed_package(change) {
+        Some(name) => texts.forget(name.text()),
+        None => {}
+    }
+}
+
+// The package of which it changes a version or a tag. None where it changes neither.
+fn changed_package<'a>(change: &Change<'a>) -> Option<&'a Name>
+    ensures some { IfSome result (λ name. IsAbout (change_of change.now) name.now) }
+    ensures none { IfNone result (IsAboutNone (change_of change.now)) }
+{
+    match *change {
+        Change::AddVersion { form, .. } => Some(form.name()),
+        Change::RetireVersion { package, .. }
+        | Change::PutDeprecation { package, .. }
+        | Change::PutTag { package, .. }
+        | Change::DropTag { package, .. } => Some(package),
+        _ => None,
     }
 }

@@ -16,6 +16,7 @@ mod tables;
 mod withdrawals;
 
 use crate::example::{Ask, Example, Expected, Step, Who};
+use crate::packuments::PACKUMENTS;
 use crate::people::{ORGANISATIONS, TEAMS, USERS};
 use crate::rights::{GRANTS, MAINTAINERS, STATUSES};
 use crate::table::{DOCUMENTS, PUBLISHES, QUERIES, TAGS};
@@ -70,6 +71,11 @@ fn versions_are_published(rt: HostRuntime) -> Result<(), Fail> {
 #[test]
 fn queries_are_answered(rt: HostRuntime) -> Result<(), Fail> {
     all_have_their_replies(rt.alloc(), &QUERIES)
+}
+
+#[test]
+fn packuments_follow_what_is_held(rt: HostRuntime) -> Result<(), Fail> {
+    all_have_their_replies(rt.alloc(), &PACKUMENTS)
 }
 
 #[test]

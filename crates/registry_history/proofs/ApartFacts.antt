@@ -11,7 +11,7 @@ use Rattle.registry_packument.specs.Packuments.{packument_of}
 use Rattle.registry_access.specs.declared.caller.Caller.{Caller}
 use Rattle.registry_rules.specs.Actions.{names, version_of}
 use Rattle.registry_rules.specs.Callers.{caller_of}
-use Rattle.registry_rules.specs.Changes.{Change, AddUser, AddToken, AddOrg, PutMember, DropMember, AddTeam, PutTeamMember, DropTeamMember, DropTeam, PutGrant, DropGrant, PutMaintainer, DropMaintainer, PutStatus, AddVersion, RetireVersion, PutDeprecation, PutTag, DropTag, made, all_made, is_about, release_of}
+use Rattle.registry_rules.specs.Changes.{Change, AddUser, AddToken, AddOrg, PutMember, DropMember, AddTeam, PutTeamMember, DropTeamMember, DropTeam, PutGrant, DropGrant, PutMaintainer, DropMaintainer, PutStatus, AddVersion, RetireVersion, PutDeprecation, PutTag, DropTag, made, all_made, release_of}
 use Rattle.registry_rules.specs.Effects.{effects_for, step}
 use Rattle.registry_rules.specs.Operations.{with_member, with_role, with_grant, regranted, with_status, restated, with_tag, moved}
 use Rattle.registry_rules.specs.State.{State, Release}
@@ -19,7 +19,7 @@ use Rattle.registry_rules.specs.declared.request.Action.{Action}
 use Rattle.registry_rules.specs.declared.request.Request.{Request}
 use Rattle.registry_rules.proofs.LawFacts.{packages_stand_apart}
 use Rattle.registry_history.specs.Answers.{dist_tag, version_row, packument_in}
-use Rattle.registry_history.specs.Apart.{ChangesOfOthers, StepsOfOthers}
+use Rattle.registry_history.specs.Apart.{ChangesOfOthers, StepsOfOthers, are_about, is_about}
 
 -- the versions and the tags of the package are the same
 record IsSame (S T : State) (p : Text) : Type 0 where
@@ -82,7 +82,7 @@ neither false b e = (refl, e)
 pub changes_of_others : ChangesOfOthers
 changes_of_others S [] p e = refl
 changes_of_others S (change ∷ changes) p e =
-    let apart = neither (is_about change p) (list_any (λ c. is_about c p) changes) e in
+    let apart = neither (is_about change p) (are_about changes p) e in
     changes_of_others (made S change) changes p apart.1 ∙ same_packument S (made S change) p (made_same S change p apart.0)
 
 step_same : (S : State) (now : ℕ) (who : Option Caller) (what : Action) (p : Text) → names what p ≡ false → IsSame S (all_made S (effects_for S now who what)) p

@@ -1,6 +1,6 @@
 -- Changes: each is one operation on what the registry holds, and says all that it does.
-use Rattle.std.specs.Prelude.{ℕ, Bool, false, List, [], ◌∷◌, if◌then◌else◌}
-use Rattle.registry_names.specs.Texts.{Text, is}
+use Rattle.std.specs.Prelude.{ℕ, Bool, List, [], ◌∷◌, if◌then◌else◌}
+use Rattle.registry_names.specs.Texts.{Text}
 use Rattle.registry_names.specs.Versions.{text_of_version}
 use Rattle.registry_names.specs.declared.status.Status.{Status}
 use Rattle.registry_access.specs.declared.grant.Grant.{Grant}
@@ -74,15 +74,6 @@ made S (DropTag p t) = without_tag S p t
 abbrev pub all_made : State → List Change → State
 all_made S [] = S
 all_made S (c ∷ cs) = all_made (made S c) cs
-
--- whether it changes a version or a tag of the package
-abbrev pub is_about : Change → Text → Bool
-is_about (AddVersion f now) p = is f.name p
-is_about (RetireVersion q v published withdrawn) p = is q p
-is_about (PutDeprecation q v message) p = is q p
-is_about (PutTag q t v stands) p = is q p
-is_about (DropTag q t) p = is q p
-is_about _ p = false
 
 -- the values of a change of the program
 abbrev pub change_of : declared.Change → Change

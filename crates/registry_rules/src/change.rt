@@ -1,10 +1,5 @@
 //! What a decision changes.
 
-ghost use Rattle.std.specs.Prelude.{◌≡◌, List, ℕ, false};
-ghost use Rattle.std.specs.Option.{option_map_or};
-ghost use Rattle.registry_names.specs.Texts.{is};
-ghost use Rattle.registry_rules.specs.Changes.{change_of, is_about};
-
 use registry_access::{Grant, Role};
 use registry_names::{Ident, Message, Moment, Name, Status, Ver};
 use registry_publish::{PublishForm, TokenDigest};
@@ -173,21 +168,4 @@ pub enum Change<'a> {
         /// The tag.
         tag: &'a str,
     },
-}
-
-impl<'a> Change<'a> {
-    /// The package of which it changes a version or a tag. None where it changes neither.
-    pub fn package(&self) -> Option<&'a Name>
-        ensures { (p : List ℕ)
-            → option_map_or (λ name. is name.now p) result false ≡ is_about (change_of self.now) p }
-    {
-        match *self {
-            Change::AddVersion { form, .. } => Some(form.name()),
-            Change::RetireVersion { package, .. }
-            | Change::PutDeprecation { package, .. }
-            | Change::PutTag { package, .. }
-            | Change::DropTag { package, .. } => Some(package),
-            _ => None,
-        }
-    }
 }

@@ -27,7 +27,8 @@ module _ (R Q : Text → Text → Type 0) where
   still_right s other x false h on are = on refl (are.right other x h)
 
   module _ (s : Store) (name : Text) (on : (other text : Text) → is name other ≡ false → R other text → Q other text) (are : AreRight R s) where
-    -- where nothing else changes in what is right than under the name, and that is forgotten, all is right after
+    -- where nothing else changes in what is right than under the name, and that is forgotten, all
+    -- is right after
     pub forgotten_right : AreRight Q (forgotten s name)
     forgotten_right = record { right = λ other x h. still_right s other x (is name other) (gone ⊥ (is name other) x _ (kept s other) (kept-forgotten s name other) h) (λ t. on other x t) are }
 

@@ -88,7 +88,8 @@ put_right s name text other x true h =
     put_first (is name other) text x _ _ (kept s other) (first_at-without name other s.entries) (first_at-front (s.limit - length text) (without name s.entries) other x) h
 put_right s name text other x false h = gone (x ≡ text) (is name other) x _ (kept s other) (first_at-without name other s.entries) h
 
--- under the name nothing else is kept than the text, and under another name nothing else than was kept there
+-- under the name nothing else is kept than the text, and under another name nothing else than was
+-- kept there
 pub put_keeps_right : (s : Store) (name text other x : Text) → kept (with_text s name text) other ≡ Some x → MatchBool (is name other) (x ≡ text) (kept s other ≡ Some x)
 put_keeps_right s name text other x h = put_right s name text other x (nat_le (length text) s.limit) h
 

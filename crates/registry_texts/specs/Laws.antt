@@ -18,7 +18,8 @@ ForgottenAlone = (s : Store) (name other : Text) → kept (forgotten s name) oth
 abbrev pub PutIsKept : Type 0
 PutIsKept = (s : Store) (name text : Text) → length text ≤ s.limit → kept (with_text s name text) name ≡ Some text
 
--- under the name nothing else is kept than the text, and under another name nothing else than was kept there
+-- under the name nothing else is kept than the text, and under another name nothing else than was
+-- kept there
 abbrev pub PutKeepsRight : Type 0
 PutKeepsRight = (s : Store) (name text other found : Text) → kept (with_text s name text) other ≡ Some found
     → MatchBool (is name other) (found ≡ text) (kept s other ≡ Some found)

@@ -53,7 +53,8 @@ module _ (s : Store) (name : Text) where
     abbrev pub with_room : Store
     with_room = store (front (s.limit - length text) (without name s.entries)) s.limit
 
-    -- the text is kept under the name, with as much of the others as leaves room for it. One that has no room alone isn't kept
+    -- The text is kept under the name, with as much of the others as leaves room for it. One that
+    -- has no room alone isn't kept
     abbrev pub with_text : Store
     with_text = if nat_le (length text) s.limit then store ((name, text) ∷ with_room.entries) s.limit else forgotten
 

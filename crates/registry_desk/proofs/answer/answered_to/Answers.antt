@@ -8,11 +8,11 @@ use Rattle.registry_rules.specs.Facts.{StandsFor}
 use Rattle.registry_tables.specs.Contents.{Contents, contents, registry_of}
 use Rattle.registry_tables.specs.Effects.{shown, stored_in}
 use Rattle.registry_tables.specs.Schema.{schema}
-use Rattle.registry_tables.specs.Teams.{AreTeamsSound}
 use Rattle.registry_history.specs.Answers.{answer}
 use Rattle.registry_desk.specs.Resting.{settled_by}
-use Rattle.registry_desk.specs.Shelves.{ArePackuments, Tends}
+use Rattle.registry_desk.specs.Shelves.{IsSoundFor, Tends}
 use Rattle.registry_desk.proofs.AnswerFacts.{known_stands}
+use Rattle.registry_desk.proofs.ShelfFacts.{sound_for}
 use Rattle.registry_desk.proofs.answer.answered_to.Goals as goal
 
 pub answered_by-requires : goal.answered_by-requires
@@ -34,7 +34,7 @@ returns-clause-answers g c known sound needs right clean =
     let same : stored_in g.S.Store c.facts.new.tx ≡ was = ap (λ (d : Database). contents d.trees) told.0.same in
     let stands = known_stands (registry_of was) c.args.caller c.in_ok-about.about r known (told.1 sound needs) in
     IfOk-weaker c.answered_by.result _ _ (λ _ e. e ∙ ap (λ (d : Contents). answer (registry_of d) r) same)
-    (c.answered_by.ensures.answers (subst (λ (d : Contents). StandsFor (record { caller = Some c.args.caller; about = c.in_ok-about.about }) (registry_of d) r) (sym same) stands) (subst AreTeamsSound (sym same) sound) (subst (λ (d : Contents). ArePackuments d c.args.texts.now) (sym same) right) clean)
+    (c.answered_by.ensures.answers (subst (λ (d : Contents). StandsFor (record { caller = Some c.args.caller; about = c.in_ok-about.about }) (registry_of d) r) (sym same) stands) (subst (λ (d : Contents). IsSoundFor r.what d c.args.texts.now) (sym same) (sound_for r.what was c.args.texts.now sound right)) clean)
 
 pub returns-clause-settles : goal.returns-clause-settles
 returns-clause-settles g c known sound needs clean =

@@ -6,7 +6,7 @@ use Rattle.registry_rows.proofs.QuietFacts.{stays_then, reads_then}
 use Rattle.registry_tables.specs.Contents.{contents, registry_of}
 use Rattle.registry_tables.specs.Effects.{shown}
 use Rattle.registry_tables.specs.Schema.{schema}
-use Rattle.registry_desk.proofs.rows.packument_rows.Goals as goal
+use Rattle.registry_desk.proofs.rows.stored_rows.Goals as goal
 
 pub load_tags-requires : goal.load_tags-requires
 load_tags-requires g c = record { in_form = λ clean on. (c.in_ok-versions.ensures.tells clean).0.ready }
