@@ -1,5 +1,5 @@
 -- What is kept stays right, whatever is right of a name and its text.
-use Rattle.std.proofs.Common.{◌≡◌, ℕ, Bool, true, false, [], MatchBool, Some, refl, sym, ap, ◌∙◌, subst}
+use Rattle.std.proofs.Common.{◌≡◌, ℕ, Bool, true, false, [], MatchBool, Some, refl, sym, ◌∙◌, subst}
 use Rattle.registry_names.specs.Texts.{Text, is}
 use Rattle.registry_names.proofs.TextFacts.{is_true}
 use Rattle.registry_texts.specs.Stores.{Store, store, kept, forgotten, asked, with_text, with_room, AreRight}

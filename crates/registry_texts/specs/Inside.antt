@@ -1,5 +1,5 @@
 -- What the fields of a store of texts are to a contract.
-use Rattle.std.specs.Prelude.{◌≡◌, ℕ, ◌-◌, ◌^◌, ◌≤◌, List, map, string_bytes}
+use Rattle.std.specs.Prelude.{◌≡◌, ◌-◌, ◌^◌, ◌≤◌, List, map, string_bytes}
 use Rattle.registry_names.specs.Texts.{Text}
 use Rattle.registry_texts.specs.Stores.{Entries, Store, store, size}
 use Rattle.registry_texts.specs.declared.texts.Texts.TheInside.{Inside}

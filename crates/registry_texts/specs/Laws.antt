@@ -1,5 +1,5 @@
 -- What the words of a store promise: the laws that the functions of `src/laws.rt` ensure.
-use Rattle.std.specs.Prelude.{◌≡◌, ◌≤◌, ◌<◌, ℕ, ◌+◌, cond, [], ◌∷◌, ◌++◌, length, Option, Some, None, MatchBool}
+use Rattle.std.specs.Prelude.{◌≡◌, ◌≤◌, ◌<◌, ℕ, ◌+◌, cond, [], ◌∷◌, ◌++◌, length, Some, None, MatchBool}
 use Rattle.registry_names.specs.Texts.{Text, is}
 use Rattle.registry_texts.specs.Stores.{Entries, Store, store, kept, size, front, forgotten, asked, with_text, with_room}
 

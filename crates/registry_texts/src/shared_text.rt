@@ -33,13 +33,15 @@ impl SharedText {
         SharedText::from_text(Text::from_str(alloc, text)?)
     }
 
-    /// The text with one owner. Its bytes aren't copied.
+    /// The text with one owner. Memory that it took beyond its bytes is given back.
     ///
     /// An error comes where no memory is left.
     pub fn from_text(text: Text) -> Result<SharedText, AllocError>
         ensures { IfOk result (λ t. t ≡ text) }
     {
-        let text = RcStr::from_string(text.into_string())?;
+        let mut text = text.into_string();
+        text.shrink_to_fit();
+        let text = RcStr::from_string(text)?;
         Ok(SharedText { text })
     }
 

@@ -1,7 +1,7 @@
-use Rattle.std.proofs.Common.{◌≡◌, ◌+◌, ◌<◌, ◌≤◌, ◌^◌, ◌∷◌, ap, ap₂, sym, ◌∙◌, subst, string_bytes, length, None, arith}
+use Rattle.std.proofs.Common.{◌≡◌, ◌<◌, ◌^◌, ◌∷◌, ap, ◌∙◌, string_bytes, length, None, arith}
 use Rattle.registry_names.specs.Texts.{Text, is}
 use Rattle.registry_names.specs.Maps.{first_at}
-use Rattle.registry_texts.specs.Stores.{Entries, Store, store, size, kept}
+use Rattle.registry_texts.specs.Stores.{Store, store, size, kept}
 use Rattle.registry_texts.specs.Inside.{named}
 use Rattle.registry_texts.proofs.NamedFacts.{put-new}
 use Rattle.registry_texts.proofs.texts.Texts.add.Goals as goal

@@ -1,4 +1,4 @@
-use Rattle.std.proofs.Common.{◌≡◌, ap, sym, ◌∙◌, subst, string_bytes, refl}
+use Rattle.std.proofs.Common.{ap, sym, ◌∙◌, string_bytes}
 use Rattle.registry_texts.specs.Stores.{Entries, Store, store, size, asked}
 use Rattle.registry_texts.specs.Inside.{named}
 use Rattle.registry_texts.proofs.NamedFacts.{named-promoted, size-promoted}

@@ -1,5 +1,4 @@
-use Rattle.std.proofs.Common.{◌≡◌, ◌+◌, ◌-◌, ◌≤◌, ap, sym, ◌∙◌, string_bytes, length, Some, None, arith}
-use Rattle.std.specs.Map.{lookup, remove_entry}
+use Rattle.std.proofs.Common.{ap, sym, ◌∙◌, string_bytes, length, arith}
 use Rattle.registry_texts.specs.Stores.{Entries, Store, store, size, forgotten}
 use Rattle.registry_texts.specs.Inside.{named}
 use Rattle.registry_texts.proofs.NamedFacts.{query, named-remove_entry, size-remove_entry, remove_entry-none}

@@ -1,4 +1,4 @@
-use Rattle.std.proofs.Common.{◌≡◌, ℕ, List, ap, sym, ◌∙◌, Some, None, option_copied}
+use Rattle.std.proofs.Common.{ℕ, List, ap, ◌∙◌, Some}
 use Rattle.registry_texts.specs.Stores.{Store, kept}
 use Rattle.registry_texts.proofs.StoreFacts.{kept-asked}
 use Rattle.registry_texts.proofs.texts.Texts.get.Goals as goal

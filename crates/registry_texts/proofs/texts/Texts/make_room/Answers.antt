@@ -1,8 +1,8 @@
-use Rattle.std.proofs.Common.{◌≡◌, ◌+◌, ◌-◌, ◌<◌, ◌≤◌, [], ◌∷◌, ◌++◌, ap, sym, ◌∙◌, subst, string_bytes, length, take, Some, None, arith}
-use Rattle.registry_texts.specs.Stores.{Entries, Store, store, size, front}
-use Rattle.registry_texts.specs.Inside.{named, IsSound}
+use Rattle.std.proofs.Common.{◌-◌, ◌<◌, ◌≤◌, [], ◌∷◌, ◌++◌, ap, sym, ◌∙◌, subst, string_bytes, length, take, arith}
+use Rattle.registry_texts.specs.Stores.{Entries, store, size, front}
+use Rattle.registry_texts.specs.Inside.{named}
 use Rattle.registry_texts.proofs.FrontFacts.{front_push, all_stay}
-use Rattle.registry_texts.proofs.NamedFacts.{named-last, size-last, size-none}
+use Rattle.registry_texts.proofs.NamedFacts.{named-last, size-last}
 use Rattle.registry_texts.proofs.texts.Texts.make_room.Goals as goal
 
 pub overflow_sub-self : goal.overflow_sub-self

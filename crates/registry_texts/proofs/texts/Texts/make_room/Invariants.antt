@@ -1,4 +1,4 @@
-use Rattle.std.proofs.Common.{◌≡◌, ◌≤◌, length, string_bytes}
+use Rattle.std.proofs.Common.{◌≡◌, length, string_bytes}
 use Rattle.registry_texts.specs.Stores.{front}
 use Rattle.registry_texts.specs.Inside.{named, IsSound}
 use Rattle.registry_texts.proofs.texts.Texts.make_room.Given as goal

@@ -1,7 +1,7 @@
-use Rattle.std.proofs.Common.{◌≡◌, ◌+◌, ◌≤◌, ap, ◌∙◌, arith}
+use Rattle.std.proofs.Common.{ap, ◌∙◌, arith}
 use Rattle.registry_names.specs.Texts.{is}
 use Rattle.registry_names.specs.Maps.{first_at}
-use Rattle.registry_texts.specs.Stores.{Store, kept, size}
+use Rattle.registry_texts.specs.Stores.{Store, kept}
 use Rattle.registry_texts.proofs.FrontFacts.{room_fits}
 use Rattle.registry_texts.proofs.StoreFacts.{none_in_front, none_under}
 use Rattle.registry_texts.proofs.texts.Texts.put.Goals as goal
