@@ -28,7 +28,7 @@ use Rattle.registry_history.specs.Answers.{packument_in, reply_to}
 use Rattle.registry_history.specs.Apart.{are_about, is_about}
 use Rattle.registry_history.specs.Runs.{Outcome}
 use Rattle.registry_history.proofs.ApartFacts.{changes_of_others}
-use Rattle.registry_desk.specs.Shelves.{ArePackuments, Forgets, HasPackuments, HoldsMore, IsAbout, IsAboutNone, IsSoundFor, KeepsAnswer, Loses, ShowsPackument, ShowsRight, Tends}
+use Rattle.registry_desk.specs.Shelves.{ArePackuments, Forgets, HasPackuments, HoldsMore, IsAbout, IsAboutNone, IsSoundFor, KeepsReply, Loses, ShowsPackument, Tends}
 
 -- ---- what is forgotten
 
@@ -121,11 +121,11 @@ module _ (name text : Text) where
   pub more_then : (a b c : Store) → HoldsMore name text a b → HoldsMore name text b c → HoldsMore name text a c
   more_then a b c first second p found h = elim (second p found h) [ inl between ↦ first p found between | inr put ↦ inr put ]
 
--- a packument that was answered is kept
-pub keeps_more : (what : Action) (o : Outcome) (name text : Text) (old new : Store) → HoldsMore name text old new → what ≡ Packument name → o ≡ Ok (Doc text) → KeepsAnswer what o old new
-keeps_more what o name text old new more asks told p found h = elim (more p found h) [
+-- a packument that is replied is kept
+pub keeps_more : (what : Action) (given : Reply) (name text : Text) (old new : Store) → HoldsMore name text old new → what ≡ Packument name → given ≡ Doc text → KeepsReply what given old new
+keeps_more what given name text old new more asks told p found h = elim (more p found h) [
   | inl before ↦ inl before
-  | inr same ↦ inr (asks ∙ ap (λ (q : Text). Packument q) same.0, told ∙ ap (λ (t : Text). Ok (Doc t)) same.1)
+  | inr same ↦ inr (asks ∙ ap (λ (q : Text). Packument q) same.0, told ∙ ap (λ (t : Text). Doc t) same.1)
 ]
 
 -- ---- what changes make of what is kept
@@ -196,11 +196,9 @@ right_answered c d what was is_now given tends loses are = record { right = λ p
 pub shown_answered : (c d : Contents) (what : Action) (was is_now : Store) (given : Reply) → Tends c d what was is_now given → ArePackuments c was → (p text : Text) → what ≡ Packument p → given ≡ Doc text → text ≡ packument_in (registry_of d) p
 shown_answered c d what was is_now given tends are p text asks h = tends.shown p text are asks h ∙ sym (tends.asked p asks)
 
--- what was answered is kept
-pub right_kept : (s : Shown) (what : Action) (o : Outcome) (was is_now : Store) → HasPackuments s was → ShowsRight s what o → KeepsAnswer what o was is_now → HasPackuments s is_now
-right_kept s what o was is_now right shows keeps clean on = record {
-  right = λ p text h. elim (keeps p text h) [
-    | inl before ↦ (right clean on).right p text before
-    | inr answered ↦ shows clean on p text answered.0 answered.1
-  ];
+-- what is replied is kept
+pub right_kept : (d : Contents) (what : Action) (given : Reply) (was is_now : Store) → ArePackuments d was
+    → ((p text : Text) → what ≡ Packument p → given ≡ Doc text → text ≡ packument_in (registry_of d) p) → KeepsReply what given was is_now → ArePackuments d is_now
+right_kept d what given was is_now right shows keeps = record {
+  right = λ p text h. elim (keeps p text h) [ inl before ↦ right.right p text before | inr asked ↦ shows p text asked.0 asked.1 ];
 }

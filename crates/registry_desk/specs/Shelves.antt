@@ -1,6 +1,6 @@
 -- What the texts that are kept have to do with what is stored. `old` and `new` are what a store
 -- keeps at the entry and at the exit.
-use Rattle.std.specs.Prelude.{◌≡◌, ◌⊎◌, true, false, List, IsTrue, Some, None, Ok}
+use Rattle.std.specs.Prelude.{◌≡◌, ◌⊎◌, true, false, List, IsTrue, Some, None}
 use Rattle.sqlite.specs.State.{State as Shown, HasCleanDisk}
 use Rattle.registry_names.specs.Texts.{Text, is}
 use Rattle.registry_texts.specs.Stores.{Store, AreRight, kept}
@@ -10,11 +10,10 @@ use Rattle.registry_rules.specs.declared.reply.Reply.TheVariants.{Doc}
 use Rattle.registry_rules.specs.declared.request.Action.{Action}
 use Rattle.registry_rules.specs.declared.request.Action.TheVariants.{Packument, TeamPackages}
 use Rattle.registry_tables.specs.Contents.{Contents, registry_of}
-use Rattle.registry_tables.specs.Effects.{registry_in, stored}
+use Rattle.registry_tables.specs.Effects.{stored}
 use Rattle.registry_tables.specs.Teams.{AreTeamsSound}
 use Rattle.registry_history.specs.Answers.{packument_in}
 use Rattle.registry_history.specs.Apart.{are_about, is_about}
-use Rattle.registry_history.specs.Runs.{Outcome}
 use Rattle.registry_desk.specs.Resting.{Rests}
 
 -- each text is the packument of its name
@@ -48,15 +47,15 @@ module _ (change : Change) where
   abbrev pub IsAboutNone : Type 0
   IsAboutNone = (p : Text) → is_about change p ≡ false
 
--- ---- what is kept of an answer
+-- ---- what is kept of a reply
 
 -- nothing is kept but what was, and the text under the name
 abbrev pub HoldsMore : Text → Text → Store → Store → Type 0
 HoldsMore name text old new = (p found : Text) → kept new p ≡ Some found → (kept old p ≡ Some found) ⊎ ((name ≡ p) × (text ≡ found))
 
--- nothing is kept but what was, and a packument that is answered
-abbrev pub KeepsAnswer : Action → Outcome → Store → Store → Type 0
-KeepsAnswer what o old new = (p text : Text) → kept new p ≡ Some text → (kept old p ≡ Some text) ⊎ ((what ≡ Packument p) × (o ≡ Ok (Doc text)))
+-- nothing is kept but what was, and a packument that is replied
+abbrev pub KeepsReply : Action → Reply → Store → Store → Type 0
+KeepsReply what given old new = (p text : Text) → kept new p ≡ Some text → (kept old p ≡ Some text) ⊎ ((what ≡ Packument p) × (given ≡ Doc text))
 
 -- ---- a request
 
@@ -77,7 +76,3 @@ pub record Tends (c d : Contents) (what : Action) (old new : Store) (given : Rep
   pub still : (p text : Text) → kept new p ≡ Some text → packument_in (registry_of d) p ≡ packument_in (registry_of c) p
   pub shown : ShowsPackument c old what given
   pub asked : (p : Text) → what ≡ Packument p → packument_in (registry_of d) p ≡ packument_in (registry_of c) p
-
--- a packument that is answered is the package's, as it stands after the request
-abbrev pub ShowsRight : Shown → Action → Outcome → Type 0
-ShowsRight new what o = HasCleanDisk new → IsTrue new.is_open → (p text : Text) → what ≡ Packument p → o ≡ Ok (Doc text) → text ≡ packument_in (registry_in new) p

@@ -13,10 +13,10 @@ ghost use Rattle.registry_tables.specs.Needs.{HoldsNeeds};
 ghost use Rattle.registry_history.specs.Headline.{Headline};
 ghost use Rattle.registry_desk.specs.Promises.{Answered, GrowsHistory, HasHeadline, Keeps, KeepsForm, KeepsSound, Moves, RanTo, Served, Stays, StaysRun, Stepped, Stored, SurvivesOne, SurvivesRun, WasOpen, WritesHistory};
 ghost use Rattle.registry_desk.specs.Resting.{Rests};
-ghost use Rattle.registry_desk.specs.Shelves.{HasPackuments, ShowsRight};
+ghost use Rattle.registry_desk.specs.Shelves.{HasPackuments};
 
 use crate::answer::answered_inside;
-use crate::shelf::keep_answer;
+use crate::shelf::keep_reply;
 use registry_names::Fault;
 use registry_rows::fault_of;
 use registry_rules::laws::requests_are_in_form;
@@ -124,9 +124,7 @@ impl<S: Alter> Registry<S> {
         ensures stays { Stays (state S.Store self.new) result }
     {
         requests_are_in_form(request);
-        let outcome = answered(alloc, &mut self.conn, &mut self.texts, request);
-        keep_answer(&mut self.texts, &request.what, &outcome);
-        outcome
+        answered(alloc, &mut self.conn, &mut self.texts, request)
     }
 
     /// Answers requests in their order, as [`apply`](Registry::apply) does. Room for all outcomes
@@ -218,13 +216,14 @@ fn answered<S: Alter>(
     ensures stays { Stays (state S.Store conn.new) result }
     ensures right { HasPackuments (state S.Store conn.old) texts.old
         → HasPackuments (state S.Store conn.new) texts.new }
-    ensures shows { HasPackuments (state S.Store conn.old) texts.old
-        → ShowsRight (state S.Store conn.new) request.now.what result }
 {
     let mut tx = conn.transaction();
     let reply = answered_inside(alloc, &mut tx, texts, request)?;
     match tx.commit() {
-        Ok(()) => Ok(reply),
+        Ok(()) => {
+            keep_reply(texts, &request.what, &reply);
+            Ok(reply)
+        }
         Err(error) => Err(fault_of(error)),
     }
 }

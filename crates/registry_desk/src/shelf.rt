@@ -2,18 +2,18 @@
 
 ghost use Rattle.std.specs.Prelude.{[], ◌∷◌, map, IfNone, IfSome};
 ghost use Rattle.registry_rules.specs.Changes.{change_of};
-ghost use Rattle.registry_desk.specs.Shelves.{Forgets, HoldsMore, IsAbout, IsAboutNone, KeepsAnswer, Loses};
+ghost use Rattle.registry_desk.specs.Shelves.{Forgets, HoldsMore, IsAbout, IsAboutNone, KeepsReply, Loses};
 
-use registry_names::{Fault, Name};
+use registry_names::Name;
 use registry_rules::{Action, Change, Reply};
 use registry_texts::{SharedText, Texts};
 
-/// Keeps what was answered to the query of a packument, as the latest asked. It is no fault where
-/// no memory is left for that.
-pub(crate) fn keep_answer(texts: &mut Texts, what: &Action, outcome: &Result<Reply, Fault>)
-    ensures { KeepsAnswer what.now outcome.now texts.old texts.new }
+/// Keeps what is replied to the query of a packument, as the latest asked. It is no fault where no
+/// memory is left for that.
+pub(crate) fn keep_reply(texts: &mut Texts, what: &Action, reply: &Reply)
+    ensures { KeepsReply what.now reply.now texts.old texts.new }
 {
-    if let (Action::Packument { name }, Ok(Reply::Doc(text))) = (what, outcome) {
+    if let (Action::Packument { name }, Reply::Doc(text)) = (what, reply) {
         keep(texts, name, text);
     }
 }
