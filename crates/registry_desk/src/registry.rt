@@ -206,16 +206,16 @@ fn answered<S: Alter>(
     request: &Request,
 ) -> Result<Reply, Fault>
     requires rests { Rests (state S.Store conn.old) }
+    requires right { HasPackuments (state S.Store conn.old) texts.old }
     ensures rests { Rests (state S.Store conn.new) }
-    ensures answer { HasPackuments (state S.Store conn.old) texts.old
-        → Answered (state S.Store conn.old) (state S.Store conn.new) request.now result }
+    ensures right { HasPackuments (state S.Store conn.new) texts.new }
+    ensures answer { Answered (state S.Store conn.old) (state S.Store conn.new)
+        request.now result }
     ensures served { Served (state S.Store conn.old) (state S.Store conn.new) result }
     ensures opened { WasOpen (state S.Store conn.old) (state S.Store conn.new) }
     ensures step { Stepped (state S.Store conn.old) (state S.Store conn.new) request.now result }
     ensures survives { SurvivesOne (state S.Store conn.old) (state S.Store conn.new) request.now }
     ensures stays { Stays (state S.Store conn.new) result }
-    ensures right { HasPackuments (state S.Store conn.old) texts.old
-        → HasPackuments (state S.Store conn.new) texts.new }
 {
     let mut tx = conn.transaction();
     let reply = answered_inside(alloc, &mut tx, texts, request)?;
