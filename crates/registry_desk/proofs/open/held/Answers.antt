@@ -5,14 +5,14 @@ use Rattle.sqlite.specs.State.{HasCleanDisk}
 use Rattle.registry_tables.specs.Contents.{contents}
 use Rattle.registry_desk.proofs.open.held.Goals as goal
 
-pub returns-in-Ok-clause-stays : goal.returns-in-Ok-clause-stays
-returns-in-Ok-clause-stays g c clean db left =
-    let on = c.in-Ok.ensures.served clean in
-    ap contents (g.met.S.Store.settled c.settle.new.conn.store db on left) ∙ ap (λ (d : Database). contents d.trees) (sym (c.in-Ok.ensures.rests.settled clean on))
+pub returns-in-Ok-settle-clause-stays : goal.returns-in-Ok-settle-clause-stays
+returns-in-Ok-settle-clause-stays g c clean db left =
+    let on = c.in-Ok-settle.ensures.served clean in
+    ap contents (g.met.S.Store.settled c.settle.new.conn.store db on left) ∙ ap (λ (d : Database). contents d.trees) (sym (c.in-Ok-settle.ensures.rests.settled clean on))
 
 -- what a crash could leave before is what was found
-pub returns-in-Err-clause-left : goal.returns-in-Err-clause-left
-returns-in-Err-clause-left g c clean =
+pub returns-in-Err-settle-clause-left : goal.returns-in-Err-settle-clause-left
+returns-in-Err-settle-clause-left g c clean =
     let before : HasCleanDisk (state g.S.Store c.args.conn) = omega (arith, c.settle.ensures.survives.clean, clean) in
     let opened = (c.requires.opened before).0 in (
       before,
@@ -21,3 +21,9 @@ returns-in-Err-clause-left g c clean =
         | inr made ↦ made
       ],
     )
+
+-- where there was no memory to keep texts, the database is as it was found
+pub returns-in-Err-clause-left : goal.returns-in-Err-clause-left
+returns-in-Err-clause-left g c clean =
+    let opened = (c.requires.opened clean).0 in
+    (clean, λ db may. inl (g.met.S.Store.settled c.args.conn.store db opened.is_open may ∙ ap (λ (d : Database). d.trees) (sym opened.clean)))
