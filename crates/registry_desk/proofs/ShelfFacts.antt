@@ -7,7 +7,7 @@ use Rattle.sqlite.specs.State.{State as Shown, HasCleanDisk}
 use Rattle.registry_access.specs.declared.caller.Caller.{Caller}
 use Rattle.registry_names.specs.Texts.{Text, is}
 use Rattle.registry_names.specs.declared.refusal.Refusal.{Refusal}
-use Rattle.registry_texts.specs.Stores.{Store, AreRight, asked, forgotten, kept, with_room, with_text}
+use Rattle.registry_texts.specs.Stores.{Store, asked, forgotten, kept, with_room, with_text}
 use Rattle.registry_texts.proofs.StoreFacts.{gone, kept-asked, kept-forgotten, put_keeps_right, room_keeps_right}
 use Rattle.registry_names.proofs.TextFacts.{is_true}
 use Rattle.registry_rules.specs.Actions.{is_command}

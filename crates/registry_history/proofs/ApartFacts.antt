@@ -1,6 +1,5 @@
 -- A packument tells of its own package alone.
-use Rattle.std.proofs.Common.{◌≡◌, ℕ, Bool, true, false, cond, ◌&&◌, ◌||◌, List, [], ◌∷◌, map, is_some, Option, Some, None, option_map, unwrap_or, refl, sym, ap, ap₂, ◌∙◌, true≢false}
-use Rattle.std.specs.List.{list_any}
+use Rattle.std.proofs.Common.{◌≡◌, ℕ, Bool, true, false, cond, ◌&&◌, ◌||◌, [], ◌∷◌, map, is_some, Option, Some, None, option_map, unwrap_or, refl, ap, ap₂, ◌∙◌, true≢false}
 use Rattle.registry_names.specs.Keys.{pair_is}
 use Rattle.registry_names.specs.Texts.{Text, is}
 use Rattle.registry_names.specs.Maps.{at, of}
@@ -16,7 +15,6 @@ use Rattle.registry_rules.specs.Effects.{effects_for, step}
 use Rattle.registry_rules.specs.Operations.{with_member, with_role, with_grant, regranted, with_status, restated, with_tag, moved}
 use Rattle.registry_rules.specs.State.{State, Release}
 use Rattle.registry_rules.specs.declared.request.Action.{Action}
-use Rattle.registry_rules.specs.declared.request.Request.{Request}
 use Rattle.registry_rules.proofs.LawFacts.{packages_stand_apart}
 use Rattle.registry_history.specs.Answers.{dist_tag, version_row, packument_in}
 use Rattle.registry_history.specs.Apart.{ChangesOfOthers, StepsOfOthers, are_about, is_about}

@@ -1,4 +1,4 @@
-use Rattle.std.proofs.Common.{◌≡◌, ◌∙◌, ap, sym, subst}
+use Rattle.std.proofs.Common.{◌∙◌, ap, sym, subst}
 use Rattle.registry_names.specs.Texts.{Text}
 use Rattle.registry_rules.specs.Changes.{change_of}
 use Rattle.registry_texts.specs.Stores.{forgotten}

@@ -1,4 +1,4 @@
-use Rattle.std.proofs.Common.{◌≡◌, List, map, take_all, sym, subst, true≢false}
+use Rattle.std.proofs.Common.{List, map, take_all, sym, subst, true≢false}
 use Rattle.registry_rules.specs.Changes.{change_of}
 use Rattle.registry_rules.specs.declared.change.Change.{Change}
 use Rattle.registry_desk.specs.Shelves.{Forgets}

@@ -1,4 +1,4 @@
-use Rattle.std.proofs.Common.{◌≡◌, sym, subst}
+use Rattle.std.proofs.Common.{sym, subst}
 use Rattle.registry_texts.specs.Stores.{Store}
 use Rattle.registry_desk.specs.Shelves.{HoldsMore}
 use Rattle.registry_desk.proofs.ShelfFacts.{more_asked, more_then}

@@ -1,4 +1,4 @@
-use Rattle.std.proofs.Common.{◌≡◌, inl}
+use Rattle.std.proofs.Common.{inl}
 use Rattle.registry_desk.proofs.ShelfFacts.{more_put_as}
 use Rattle.registry_desk.proofs.shelf.put.Goals as goal
 
