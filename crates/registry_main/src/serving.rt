@@ -2,12 +2,12 @@
 
 use crate::ending::{Ending, Failure};
 use crate::moment::moment;
-use crate::opening::open;
+use crate::opening::{let_go, open};
 use registry_cli::Line;
 use registry_http::FrontDesk;
 use registry_names::{ByteOut, Text, write_whole};
 use registry_server::Server;
-use sqlite::{File, FileStore};
+use sqlite::Alter;
 use std::alloc::Global;
 
 /// What is said of a port or of connections that are no number.
@@ -42,25 +42,33 @@ pub fn serve<O: ByteOut>(
         return Err(Ending::Wrong(NO_NUMBER));
     };
     let mut desk = FrontDesk::new(open(rt, line.db.as_str())?);
-    serve_at(rt, alloc, entrance, &mut desk, output)
+    let status = serve_at(rt, alloc, entrance, &mut desk, output);
+    let_go(desk.into_registry());
+    status
 }
 
 // Serves at the desk. The clock is read before anything is printed.
-fn serve_at<O: ByteOut>(
+fn serve_at<S: Alter, O: ByteOut>(
     rt: &HostRuntime,
     alloc: Global,
     entrance: Entrance,
-    desk: &mut FrontDesk<FileStore<File>>,
+    desk: &mut FrontDesk<S>,
     output: &mut O,
 ) -> Result<u8, Ending> {
     if moment(rt).is_none() {
         return Err(Ending::Fault(Failure::Read));
     }
     let server = Server::bind(rt, alloc, entrance.port, entrance.connections)?;
-    let said = format!(in alloc; "listening 127.0.0.1:{}\n", server.port()?)?;
-    if write_whole(output, said.as_bytes()).is_err() {
-        return Err(Ending::Fault(Failure::Write));
-    }
+    announce(alloc, &server, output)?;
     server.run(rt, alloc, desk)?;
     Ok(0)
+}
+
+// Prints where the server listens.
+fn announce<O: ByteOut>(alloc: Global, server: &Server, output: &mut O) -> Result<(), Ending> {
+    let said = format!(in alloc; "listening 127.0.0.1:{}\n", server.port()?)?;
+    match write_whole(output, said.as_bytes()) {
+        Ok(()) => Ok(()),
+        Err(_) => Err(Ending::Fault(Failure::Write)),
+    }
 }

@@ -5,12 +5,14 @@ ghost use Rattle.registry_cli.specs.Lines.{IsWhole, asks_to_serve};
 
 use crate::ending::{Ending, Failure};
 use crate::moment::moment;
-use crate::opening::open;
+use crate::opening::{let_go, open};
 use crate::program::MOST_READ;
 use crate::serving::serve;
 use registry_cli::{Line, Printed, action_of, line, render};
+use registry_desk::Registry;
 use registry_names::{ByteOut, Fault, FromRead, Moment, ReadStop, Text, read_whole, write_whole};
 use registry_rules::{Reply, Request};
+use sqlite::Alter;
 use std::alloc::Global;
 use std::fs;
 use std::io::ErrorKind;
@@ -30,11 +32,26 @@ pub fn answer_words<O: ByteOut, E: ByteOut>(
 ) -> Result<u8, Ending> {
     let line = line(alloc, words)?;
     if line.asks_to_serve() {
-        return serve(rt, alloc, &line, output);
+        serve(rt, alloc, &line, output)
+    } else {
+        print_answer(rt, alloc, &line, output, errors)
     }
-    let request = request(rt, alloc, &line)?;
-    let reply = reply(rt, alloc, line.db.as_str(), &request)?;
-    print(&render(alloc, &reply)?, output, errors)
+}
+
+// Prints the answer to what a line asks for.
+fn print_answer<O: ByteOut, E: ByteOut>(
+    rt: &HostRuntime,
+    alloc: Global,
+    line: &Line,
+    output: &mut O,
+    errors: &mut E,
+) -> Result<u8, Ending>
+    requires whole { IsWhole line.now.what }
+    requires asks { asks_to_serve line.now.what ≡ false }
+{
+    let request = request(rt, alloc, line)?;
+    let printed = answer(rt, alloc, line.db.as_str(), &request)?;
+    print(&printed, output, errors)
 }
 
 // What a line asks for, and when.
@@ -83,9 +100,29 @@ fn file_bytes(rt: &HostRuntime, alloc: Global, path: &str) -> Result<Vec<u8>, En
     }
 }
 
-// The reply of the registry in the file at the path.
+// The answer of the registry in the file at the path.
+fn answer(
+    rt: &HostRuntime,
+    alloc: Global,
+    path: &str,
+    request: &Request,
+) -> Result<Printed, Ending> {
+    let reply = reply(rt, alloc, path, request)?;
+    Ok(render(alloc, &reply)?)
+}
+
 fn reply(rt: &HostRuntime, alloc: Global, path: &str, request: &Request) -> Result<Reply, Ending> {
     let mut registry = open(rt, path)?;
+    let reply = reply_of(alloc, &mut registry, request);
+    let_go(registry);
+    reply
+}
+
+fn reply_of<S: Alter>(
+    alloc: Global,
+    registry: &mut Registry<S>,
+    request: &Request,
+) -> Result<Reply, Ending> {
     match registry.apply(alloc, request) {
         Ok(reply) => Ok(reply),
         Err(fault) => Err(Ending::from(fault)),

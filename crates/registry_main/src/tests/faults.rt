@@ -2,6 +2,7 @@
 
 use super::lines::{Row, case, line, path};
 use super::{Failing, leaves_it};
+use crate::opening::let_go;
 use registry_desk::Registry;
 use sqlite::{Connection, Error};
 use std::fs;
@@ -70,8 +71,9 @@ fn a_file_that_another_has_is_told(rt: HostRuntime) -> Result<(), Fail> {
     let db = format!(in rt.alloc(); "{}/registry.db", folder.as_str())?;
     fs::create_dir(&rt, folder.as_str())?;
     let held = Registry::open(&rt, db.as_str())?;
-    is_told_and_kept(&rt, db.as_str(), BUSY)?;
-    drop(held);
+    let told = is_told_and_kept(&rt, db.as_str(), BUSY);
+    let_go(held);
+    told?;
     Ok(fs::remove_dir_all(&rt, folder.as_str())?)
 }
 
@@ -113,8 +115,9 @@ fn make(rt: &HostRuntime, db: &str) -> Result<(), Fail> {
 
 fn make_of_another(rt: &HostRuntime, db: &str) -> Result<(), Error> {
     let mut conn = Connection::open(rt, db)?;
-    conn.execute_batch("CREATE TABLE note (title TEXT)")?;
-    conn.close()
+    let made = conn.execute_batch("CREATE TABLE note (title TEXT)");
+    conn.close()?;
+    made
 }
 
 fn link(rt: &HostRuntime, folder: &str, db: &str) -> Result<(), Fail> {

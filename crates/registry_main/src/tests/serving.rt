@@ -3,6 +3,7 @@
 use super::lines::{forget, line, path};
 use crate::program::program;
 use registry_names::{FromRead, ToWrite};
+use std::alloc::Global;
 use std::io::{Read, Write};
 use std::net::{Ipv4Addr, Net, OpenListener, OpenStream, Shutdown, SocketAddr};
 use std::test::Fail;
@@ -32,6 +33,13 @@ impl<R: Net> Caller<'_, R> {
         Ok(client)
     }
 
+    // Whether the output was told where the program listens, and the client is sent the answer.
+    fn is_answered(&mut self, alloc: Global) -> Result<(), Fail> {
+        let told = format!(in alloc; "listening 127.0.0.1:{}\n{ANSWER}", self.port)?;
+        self.hear()?;
+        same_text(&self.told, told.as_str())
+    }
+
     // What the client is sent, behind what the output was told.
     fn hear(&mut self) -> io::Result<()> {
         if let Some(mut client) = self.client.take() {
@@ -56,35 +64,48 @@ impl<R: Net> Write for Caller<'_, R> {
 
 #[test]
 fn a_registry_in_a_file_is_served(rt: HostRuntime) -> Result<(), Fail> {
-    let alloc = rt.alloc();
     let db = path(&rt, "-served.db")?;
-    let port = free_port(&rt)?;
-    let number = format!(in alloc; "{port}")?;
-    let words = ["serve", "--port", number.as_str(), "--connections", "1"];
-    let words = line(alloc, db.as_str(), &words)?;
     let mut caller = Caller {
         rt: &rt,
-        port,
-        told: Vec::new(alloc),
+        port: free_port(&rt)?,
+        told: Vec::new(rt.alloc()),
         client: None,
     };
-    let mut errors = Vec::new(alloc);
-    let status = program(
-        &rt,
-        alloc,
-        &words,
-        &mut FromRead::new(io::empty()),
-        &mut ToWrite::new(&mut caller),
-        &mut ToWrite::new(&mut errors),
-    );
-    let told = format!(in alloc; "listening 127.0.0.1:{port}\n{ANSWER}")?;
-    caller.hear()?;
-    same_text(&caller.told, told.as_str())?;
+    is_served(&rt, db.as_str(), &mut caller)?;
+    forget(&rt, db.as_str())
+}
+
+// Whether the caller is served, and nothing is said of a fault.
+fn is_served<R: Net>(rt: &HostRuntime, db: &str, caller: &mut Caller<R>) -> Result<(), Fail> {
+    let mut errors = Vec::new(rt.alloc());
+    let status = serve(rt, db, caller, &mut errors)?;
+    caller.is_answered(rt.alloc())?;
     same_text(&errors, "")?;
     if status != 0 {
         return Err(Fail::new(format_args!("the status is {status}")));
     }
-    forget(&rt, db.as_str())
+    Ok(())
+}
+
+// Serves one connection, which is that of the caller, and answers the exit status.
+fn serve<R: Net>(
+    rt: &HostRuntime,
+    db: &str,
+    caller: &mut Caller<R>,
+    errors: &mut Vec<u8>,
+) -> Result<u8, Fail> {
+    let alloc = rt.alloc();
+    let port = format!(in alloc; "{}", caller.port)?;
+    let words = ["serve", "--port", port.as_str(), "--connections", "1"];
+    let words = line(alloc, db, &words)?;
+    Ok(program(
+        rt,
+        alloc,
+        &words,
+        &mut FromRead::new(io::empty()),
+        &mut ToWrite::new(caller),
+        &mut ToWrite::new(errors),
+    ))
 }
 
 // A port at which nobody listens.
