@@ -12,7 +12,7 @@ use Rattle.registry_access.specs.Callers.{is_maintainer, is_user, granted}
 use Rattle.registry_access.specs.Levels.{greatest, is_owner_or_admin, reads, writes}
 use Rattle.registry_access.specs.Policy.{may_manage_members, may_manage_teams, may_see_organisation, may_read, may_write, may_manage_maintainers, may_publish, allowed_at, allowed_in, by_rule, for_known, where_found}
 use Rattle.registry_access.specs.Positions.{has_scope, scope_role, position_in, level_at, level_by, level_in}
-use Rattle.registry_access.specs.RowsFor.{StandsFor, asked_package}
+use Rattle.registry_access.specs.RowsFor.{StandingTells, asked_package}
 use Rattle.registry_access.specs.Standings.{is_listed, position_of}
 use Rattle.registry_access.specs.declared.grant.Grant.{Grant}
 use Rattle.registry_access.specs.declared.position.Position.{Position}
@@ -79,7 +79,7 @@ level_alike None leads maintainer g h same = refl
 level_alike (Some status) true maintainer g h same = refl
 level_alike (Some status) false maintainer g h same = ap (level_by (Some status) maintainer) (same refl)
 
-standing_alike : (s : Standing) (S : Access) (caller : Caller) (p : Text) → StandsFor s S caller p → AreAlike (position_of s caller) (position_in S caller p)
+standing_alike : (s : Standing) (S : Access) (caller : Caller) (p : Text) → StandingTells s S caller p → AreAlike (position_of s caller) (position_in S caller p)
 standing_alike s S Operator p h = same_alike _ _
     (λ i. record { organisation = h.organisation i; role = operator_role S (scope_of p) i; status = h.status i; maintainer = is_maintainer S Operator p; grant = (position_in S Operator p).grant })
 standing_alike s S (User u) p h = record {
@@ -94,7 +94,7 @@ standing_alike s S (User u) p h = record {
 standing_alike s S Anonymous p h = same_alike _ _
     (λ i. record { organisation = h.organisation i; role = anonymous_role S (scope_of p) i; status = h.status i; maintainer = is_maintainer S Anonymous p; grant = (position_in S Anonymous p).grant })
 
-pub standing_level : (s : Standing) (S : Access) (caller : Caller) (p : Text) → StandsFor s S caller p → level_at (position_of s caller) ≡ level_in S caller p
+pub standing_level : (s : Standing) (S : Access) (caller : Caller) (p : Text) → StandingTells s S caller p → level_at (position_of s caller) ≡ level_in S caller p
 standing_level s S caller p h = (standing_alike s S caller p h).level
 
 -- ---- the policy says the same where positions are alike
@@ -127,6 +127,6 @@ asked_at S caller (Owners q) p e = let same : p ≡ q.now = cc in ap (λ r. may_
 asked_at S caller (Read q) p e = let same : p ≡ q.now = cc in ap (λ r. may_read (position_in S caller r)) same
 asked_at S caller (OrgRead o) p e = cc
 
-pub standing_allowed : (s : Standing) (S : Access) (caller : Caller) (ask : Ask) (p : Text) → asked_package ask ≡ Some p → StandsFor s S caller p
+pub standing_allowed : (s : Standing) (S : Access) (caller : Caller) (ask : Ask) (p : Text) → asked_package ask ≡ Some p → StandingTells s S caller p
     → allowed_at caller ask (position_of s caller) ≡ allowed_in S caller ask
 standing_allowed s S caller ask p e h = verdict_alike caller _ _ (standing_alike s S caller p h) ask ∙ asked_at S caller ask p e

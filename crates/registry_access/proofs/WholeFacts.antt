@@ -7,13 +7,13 @@ use Rattle.registry_access.specs.Agreement.{SameOrganisation, SamePackage}
 use Rattle.registry_access.specs.Callers.{role_of, is_maintainer, team_grant}
 use Rattle.registry_access.specs.Laws.{WholeRowsStand}
 use Rattle.registry_access.specs.RowMaps.{state_of}
-use Rattle.registry_access.specs.RowsFor.{StandForAll}
+use Rattle.registry_access.specs.RowsFor.{RowsTellAll}
 use Rattle.registry_access.specs.declared.caller.Caller.{Caller}
 use Rattle.registry_access.specs.declared.caller.Caller.TheVariants.{Operator, User, Anonymous}
 use Rattle.registry_access.specs.declared.ask.Ask.TheVariants.{Operate, OrgMembers, OrgTeams, Publish, Write, Owners, Read, OrgRead}
 use Rattle.registry_access.specs.declared.rows.AccessRows.{AccessRows}
 
-module _ (r : AccessRows) (S : Access) (all : StandForAll r S) where
+module _ (r : AccessRows) (S : Access) (all : RowsTellAll r S) where
   whole_role : (caller : Caller) (o : Text) → role_of (state_of r) caller o ≡ role_of S caller o
   whole_role Operator o = refl
   whole_role (User u) o = ap (λ m. at m (o, u)) all.roles

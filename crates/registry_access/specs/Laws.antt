@@ -9,7 +9,7 @@ use Rattle.registry_access.specs.Callers.{team_grant}
 use Rattle.registry_access.specs.Levels.{covers}
 use Rattle.registry_access.specs.Policy.{allowed_in, may_read, may_write, may_manage_maintainers, may_publish}
 use Rattle.registry_access.specs.Positions.{position_in}
-use Rattle.registry_access.specs.RowsFor.{StandFor, StandForAll}
+use Rattle.registry_access.specs.RowsFor.{RowsTell, RowsTellAll}
 use Rattle.registry_access.specs.declared.grant.Grant.{Grant}
 use Rattle.registry_access.specs.declared.caller.Caller.{Caller}
 use Rattle.registry_access.specs.declared.ask.Ask.{Ask}
@@ -45,4 +45,4 @@ AgreeingAllow = (S T : Access) (caller : Caller) (ask : Ask) → SameFor S T cal
 
 -- rows that say all that a state says stand for it, whoever asks for whatever
 abbrev pub WholeRowsStand : Type 0
-WholeRowsStand = (rows : AccessRows) (S : Access) → StandForAll rows S → (caller : Caller) (ask : Ask) → StandFor rows S caller ask
+WholeRowsStand = (rows : AccessRows) (S : Access) → RowsTellAll rows S → (caller : Caller) (ask : Ask) → RowsTell rows S caller ask

@@ -1,4 +1,4 @@
--- Rows, and standings, that stand for a state.
+-- Rows, and standings, that tell of a state.
 use Rattle.std.specs.Prelude.{◌≡◌, false, Option, Some, None}
 use Rattle.registry_names.specs.Texts.{Text}
 use Rattle.registry_names.specs.Maps.{at}
@@ -17,23 +17,23 @@ use Rattle.registry_access.specs.declared.ask.Ask.TheVariants.{Operate, OrgMembe
 use Rattle.registry_access.specs.declared.rows.AccessRows.{AccessRows}
 use Rattle.registry_access.specs.declared.standing.Standing.{Standing}
 
--- Rows stand for a state, at what a caller asks, where they say the same of it. For an ask about an
+-- Rows tell of a state, at what a caller asks, where they say the same of it. For an ask about an
 -- organisation these rows are enough: the organisation's, and the caller's membership in it. For
 -- one about a package: those of the organisation of its scope, the package's, the caller's among
 -- its maintainers, and of each team that the caller is in and that is granted something on the
 -- package, the caller's row in the team and the grant. More rows of the state do no harm.
-abbrev pub StandFor : AccessRows → Access → Caller → Ask → Type 0
-StandFor rows S caller ask = SameFor (state_of rows) S caller ask
+abbrev pub RowsTell : AccessRows → Access → Caller → Ask → Type 0
+RowsTell rows S caller ask = SameFor (state_of rows) S caller ask
 
 -- the same for the level on a package
-abbrev pub StandForPackage : AccessRows → Access → Caller → Text → Type 0
-StandForPackage rows S caller p = SamePackage (state_of rows) S caller p
+abbrev pub RowsTellOfPackage : AccessRows → Access → Caller → Text → Type 0
+RowsTellOfPackage rows S caller p = SamePackage (state_of rows) S caller p
 
--- A standing stands for a state at a caller and a package. Of an owner or admin, whose role alone
--- lets him write, it need not tell what his teams are granted. In `grants` neither the order counts
+-- A standing tells of a state at a caller and a package. Of an owner or admin, whose role alone
+-- lets him write, its list of grants tells nothing. In `grants` neither the order counts
 -- nor how often a grant stands there.
-pub record StandsFor (standing : Standing) (S : Access) (caller : Caller) (p : Text) : Type 0 where
-  pub organisation : standing.org ≡ has_scope S (scope_of p)
+pub record StandingTells (standing : Standing) (S : Access) (caller : Caller) (p : Text) : Type 0 where
+  pub organisation : standing.organisation ≡ has_scope S (scope_of p)
   pub role : standing.role ≡ scope_role S caller (scope_of p)
   pub status : standing.status ≡ at S.statuses p
   pub maintainer : standing.maintainer ≡ is_maintainer S caller p
@@ -52,7 +52,7 @@ asked_package (Read p) = Some p.now
 asked_package (OrgRead o) = None
 
 -- rows that say all that the state says of its organisations and packages
-pub record StandForAll (rows : AccessRows) (S : Access) : Type 0 where
+pub record RowsTellAll (rows : AccessRows) (S : Access) : Type 0 where
   pub organisations : (state_of rows).organisations ≡ S.organisations
   pub roles : (state_of rows).roles ≡ S.roles
   pub teams : (state_of rows).teams ≡ S.teams

@@ -13,9 +13,9 @@ is_listed gs g = list_any (λ h. is_grant h g) gs
 
 -- of one who is no user
 abbrev pub outsider : Standing → Position
-outsider s = record { organisation = s.org; role = None; status = s.status; maintainer = false; grant = None }
+outsider s = record { organisation = s.organisation; role = None; status = s.status; maintainer = false; grant = None }
 
 abbrev pub position_of : Standing → Caller → Position
 position_of s Operator = outsider s
-position_of s (User u) = record { organisation = s.org; role = s.role; status = s.status; maintainer = s.maintainer; grant = greatest (is_listed s.grants.items) }
+position_of s (User u) = record { organisation = s.organisation; role = s.role; status = s.status; maintainer = s.maintainer; grant = greatest (is_listed s.grants.items) }
 position_of s Anonymous = outsider s

@@ -6,7 +6,7 @@ ghost use Rattle.registry_access.specs.Access.{Access};
 ghost use Rattle.registry_access.specs.Policy.{allowed_at, allowed_in};
 ghost use Rattle.registry_access.specs.Positions.{level_at, level_in};
 ghost use Rattle.registry_access.specs.RowMaps.{state_of};
-ghost use Rattle.registry_access.specs.RowsFor.{StandFor, StandForPackage, StandsFor, asked_package};
+ghost use Rattle.registry_access.specs.RowsFor.{RowsTell, RowsTellOfPackage, StandingTells, asked_package};
 ghost use Rattle.registry_access.specs.Standings.{position_of};
 
 use crate::ask::Ask;
@@ -27,7 +27,7 @@ use registry_names::{Ident, Name, Refusal, Rule};
 /// that has the same of this caller and this package. More rows than are needed do no harm.
 pub fn level(rows: &AccessRows, caller: &Caller, name: &Name) -> Level
     ensures of_rows { result ≡ level_in (state_of rows.now) caller.now name.now }
-    ensures of_state { (S : Access) → StandForPackage rows.now S caller.now name.now
+    ensures of_state { (S : Access) → RowsTellOfPackage rows.now S caller.now name.now
         → result ≡ level_in S caller.now name.now }
 {
     Position::in_rows(rows, caller, name).level()
@@ -36,7 +36,7 @@ pub fn level(rows: &AccessRows, caller: &Caller, name: &Name) -> Level
 /// The caller's level on the package of a standing, the same as [`level`] gives.
 pub fn level_of(standing: &Standing, caller: &Caller) -> Level
     ensures of_standing { result ≡ level_at (position_of standing.now caller.now) }
-    ensures of_state { (S : Access) (p : Text) → StandsFor standing.now S caller.now p
+    ensures of_state { (S : Access) (p : Text) → StandingTells standing.now S caller.now p
         → result ≡ level_in S caller.now p }
 {
     Position::in_standing(standing, caller).level()
@@ -50,7 +50,7 @@ pub fn level_of(standing: &Standing, caller: &Caller) -> Level
 /// - `Denied`: the rule that would allow it doesn't.
 pub fn allowed(rows: &AccessRows, caller: &Caller, ask: &Ask) -> Result<Rule, Refusal>
     ensures of_rows { result ≡ allowed_in (state_of rows.now) caller.now ask.now }
-    ensures of_state { (S : Access) → StandFor rows.now S caller.now ask.now
+    ensures of_state { (S : Access) → RowsTell rows.now S caller.now ask.now
         → result ≡ allowed_in S caller.now ask.now }
 {
     by_rows(rows, caller, ask)
@@ -62,7 +62,7 @@ pub fn allowed_by(standing: &Standing, caller: &Caller, ask: &Ask) -> Result<Rul
     ensures of_standing { result
         ≡ allowed_at caller.now ask.now (position_of standing.now caller.now) }
     ensures of_state { (S : Access) (p : Text) → asked_package ask.now ≡ Some p
-        → StandsFor standing.now S caller.now p → result ≡ allowed_in S caller.now ask.now }
+        → StandingTells standing.now S caller.now p → result ≡ allowed_in S caller.now ask.now }
 {
     by_position(caller, ask, Position::in_standing(standing, caller))
 }

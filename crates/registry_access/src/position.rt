@@ -93,7 +93,7 @@ impl Position {
     pub(crate) fn in_standing(standing: &Standing, caller: &Caller) -> Position
         ensures { result ≡ position_of standing.now caller.now }
     {
-        let (organisation, status) = (standing.org, standing.status);
+        let (organisation, status) = (standing.organisation, standing.status);
         match caller {
             Caller::User(_) => Position {
                 organisation,

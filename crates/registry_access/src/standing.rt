@@ -8,14 +8,14 @@ use registry_names::Status;
 #[derive(Drop)]
 pub struct Standing {
     /// Whether the organisation of the package's scope is there. False for a package without one.
-    pub org: bool,
+    pub organisation: bool,
     /// The caller's role in that organisation, if he is a member of it.
     pub role: Option<Role>,
     /// The package's status. None where it was never published.
     pub status: Option<Status>,
     /// Whether the caller is a maintainer of the package.
     pub maintainer: bool,
-    /// What the caller's teams are granted on the package, in any order. Nothing need be told of an
-    /// owner or admin, whose role alone lets him write.
+    /// What the caller's teams are granted on the package, in any order. Of an owner or admin,
+    /// whose role alone lets him write, it tells nothing.
     pub grants: Vec<Grant>,
 }

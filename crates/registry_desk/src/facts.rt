@@ -5,7 +5,7 @@ ghost use Rattle.registry_tables.specs.Contents.{registry_of};
 ghost use Rattle.registry_tables.specs.Effects.{InForm, Tells};
 ghost use Rattle.registry_tables.specs.Needs.{HoldsNeeds};
 ghost use Rattle.registry_tables.specs.Teams.{AreTeamsSound};
-ghost use Rattle.registry_rules.specs.Facts.{StandsAbout};
+ghost use Rattle.registry_rules.specs.Facts.{AboutTells};
 
 use crate::grants::{new_grant, old_grant};
 use crate::maintainers::{new_maintainer, old_maintainer};
@@ -33,7 +33,7 @@ pub(crate) fn facts<S: Alter>(
     ensures stays { Stays S.Store tx.old tx.new }
     ensures tells { Tells S.Store tx.old tx.new result
         (λ about c. AreTeamsSound c → HoldsNeeds c
-        → StandsAbout about (registry_of c) caller.now what.now) }
+        → AboutTells about (registry_of c) caller.now what.now) }
 {
     match what {
         Action::UserAdd { user } => new_user(tx, user),

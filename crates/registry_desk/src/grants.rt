@@ -5,7 +5,7 @@ ghost use Rattle.registry_rows.specs.Frames.{Stays};
 ghost use Rattle.registry_tables.specs.Contents.{registry_of};
 ghost use Rattle.registry_tables.specs.Effects.{InForm, Tells};
 ghost use Rattle.registry_desk.specs.Found.{IsGrantable};
-ghost use Rattle.registry_rules.specs.Facts.{StandsAbout};
+ghost use Rattle.registry_rules.specs.Facts.{AboutTells};
 ghost use Rattle.registry_rules.specs.declared.request.Action.TheVariants as asked;
 
 use registry_access::Caller;
@@ -27,7 +27,7 @@ pub(crate) fn new_grant<S: Alter>(
     requires in_form { InForm S.Store tx.old }
     ensures stays { Stays S.Store tx.old tx.new }
     ensures tells { Tells S.Store tx.old tx.new result (λ about c. (grant : Grant)
-        → StandsAbout about (registry_of c) caller.now
+        → AboutTells about (registry_of c) caller.now
         (asked.Grant organisation.now team.now name.now grant)) }
 {
     let rows = load_access(alloc, tx, caller, organisation.text())?;
@@ -77,7 +77,7 @@ pub(crate) fn old_grant<S: Alter>(
 ) -> Result<About, Fault>
     requires in_form { InForm S.Store tx.old }
     ensures stays { Stays S.Store tx.old tx.new }
-    ensures tells { Tells S.Store tx.old tx.new result (λ about c. StandsAbout about
+    ensures tells { Tells S.Store tx.old tx.new result (λ about c. AboutTells about
         (registry_of c) caller.now (asked.Revoke organisation.now team.now name.now)) }
 {
     Ok(About::Revoke {

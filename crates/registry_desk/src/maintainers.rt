@@ -5,7 +5,7 @@ ghost use Rattle.registry_tables.specs.Contents.{registry_of};
 ghost use Rattle.registry_tables.specs.Effects.{InForm, Tells};
 ghost use Rattle.registry_tables.specs.Teams.{AreTeamsSound};
 ghost use Rattle.registry_desk.specs.Found.{IsLeaver, IsNewcomer};
-ghost use Rattle.registry_rules.specs.Facts.{StandsAbout};
+ghost use Rattle.registry_rules.specs.Facts.{AboutTells};
 ghost use Rattle.registry_rules.specs.declared.request.Action.TheVariants as asked;
 
 use registry_access::Caller;
@@ -26,7 +26,7 @@ pub(crate) fn new_maintainer<S: Alter>(
     requires in_form { InForm S.Store tx.old }
     ensures stays { Stays S.Store tx.old tx.new }
     ensures tells { Tells S.Store tx.old tx.new result (λ about c. AreTeamsSound c
-        → StandsAbout about (registry_of c) caller.now (asked.OwnerAdd name.now user.now)) }
+        → AboutTells about (registry_of c) caller.now (asked.OwnerAdd name.now user.now)) }
 {
     let standing = load_standing(alloc, tx, caller, name)?;
     let newcomer = find_newcomer(tx, name, user.text())?;
@@ -71,7 +71,7 @@ pub(crate) fn old_maintainer<S: Alter>(
     requires in_form { InForm S.Store tx.old }
     ensures stays { Stays S.Store tx.old tx.new }
     ensures tells { Tells S.Store tx.old tx.new result (λ about c. AreTeamsSound c
-        → StandsAbout about (registry_of c) caller.now (asked.OwnerRemove name.now user.now)) }
+        → AboutTells about (registry_of c) caller.now (asked.OwnerRemove name.now user.now)) }
 {
     let standing = load_standing(alloc, tx, caller, name)?;
     let leaver = find_leaver(alloc, tx, name, user.text())?;

@@ -6,7 +6,7 @@ ghost use Rattle.registry_rows.specs.Frames.{Stays};
 ghost use Rattle.registry_tables.specs.Contents.{registry_of};
 ghost use Rattle.registry_tables.specs.Effects.{InForm, Tells};
 ghost use Rattle.registry_desk.specs.Found.{IsCandidate};
-ghost use Rattle.registry_rules.specs.Facts.{StandsAbout};
+ghost use Rattle.registry_rules.specs.Facts.{AboutTells};
 ghost use Rattle.registry_rules.specs.declared.request.Action.TheVariants as asked;
 
 use registry_access::{Caller, Role};
@@ -25,7 +25,7 @@ pub(crate) fn new_organisation<S: Alter>(
     requires in_form { InForm S.Store tx.old }
     ensures stays { Stays S.Store tx.old tx.new }
     ensures tells { Tells S.Store tx.old tx.new result (λ about c. (who : Caller)
-        → StandsAbout about (registry_of c) who (asked.OrgCreate organisation.now owner.now)) }
+        → AboutTells about (registry_of c) who (asked.OrgCreate organisation.now owner.now)) }
 {
     Ok(About::OrgCreate {
         owner_exists: has_user(tx, owner.text())?,
@@ -44,7 +44,7 @@ pub(crate) fn new_role<S: Alter>(
     requires in_form { InForm S.Store tx.old }
     ensures stays { Stays S.Store tx.old tx.new }
     ensures tells { Tells S.Store tx.old tx.new result (λ about c. (role : Rank)
-        → StandsAbout about (registry_of c) caller.now
+        → AboutTells about (registry_of c) caller.now
         (asked.OrgSet organisation.now user.now role)) }
 {
     let rows = load_access(alloc, tx, caller, organisation.text())?;
@@ -94,7 +94,7 @@ pub(crate) fn old_member<S: Alter>(
     requires in_form { InForm S.Store tx.old }
     ensures stays { Stays S.Store tx.old tx.new }
     ensures tells { Tells S.Store tx.old tx.new result (λ about c.
-        StandsAbout about (registry_of c) caller.now (asked.OrgRemove organisation.now user.now)) }
+        AboutTells about (registry_of c) caller.now (asked.OrgRemove organisation.now user.now)) }
 {
     Ok(About::OrgRemove {
         rows: load_access(alloc, tx, caller, organisation.text())?,
@@ -113,9 +113,9 @@ pub(crate) fn seen_organisation<S: Alter>(
     requires in_form { InForm S.Store tx.old }
     ensures stays { Stays S.Store tx.old tx.new }
     ensures members { Tells S.Store tx.old tx.new result (λ about c.
-        StandsAbout about (registry_of c) caller.now (asked.Members organisation.now)) }
+        AboutTells about (registry_of c) caller.now (asked.Members organisation.now)) }
     ensures teams { Tells S.Store tx.old tx.new result (λ about c.
-        StandsAbout about (registry_of c) caller.now (asked.Teams organisation.now)) }
+        AboutTells about (registry_of c) caller.now (asked.Teams organisation.now)) }
 {
     Ok(About::Organisation {
         rows: load_access(alloc, tx, caller, organisation.text())?,

@@ -7,7 +7,7 @@ ghost use Rattle.registry_tables.specs.Contents.{registry_of};
 ghost use Rattle.registry_tables.specs.Effects.{InForm, Tells};
 ghost use Rattle.registry_tables.specs.Teams.{AreTeamsSound};
 ghost use Rattle.registry_desk.specs.Found.{AreTaken};
-ghost use Rattle.registry_rules.specs.Facts.{StandsAbout};
+ghost use Rattle.registry_rules.specs.Facts.{AboutTells};
 ghost use Rattle.registry_rules.specs.State as state;
 ghost use Rattle.registry_rules.specs.declared.request.Action.TheVariants as asked;
 ghost use Rattle.registry_rules.specs.declared.request.Asked.TheVariants as which;
@@ -33,7 +33,7 @@ pub(crate) fn new_status<S: Alter>(
     ensures stays { Stays S.Store tx.old tx.new }
     ensures tells { Tells S.Store tx.old tx.new result (λ about c. (status : Status)
         → AreTeamsSound c
-        → StandsAbout about (registry_of c) caller.now (asked.SetAccess name.now status)) }
+        → AboutTells about (registry_of c) caller.now (asked.SetAccess name.now status)) }
 {
     Ok(About::SetAccess {
         standing: load_standing(alloc, tx, caller, name)?,
@@ -50,7 +50,7 @@ pub(crate) fn new_version<S: Alter>(
     requires in_form { InForm S.Store tx.old }
     ensures stays { Stays S.Store tx.old tx.new }
     ensures tells { Tells S.Store tx.old tx.new result (λ about c. AreTeamsSound c
-        → StandsAbout about (registry_of c) caller.now (asked.Publish form.now)) }
+        → AboutTells about (registry_of c) caller.now (asked.Publish form.now)) }
 {
     let standing = load_standing(alloc, tx, caller, form.name())?;
     let taken = find_taken(tx, form)?;
@@ -105,7 +105,7 @@ pub(crate) fn new_tag<S: Alter>(
     requires in_form { InForm S.Store tx.old }
     ensures stays { Stays S.Store tx.old tx.new }
     ensures tells { Tells S.Store tx.old tx.new result (λ about c. AreTeamsSound c
-        → StandsAbout about (registry_of c) caller.now
+        → AboutTells about (registry_of c) caller.now
         (asked.TagSet name.now tag.now version.now)) }
 {
     Ok(About::TagSet {
@@ -126,7 +126,7 @@ pub(crate) fn old_tag<S: Alter>(
     requires in_form { InForm S.Store tx.old }
     ensures stays { Stays S.Store tx.old tx.new }
     ensures tells { Tells S.Store tx.old tx.new result (λ about c. AreTeamsSound c
-        → StandsAbout about (registry_of c) caller.now (asked.TagRemove name.now tag.now)) }
+        → AboutTells about (registry_of c) caller.now (asked.TagRemove name.now tag.now)) }
 {
     Ok(About::TagRemove {
         standing: load_standing(alloc, tx, caller, name)?,
@@ -144,9 +144,9 @@ pub(crate) fn seen_package<S: Alter>(
     requires in_form { InForm S.Store tx.old }
     ensures stays { Stays S.Store tx.old tx.new }
     ensures packument { Tells S.Store tx.old tx.new result (λ about c. AreTeamsSound c
-        → StandsAbout about (registry_of c) caller.now (asked.Packument name.now)) }
+        → AboutTells about (registry_of c) caller.now (asked.Packument name.now)) }
     ensures tags { Tells S.Store tx.old tx.new result (λ about c. AreTeamsSound c
-        → StandsAbout about (registry_of c) caller.now (asked.Tags name.now)) }
+        → AboutTells about (registry_of c) caller.now (asked.Tags name.now)) }
 {
     Ok(About::Package {
         standing: load_standing(alloc, tx, caller, name)?,
@@ -165,7 +165,7 @@ pub(crate) fn seen_document<S: Alter>(
     requires in_form { InForm S.Store tx.old }
     ensures stays { Stays S.Store tx.old tx.new }
     ensures tells { Tells S.Store tx.old tx.new result (λ about c. AreTeamsSound c
-        → StandsAbout about (registry_of c) caller.now
+        → AboutTells about (registry_of c) caller.now
         (asked.VersionDoc name.now version.now)) }
 {
     let standing = load_standing(alloc, tx, caller, name)?;
@@ -217,7 +217,7 @@ pub(crate) fn seen_archive<S: Alter>(
     requires in_form { InForm S.Store tx.old }
     ensures stays { Stays S.Store tx.old tx.new }
     ensures tells { Tells S.Store tx.old tx.new result (λ about c. AreTeamsSound c
-        → StandsAbout about (registry_of c) caller.now (asked.Archive name.now version.now)) }
+        → AboutTells about (registry_of c) caller.now (asked.Archive name.now version.now)) }
 {
     Ok(About::Version {
         standing: load_standing(alloc, tx, caller, name)?,

@@ -4,7 +4,7 @@ ghost use Rattle.registry_access.specs.declared.caller.Caller.{Caller};
 ghost use Rattle.registry_rows.specs.Frames.{Stays};
 ghost use Rattle.registry_tables.specs.Contents.{registry_of};
 ghost use Rattle.registry_tables.specs.Effects.{InForm, Tells};
-ghost use Rattle.registry_rules.specs.Facts.{StandsAbout};
+ghost use Rattle.registry_rules.specs.Facts.{AboutTells};
 ghost use Rattle.registry_rules.specs.declared.request.Action.TheVariants as asked;
 
 use registry_names::{Fault, Ident};
@@ -19,7 +19,7 @@ pub(crate) fn new_user<S: Alter>(tx: &mut Transaction<'_, S>, user: &Ident) -> R
     requires in_form { InForm S.Store tx.old }
     ensures stays { Stays S.Store tx.old tx.new }
     ensures tells { Tells S.Store tx.old tx.new result (λ about c. (who : Caller)
-        → StandsAbout about (registry_of c) who (asked.UserAdd user.now)) }
+        → AboutTells about (registry_of c) who (asked.UserAdd user.now)) }
 {
     Ok(About::UserAdd {
         exists: has_user(tx, user.text())?,
@@ -36,7 +36,7 @@ pub(crate) fn new_token<S: Alter>(
     requires in_form { InForm S.Store tx.old }
     ensures stays { Stays S.Store tx.old tx.new }
     ensures tells { Tells S.Store tx.old tx.new result (λ about c. (who : Caller)
-        → StandsAbout about (registry_of c) who (asked.TokenAdd user.now digest.now)) }
+        → AboutTells about (registry_of c) who (asked.TokenAdd user.now digest.now)) }
 {
     Ok(About::TokenAdd {
         user_exists: has_user(tx, user.text())?,

@@ -5,7 +5,7 @@ ghost use Rattle.registry_rows.specs.Frames.{Stays};
 ghost use Rattle.registry_tables.specs.Contents.{registry_of};
 ghost use Rattle.registry_tables.specs.Effects.{InForm, Tells};
 ghost use Rattle.registry_desk.specs.Found.{IsPlace};
-ghost use Rattle.registry_rules.specs.Facts.{StandsAbout};
+ghost use Rattle.registry_rules.specs.Facts.{AboutTells};
 ghost use Rattle.registry_rules.specs.declared.request.Action.TheVariants as asked;
 
 use registry_access::Caller;
@@ -26,7 +26,7 @@ pub(crate) fn new_team<S: Alter>(
     requires in_form { InForm S.Store tx.old }
     ensures stays { Stays S.Store tx.old tx.new }
     ensures tells { Tells S.Store tx.old tx.new result (λ about c.
-        StandsAbout about (registry_of c) caller.now (asked.TeamCreate organisation.now team.now)) }
+        AboutTells about (registry_of c) caller.now (asked.TeamCreate organisation.now team.now)) }
 {
     Ok(About::TeamCreate {
         rows: load_access(alloc, tx, caller, organisation.text())?,
@@ -44,7 +44,7 @@ pub(crate) fn old_team<S: Alter>(
 ) -> Result<About, Fault>
     requires in_form { InForm S.Store tx.old }
     ensures stays { Stays S.Store tx.old tx.new }
-    ensures tells { Tells S.Store tx.old tx.new result (λ about c. StandsAbout about
+    ensures tells { Tells S.Store tx.old tx.new result (λ about c. AboutTells about
         (registry_of c) caller.now (asked.TeamDestroy organisation.now team.now)) }
 {
     Ok(About::TeamDestroy {
@@ -64,7 +64,7 @@ pub(crate) fn new_team_member<S: Alter>(
 ) -> Result<About, Fault>
     requires in_form { InForm S.Store tx.old }
     ensures stays { Stays S.Store tx.old tx.new }
-    ensures tells { Tells S.Store tx.old tx.new result (λ about c. StandsAbout about
+    ensures tells { Tells S.Store tx.old tx.new result (λ about c. AboutTells about
         (registry_of c) caller.now (asked.TeamAdd organisation.now team.now user.now)) }
 {
     let rows = load_access(alloc, tx, caller, organisation.text())?;
@@ -88,7 +88,7 @@ pub(crate) fn old_team_member<S: Alter>(
 ) -> Result<About, Fault>
     requires in_form { InForm S.Store tx.old }
     ensures stays { Stays S.Store tx.old tx.new }
-    ensures tells { Tells S.Store tx.old tx.new result (λ about c. StandsAbout about
+    ensures tells { Tells S.Store tx.old tx.new result (λ about c. AboutTells about
         (registry_of c) caller.now (asked.TeamRemove organisation.now team.now user.now)) }
 {
     let rows = load_access(alloc, tx, caller, organisation.text())?;
@@ -136,9 +136,9 @@ pub(crate) fn seen_team<S: Alter>(
 ) -> Result<About, Fault>
     requires in_form { InForm S.Store tx.old }
     ensures stays { Stays S.Store tx.old tx.new }
-    ensures members { Tells S.Store tx.old tx.new result (λ about c. StandsAbout about
+    ensures members { Tells S.Store tx.old tx.new result (λ about c. AboutTells about
         (registry_of c) caller.now (asked.TeamMembers organisation.now team.now)) }
-    ensures packages { Tells S.Store tx.old tx.new result (λ about c. StandsAbout about
+    ensures packages { Tells S.Store tx.old tx.new result (λ about c. AboutTells about
         (registry_of c) caller.now (asked.TeamPackages organisation.now team.now)) }
 {
     Ok(About::Team {

@@ -4,7 +4,7 @@ ghost use Rattle.std.specs.Prelude.{List};
 ghost use Rattle.registry_names.specs.Texts.{Text as Word};
 ghost use Rattle.registry_ranges.specs.Selectors.{Condition};
 ghost use Rattle.registry_rows.specs.Frames.{Stays};
-ghost use Rattle.registry_rules.specs.Facts.{StandsAbout};
+ghost use Rattle.registry_rules.specs.Facts.{AboutTells};
 ghost use Rattle.registry_rules.specs.declared.request.Action.TheVariants as asked;
 ghost use Rattle.registry_tables.specs.Contents.{registry_of};
 ghost use Rattle.registry_tables.specs.Effects.{InForm, Tells};
@@ -30,7 +30,7 @@ pub(crate) fn old_version<S: Alter>(
     requires in_form { InForm S.Store tx.old }
     ensures stays { Stays S.Store tx.old tx.new }
     ensures tells { Tells S.Store tx.old tx.new result (λ about c. AreTeamsSound c → HoldsNeeds c
-        → StandsAbout about (registry_of c) caller.now (asked.Withdraw name.now version.now)) }
+        → AboutTells about (registry_of c) caller.now (asked.Withdraw name.now version.now)) }
 {
     let standing = load_standing(alloc, tx, caller, name)?;
     let life = find_life(alloc, tx, name, version)?;
@@ -86,7 +86,7 @@ pub(crate) fn live_versions<S: Alter>(
     ensures stays { Stays S.Store tx.old tx.new }
     ensures tells { Tells S.Store tx.old tx.new result (λ about c.
         (selector : List (List Condition)) (message : Word) → AreTeamsSound c
-        → StandsAbout about (registry_of c) caller.now
+        → AboutTells about (registry_of c) caller.now
         (asked.Deprecate name.now selector message)) }
 {
     let standing = load_standing(alloc, tx, caller, name)?;

@@ -7,7 +7,7 @@ use Rattle.registry_names.specs.Texts.{Text}
 use Rattle.registry_access.specs.Agreement.{SameOrganisation}
 use Rattle.registry_access.specs.Positions.{has_organisation}
 use Rattle.registry_access.specs.RowMaps.{state_of}
-use Rattle.registry_access.specs.RowsFor as access
+use Rattle.registry_access.specs.RowsFor.{StandingTells}
 use Rattle.registry_access.specs.declared.standing.Standing.{Standing}
 use Rattle.registry_access.specs.declared.caller.Caller.{Caller}
 use Rattle.registry_access.specs.declared.role.Role.{Role}
@@ -25,12 +25,8 @@ use Rattle.registry_rules.specs.declared.request.Action.{Action}
 use Rattle.registry_rules.specs.declared.request.Action.TheVariants.{UserAdd, TokenAdd, OrgCreate, OrgSet, OrgRemove, TeamCreate, TeamDestroy, TeamAdd, TeamRemove, Grant, Revoke, SetAccess, OwnerAdd, OwnerRemove, Publish, TagSet, TagRemove, Withdraw, Deprecate, Packument, VersionDoc, Archive, Tags, Members, Teams, TeamMembers, TeamPackages}
 use Rattle.registry_rules.specs.declared.request.Request.{Request}
 
--- the standing stands for what the registry holds of the caller and the package
-abbrev pub TellsOf : Standing → State → Caller → Text → Type 0
-TellsOf standing S who p = access.StandsFor standing S.access who p
-
 pub record ArePublishFacts (facts : PublishFacts) (S : State) (who : Caller) (f : FormParts) : Type 0 where
-  pub standing : TellsOf facts.standing S who f.name
+  pub standing : StandingTells facts.standing S.access who f.name
   pub version_lives : facts.version_lives ≡ is_live S f.name (version_of f)
   pub version_spent : facts.version_spent ≡ is_spent S f.name (version_of f)
   pub tag_stands : facts.tag_stands ≡ stands S f.name f.tag
@@ -71,61 +67,61 @@ pub record AreGrantFacts (rows : AccessRows) (there published stood : Bool) (S :
   pub stands : stood ≡ has_grant S o t p
 
 pub record AreOwnerAddFacts (standing : Standing) (exists already : Bool) (S : State) (who : Caller) (p u : Text) : Type 0 where
-  pub standing_tells : TellsOf standing S who p
+  pub standing_tells : StandingTells standing S.access who p
   pub user_exists : exists ≡ has_user S u
   pub is_maintainer : already ≡ has_maintainer S p u
 
 pub record AreOwnerRemoveFacts (standing : Standing) (maintainer other : Bool) (S : State) (who : Caller) (p u : Text) : Type 0 where
-  pub standing_tells : TellsOf standing S who p
+  pub standing_tells : StandingTells standing S.access who p
   pub is_maintainer : maintainer ≡ has_maintainer S p u
   pub other_maintainer : other ≡ has_other_maintainer S p u
 
 pub record AreTagSetFacts (standing : Standing) (lives stood : Bool) (S : State) (who : Caller) (p t v : Text) : Type 0 where
-  pub standing_tells : TellsOf standing S who p
+  pub standing_tells : StandingTells standing S.access who p
   pub version_lives : lives ≡ is_live S p v
   pub tag_stands : stood ≡ stands S p t
 
 pub record AreWithdrawFacts (standing : Standing) (since : Option ℕ) (needed : Bool) (named : List Text) (living : List VersionParts) (S : State) (who : Caller) (p : Text) (v : VersionParts) : Type 0 where
-  pub standing_tells : TellsOf standing S who p
+  pub standing_tells : StandingTells standing S.access who p
   pub published : since ≡ published_at S p (text_of_version v)
   pub depended : needed ≡ is_depended S p v
   pub tags : named ≡ tags_of S p (text_of_version v)
   pub live : map text_of_version living ≡ live_versions S p
 
--- What is told of a caller's action is so. What is told of another kind of action stands for no
--- state
-abbrev pub StandsAbout : About → State → Caller → Action → Type 0
-StandsAbout (about.UserAdd exists) S who (UserAdd u) = exists ≡ has_user S u
-StandsAbout (about.TokenAdd user_exists exists) S who (TokenAdd u digest) = (user_exists ≡ has_user S u) × (exists ≡ has_token S digest)
-StandsAbout (about.OrgCreate owner_exists exists) S who (OrgCreate o u) = (owner_exists ≡ has_user S u) × (exists ≡ has_organisation S.access o)
-StandsAbout (about.OrgSet rows user_exists role other_owner) S who (OrgSet o u new) = AreOrgSetFacts rows user_exists role other_owner S who o u
-StandsAbout (about.OrgRemove rows role other_owner) S who (OrgRemove o u) = AreOrgRemoveFacts rows role other_owner S who o u
-StandsAbout (about.TeamCreate rows exists) S who (TeamCreate o t) = SayOf rows S who o × (exists ≡ has_team S o t)
-StandsAbout (about.TeamDestroy rows exists) S who (TeamDestroy o t) = SayOf rows S who o × (exists ≡ has_team S o t)
-StandsAbout (about.TeamAdd rows team_exists member already) S who (TeamAdd o t u) = AreTeamAddFacts rows team_exists member already S who o t u
-StandsAbout (about.TeamRemove rows team_exists inside) S who (TeamRemove o t u) = AreTeamRemoveFacts rows team_exists inside S who o t u
-StandsAbout (about.Grant rows team_exists published stood) S who (Grant o t p grant) = AreGrantFacts rows team_exists published stood S who o t p
-StandsAbout (about.Revoke rows stood) S who (Revoke o t p) = SayOf rows S who o × (stood ≡ has_grant S o t p)
-StandsAbout (about.SetAccess standing) S who (SetAccess p status) = TellsOf standing S who p
-StandsAbout (about.OwnerAdd standing user_exists already) S who (OwnerAdd p u) = AreOwnerAddFacts standing user_exists already S who p u
-StandsAbout (about.OwnerRemove standing maintainer other) S who (OwnerRemove p u) = AreOwnerRemoveFacts standing maintainer other S who p u
-StandsAbout (about.Publish facts) S who (Publish f) = ArePublishFacts facts S who f
-StandsAbout (about.TagSet standing version_lives tag_stands) S who (TagSet p t v) = AreTagSetFacts standing version_lives tag_stands S who p t (text_of_version v)
-StandsAbout (about.TagRemove standing tag_stands) S who (TagRemove p t) = TellsOf standing S who p × (tag_stands ≡ stands S p t)
-StandsAbout (about.Withdraw standing published depended tags live) S who (Withdraw p v) = AreWithdrawFacts standing published depended tags.items live.items S who p v
-StandsAbout (about.Deprecate standing live) S who (Deprecate p selector message) = TellsOf standing S who p × (map text_of_version live.items ≡ live_versions S p)
-StandsAbout (about.Version standing found) S who (VersionDoc p asked) = TellsOf standing S who p × (found ≡ lives S p (asked_version S p asked))
-StandsAbout (about.Version standing found) S who (Archive p v) = TellsOf standing S who p × (found ≡ is_live S p (text_of_version v))
-StandsAbout (about.Package standing found) S who (Packument p) = TellsOf standing S who p × (found ≡ has_live S p)
-StandsAbout (about.Package standing found) S who (Tags p) = TellsOf standing S who p × (found ≡ has_live S p)
-StandsAbout (about.Organisation rows) S who (Members o) = SayOf rows S who o
-StandsAbout (about.Organisation rows) S who (Teams o) = SayOf rows S who o
-StandsAbout (about.Team rows exists) S who (TeamMembers o t) = SayOf rows S who o × (exists ≡ has_team S o t)
-StandsAbout (about.Team rows exists) S who (TeamPackages o t) = SayOf rows S who o × (exists ≡ has_team S o t)
-StandsAbout _ S who _ = ⊥
+-- What is told of a caller's action is so. What is told of another kind of action tells nothing
+-- of a state
+abbrev pub AboutTells : About → State → Caller → Action → Type 0
+AboutTells (about.UserAdd exists) S who (UserAdd u) = exists ≡ has_user S u
+AboutTells (about.TokenAdd user_exists exists) S who (TokenAdd u digest) = (user_exists ≡ has_user S u) × (exists ≡ has_token S digest)
+AboutTells (about.OrgCreate owner_exists exists) S who (OrgCreate o u) = (owner_exists ≡ has_user S u) × (exists ≡ has_organisation S.access o)
+AboutTells (about.OrgSet rows user_exists role other_owner) S who (OrgSet o u new) = AreOrgSetFacts rows user_exists role other_owner S who o u
+AboutTells (about.OrgRemove rows role other_owner) S who (OrgRemove o u) = AreOrgRemoveFacts rows role other_owner S who o u
+AboutTells (about.TeamCreate rows exists) S who (TeamCreate o t) = SayOf rows S who o × (exists ≡ has_team S o t)
+AboutTells (about.TeamDestroy rows exists) S who (TeamDestroy o t) = SayOf rows S who o × (exists ≡ has_team S o t)
+AboutTells (about.TeamAdd rows team_exists member already) S who (TeamAdd o t u) = AreTeamAddFacts rows team_exists member already S who o t u
+AboutTells (about.TeamRemove rows team_exists inside) S who (TeamRemove o t u) = AreTeamRemoveFacts rows team_exists inside S who o t u
+AboutTells (about.Grant rows team_exists published stood) S who (Grant o t p grant) = AreGrantFacts rows team_exists published stood S who o t p
+AboutTells (about.Revoke rows stood) S who (Revoke o t p) = SayOf rows S who o × (stood ≡ has_grant S o t p)
+AboutTells (about.SetAccess standing) S who (SetAccess p status) = StandingTells standing S.access who p
+AboutTells (about.OwnerAdd standing user_exists already) S who (OwnerAdd p u) = AreOwnerAddFacts standing user_exists already S who p u
+AboutTells (about.OwnerRemove standing maintainer other) S who (OwnerRemove p u) = AreOwnerRemoveFacts standing maintainer other S who p u
+AboutTells (about.Publish facts) S who (Publish f) = ArePublishFacts facts S who f
+AboutTells (about.TagSet standing version_lives tag_stands) S who (TagSet p t v) = AreTagSetFacts standing version_lives tag_stands S who p t (text_of_version v)
+AboutTells (about.TagRemove standing tag_stands) S who (TagRemove p t) = StandingTells standing S.access who p × (tag_stands ≡ stands S p t)
+AboutTells (about.Withdraw standing published depended tags live) S who (Withdraw p v) = AreWithdrawFacts standing published depended tags.items live.items S who p v
+AboutTells (about.Deprecate standing live) S who (Deprecate p selector message) = StandingTells standing S.access who p × (map text_of_version live.items ≡ live_versions S p)
+AboutTells (about.Version standing found) S who (VersionDoc p asked) = StandingTells standing S.access who p × (found ≡ lives S p (asked_version S p asked))
+AboutTells (about.Version standing found) S who (Archive p v) = StandingTells standing S.access who p × (found ≡ is_live S p (text_of_version v))
+AboutTells (about.Package standing found) S who (Packument p) = StandingTells standing S.access who p × (found ≡ has_live S p)
+AboutTells (about.Package standing found) S who (Tags p) = StandingTells standing S.access who p × (found ≡ has_live S p)
+AboutTells (about.Organisation rows) S who (Members o) = SayOf rows S who o
+AboutTells (about.Organisation rows) S who (Teams o) = SayOf rows S who o
+AboutTells (about.Team rows exists) S who (TeamMembers o t) = SayOf rows S who o × (exists ≡ has_team S o t)
+AboutTells (about.Team rows exists) S who (TeamPackages o t) = SayOf rows S who o × (exists ≡ has_team S o t)
+AboutTells _ S who _ = ⊥
 
 -- The facts are what the registry holds for the request. Of an action of nobody nothing has to be
 -- told
-pub record StandsFor (facts : Facts) (S : State) (r : Request) : Type 0 where
+pub record FactsTell (facts : Facts) (S : State) (r : Request) : Type 0 where
   pub caller : facts.caller ≡ caller_of S r.who
-  pub about : (who : Caller) → facts.caller ≡ Some who → StandsAbout facts.about S who r.what
+  pub about : (who : Caller) → facts.caller ≡ Some who → AboutTells facts.about S who r.what

@@ -4,7 +4,7 @@ ghost use Rattle.std.specs.Prelude.{◌≡◌, ◌↔◌, ℕ, IfOk, IfErr, Ok, 
 ghost use Rattle.registry_rules.specs.Actions.{is_command};
 ghost use Rattle.registry_rules.specs.Changes.{change_of};
 ghost use Rattle.registry_rules.specs.Effects.{effects, effects_of};
-ghost use Rattle.registry_rules.specs.Facts.{StandsAbout, StandsFor};
+ghost use Rattle.registry_rules.specs.Facts.{AboutTells, FactsTell};
 ghost use Rattle.registry_rules.specs.Refusals as spec;
 ghost use Rattle.registry_rules.specs.Refusals.{permitted, refusal};
 ghost use Rattle.registry_rules.specs.State.{State};
@@ -29,7 +29,7 @@ use std::alloc::{AllocError, Global};
 ///
 /// Facts that are told of another kind of action than the request's stand for no registry.
 pub fn may_ask(facts: &Facts, request: &Request) -> Result<(), Refusal>
-    ensures { (S : State) → StandsFor facts.now S request.now
+    ensures { (S : State) → FactsTell facts.now S request.now
         → result ≡ permitted (refusal S request.now) }
 {
     match &facts.caller {
@@ -48,12 +48,12 @@ pub fn decide<'a>(
     facts: &'a Facts,
     request: &'a Request,
 ) -> Result<Changes<'a>, Stop>
-    ensures makes { IfOk result (λ changes. (S : State) → StandsFor facts.now S request.now
+    ensures makes { IfOk result (λ changes. (S : State) → FactsTell facts.now S request.now
         → (refusal S request.now ≡ None)
         × (map change_of changes.items ≡ effects_of S request.now)) }
     ensures query { is_command request.now.what ≡ false
         → IfOk result (λ changes. changes.items ≡ []) }
-    ensures refused { (S : State) → StandsFor facts.now S request.now
+    ensures refused { (S : State) → FactsTell facts.now S request.now
         → (r : Refusal) → (refusal S request.now ≡ Some r) ↔ (result ≡ Err (Stop.Refused r)) }
     ensures fault { IfErr result (λ stop. (fault : Fault) → stop ≡ Stop.Fault fault
         → fault ≡ Fault.Memory) }
@@ -75,7 +75,7 @@ fn permitted(refusal: Option<Refusal>) -> Result<(), Refusal>
 
 // Why this caller's action is turned away, if it is.
 fn refusal_by(caller: &Caller, about: &About, action: &Action, now: &Moment) -> Option<Refusal>
-    ensures { (S : State) → StandsAbout about.now S caller.now action.now
+    ensures { (S : State) → AboutTells about.now S caller.now action.now
         → result ≡ spec.refusal_by S now.now caller.now action.now }
 {
     unless_allowed(permission(caller, about, action)).or(state_refusal(about, action, now))
@@ -89,7 +89,7 @@ fn unless_allowed(verdict: Result<Rule, Refusal>) -> Option<Refusal>
 
 // Why what an action asks for can't be had, whoever asks.
 fn state_refusal(about: &About, action: &Action, now: &Moment) -> Option<Refusal>
-    ensures { (S : State) (who : Caller) → StandsAbout about.now S who action.now
+    ensures { (S : State) (who : Caller) → AboutTells about.now S who action.now
         → result ≡ spec.state_refusal S now.now action.now }
 {
     match (about, action) {
@@ -214,7 +214,7 @@ fn changes_for<'a>(
     request: &'a Request,
 ) -> Result<Changes<'a>, AllocError>
     ensures command { IfOk result (λ changes. (S : State) (who : Caller) → caller.now ≡ Some who
-        → StandsAbout about.now S who request.now.what
+        → AboutTells about.now S who request.now.what
         → map change_of changes.items ≡ effects S request.now.at who request.now.what) }
     ensures query { is_command request.now.what ≡ false
         → IfOk result (λ changes. changes.items ≡ []) }
@@ -233,7 +233,7 @@ fn changes<'a>(
     request: &'a Request,
 ) -> Result<Changes<'a>, AllocError>
     ensures command { IfOk result (λ changes. (S : State)
-        → StandsAbout about.now S caller.now request.now.what
+        → AboutTells about.now S caller.now request.now.what
         → map change_of changes.items ≡ effects S request.now.at caller.now request.now.what) }
     ensures query { is_command request.now.what ≡ false
         → IfOk result (λ changes. changes.items ≡ []) }

@@ -8,8 +8,8 @@ ghost use Rattle.registry_access.specs.Callers.{role_of};
 ghost use Rattle.registry_access.specs.Policy as policy;
 ghost use Rattle.registry_access.specs.Positions.{has_organisation, position_in};
 ghost use Rattle.registry_access.specs.RowMaps.{state_of};
-ghost use Rattle.registry_access.specs.RowsFor.{StandsFor};
-ghost use Rattle.registry_rules.specs.Facts.{StandsAbout};
+ghost use Rattle.registry_access.specs.RowsFor.{StandingTells};
+ghost use Rattle.registry_rules.specs.Facts.{AboutTells};
 ghost use Rattle.registry_rules.specs.Permissions as spec;
 ghost use Rattle.registry_rules.specs.State.{State};
 
@@ -20,7 +20,7 @@ use registry_names::{Ident, Name, Refusal, Rule};
 
 /// The rule that allows a caller what he asks for, or why the policy turns him away.
 pub(crate) fn permission(caller: &Caller, about: &About, action: &Action) -> Result<Rule, Refusal>
-    ensures { (S : State) → StandsAbout about.now S caller.now action.now
+    ensures { (S : State) → AboutTells about.now S caller.now action.now
         → result ≡ spec.permission S.access caller.now action.now }
 {
     match (about, action) {
@@ -140,7 +140,7 @@ fn may_see_organisation(
 }
 
 fn may_write(standing: &Standing, caller: &Caller, name: &Name) -> Result<Rule, Refusal>
-    ensures { (A : Access) → StandsFor standing.now A caller.now name.now
+    ensures { (A : Access) → StandingTells standing.now A caller.now name.now
         → result ≡ policy.may_write caller.now (position_in A caller.now name.now) }
 {
     allowed_by(standing, caller, &Ask::Write(name))
@@ -151,21 +151,21 @@ fn may_manage_maintainers(
     caller: &Caller,
     name: &Name,
 ) -> Result<Rule, Refusal>
-    ensures { (A : Access) → StandsFor standing.now A caller.now name.now
+    ensures { (A : Access) → StandingTells standing.now A caller.now name.now
         → result ≡ policy.may_manage_maintainers caller.now (position_in A caller.now name.now) }
 {
     allowed_by(standing, caller, &Ask::Owners(name))
 }
 
 fn may_read(standing: &Standing, caller: &Caller, name: &Name) -> Result<Rule, Refusal>
-    ensures { (A : Access) → StandsFor standing.now A caller.now name.now
+    ensures { (A : Access) → StandingTells standing.now A caller.now name.now
         → result ≡ policy.may_read (position_in A caller.now name.now) }
 {
     allowed_by(standing, caller, &Ask::Read(name))
 }
 
 fn may_publish(standing: &Standing, caller: &Caller, name: &Name) -> Result<Rule, Refusal>
-    ensures { (A : Access) → StandsFor standing.now A caller.now name.now
+    ensures { (A : Access) → StandingTells standing.now A caller.now name.now
         → result ≡ policy.may_publish caller.now (is_some (scope_of name.now))
         (position_in A caller.now name.now) }
 {

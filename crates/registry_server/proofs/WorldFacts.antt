@@ -8,7 +8,7 @@ use Rattle.registry_talk.specs.Histories.{Line, Reached, World, at_end, comes, i
 use Rattle.registry_talk.specs.Turns.{Answers, Cause, IsTurn, IsTurnFor, Turn, bad_input, is_request, no_memory, request, response_of}
 use Rattle.registry_talk.proofs.CourseFacts.{bytes-same, on-not_last, on-request}
 use Rattle.registry_server.specs.Lines.{Pending, holding, sending}
-use Rattle.registry_server.specs.Worlds.{Begins, Comes, LeadsTo, MayHave, Sends, Shuts, StandsFor, TakesTurns}
+use Rattle.registry_server.specs.Worlds.{Begins, Comes, LeadsTo, MayHave, Sends, Shuts, LineShows, TakesTurns}
 
 -- ---- one connection of a world
 
@@ -25,7 +25,7 @@ pick-second true x y is = cc
 
 -- a line that shows this connection stands for it
 stands-with : {D : Type 0} (w : World D) (k : ℕ) (over : Bool) (p : Pending) (l : Line) (ts : List Turn) → w.lines k ≡ l → turns_of k w.log ≡ ts
-    → l.rest ≡ p.held → l.shut ≡ over → l.out ≡ l.sent ++ p.unsent → (p.ends ≡ None → MayHave ts p.left) → StandsFor w k over p
+    → l.rest ≡ p.held → l.shut ≡ over → l.out ≡ l.sent ++ p.unsent → (p.ends ≡ None → MayHave ts p.left) → LineShows w k over p
 stands-with w k over p l ts line turned held shut unsent may = record {
   held = ap (λ (m : Line). m.rest) line ∙ held;
   shut = ap (λ (m : Line). m.shut) line ∙ shut;
@@ -33,7 +33,7 @@ stands-with w k over p l ts line turned held shut unsent may = record {
   may_have = λ going. subst (λ (us : List Turn). MayHave us p.left) (sym turned) (may going);
 }
 
-stands-still : {D : Type 0} (w v : World D) (j : ℕ) (o : Bool) (q : Pending) → v.lines j ≡ w.lines j → turns_of j v.log ≡ turns_of j w.log → StandsFor w j o q → StandsFor v j o q
+stands-still : {D : Type 0} (w v : World D) (j : ℕ) (o : Bool) (q : Pending) → v.lines j ≡ w.lines j → turns_of j v.log ≡ turns_of j w.log → LineShows w j o q → LineShows v j o q
 stands-still w v j o q line turned s = stands-with v j o q (w.lines j) (turns_of j w.log) line turned s.held s.shut s.unsent s.may_have
 
 same-last : (n left : ℕ) → n + left ≡ 1000 → (left == 1) ≡ (n + 1 == 1000)

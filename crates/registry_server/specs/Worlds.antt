@@ -15,7 +15,7 @@ pub record MayHave (ts : List Turn) (left : ℕ) : Type 0 where
 -- The line shows the connection of this number: the bytes that no turn was taken for, whether more
 -- come, what was answered and isn't sent, and, while it goes on, how many requests it may still
 -- have.
-pub record StandsFor {D : Type 0} (w : World D) (k : ℕ) (over : Bool) (p : Pending) : Type 0 where
+pub record LineShows {D : Type 0} (w : World D) (k : ℕ) (over : Bool) (p : Pending) : Type 0 where
   pub held : (w.lines k).rest ≡ p.held
   pub shut : (w.lines k).shut ≡ over
   pub unsent : (w.lines k).out ≡ (w.lines k).sent ++ p.unsent
@@ -28,27 +28,27 @@ module _ {D : Type 0} (answers : Answers D) where
     pub world : World D
     pub reached : Reached answers M world
     pub desk : world.desk ≡ N
-    pub stands : StandsFor world k over p
-    pub others : (j : ℕ) (o : Bool) (q : Pending) → (j == k) ≡ false → StandsFor w j o q → StandsFor world j o q
+    pub stands : LineShows world k over p
+    pub others : (j : ℕ) (o : Bool) (q : Pending) → (j == k) ≡ false → LineShows w j o q → LineShows world j o q
 
   -- a new line stands for a new connection
   abbrev pub Begins : Type 0
-  Begins = (M : D) (k : ℕ) → StandsFor (start M) k false fresh
+  Begins = (M : D) (k : ℕ) → LineShows (start M) k false fresh
 
   -- bytes come
   abbrev pub Comes : Type 0
   Comes = (M : D) (w : World D) (k : ℕ) (p : Pending) (bytes : List ℕ)
-      → Reached answers M w → StandsFor w k false p → LeadsTo M w k false (holding p (p.held ++ bytes)) w.desk
+      → Reached answers M w → LineShows w k false p → LeadsTo M w k false (holding p (p.held ++ bytes)) w.desk
 
   -- no more bytes come
   abbrev pub Shuts : Type 0
   Shuts = (M : D) (w : World D) (k : ℕ) (over : Bool) (p : Pending)
-      → Reached answers M w → StandsFor w k over p → LeadsTo M w k true p w.desk
+      → Reached answers M w → LineShows w k over p → LeadsTo M w k true p w.desk
 
   -- a turn is taken, where the connection goes on and all is sent
   abbrev pub TakesTurns : Type 0
   TakesTurns = (M : D) (w : World D) (k : ℕ) (over : Bool) (p q : Pending) (N : D) (readings readings2 : Option (List ℕ))
-      → Reached answers M w → StandsFor w k over p → p.ends ≡ None → p.unsent ≡ []
+      → Reached answers M w → LineShows w k over p → p.ends ≡ None → p.unsent ≡ []
       → TakesTurn answers p q w.desk N readings readings2 over → LeadsTo M w k over q N
 
   -- want of memory has a turn, too, of which neither the desk nor the clock is asked
@@ -58,4 +58,4 @@ module _ {D : Type 0} (answers : Answers D) where
   -- some of what isn't sent is sent
   abbrev pub Sends : Type 0
   Sends = (M : D) (w : World D) (k : ℕ) (over : Bool) (p : Pending) (count : ℕ)
-      → Reached answers M w → StandsFor w k over p → LeadsTo M w k over (sending p (drop count p.unsent)) w.desk
+      → Reached answers M w → LineShows w k over p → LeadsTo M w k over (sending p (drop count p.unsent)) w.desk

@@ -3,7 +3,7 @@
 ghost use Rattle.std.specs.Prelude.{◌≡◌};
 ghost use Rattle.registry_access.specs.Callers as callers;
 ghost use Rattle.registry_access.specs.Positions as positions;
-ghost use Rattle.registry_access.specs.RowsFor.{StandsFor};
+ghost use Rattle.registry_access.specs.RowsFor.{StandingTells};
 ghost use Rattle.registry_names.specs.Names.{scope_of};
 ghost use Rattle.registry_rows.specs.Frames.{Stays};
 ghost use Rattle.registry_tables.specs.Contents.{access_of};
@@ -34,15 +34,15 @@ pub fn load_standing<S: Alter>(
     requires in_form { InForm S.Store tx.old }
     ensures stays { Stays S.Store tx.old tx.new }
     ensures tells { Tells S.Store tx.old tx.new result (λ standing c. AreTeamsSound c
-        → StandsFor standing (access_of c) caller.now name.now) }
+        → StandingTells standing (access_of c) caller.now name.now) }
 {
     let status = load_status(tx, name)?;
-    let org = has_scope(tx, name)?;
+    let organisation = has_scope(tx, name)?;
     let role = load_scope_role(tx, caller, name)?;
     let maintainer = maintains(tx, caller, name)?;
     let grants = load_granted(alloc, tx, caller, name, role)?;
     Ok(Standing {
-        org,
+        organisation,
         role,
         status,
         maintainer,

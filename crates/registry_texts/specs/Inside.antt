@@ -11,7 +11,7 @@ named bytes es = map (λ e. (bytes e.0, e.1)) es
 abbrev pub shown : Inside → Store
 shown fields = store (named string_bytes fields.entries.entries) fields.limit
 
--- the bytes are counted and are few enough, and their number alone makes texts go
+-- The bytes are counted and are few enough. They alone make texts go, and no number of entries does
 pub record IsSound (fields : Inside) : Type 0 where
   pub counted : fields.size ≡ size (named string_bytes fields.entries.entries)
   pub limited : fields.size ≤ fields.limit

@@ -12,20 +12,24 @@ abbrev pub AskedKeepsAll : Type 0
 AskedKeepsAll = (s : Store) (name other : Text) → kept (asked s name) other ≡ kept s other
 
 abbrev pub ForgottenAlone : Type 0
-ForgottenAlone = (s : Store) (name other : Text) → kept (forgotten s name) other ≡ cond (is name other) None (kept s other)
+ForgottenAlone = (s : Store) (name other : Text)
+    → kept (forgotten s name) other ≡ cond (is name other) None (kept s other)
 
 -- a text that has room is kept
 abbrev pub PutIsKept : Type 0
-PutIsKept = (s : Store) (name text : Text) → length text ≤ s.limit → kept (with_text s name text) name ≡ Some text
+PutIsKept = (s : Store) (name text : Text)
+    → length text ≤ s.limit → kept (with_text s name text) name ≡ Some text
 
 -- under the name nothing else is kept than the text, and under another name nothing else than was
 -- kept there
 abbrev pub PutKeepsRight : Type 0
-PutKeepsRight = (s : Store) (name text other found : Text) → kept (with_text s name text) other ≡ Some found
+PutKeepsRight = (s : Store) (name text other found : Text)
+    → kept (with_text s name text) other ≡ Some found
     → MatchBool (is name other) (found ≡ text) (kept s other ≡ Some found)
 
 abbrev pub RoomKeepsRight : Type 0
-RoomKeepsRight = (s : Store) (name text other found : Text) → kept (with_room s name text) other ≡ Some found
+RoomKeepsRight = (s : Store) (name text other found : Text)
+    → kept (with_room s name text) other ≡ Some found
     → MatchBool (is name other) ⊥ (kept s other ≡ Some found)
 
 -- ---- the longest front
@@ -34,7 +38,8 @@ RoomKeepsRight = (s : Store) (name text other found : Text) → kept (with_room 
 pub record IsLongest (room : ℕ) (es : Entries) : Type 0 where
   pub room_enough : size (front room es) ≤ room
   pub begins : (rest : Entries) × (es ≡ front room es ++ rest)
-  pub longest : (e : Text × Text) (rest : Entries) → es ≡ front room es ++ e ∷ rest → room < size (front room es) + length e.1
+  pub longest : (e : Text × Text) (rest : Entries)
+      → es ≡ front room es ++ e ∷ rest → room < size (front room es) + length e.1
 
 abbrev pub FrontsAreLongest : Type 0
 FrontsAreLongest = (room : ℕ) (es : Entries) → IsLongest room es

@@ -19,7 +19,9 @@ store es limit = record { entries = es; limit = limit }
 
 -- a store is kept as the pair of its fields
 abbrev pub store_code : Coded Store
-store_code = code_by (Entries × ℕ) (coded× (coded_list (coded× (coded_list coded_ℕ) (coded_list coded_ℕ))) coded_ℕ) (λ s. (s.entries, s.limit)) (λ p. store p.0 p.1) (λ _. refl)
+store_code = code_by (Entries × ℕ)
+    (coded× (coded_list (coded× (coded_list coded_ℕ) (coded_list coded_ℕ))) coded_ℕ)
+    (λ s. (s.entries, s.limit)) (λ p. store p.0 p.1) (λ _. refl)
 
 -- the bytes of all texts together
 abbrev pub size : Entries → ℕ
@@ -46,17 +48,19 @@ module _ (s : Store) (name : Text) where
 
   -- the same is kept, and the name with its text stands first, if there is one
   abbrev pub asked : Store
-  asked = store (option_map_or (λ text. (name, text) ∷ without name s.entries) kept s.entries) s.limit
+  asked = store
+      (option_map_or (λ text. (name, text) ∷ without name s.entries) kept s.entries) s.limit
 
   module _ (text : Text) where
-    -- as much of the others as leaves room for the text
+    -- of the others, from the latest asked on, as long as they fit beside the text
     abbrev pub with_room : Store
     with_room = store (front (s.limit - length text) (without name s.entries)) s.limit
 
-    -- The text is kept under the name, with as much of the others as leaves room for it. One that
-    -- has no room alone isn't kept
+    -- The text is kept under the name, as the latest asked, with those of the others. Of one that
+    -- has no room alone, nothing is kept under the name, and all others are
     abbrev pub with_text : Store
-    with_text = if nat_le (length text) s.limit then store ((name, text) ∷ with_room.entries) s.limit else forgotten
+    with_text = if nat_le (length text) s.limit
+        then store ((name, text) ∷ with_room.entries) s.limit else forgotten
 
 -- what is kept is right: of each name and its text R holds
 pub record AreRight (R : Text → Text → Type 0) (s : Store) : Type 0 where

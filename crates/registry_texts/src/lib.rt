@@ -1,8 +1,8 @@
 //! Texts that are made once and handed out often, and a store of them that is bounded in bytes.
 //!
-//! A shared text has many owners, and none of them copies it. A store keeps texts by name. What it
-//! keeps under a name is what was last put there and not forgotten since; the texts that were asked
-//! least lately make room for a new one.
+//! A shared text has many owners, and none of them copies it. A store keeps texts by name: under a
+//! name nothing else than what was last put there and not forgotten since. The texts that were
+//! asked least lately make room for a new one.
 #![tactic(auto)]
 
 pub mod laws;

@@ -8,8 +8,9 @@ use lru::LruCache;
 use std::alloc::{AllocError, Global};
 use std::marker::Model;
 
-/// Texts by name, of which all together have a limited number of bytes. Contracts see each name
-/// with its text, the latest asked first, and the limit.
+/// Texts by name, of which all together have a limited number of bytes. The names, and what a text
+/// takes in memory beside its bytes, aren't counted. Contracts see each name with its text, the
+/// latest asked first, and the limit.
 #[derive(Drop)]
 pub struct Texts {
     entries: LruCache<String, SharedText>,
@@ -69,7 +70,7 @@ impl Texts {
 
     /// Keeps the text under the name, in place of what was kept there, as the latest asked. Others
     /// go where there are too many bytes, the least lately asked first. A text that alone has more
-    /// bytes than the limit isn't kept, and of the others none goes.
+    /// bytes than the limit isn't kept: what was kept under the name goes, and of the others none.
     ///
     /// At an error, which comes where no memory is left, nothing is kept under the name, and of the
     /// others as much as if the text were.

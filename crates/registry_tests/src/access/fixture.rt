@@ -175,9 +175,9 @@ fn grants_to(who: &str, package: &str) -> &'static [Grant] {
 
 // How a caller stands to a package.
 pub(super) fn standing(rt: &impl Abort, alloc: Global, who: &str, package: &str) -> Standing {
-    let org = package.starts_with("@lab/");
+    let organisation = package.starts_with("@lab/");
     Standing {
-        org,
+        organisation,
         role: if org { role_in_lab(who) } else { None },
         status: status_of(package),
         maintainer: who == "bob" && package == "tool",

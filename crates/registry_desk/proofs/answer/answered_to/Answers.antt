@@ -4,7 +4,7 @@ use Rattle.sqlite.specs.Effect.{Database}
 use Rattle.sqlite.specs.State.{HasCleanDisk}
 use Rattle.registry_rows.specs.Ready.{Leaves}
 use Rattle.registry_rows.proofs.QuietFacts.{on_answer, stays_then}
-use Rattle.registry_rules.specs.Facts.{StandsFor}
+use Rattle.registry_rules.specs.Facts.{FactsTell}
 use Rattle.registry_tables.specs.Contents.{Contents, contents, registry_of}
 use Rattle.registry_tables.specs.Effects.{shown, stored_in}
 use Rattle.registry_tables.specs.Schema.{schema}
@@ -34,7 +34,7 @@ returns-clause-answers g c known sound needs right clean =
     let same : stored_in g.S.Store c.facts.new.tx ≡ was = ap (λ (d : Database). contents d.trees) told.0.same in
     let stands = known_stands (registry_of was) c.args.caller c.in_ok-about.about r known (told.1 sound needs) in
     IfOk-weaker c.answered_by.result _ _ (λ _ e. e ∙ ap (λ (d : Contents). answer (registry_of d) r) same)
-    (c.answered_by.ensures.answers (subst (λ (d : Contents). StandsFor (record { caller = Some c.args.caller; about = c.in_ok-about.about }) (registry_of d) r) (sym same) stands) (subst (λ (d : Contents). IsSoundFor r.what d c.args.texts.now) (sym same) (sound_for r.what was c.args.texts.now sound right)) clean)
+    (c.answered_by.ensures.answers (subst (λ (d : Contents). FactsTell (record { caller = Some c.args.caller; about = c.in_ok-about.about }) (registry_of d) r) (sym same) stands) (subst (λ (d : Contents). IsSoundFor r.what d c.args.texts.now) (sym same) (sound_for r.what was c.args.texts.now sound right)) clean)
 
 pub returns-clause-settles : goal.returns-clause-settles
 returns-clause-settles g c known sound needs clean =
@@ -45,7 +45,7 @@ returns-clause-settles g c known sound needs clean =
     let same : stored_in g.S.Store c.facts.new.tx ≡ was = ap (λ (d : Database). contents d.trees) told.0.same in
     let stands = known_stands (registry_of was) c.args.caller c.in_ok-about.about r known (told.1 sound needs) in
     on_answer c.answered_by.result (λ left. subst (λ (d : Contents). Leaves schema contents (settled_by r d) (shown g.S.Store c.answered_by.new.tx)) same left)
-    (c.answered_by.ensures.settles (subst (λ (d : Contents). StandsFor (record { caller = Some c.args.caller; about = c.in_ok-about.about }) (registry_of d) r) (sym same) stands) clean)
+    (c.answered_by.ensures.settles (subst (λ (d : Contents). FactsTell (record { caller = Some c.args.caller; about = c.in_ok-about.about }) (registry_of d) r) (sym same) stands) clean)
 
 pub returns-clause-served : goal.returns-clause-served
 returns-clause-served g c clean =

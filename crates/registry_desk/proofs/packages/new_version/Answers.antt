@@ -3,7 +3,7 @@ use Rattle.sqlite.specs.Effect.{Database}
 use Rattle.sqlite.specs.State.{HasCleanDisk}
 use Rattle.registry_names.specs.Texts.{Text}
 use Rattle.registry_rows.proofs.QuietFacts.{stays_then, reads_then}
-use Rattle.registry_rules.specs.Facts.{TellsOf}
+use Rattle.registry_access.specs.RowsFor.{StandingTells}
 use Rattle.registry_tables.specs.Contents.{contents, registry_of}
 use Rattle.registry_tables.specs.Effects.{shown}
 use Rattle.registry_tables.specs.Schema.{schema}
@@ -29,7 +29,7 @@ returns-clause-tells g c clean =
     let taken = subst (λ (d : Database). AreTaken c.in_ok-taken.taken (registry_of (contents d.trees)) c.args.form.now) standing.0.same found.1 in (
       reads_then schema was one (shown g.S.Store c.find_taken.new.tx) standing.0 found.0,
       λ sound. record {
-        standing = subst (λ (q : Text). TellsOf c.in_ok-standing.standing (registry_of (contents was.now.trees)) c.args.caller.now q) c.name.ensures.value (standing.1 sound);
+        standing = subst (λ (q : Text). StandingTells c.in_ok-standing.standing (registry_of (contents was.now.trees)).access c.args.caller.now q) c.name.ensures.value (standing.1 sound);
         version_lives = taken.version_lives;
         version_spent = taken.version_spent;
         tag_stands = taken.tag_stands;

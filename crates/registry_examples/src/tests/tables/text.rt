@@ -156,9 +156,9 @@ pub fn standing_text(alloc: Global, standing: &Standing) -> Result<String, Stop>
     let status = status_word(standing.status);
     let grants = grants_text(alloc, &standing.grants)?;
     let grants = grants.as_str();
-    let org = standing.org;
+    let organisation = standing.organisation;
     let maintainer = standing.maintainer;
-    Ok(format!(in alloc; "{org} {role} {status} {maintainer}{grants}")?)
+    Ok(format!(in alloc; "{organisation} {role} {status} {maintainer}{grants}")?)
 }
 
 fn role_word(role: Option<Role>) -> &'static str {

@@ -16,23 +16,23 @@ pub returns-clause-tells : goal.returns-clause-tells
 returns-clause-tells g c clean =
     let at_maintainer : HasCleanDisk (shown g.S.Store c.maintains.new.tx) = omega (arith, c.load_granted.ensures.stays.survives.clean, clean) in
     let at_role : HasCleanDisk (shown g.S.Store c.load_scope_role.new.tx) = omega (arith, c.maintains.ensures.stays.survives.clean, at_maintainer) in
-    let at_org : HasCleanDisk (shown g.S.Store c.has_scope.new.tx) = omega (arith, c.load_scope_role.ensures.stays.survives.clean, at_role) in
-    let at_status : HasCleanDisk (shown g.S.Store c.load_status.new.tx) = omega (arith, c.has_scope.ensures.stays.survives.clean, at_org) in
+    let at_organisation : HasCleanDisk (shown g.S.Store c.has_scope.new.tx) = omega (arith, c.load_scope_role.ensures.stays.survives.clean, at_role) in
+    let at_status : HasCleanDisk (shown g.S.Store c.load_status.new.tx) = omega (arith, c.has_scope.ensures.stays.survives.clean, at_organisation) in
     let status = c.in_ok-status.ensures.tells at_status in
-    let org = c.in_ok-org.ensures.knows at_org in
+    let organisation = c.in_ok-organisation.ensures.knows at_organisation in
     let role = c.in_ok-role.ensures.knows at_role in
     let maintainer = c.in_ok-maintainer.ensures.knows at_maintainer in
     let grants = c.in_ok-grants.ensures.knows clean in
     let old = shown g.S.Store c.args.tx.now in
     let one : Reads schema old (shown g.S.Store c.load_status.new.tx) = status.0 in
-    let two = reads_as_before old (shown g.S.Store c.load_status.new.tx) (shown g.S.Store c.has_scope.new.tx) one org.0 in
+    let two = reads_as_before old (shown g.S.Store c.load_status.new.tx) (shown g.S.Store c.has_scope.new.tx) one organisation.0 in
     let three = reads_as_before old (shown g.S.Store c.has_scope.new.tx) (shown g.S.Store c.load_scope_role.new.tx) two role.0 in
     let four = reads_as_before old (shown g.S.Store c.load_scope_role.new.tx) (shown g.S.Store c.maintains.new.tx) three maintainer.0 in
     let who = c.args.caller.now in
     let name = c.args.name.now in (
       reads_as_before old (shown g.S.Store c.maintains.new.tx) (shown g.S.Store c.load_granted.new.tx) four grants.0,
       λ sound. record {
-        organisation = org.1 ∙ ap (λ (d : Database). has_scope (access_of (contents d.trees)) (scope_of name)) one.same;
+        organisation = organisation.1 ∙ ap (λ (d : Database). has_scope (access_of (contents d.trees)) (scope_of name)) one.same;
         role = role.1 ∙ ap (λ (d : Database). scope_role (access_of (contents d.trees)) who (scope_of name)) two.same;
         status = status.1;
         maintainer = maintainer.1 ∙ ap (λ (d : Database). is_maintainer (access_of (contents d.trees)) who name) three.same;
@@ -45,22 +45,22 @@ pub load_scope_role-requires : goal.load_scope_role-requires
 load_scope_role-requires g c = record {
   in_form = λ clean _.
       let at_status : HasCleanDisk (shown g.S.Store c.load_status.new.tx) = omega (arith, c.has_scope.ensures.stays.survives.clean, clean) in
-      (c.in_ok-org.ensures.knows clean).0.ready (c.in_ok-status.ensures.tells at_status).0.ready;
+      (c.in_ok-organisation.ensures.knows clean).0.ready (c.in_ok-status.ensures.tells at_status).0.ready;
 }
 
 pub maintains-requires : goal.maintains-requires
 maintains-requires g c = record {
   in_form = λ clean _.
-      let at_org : HasCleanDisk (shown g.S.Store c.has_scope.new.tx) = omega (arith, c.load_scope_role.ensures.stays.survives.clean, clean) in
-      let at_status : HasCleanDisk (shown g.S.Store c.load_status.new.tx) = omega (arith, c.has_scope.ensures.stays.survives.clean, at_org) in
-      (c.in_ok-role.ensures.knows clean).0.ready ((c.in_ok-org.ensures.knows at_org).0.ready (c.in_ok-status.ensures.tells at_status).0.ready);
+      let at_organisation : HasCleanDisk (shown g.S.Store c.has_scope.new.tx) = omega (arith, c.load_scope_role.ensures.stays.survives.clean, clean) in
+      let at_status : HasCleanDisk (shown g.S.Store c.load_status.new.tx) = omega (arith, c.has_scope.ensures.stays.survives.clean, at_organisation) in
+      (c.in_ok-role.ensures.knows clean).0.ready ((c.in_ok-organisation.ensures.knows at_organisation).0.ready (c.in_ok-status.ensures.tells at_status).0.ready);
 }
 
 pub load_granted-requires : goal.load_granted-requires
 load_granted-requires g c = record {
   in_form = λ clean _.
       let at_role : HasCleanDisk (shown g.S.Store c.load_scope_role.new.tx) = omega (arith, c.maintains.ensures.stays.survives.clean, clean) in
-      let at_org : HasCleanDisk (shown g.S.Store c.has_scope.new.tx) = omega (arith, c.load_scope_role.ensures.stays.survives.clean, at_role) in
-      let at_status : HasCleanDisk (shown g.S.Store c.load_status.new.tx) = omega (arith, c.has_scope.ensures.stays.survives.clean, at_org) in
-      (c.in_ok-maintainer.ensures.knows clean).0.ready ((c.in_ok-role.ensures.knows at_role).0.ready ((c.in_ok-org.ensures.knows at_org).0.ready (c.in_ok-status.ensures.tells at_status).0.ready));
+      let at_organisation : HasCleanDisk (shown g.S.Store c.has_scope.new.tx) = omega (arith, c.load_scope_role.ensures.stays.survives.clean, at_role) in
+      let at_status : HasCleanDisk (shown g.S.Store c.load_status.new.tx) = omega (arith, c.has_scope.ensures.stays.survives.clean, at_organisation) in
+      (c.in_ok-maintainer.ensures.knows clean).0.ready ((c.in_ok-role.ensures.knows at_role).0.ready ((c.in_ok-organisation.ensures.knows at_organisation).0.ready (c.in_ok-status.ensures.tells at_status).0.ready));
 }
