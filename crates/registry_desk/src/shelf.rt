@@ -66,6 +66,19 @@ fn changed_package<'a>(change: &Change<'a>) -> Option<&'a Name>
         | Change::PutDeprecation { package, .. }
         | Change::PutTag { package, .. }
         | Change::DropTag { package, .. } => Some(package),
-        _ => None,
+        Change::AddUser { .. }
+        | Change::AddToken { .. }
+        | Change::AddOrg { .. }
+        | Change::PutMember { .. }
+        | Change::DropMember { .. }
+        | Change::AddTeam { .. }
+        | Change::PutTeamMember { .. }
+        | Change::DropTeamMember { .. }
+        | Change::DropTeam { .. }
+        | Change::PutGrant { .. }
+        | Change::DropGrant { .. }
+        | Change::PutMaintainer { .. }
+        | Change::DropMaintainer { .. }
+        | Change::PutStatus { .. } => None,
     }
 }
