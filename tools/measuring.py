@@ -203,15 +203,16 @@ def more(connection):
 
 class Publication:
     """A version with an archive of its own of so many bytes, a manifest of 1 kB like npm's, and
-    seven packages that it needs; and the body that publishes it."""
+    seven packages that it needs; and the body that publishes it. So many bytes more stand in its
+    description."""
 
-    def __init__(self, name, version, archive_len, needs=()):
+    def __init__(self, name, version, archive_len, needs=(), more=0):
         self.name, self.version = name, version
         self.archive = random.Random(f'{name} {version}').randbytes(archive_len)
         file = f'{name}-{version}.tgz'
         body = {
             '_id': name, 'name': name, 'dist-tags': {'latest': version},
-            'versions': {version: manifest(name, version, self.archive, needs or needs_of(name))}, 'access': None,
+            'versions': {version: manifest(name, version, self.archive, needs or needs_of(name), more)}, 'access': None,
             '_attachments': {file: {'content_type': 'application/octet-stream',
                                     'data': base64.b64encode(self.archive).decode(), 'length': archive_len}},
         }
@@ -232,10 +233,10 @@ def needs_of(name):
     return [f'library-{(first + 137 * step) % 1000}' for step in range(7)]
 
 
-def manifest(name, version, archive, needs):
+def manifest(name, version, archive, needs, more):
     return {
         'name': name, 'version': version,
-        'description': 'What a package of the house says of itself, in a line or two: it reads the table of parts and prints it.',
+        'description': 'What a package of the house says of itself, in a line or two: it reads the table of parts and prints it.' + 'x' * more,
         'keywords': ['table', 'parts', 'house'], 'main': 'lib/index.js', 'types': 'lib/index.d.ts',
         'files': ['lib', 'README.md'], 'engines': {'node': '>=18'}, 'license': 'MIT',
         'scripts': {'build': 'tsc -p .', 'test': 'node --test', 'prepublishOnly': 'npm run build'},
