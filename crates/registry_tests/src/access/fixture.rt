@@ -178,7 +178,7 @@ pub(super) fn standing(rt: &impl Abort, alloc: Global, who: &str, package: &str)
     let organisation = package.starts_with("@lab/");
     Standing {
         organisation,
-        role: if org { role_in_lab(who) } else { None },
+        role: if organisation { role_in_lab(who) } else { None },
         status: status_of(package),
         maintainer: who == "bob" && package == "tool",
         grants: Vec::from_slice(alloc, grants_to(who, package)).expect(rt, "memory"),

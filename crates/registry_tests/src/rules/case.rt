@@ -176,7 +176,7 @@ impl By {
     fn standing(&self, rt: &impl Abort, alloc: Global, held: &Held, package: &str) -> Standing {
         let of_lab = package.starts_with("@lab/");
         Standing {
-            org: of_lab,
+            organisation: of_lab,
             role: if of_lab { self.role() } else { None },
             status: held.status(),
             maintainer: matches!(self, By::Maintainer(_)),

@@ -28,7 +28,7 @@ type Going = (
 
 fn standing(alloc: Global) -> Standing {
     Standing {
-        org: false,
+        organisation: false,
         role: None,
         status: Some(Status::Public),
         maintainer: true,
