@@ -27,14 +27,14 @@ pub fn is_displayed<E: Error>(rt: &impl Abort, alloc: Global, error: &E, wanted:
 }
 
 /// Sees that a case is to be refused so.
-pub fn is_refused<C: Copy + Debug>(
+pub fn is_refused<C: Copy + Debug, T: Copy + Debug>(
     rt: &impl Abort,
     case: C,
     came_out: Stop,
-    wanted: &Result<&str, Refusal>,
+    wanted: &Result<T, Refusal>,
 ) {
     match wanted {
-        Ok(text) => panic!(rt; "{case:?} comes out as {came_out:?}, and not as {text:?}"),
+        Ok(value) => panic!(rt; "{case:?} comes out as {came_out:?}, and not as {value:?}"),
         Err(refusal) => same(rt, case, &came_out, &Stop::Refused(*refusal)),
     }
 }

@@ -1,8 +1,8 @@
 //! What manifests depend on.
 
-use crate::outcome::same;
+use crate::outcome::{is_refused, same};
 use crate::publish::case::NeedCase;
-use registry_names::{Refusal, Stop};
+use registry_names::Refusal;
 use registry_publish::{Need, needs_of};
 use std::alloc::Global;
 use std::process::Abort;
@@ -21,46 +21,61 @@ fn is_needed(rt: &impl Abort, shows: &str, need: &Need, case: &NeedCase) {
     same(rt, shows, need.range.as_str(), *range);
 }
 
-// A manifest, and its needs, or None where it is out of form.
-static MANIFESTS: [(&str, Option<&[NeedCase]>); 14] = [
+// A manifest, and its needs, or why it is refused.
+type Manifest = (&'static str, Result<&'static [NeedCase], Refusal>);
+
+static MANIFESTS: [Manifest; 14] = [
     (
         r#"{"x":1.5,"peerDependencies":{"b":"2"},"dependencies":{"c":"","a":"file:../a","c":"1"}}"#,
-        Some(&[("a", "file:../a"), ("c", "1"), ("b", "2")]),
+        Ok(&[("a", "file:../a"), ("c", "1"), ("b", "2")]),
     ),
     (
         r#"{"dependencies":{},"devDependencies":{"d":"*"},"bundleDependencies":null}"#,
-        Some(&[]),
+        Ok(&[]),
     ),
     (
         r#"{"peerDependencies":{"b":"4","B":"5"},"optionalDependencies":{"a":"3"},"dependencies":{"d":"1","c":"2"},"devDependencies":{"e":"*"}}"#,
-        Some(&[("c", "2"), ("d", "1"), ("a", "3"), ("B", "5"), ("b", "4")]),
+        Ok(&[("c", "2"), ("d", "1"), ("a", "3"), ("B", "5"), ("b", "4")]),
     ),
-    ("{}", Some(&[])),
-    ("", None),
-    ("null", None),
-    ("1", None),
-    ("\"a\"", None),
-    ("[{}]", None),
-    ("{}}", None),
-    ("[]", None),
-    (r#"{"dependencies":null}"#, None),
-    (r#"{"optionalDependencies":["a"]}"#, None),
-    (r#"{"peerDependencies":{"a":1}}"#, None),
+    ("{}", Ok(&[])),
+    ("", Err(Refusal::BadBody)),
+    ("null", Err(Refusal::BadBody)),
+    ("1", Err(Refusal::BadBody)),
+    ("\"a\"", Err(Refusal::BadBody)),
+    ("[{}]", Err(Refusal::BadBody)),
+    ("{}}", Err(Refusal::BadBody)),
+    ("[]", Err(Refusal::BadBody)),
+    (r#"{"dependencies":null}"#, Err(Refusal::BadBody)),
+    (r#"{"optionalDependencies":["a"]}"#, Err(Refusal::BadBody)),
+    (r#"{"peerDependencies":{"a":1}}"#, Err(Refusal::BadBody)),
 ];
 
-fn is_told(rt: &impl Abort, alloc: Global, manifest: &str, wanted: Option<&[NeedCase]>) {
+fn is_told(rt: &impl Abort, alloc: Global, case: &Manifest) {
+    let (manifest, wanted) = case;
     match needs_of(alloc, manifest) {
-        Ok(needs) => are_needed(rt, manifest, &needs, wanted.expect(rt, "no needs")),
-        Err(stop) => {
-            same(rt, manifest, &stop, &Stop::Refused(Refusal::BadBody));
-            assert!(rt; wanted.is_none(), "{manifest} has no needs");
+        Ok(needs) => has_needs(rt, manifest, &needs, wanted),
+        Err(stop) => is_refused(rt, *manifest, stop, wanted),
+    }
+}
+
+// Sees that a manifest is to have these needs.
+fn has_needs(
+    rt: &impl Abort,
+    manifest: &str,
+    needs: &[Need],
+    wanted: &Result<&[NeedCase], Refusal>,
+) {
+    match wanted {
+        Ok(wanted) => are_needed(rt, manifest, needs, wanted),
+        Err(refusal) => {
+            panic!(rt; "{manifest:?} comes out as {needs:?}, and not as {refusal:?}")
         }
     }
 }
 
 #[test]
 fn needs_of_manifests(rt: HostRuntime) {
-    for (manifest, wanted) in &MANIFESTS {
-        is_told(&rt, rt.alloc(), manifest, *wanted);
+    for case in &MANIFESTS {
+        is_told(&rt, rt.alloc(), case);
     }
 }
