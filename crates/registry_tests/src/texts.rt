@@ -15,66 +15,196 @@ enum Step {
 }
 
 /// A step, and the number of bytes that are kept after it.
-struct Stage {
-    step: Step,
-    size: usize,
+type Stage = (Step, usize);
+
+/// What is asked of a store that keeps nothing yet. Texts show how long they are: each has its name
+/// as its first byte, and then 2, 3, 4 and so on, by the last digit.
+struct Case {
+    /// What it shows.
+    shows: &'static str,
+    /// The number of bytes that the store keeps at most.
+    limit: usize,
+    /// The steps, in their order.
+    stages: &'static [Stage],
 }
 
-const LIMIT: usize = 10;
-
-static STAGES: [Stage; 12] = [
-    Stage {
-        step: Step::Put("a", "four"),
-        size: 4,
+// Texts about as long as the limit.
+static LIMITS: [Case; 4] = [
+    Case {
+        shows: "a text of just the limit is kept, and no other beside it",
+        limit: 10,
+        stages: &[
+            (Step::Put("a", "a234"), 4),
+            (Step::Put("b", "b234567890"), 10),
+            (Step::Peek("b", Some("b234567890")), 10),
+            (Step::Peek("a", None), 10),
+        ],
     },
-    Stage {
-        step: Step::Put("b", "three"),
-        size: 9,
+    Case {
+        shows: "a text of a byte more isn't kept, and no other goes",
+        limit: 10,
+        stages: &[
+            (Step::Put("a", "a234"), 4),
+            (Step::Put("b", "b2345678901"), 4),
+            (Step::Get("b", None), 4),
+            (Step::Peek("a", Some("a234")), 4),
+        ],
     },
-    Stage {
-        step: Step::Get("a", Some("four")),
-        size: 9,
+    Case {
+        shows: "a text that is too long takes the old one of its name with it",
+        limit: 10,
+        stages: &[
+            (Step::Put("a", "a234"), 4),
+            (Step::Put("b", "b2345"), 9),
+            (Step::Put("a", "a2345678901"), 5),
+            (Step::Get("a", None), 5),
+        ],
     },
-    Stage {
-        step: Step::Put("c", "two"),
-        size: 7,
-    },
-    Stage {
-        step: Step::Peek("b", None),
-        size: 7,
-    },
-    Stage {
-        step: Step::Peek("a", Some("four")),
-        size: 7,
-    },
-    Stage {
-        step: Step::Put("a", "others"),
-        size: 9,
-    },
-    Stage {
-        step: Step::Put("d", "eleven bytes"),
-        size: 9,
-    },
-    Stage {
-        step: Step::Get("d", None),
-        size: 9,
-    },
-    Stage {
-        step: Step::Forget("c"),
-        size: 6,
-    },
-    Stage {
-        step: Step::Get("c", None),
-        size: 6,
-    },
-    Stage {
-        step: Step::Get("a", Some("others")),
-        size: 6,
+    Case {
+        shows: "under a limit of 0 an empty text alone is kept",
+        limit: 0,
+        stages: &[
+            (Step::Put("a", ""), 0),
+            (Step::Get("a", Some("")), 0),
+            (Step::Put("a", "a"), 0),
+            (Step::Get("a", None), 0),
+        ],
     },
 ];
 
+// What stays beside a new text.
+static ROOM: [Case; 5] = [
+    Case {
+        shows: "an empty text that was asked last stays beside one of just the limit",
+        limit: 10,
+        stages: &[
+            (Step::Put("b", "b2345"), 5),
+            (Step::Put("a", ""), 5),
+            (Step::Put("c", "c234567890"), 10),
+            (Step::Peek("a", Some("")), 10),
+        ],
+    },
+    Case {
+        shows: "one that was asked before a text that has no room goes with it",
+        limit: 10,
+        stages: &[
+            (Step::Put("a", ""), 0),
+            (Step::Put("b", "b2345"), 5),
+            (Step::Put("c", "c234567890"), 10),
+            (Step::Peek("a", None), 10),
+        ],
+    },
+    Case {
+        shows: "a small text goes with a larger one that was asked later and has no room",
+        limit: 10,
+        stages: &[
+            (Step::Put("b", "b"), 1),
+            (Step::Put("a", "a2345678"), 9),
+            (Step::Put("c", "c23"), 3),
+            (Step::Peek("b", None), 3),
+        ],
+    },
+    Case {
+        shows: "where a name is put again, the bytes of its old text are room",
+        limit: 10,
+        stages: &[
+            (Step::Put("a", "a234"), 4),
+            (Step::Put("b", "b2345"), 9),
+            (Step::Put("a", "a2345"), 10),
+            (Step::Peek("a", Some("a2345")), 10),
+        ],
+    },
+    Case {
+        shows: "what is forgotten leaves its room, and to forget it again changes nothing",
+        limit: 10,
+        stages: &[
+            (Step::Put("a", "a234"), 4),
+            (Step::Put("b", "b2345"), 9),
+            (Step::Forget("b"), 4),
+            (Step::Forget("b"), 4),
+            (Step::Get("b", None), 4),
+            (Step::Put("c", "c23456"), 10),
+            (Step::Peek("a", Some("a234")), 10),
+        ],
+    },
+];
+
+// What goes first.
+static ORDER: [Case; 5] = [
+    Case {
+        shows: "the text that was put first goes first",
+        limit: 10,
+        stages: &[
+            (Step::Put("a", "a234"), 4),
+            (Step::Put("b", "b2345"), 9),
+            (Step::Put("c", "c2"), 7),
+            (Step::Peek("a", None), 7),
+        ],
+    },
+    Case {
+        shows: "but not where it was asked for since",
+        limit: 10,
+        stages: &[
+            (Step::Put("a", "a234"), 4),
+            (Step::Put("b", "b2345"), 9),
+            (Step::Get("a", Some("a234")), 9),
+            (Step::Put("c", "c2"), 6),
+            (Step::Peek("b", None), 6),
+        ],
+    },
+    Case {
+        shows: "a look at a text leaves the order",
+        limit: 10,
+        stages: &[
+            (Step::Put("a", "a234"), 4),
+            (Step::Put("b", "b2345"), 9),
+            (Step::Peek("a", Some("a234")), 9),
+            (Step::Put("c", "c2"), 7),
+            (Step::Peek("a", None), 7),
+        ],
+    },
+    Case {
+        shows: "and so does who asks for a name that isn't there",
+        limit: 10,
+        stages: &[
+            (Step::Put("a", "a234"), 4),
+            (Step::Put("b", "b2345"), 9),
+            (Step::Get("c", None), 9),
+            (Step::Put("c", "c2"), 7),
+            (Step::Peek("a", None), 7),
+        ],
+    },
+    Case {
+        shows: "who puts a name again asks for it",
+        limit: 10,
+        stages: &[
+            (Step::Put("a", "a234"), 4),
+            (Step::Put("b", "b2345"), 9),
+            (Step::Put("a", "a2345"), 10),
+            (Step::Put("c", "c"), 6),
+            (Step::Peek("b", None), 6),
+        ],
+    },
+];
+
+// Sees that a store of the case's limit keeps what it is to keep.
+fn keeps(rt: &impl Abort, alloc: Global, case: &Case) {
+    let mut store = Texts::new(alloc, case.limit).expect(rt, "memory");
+    for stage in case.stages {
+        goes_on(rt, alloc, &mut store, case.shows, stage);
+    }
+    same(rt, case.shows, store.limit(), case.limit);
+}
+
+// Takes a step, and sees that so many bytes are kept after it.
+fn goes_on(rt: &impl Abort, alloc: Global, store: &mut Texts, shows: &str, stage: &Stage) {
+    let (step, size) = stage;
+    take(rt, alloc, store, shows, step);
+    same(rt, shows, store.size(), *size);
+}
+
 // Takes a step, and sees that a look-up finds what it is to find.
-fn take(rt: &impl Abort, alloc: Global, store: &mut Texts, step: &Step) {
+fn take(rt: &impl Abort, alloc: Global, store: &mut Texts, shows: &str, step: &Step) {
     match *step {
         Step::Put(name, text) => {
             let text = shared(rt, alloc, text);
@@ -82,29 +212,40 @@ fn take(rt: &impl Abort, alloc: Global, store: &mut Texts, step: &Step) {
         }
         Step::Get(name, wanted) => {
             let found = store.get(name).expect(rt, "few owners");
-            is_found(rt, name, found.as_ref(), wanted);
+            is_found(rt, shows, found.as_ref(), wanted);
         }
-        Step::Peek(name, wanted) => is_found(rt, name, store.peek(name), wanted),
+        Step::Peek(name, wanted) => is_found(rt, shows, store.peek(name), wanted),
         Step::Forget(name) => store.forget(name),
     }
 }
 
-fn is_found(rt: &impl Abort, name: &str, found: Option<&SharedText>, wanted: Option<&str>) {
+fn is_found(rt: &impl Abort, shows: &str, found: Option<&SharedText>, wanted: Option<&str>) {
     let found = match found {
         Some(text) => Some(text.as_str()),
         None => None,
     };
-    same(rt, name, found, wanted);
+    same(rt, shows, found, wanted);
+}
+
+#[test]
+fn no_more_bytes_are_kept_than_the_limit(rt: HostRuntime) {
+    for case in &LIMITS {
+        keeps(&rt, rt.alloc(), case);
+    }
+}
+
+#[test]
+fn others_are_kept_where_they_have_room(rt: HostRuntime) {
+    for case in &ROOM {
+        keeps(&rt, rt.alloc(), case);
+    }
 }
 
 #[test]
 fn the_latest_asked_are_kept(rt: HostRuntime) {
-    let mut store = Texts::new(rt.alloc(), LIMIT).expect(&rt, "memory");
-    for stage in &STAGES {
-        take(&rt, rt.alloc(), &mut store, &stage.step);
-        same(&rt, "size", store.size(), stage.size);
+    for case in &ORDER {
+        keeps(&rt, rt.alloc(), case);
     }
-    same(&rt, "limit", store.limit(), LIMIT);
 }
 
 #[test]
