@@ -24,7 +24,7 @@ pub use crate::dependents::{DEPENDENTS, NEEDS};
 pub use crate::deprecations::{DEPRECATIONS, MESSAGES};
 pub use crate::example::{Ask, Example, Expected, Step, Who};
 pub use crate::limits::{KEEPERS, LEAVERS, PUBLISHERS, READERS};
-pub use crate::packuments::PACKUMENTS;
+pub use crate::packuments::{KEPT_PACKUMENTS, PACKUMENTS};
 pub use crate::people::{ORGANISATIONS, TEAMS, USERS};
 pub use crate::rights::{GRANTS, MAINTAINERS, STATUSES};
 pub use crate::table::{PUBLISHES, QUERIES, TAGS};

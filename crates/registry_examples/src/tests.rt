@@ -16,7 +16,7 @@ mod tables;
 mod withdrawals;
 
 use crate::example::{Ask, Example, Expected, Step, Who};
-use crate::packuments::PACKUMENTS;
+use crate::packuments::{KEPT_PACKUMENTS, PACKUMENTS};
 use crate::people::{ORGANISATIONS, TEAMS, USERS};
 use crate::rights::{GRANTS, MAINTAINERS, STATUSES};
 use crate::table::{DOCUMENTS, PUBLISHES, QUERIES, TAGS};
@@ -76,6 +76,11 @@ fn queries_are_answered(rt: HostRuntime) -> Result<(), Fail> {
 #[test]
 fn packuments_follow_what_is_held(rt: HostRuntime) -> Result<(), Fail> {
     all_have_their_replies(rt.alloc(), &PACKUMENTS)
+}
+
+#[test]
+fn kept_packuments_are_shown_by_rights(rt: HostRuntime) -> Result<(), Fail> {
+    all_have_their_replies(rt.alloc(), &KEPT_PACKUMENTS)
 }
 
 #[test]
