@@ -2,6 +2,9 @@
 //!
 //! A fault may come instead of any reply, and changes nothing. A request that is turned away
 //! changes nothing either.
+//!
+//! The texts of packuments that were asked for are kept, of at most 64 MiB together, until a change
+//! of a version or a tag of the package.
 #![tactic(auto)]
 
 mod answer;

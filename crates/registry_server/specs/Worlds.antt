@@ -1,5 +1,5 @@
--- How a line stands for one of the connections that take turns at a desk, and what its calls make
--- of all of them.
+-- What a line shows of one of the connections that take turns at a desk, and what its calls make of
+-- all of them.
 use Rattle.std.specs.Prelude.{◌≡◌, ◌+◌, ◌==◌, ◌<◌, ◌++◌, [], ℕ, Bool, true, false, List, Option, None, length, drop}
 use Rattle.registry_talk.specs.Courses.{GoOn}
 use Rattle.registry_talk.specs.Histories.{Reached, World, start, turns_of}
@@ -22,8 +22,8 @@ pub record LineShows {D : Type 0} (w : World D) (k : ℕ) (over : Bool) (p : Pen
   pub may_have : p.ends ≡ None → MayHave (turns_of k w.log) p.left
 
 module _ {D : Type 0} (answers : Answers D) where
-  -- From a world another is reached, at this desk, in which this line stands for this connection.
-  -- What stood for another one still does.
+  -- From a world another is reached, at this desk, in which this line shows this connection.
+  -- What showed another one still does.
   pub record LeadsTo (M : D) (w : World D) (k : ℕ) (over : Bool) (p : Pending) (N : D) : Type 0 where
     pub world : World D
     pub reached : Reached answers M world
@@ -31,7 +31,7 @@ module _ {D : Type 0} (answers : Answers D) where
     pub stands : LineShows world k over p
     pub others : (j : ℕ) (o : Bool) (q : Pending) → (j == k) ≡ false → LineShows w j o q → LineShows world j o q
 
-  -- a new line stands for a new connection
+  -- a new line shows a new connection
   abbrev pub Begins : Type 0
   Begins = (M : D) (k : ℕ) → LineShows (start M) k false fresh
 
