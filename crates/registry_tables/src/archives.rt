@@ -1,12 +1,12 @@
 //! The tables `archives` and `held`: each archive that is stored, once, and which of them each live
 //! version has.
 
-ghost use Rattle.std.specs.Prelude.{◌≡◌, ℕ, List, IfOk, Some, map, option_map, slice_get};
+ghost use Rattle.std.specs.Prelude.{◌≡◌, ℕ, ℤ, List, IfOk, Some, map, option_map, slice_get};
 ghost use Rattle.sqlite.specs.State.{HasCleanDisk};
 ghost use Rattle.sqlite_value.specs.Order.{column};
 ghost use Rattle.registry_names.specs.Maps.{at, erase, put};
 ghost use Rattle.registry_names.specs.Texts.{is};
-ghost use Rattle.registry_rows.specs.Columns.{blob_in, int_in};
+ghost use Rattle.registry_rows.specs.Columns.{blob_in};
 ghost use Rattle.registry_rows.specs.Frames.{Stays};
 ghost use Rattle.registry_tables.specs.Archives.{archive_number, next_archive, number_of, with_archive, with_next_archive};
 ghost use Rattle.registry_tables.specs.Changes.{with_archive_of};
@@ -18,7 +18,7 @@ ghost use Rattle.registry_tables.specs.Withdrawals as withdrawals;
 use crate::versions::has_version;
 use registry_names::{Blob, Fault, Name};
 use registry_publish::PublishForm;
-use registry_rows::{FromRow, fault_of, first_in, read, write};
+use registry_rows::{RowKind, first_in, read, value_in, write};
 use sqlite::types::ValueRef;
 use sqlite::{Alter, Error, Row, Transaction, params};
 
@@ -61,25 +61,7 @@ pub(crate) fn held_archive<S: Alter>(
         "SELECT archive FROM held WHERE package = ?1 AND version = ?2",
         params![name.text(), version],
     )?;
-    first_number(&rows)
-}
-
-fn first_number(rows: &[Row]) -> Result<Option<i64>, Fault>
-    ensures { IfOk result (λ number. number ≡ option_map held_spelled (slice_get rows.now 0)) }
-{
-    match rows.first() {
-        Some(row) => Ok(Some(number_in(row)?)),
-        None => Ok(None),
-    }
-}
-
-fn number_in(row: &Row) -> Result<i64, Fault>
-    ensures { IfOk result (λ number. number ≡ int_in (column row.now 0)) }
-{
-    match row.get(0) {
-        Ok(number) => Ok(number),
-        Err(error) => Err(fault_of(error)),
-    }
+    first_in::<NumberRow>(&rows)
 }
 
 // The bytes of the archive with this number. Where none has it that is a fault.
@@ -100,9 +82,8 @@ fn load_bytes<S: Alter>(tx: &mut Transaction<'_, S>, number: i64) -> Result<Blob
 fn bytes_in(rows: &[Row]) -> Result<Blob, Fault>
     ensures { IfOk result (λ bytes. option_map bytes_spelled (slice_get rows.now 0) ≡ Some bytes) }
 {
-    let found: Option<BytesRow> = first_in(rows)?;
-    match found {
-        Some(row) => Ok(row.bytes),
+    match first_in::<BytesRow>(rows)? {
+        Some(bytes) => Ok(bytes),
         None => Err(Fault::Database),
     }
 }
@@ -160,7 +141,7 @@ fn first_with(rows: &[Row], bytes: &[u8]) -> Result<Option<i64>, Fault>
 {
     for row in rows {
         if has_bytes(row, bytes)? {
-            return Ok(Some(number_in(row)?));
+            return Ok(Some(value_in::<NumberRow>(row)?));
         }
     }
     Ok(None)
@@ -255,22 +236,37 @@ fn drop_archive<S: Alter>(tx: &mut Transaction<'_, S>, number: i64) -> Result<()
     write(tx, "DELETE FROM archives WHERE id = ?1", params![number])
 }
 
-#[derive(Drop)]
-struct BytesRow {
-    bytes: Blob,
+// The number of an archive, alone or before others.
+struct NumberRow;
+
+impl RowKind for NumberRow {
+    type Value = i64;
+
+    ghost Seen = { ℤ };
+
+    ghost seen = { λ number. number };
+
+    ghost spelled = { held_spelled };
+
+    fn read(row: &Row) -> Result<i64, Error> {
+        row.get(0)
+    }
 }
 
-impl FromRow for BytesRow {
+// Bytes alone.
+struct BytesRow;
+
+impl RowKind for BytesRow {
+    type Value = Blob;
+
     ghost Seen = { List ℕ };
 
-    ghost seen = { λ row. row.bytes };
+    ghost seen = { λ bytes. bytes };
 
     ghost spelled = { bytes_spelled };
 
-    fn from_row(row: &Row) -> Result<BytesRow, Error> {
+    fn read(row: &Row) -> Result<Blob, Error> {
         let bytes: Vec<u8> = row.get(0)?;
-        Ok(BytesRow {
-            bytes: Blob::from(bytes),
-        })
+        Ok(Blob::from(bytes))
     }
 }

@@ -10,7 +10,7 @@ ghost use Rattle.registry_tables.specs.Contents.{registry_of};
 ghost use Rattle.registry_tables.specs.Effects.{InForm, Knows, Tells, shown};
 ghost use Rattle.registry_tables.specs.Schema.{schema};
 
-use crate::idents::ident_of;
+use crate::texts::read_back;
 use crate::tokens::load_token_user;
 use crate::users::has_user;
 use registry_access::Caller;
@@ -53,7 +53,8 @@ fn load_user<S: Alter>(
         (λ caller c. caller ≡ caller_of (registry_of c) (shown_as.User user.now)) }
 {
     if has_user(tx, user.text())? {
-        Ok(Some(Caller::User(ident_of(alloc, user.text())?)))
+        let user = read_back(Ident::parse(alloc, user.text()))?;
+        Ok(Some(Caller::User(user)))
     } else {
         Ok(None)
     }

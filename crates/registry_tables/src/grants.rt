@@ -13,7 +13,7 @@ ghost use Rattle.registry_tables.specs.Teams.{AreGranted, grant_spelled, granted
 use registry_access::Grant;
 use registry_names::{Fault, Name, Text};
 use registry_packument::Granted;
-use registry_rows::{FromRow, read, values_in, write};
+use registry_rows::{RowKind, read, values_in, write};
 use sqlite::{Alter, Error, Row, Transaction, params};
 use std::alloc::Global;
 
@@ -147,15 +147,7 @@ pub fn load_grants<S: Alter>(
         "SELECT grants.level FROM team_members, grants WHERE team_members.org = ?1 AND team_members.user = ?2 AND grants.org = ?1 AND grants.team = team_members.team AND grants.package = ?3",
         params![organisation, user, name.text()],
     )?;
-    grants_in(alloc, &rows)
-}
-
-fn grants_in(alloc: Global, rows: &[Row]) -> Result<Vec<Grant>, Fault>
-    ensures { IfOk result (λ grants. grants.items ≡ map grant_spelled rows.now) }
-{
-    let rows: Vec<GrantRow> = values_in(alloc, rows)?;
-    let grants = rows.into_iter().map(|row| row.grant).collect(alloc)?;
-    Ok(grants)
+    values_in::<GrantRow>(alloc, &rows)
 }
 
 /// What a team is granted, in byte order of the packages.
@@ -175,59 +167,45 @@ pub(crate) fn load_team_grants<S: Alter>(
         "SELECT package, level FROM grants WHERE org = ?1 AND team = ?2 ORDER BY package",
         params![organisation, team],
     )?;
-    granted_in(alloc, &rows)
+    values_in::<ListedGrant>(alloc, &rows)
 }
 
-fn granted_in(alloc: Global, rows: &[Row]) -> Result<Vec<Granted>, Fault>
-    ensures { IfOk result
-        (λ granted. map granted_entry granted.items ≡ map granted_spelled rows.now) }
-{
-    let rows: Vec<ListedGrant> = values_in(alloc, rows)?;
-    let granted = rows.into_iter().map(|row| row.granted).collect(alloc)?;
-    Ok(granted)
-}
+// A package and what is granted on it.
+struct ListedGrant;
 
-#[derive(Drop)]
-struct ListedGrant {
-    granted: Granted,
-}
+impl RowKind for ListedGrant {
+    type Value = Granted;
 
-impl FromRow for ListedGrant {
     ghost Seen = { Bytes × Right };
 
-    ghost seen = { λ row. granted_entry row.granted };
+    ghost seen = { granted_entry };
 
     ghost spelled = { granted_spelled };
 
-    fn from_row(row: &Row) -> Result<ListedGrant, Error> {
+    fn read(row: &Row) -> Result<Granted, Error> {
         let name: String = row.get(0)?;
         let number: i64 = row.get(1)?;
-        Ok(ListedGrant {
-            granted: Granted {
-                name: Text::from(name),
-                grant: grant_of(number)?,
-            },
+        Ok(Granted {
+            name: Text::from(name),
+            grant: grant_of(number)?,
         })
     }
 }
 
-#[derive(Drop)]
-struct GrantRow {
-    grant: Grant,
-}
+// A grant alone.
+struct GrantRow;
 
-impl FromRow for GrantRow {
+impl RowKind for GrantRow {
+    type Value = Grant;
+
     ghost Seen = { Right };
 
-    ghost seen = { λ row. row.grant };
+    ghost seen = { λ grant. grant };
 
     ghost spelled = { grant_spelled };
 
-    fn from_row(row: &Row) -> Result<GrantRow, Error> {
-        let number: i64 = row.get(0)?;
-        Ok(GrantRow {
-            grant: grant_of(number)?,
-        })
+    fn read(row: &Row) -> Result<Grant, Error> {
+        grant_of(row.get(0)?)
     }
 }
 

@@ -9,7 +9,7 @@ ghost use Rattle.registry_rules.specs.State as spec;
 ghost use Rattle.registry_tables.specs.Contents.{registry_of};
 ghost use Rattle.registry_tables.specs.Effects.{InForm, Makes, Tells};
 
-use crate::team_members::texts_in;
+use crate::texts::texts_in;
 use registry_names::{Fault, Name, Text};
 use registry_rows::{read, write};
 use sqlite::{Alter, Transaction, params};

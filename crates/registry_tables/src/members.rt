@@ -1,6 +1,6 @@
 //! The table `members`: the members of every organisation, each with his role.
 
-ghost use Rattle.std.specs.Prelude.{◌≡◌, ◌&&◌, IfOk, Some, map, not, option_map, pos, slice_get};
+ghost use Rattle.std.specs.Prelude.{◌≡◌, ◌&&◌, IfOk, Some, map, not, pos};
 ghost use Rattle.std.specs.List.{list_any};
 ghost use Rattle.registry_access.specs.declared.role.Role.{Role as Rank};
 ghost use Rattle.registry_access.specs.Levels.{is_owner};
@@ -17,7 +17,7 @@ ghost use Rattle.registry_tables.specs.Teams.{without_member};
 use registry_access::Role;
 use registry_names::{Fault, Text};
 use registry_packument::Member;
-use registry_rows::{FromRow, first_in, read, values_in, write};
+use registry_rows::{RowKind, first_in, read, values_in, write};
 use sqlite::{Alter, Error, Row, Transaction, params};
 use std::alloc::Global;
 
@@ -37,14 +37,7 @@ pub fn load_role<S: Alter>(
         "SELECT role FROM members WHERE org = ?1 AND user = ?2",
         params![organisation, user],
     )?;
-    role_in(&rows)
-}
-
-fn role_in(rows: &[Row]) -> Result<Option<Role>, Fault>
-    ensures { IfOk result (λ role. role ≡ option_map role_spelled (slice_get rows.now 0)) }
-{
-    let found: Option<RoleRow> = first_in(rows)?;
-    Ok(found.map(|row| row.role))
+    first_in::<RoleRow>(&rows)
 }
 
 /// The members of an organisation with their roles, in byte order of their names.
@@ -63,16 +56,7 @@ pub fn load_members<S: Alter>(
         "SELECT user, role FROM members WHERE org = ?1 ORDER BY user",
         params![organisation],
     )?;
-    members_in(alloc, &rows)
-}
-
-fn members_in(alloc: Global, rows: &[Row]) -> Result<Vec<Member>, Fault>
-    ensures { IfOk result
-        (λ members. map member_entry members.items ≡ map member_spelled rows.now) }
-{
-    let rows: Vec<ListedMember> = values_in(alloc, rows)?;
-    let members = rows.into_iter().map(|row| row.member).collect(alloc)?;
-    Ok(members)
+    values_in::<ListedMember>(alloc, &rows)
 }
 
 /// Whether another member of the organisation than this user is an owner.
@@ -178,46 +162,41 @@ pub(crate) fn drop_member<S: Alter>(
     )
 }
 
-#[derive(Drop)]
-struct RoleRow {
-    role: Role,
-}
+// A role alone.
+struct RoleRow;
 
-impl FromRow for RoleRow {
+impl RowKind for RoleRow {
+    type Value = Role;
+
     ghost Seen = { Rank };
 
-    ghost seen = { λ row. row.role };
+    ghost seen = { λ role. role };
 
     ghost spelled = { role_spelled };
 
-    fn from_row(row: &Row) -> Result<RoleRow, Error> {
-        let number: i64 = row.get(0)?;
-        Ok(RoleRow {
-            role: role_of(number)?,
-        })
+    fn read(row: &Row) -> Result<Role, Error> {
+        role_of(row.get(0)?)
     }
 }
 
-#[derive(Drop)]
-struct ListedMember {
-    member: Member,
-}
+// A member and his role.
+struct ListedMember;
 
-impl FromRow for ListedMember {
+impl RowKind for ListedMember {
+    type Value = Member;
+
     ghost Seen = { Bytes × Rank };
 
-    ghost seen = { λ row. member_entry row.member };
+    ghost seen = { member_entry };
 
     ghost spelled = { member_spelled };
 
-    fn from_row(row: &Row) -> Result<ListedMember, Error> {
+    fn read(row: &Row) -> Result<Member, Error> {
         let user: String = row.get(0)?;
         let number: i64 = row.get(1)?;
-        Ok(ListedMember {
-            member: Member {
-                user: Text::from(user),
-                role: role_of(number)?,
-            },
+        Ok(Member {
+            user: Text::from(user),
+            role: role_of(number)?,
         })
     }
 }

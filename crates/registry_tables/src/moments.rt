@@ -1,20 +1,12 @@
 //! Moments, as they are read from the tables.
 
-ghost use Rattle.std.specs.Prelude.{◌≡◌, ℕ, IfOk, map, max, option_map, slice_get, unwrap_or};
+ghost use Rattle.std.specs.Prelude.{◌≡◌, ℕ, IfOk, map, max, unwrap_or};
 ghost use Rattle.registry_tables.specs.Spelled.{number_spelled};
 ghost use Rattle.registry_tables.specs.Withdrawals.{last_number};
 
 use registry_names::{Fault, Moment};
-use registry_rows::{FromRow, fault_of, first_in};
+use registry_rows::{RowKind, value_in};
 use sqlite::{Error, Row};
-
-/// The moment that the first row spells, if there is a row.
-pub(crate) fn first_moment(rows: &[Row]) -> Result<Option<Moment>, Fault>
-    ensures { IfOk result (λ moment. moment ≡ option_map number_spelled (slice_get rows.now 0)) }
-{
-    let found: Option<MomentRow> = first_in(rows)?;
-    Ok(found.map(|row| row.moment))
-}
 
 /// The last of the moments that the rows spell, if there is a row.
 pub(crate) fn last_moment(rows: &[Row]) -> Result<Option<Moment>, Fault>
@@ -22,19 +14,10 @@ pub(crate) fn last_moment(rows: &[Row]) -> Result<Option<Moment>, Fault>
 {
     let mut last = None;
     for row in rows {
-        let moment = moment_in(row)?;
+        let moment = value_in::<MomentRow>(row)?;
         last = Some(later(moment, last));
     }
     Ok(last)
-}
-
-fn moment_in(row: &Row) -> Result<Moment, Fault>
-    ensures { IfOk result (λ moment. moment ≡ number_spelled row.now) }
-{
-    match MomentRow::from_row(row) {
-        Ok(row) => Ok(row.moment),
-        Err(error) => Err(fault_of(error)),
-    }
 }
 
 // The later of both.
@@ -47,22 +30,21 @@ fn later(moment: Moment, other: Option<Moment>) -> Moment
     }
 }
 
-#[derive(Drop)]
-struct MomentRow {
-    moment: Moment,
-}
+/// A moment alone.
+pub(crate) struct MomentRow;
 
-impl FromRow for MomentRow {
+impl RowKind for MomentRow {
+    type Value = Moment;
+
     ghost Seen = { ℕ };
 
-    ghost seen = { λ row. row.moment };
+    ghost seen = { λ moment. moment };
 
     ghost spelled = { number_spelled };
 
-    fn from_row(row: &Row) -> Result<MomentRow, Error> {
-        let seconds: i64 = row.get(0)?;
-        match Moment::new(seconds) {
-            Some(moment) => Ok(MomentRow { moment }),
+    fn read(row: &Row) -> Result<Moment, Error> {
+        match Moment::new(row.get(0)?) {
+            Some(moment) => Ok(moment),
             None => Err(Error::IntegralValueOutOfRange(0)),
         }
     }

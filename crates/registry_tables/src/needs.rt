@@ -13,7 +13,7 @@ ghost use Rattle.registry_tables.specs.Effects.{InForm, IsUnderWay, Makes, Tells
 ghost use Rattle.registry_tables.specs.Needs.{HoldsNeeds, need_key, with_need, with_needs};
 ghost use Rattle.registry_tables.specs.Withdrawals.{ranges_on};
 
-use crate::team_members::texts_in;
+use crate::texts::texts_in;
 use registry_names::{Fault, Name, Text};
 use registry_publish::Need;
 use registry_rows::{read, write};

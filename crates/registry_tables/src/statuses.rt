@@ -1,6 +1,6 @@
 //! The table `packages`: every name that was ever published, and who may read it.
 
-ghost use Rattle.std.specs.Prelude.{◌≡◌, IfOk, option_map, pos, slice_get};
+ghost use Rattle.std.specs.Prelude.{◌≡◌, IfOk, pos};
 ghost use Rattle.registry_names.specs.Maps.{at, put};
 ghost use Rattle.registry_names.specs.declared.status.Status.{Status as Readers};
 ghost use Rattle.registry_rows.specs.Frames.{Stays};
@@ -9,7 +9,7 @@ ghost use Rattle.registry_tables.specs.Effects.{InForm, Makes, Tells};
 ghost use Rattle.registry_tables.specs.Spelled.{status_number, status_spelled};
 
 use registry_names::{Fault, Name, Status};
-use registry_rows::{FromRow, first_in, read, write};
+use registry_rows::{RowKind, first_in, read, write};
 use sqlite::{Alter, Error, Row, Transaction, params};
 
 /// The status of a package. None where it was never published.
@@ -27,14 +27,7 @@ pub fn load_status<S: Alter>(
         "SELECT status FROM packages WHERE name = ?1",
         params![name.text()],
     )?;
-    status_in(&rows)
-}
-
-fn status_in(rows: &[Row]) -> Result<Option<Status>, Fault>
-    ensures { IfOk result (λ status. status ≡ option_map status_spelled (slice_get rows.now 0)) }
-{
-    let found: Option<StatusRow> = first_in(rows)?;
-    Ok(found.map(|row| row.status))
+    first_in::<StatusRow>(&rows)
 }
 
 /// Gives a package this status. `stands` says whether it has one already.
@@ -90,23 +83,20 @@ fn update_status<S: Alter>(
     )
 }
 
-#[derive(Drop)]
-struct StatusRow {
-    status: Status,
-}
+// A status alone.
+struct StatusRow;
 
-impl FromRow for StatusRow {
+impl RowKind for StatusRow {
+    type Value = Status;
+
     ghost Seen = { Readers };
 
-    ghost seen = { λ row. row.status };
+    ghost seen = { λ status. status };
 
     ghost spelled = { status_spelled };
 
-    fn from_row(row: &Row) -> Result<StatusRow, Error> {
-        let number: i64 = row.get(0)?;
-        Ok(StatusRow {
-            status: status_of(number)?,
-        })
+    fn read(row: &Row) -> Result<Status, Error> {
+        status_of(row.get(0)?)
     }
 }
 

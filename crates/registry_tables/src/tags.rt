@@ -1,6 +1,6 @@
 //! The table `tags`: the dist-tags of every package. A tag names a live version.
 
-ghost use Rattle.std.specs.Prelude.{◌≡◌, IfOk, is_some, map, option_map, slice_get};
+ghost use Rattle.std.specs.Prelude.{◌≡◌, is_some, map};
 ghost use Rattle.registry_names.specs.Maps.{at, erase, of, put};
 ghost use Rattle.registry_names.specs.Texts.{Text as Bytes};
 ghost use Rattle.registry_rows.specs.Frames.{Stays};
@@ -8,11 +8,11 @@ ghost use Rattle.registry_rules.specs.Withdrawals.{tags_of};
 ghost use Rattle.registry_tables.specs.Changes.{amended, with_row};
 ghost use Rattle.registry_tables.specs.Contents.{registry_of};
 ghost use Rattle.registry_tables.specs.Effects.{InForm, Makes, Tells};
-ghost use Rattle.registry_tables.specs.Spelled.{named_spelled, tag_entry, tag_spelled};
+ghost use Rattle.registry_tables.specs.Spelled.{tag_entry, tag_spelled};
 
-use crate::team_members::texts_in;
+use crate::texts::{TextRow, texts_in};
 use registry_names::{DistTag, Fault, Name, Text};
-use registry_rows::{FromRow, first_in, read, values_in, write};
+use registry_rows::{RowKind, first_in, read, values_in, write};
 use sqlite::{Alter, Error, Row, Transaction, params};
 use std::alloc::Global;
 
@@ -47,14 +47,7 @@ pub fn load_tag<S: Alter>(
         "SELECT version FROM tags WHERE package = ?1 AND tag = ?2",
         params![name.text(), tag],
     )?;
-    named_in(&rows)
-}
-
-fn named_in(rows: &[Row]) -> Result<Option<Text>, Fault>
-    ensures { IfOk result (λ named. named ≡ option_map named_spelled (slice_get rows.now 0)) }
-{
-    let found: Option<NamedRow> = first_in(rows)?;
-    Ok(found.map(|row| row.version))
+    first_in::<TextRow>(&rows)
 }
 
 /// The tags of a package, in byte order.
@@ -73,15 +66,7 @@ pub fn load_tags<S: Alter>(
         "SELECT tag, version FROM tags WHERE package = ?1 ORDER BY tag",
         params![name.text()],
     )?;
-    tags_in(alloc, &rows)
-}
-
-fn tags_in(alloc: Global, rows: &[Row]) -> Result<Vec<DistTag>, Fault>
-    ensures { IfOk result (λ tags. map tag_entry tags.items ≡ map tag_spelled rows.now) }
-{
-    let rows: Vec<TagRow> = values_in(alloc, rows)?;
-    let tags = rows.into_iter().map(|row| row.tag).collect(alloc)?;
-    Ok(tags)
+    values_in::<ListedTag>(alloc, &rows)
 }
 
 /// The tags of a package that name this version, in byte order.
@@ -178,46 +163,24 @@ pub(crate) fn drop_tag<S: Alter>(
     )
 }
 
-#[derive(Drop)]
-struct NamedRow {
-    version: Text,
-}
+// A tag and the version that it names.
+struct ListedTag;
 
-impl FromRow for NamedRow {
-    ghost Seen = { Bytes };
+impl RowKind for ListedTag {
+    type Value = DistTag;
 
-    ghost seen = { λ row. row.version };
-
-    ghost spelled = { named_spelled };
-
-    fn from_row(row: &Row) -> Result<NamedRow, Error> {
-        let version: String = row.get(0)?;
-        Ok(NamedRow {
-            version: Text::from(version),
-        })
-    }
-}
-
-#[derive(Drop)]
-struct TagRow {
-    tag: DistTag,
-}
-
-impl FromRow for TagRow {
     ghost Seen = { Bytes × Bytes };
 
-    ghost seen = { λ row. tag_entry row.tag };
+    ghost seen = { tag_entry };
 
     ghost spelled = { tag_spelled };
 
-    fn from_row(row: &Row) -> Result<TagRow, Error> {
+    fn read(row: &Row) -> Result<DistTag, Error> {
         let tag: String = row.get(0)?;
         let version: String = row.get(1)?;
-        Ok(TagRow {
-            tag: DistTag {
-                tag: Text::from(tag),
-                version: Text::from(version),
-            },
+        Ok(DistTag {
+            tag: Text::from(tag),
+            version: Text::from(version),
         })
     }
 }

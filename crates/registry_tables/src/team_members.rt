@@ -1,16 +1,16 @@
 //! The table `team_members`: who is in which team. A member of a team is a member of its
 //! organisation.
 
-ghost use Rattle.std.specs.Prelude.{◌≡◌, IfOk, is_some, map};
+ghost use Rattle.std.specs.Prelude.{◌≡◌, is_some};
 ghost use Rattle.registry_names.specs.Maps.{at, erase, put};
-ghost use Rattle.registry_names.specs.Texts.{Text as Bytes};
 ghost use Rattle.registry_rows.specs.Frames.{Stays};
 ghost use Rattle.registry_tables.specs.Effects.{InForm, Makes, Tells};
-ghost use Rattle.registry_tables.specs.Teams.{teams_of, text_spelled, users_of};
+ghost use Rattle.registry_tables.specs.Teams.{teams_of, users_of};
 
+use crate::texts::texts_in;
 use registry_names::{Fault, Text};
-use registry_rows::{FromRow, read, values_in, write};
-use sqlite::{Alter, Error, Row, Transaction, params};
+use registry_rows::{read, write};
+use sqlite::{Alter, Transaction, params};
 use std::alloc::Global;
 
 /// Whether the user is in this team of the organisation.
@@ -114,33 +114,4 @@ pub fn load_user_teams<S: Alter>(
         params![organisation, user],
     )?;
     texts_in(alloc, &rows)
-}
-
-/// The texts that the rows spell, one each.
-pub(crate) fn texts_in(alloc: Global, rows: &[Row]) -> Result<Vec<Text>, Fault>
-    ensures { IfOk result (λ texts. texts.items ≡ map text_spelled rows.now) }
-{
-    let rows: Vec<TextRow> = values_in(alloc, rows)?;
-    let texts = rows.into_iter().map(|row| row.text).collect(alloc)?;
-    Ok(texts)
-}
-
-#[derive(Drop)]
-struct TextRow {
-    text: Text,
-}
-
-impl FromRow for TextRow {
-    ghost Seen = { Bytes };
-
-    ghost seen = { λ row. row.text };
-
-    ghost spelled = { text_spelled };
-
-    fn from_row(row: &Row) -> Result<TextRow, Error> {
-        let text: String = row.get(0)?;
-        Ok(TextRow {
-            text: Text::from(text),
-        })
-    }
 }

@@ -9,10 +9,10 @@ ghost use Rattle.registry_tables.specs.Effects.{InForm, Knows, Tells};
 ghost use Rattle.registry_tables.specs.Teams.{AreTeamsSound, granted_entry, grants_read, readable};
 
 use crate::grants::load_team_grants;
-use crate::idents::name_of;
 use crate::standing::load_standing;
+use crate::texts::read_back;
 use registry_access::{Caller, Level, level_of};
-use registry_names::{Fault, Text};
+use registry_names::{Fault, Name, Text};
 use registry_packument::Granted;
 use sqlite::{Alter, Transaction};
 use std::alloc::Global;
@@ -67,7 +67,7 @@ fn is_read<S: Alter>(
     ensures tells { Tells S.Store tx.old tx.new result (λ is c. AreTeamsSound c
         → is ≡ levels.reads (level_in (access_of c) caller.now name.now)) }
 {
-    let name = name_of(alloc, name.as_str())?;
+    let name = read_back(Name::parse(alloc, name.as_str()))?;
     let standing = load_standing(alloc, tx, caller, &name)?;
     Ok(reads(level_of(&standing, caller)))
 }

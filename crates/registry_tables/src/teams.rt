@@ -6,7 +6,7 @@ ghost use Rattle.registry_rows.specs.Frames.{Stays};
 ghost use Rattle.registry_tables.specs.Effects.{InForm, Makes, Tells};
 ghost use Rattle.registry_tables.specs.Teams.{without_team};
 
-use crate::team_members::texts_in;
+use crate::texts::texts_in;
 use registry_names::{Fault, Text};
 use registry_rows::{read, write};
 use sqlite::{Alter, Transaction, params};

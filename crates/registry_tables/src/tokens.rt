@@ -2,16 +2,15 @@
 
 ghost use Rattle.std.specs.Prelude.{◌≡◌, IfOk, option_map, slice_get};
 ghost use Rattle.registry_names.specs.Maps.{at, put};
-ghost use Rattle.registry_names.specs.Texts.{Text as Bytes};
 ghost use Rattle.registry_rows.specs.Frames.{Stays};
 ghost use Rattle.registry_tables.specs.Effects.{InForm, Makes, Tells};
 ghost use Rattle.registry_tables.specs.Spelled.{named_spelled};
 
-use crate::idents::ident_of;
+use crate::texts::{TextRow, read_back};
 use registry_names::{Fault, Ident};
 use registry_publish::TokenDigest;
-use registry_rows::{FromRow, first_in, read, write};
-use sqlite::{Alter, Error, Row, Transaction, params};
+use registry_rows::{first_in, read, write};
+use sqlite::{Alter, Row, Transaction, params};
 use std::alloc::Global;
 
 /// The user of the token with this digest. None where no token has it.
@@ -35,9 +34,8 @@ pub fn load_token_user<S: Alter>(
 fn user_in(alloc: Global, rows: &[Row]) -> Result<Option<Ident>, Fault>
     ensures { IfOk result (λ user. user ≡ option_map named_spelled (slice_get rows.now 0)) }
 {
-    let found: Option<UserRow> = first_in(rows)?;
-    match found {
-        Some(row) => Ok(Some(ident_of(alloc, row.user.as_str())?)),
+    match first_in::<TextRow>(rows)? {
+        Some(user) => Ok(Some(read_back(Ident::parse(alloc, user.as_str()))?)),
         None => Ok(None),
     }
 }
@@ -59,23 +57,4 @@ pub(crate) fn add_token<S: Alter>(
         "INSERT INTO tokens VALUES (?1, ?2)",
         params![digest.as_slice(), user],
     )
-}
-
-#[derive(Drop)]
-struct UserRow {
-    user: String,
-}
-
-impl FromRow for UserRow {
-    ghost use Rattle.std.specs.Prelude.{string_bytes};
-
-    ghost Seen = { Bytes };
-
-    ghost seen = { λ row. string_bytes row.user };
-
-    ghost spelled = { named_spelled };
-
-    fn from_row(row: &Row) -> Result<UserRow, Error> {
-        Ok(UserRow { user: row.get(0)? })
-    }
 }

@@ -16,16 +16,15 @@ ghost use Rattle.registry_tables.specs.Spelled.{document, document_entry, docume
 ghost use Rattle.registry_tables.specs.Withdrawals.{with_message};
 
 use crate::archives::put_archive;
-use crate::idents::version_of;
-use crate::moments::first_moment;
+use crate::moments::MomentRow;
 use crate::needs::put_needs;
 use crate::spent::is_spent;
 use crate::statuses::load_status;
-use crate::team_members::texts_in;
+use crate::texts::{read_back, texts_in};
 use registry_names::{Fault, Moment, Name, Text, Ver};
 use registry_packument::VersionRow;
 use registry_publish::PublishForm;
-use registry_rows::{FromRow, first_in, read, values_in, write};
+use registry_rows::{RowKind, first_in, read, values_in, write};
 use sqlite::{Alter, Error, Row, Transaction, params};
 use std::alloc::Global;
 
@@ -64,7 +63,7 @@ pub fn load_published<S: Alter>(
         "SELECT published FROM versions WHERE package = ?1 AND version = ?2",
         params![name.text(), version],
     )?;
-    first_moment(&rows)
+    first_in::<MomentRow>(&rows)
 }
 
 /// The live versions of a package, in byte order of their texts.
@@ -106,7 +105,7 @@ fn all_parsed(alloc: Global, texts: &[Text]) -> Result<Vec<Ver>, Fault>
 {
     let mut versions = Vec::new(alloc);
     for text in texts {
-        let version = version_of(alloc, text.as_str())?;
+        let version = read_back(Ver::parse(alloc, text.as_str()))?;
         versions.push(version)?;
     }
     Ok(versions)
@@ -145,15 +144,7 @@ pub fn load_versions<S: Alter>(
         "SELECT version, manifest, deprecated FROM versions WHERE package = ?1 ORDER BY version",
         params![name.text()],
     )?;
-    versions_in(alloc, &rows)
-}
-
-fn versions_in(alloc: Global, rows: &[Row]) -> Result<Vec<VersionRow>, Fault>
-    ensures { IfOk result (λ versions. map row_entry versions.items ≡ map row_spelled rows.now) }
-{
-    let rows: Vec<ListedRow> = values_in(alloc, rows)?;
-    let versions = rows.into_iter().map(|row| row.version).collect(alloc)?;
-    Ok(versions)
+    values_in::<ListedVersion>(alloc, &rows)
 }
 
 /// What the document of a live version is made of.
@@ -182,7 +173,7 @@ pub fn load_document<S: Alter>(
         "SELECT manifest, deprecated FROM versions WHERE package = ?1 AND version = ?2",
         params![name.text(), version],
     )?;
-    first_in(&rows)
+    first_in::<DocumentRow>(&rows)
 }
 
 /// Puts the version of a form, published at this moment and not deprecated, with its archive and
@@ -265,40 +256,40 @@ pub(crate) fn put_message<S: Alter>(
     )
 }
 
-#[derive(Drop)]
-struct ListedRow {
-    version: VersionRow,
-}
+// A version, its manifest and its message.
+struct ListedVersion;
 
-impl FromRow for ListedRow {
+impl RowKind for ListedVersion {
+    type Value = VersionRow;
+
     ghost Seen = { Bytes × (Bytes × Bytes) };
 
-    ghost seen = { λ row. row_entry row.version };
+    ghost seen = { row_entry };
 
     ghost spelled = { row_spelled };
 
-    fn from_row(row: &Row) -> Result<ListedRow, Error> {
+    fn read(row: &Row) -> Result<VersionRow, Error> {
         let version: String = row.get(0)?;
         let manifest: String = row.get(1)?;
         let message: String = row.get(2)?;
-        Ok(ListedRow {
-            version: VersionRow {
-                version: Text::from(version),
-                manifest: Text::from(manifest),
-                message: Text::from(message),
-            },
+        Ok(VersionRow {
+            version: Text::from(version),
+            manifest: Text::from(manifest),
+            message: Text::from(message),
         })
     }
 }
 
-impl FromRow for DocumentRow {
+impl RowKind for DocumentRow {
+    type Value = DocumentRow;
+
     ghost Seen = { Bytes × Bytes };
 
     ghost seen = { document_entry };
 
     ghost spelled = { document_spelled };
 
-    fn from_row(row: &Row) -> Result<DocumentRow, Error> {
+    fn read(row: &Row) -> Result<DocumentRow, Error> {
         let manifest: String = row.get(0)?;
         let message: String = row.get(1)?;
         Ok(DocumentRow {

@@ -7,7 +7,7 @@ ghost use Rattle.registry_rows.specs.Columns.{text_in, number_in};
 
 use crate::tests::outcome::same;
 use registry_names::Fault;
-use registry_rows::{FromRow, fault_of, first_in, read, values_in, write};
+use registry_rows::{RowKind, fault_of, first_in, read, values_in, write};
 use sqlite::{Alter, Connection, Constraint, Error, ErrorCode, Row, Transaction, params};
 use std::alloc::Global;
 use std::test::Fail;
@@ -18,14 +18,16 @@ struct Count {
     times: u32,
 }
 
-impl FromRow for Count {
+impl RowKind for Count {
+    type Value = Count;
+
     ghost Seen = { List ℕ × ℕ };
 
     ghost seen = { λ count. (string_bytes count.word, count.times) };
 
     ghost spelled = { λ r. (text_in (column r 0), number_in (column r 1)) };
 
-    fn from_row(row: &Row) -> Result<Self, Error> {
+    fn read(row: &Row) -> Result<Count, Error> {
         let word = row.get(0)?;
         let times = row.get(1)?;
         Ok(Count { word, times })
@@ -132,7 +134,7 @@ fn told<S: Alter>(alloc: Global, tx: &mut Transaction<'_, S>, call: Call) -> Res
 }
 
 fn all_text(alloc: Global, rows: &[Row]) -> Result<String, Fault> {
-    let counts: Vec<Count> = values_in(alloc, rows)?;
+    let counts = values_in::<Count>(alloc, rows)?;
     let mut text = String::new(alloc);
     for count in &counts {
         push_count(alloc, &mut text, count)?;
@@ -141,7 +143,7 @@ fn all_text(alloc: Global, rows: &[Row]) -> Result<String, Fault> {
 }
 
 fn first_text(alloc: Global, rows: &[Row]) -> Result<String, Fault> {
-    let first: Option<Count> = first_in(rows)?;
+    let first = first_in::<Count>(rows)?;
     let mut text = String::new(alloc);
     if let Some(count) = &first {
         push_count(alloc, &mut text, count)?;

@@ -1,5 +1,6 @@
-use Rattle.std.proofs.Common.{◌∙◌, ap, option_map, slice_get}
+use Rattle.std.proofs.Common.{◌∙◌, ap, option_map, slice_get, sym}
 use Rattle.registry_tables.specs.Spelled.{status_spelled}
+use Rattle.std.proofs.lemmas.Iterator.Adapters.{option_map_id}
 use Rattle.std.proofs.lemmas.Result.{IfOk-weaker}
 use Rattle.registry_rows.proofs.QuietFacts.{read_stays}
 use Rattle.registry_tables.specs.Effects.{shown}
@@ -12,5 +13,5 @@ returns g c =
     let it = status_found c.args.name.now (shown g.S.Store c.args.tx.now) (shown g.S.Store c.read.new.tx) _ c.requires.in_form call in
     record {
       stays = read_stays g.S.Store _ _ _ c.args.tx.now c.read.new.tx _ c.in_ok-rows.ensures.same_reference call (λ clean. (it clean).0);
-      tells = λ clean. IfOk-weaker c.status_in.result _ _ (λ _ e. ((it clean).0, e ∙ ap (λ rows. option_map status_spelled (slice_get rows 0)) c.deref.ensures.value ∙ (it clean).1)) c.status_in.ensures;
+      tells = λ clean. IfOk-weaker c.first_in.result _ _ (λ found e. ((it clean).0, sym (option_map_id found) ∙ e ∙ ap (λ rows. option_map status_spelled (slice_get rows 0)) c.deref.ensures.value ∙ (it clean).1)) c.first_in.ensures;
     }
