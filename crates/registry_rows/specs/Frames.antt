@@ -1,10 +1,14 @@
 -- What each call inside a transaction leaves alone, and what it asks and gets.
-use Rattle.std.specs.Prelude.{◌≡◌, ℕ, List, Ok}
+use Rattle.std.specs.Prelude.{◌≡◌, ℕ, List, [], IsTrue, Ok, false}
 use Rattle.sqlite_value.specs.Order.{Row}
 use Rattle.sqlite_trees.specs.declared.store.Store.{Ghosts}
 use Rattle.sqlite.specs.Held.{state}
-use Rattle.sqlite.specs.State.{State, HasCleanDisk, KeepsCommit, Survives}
+use Rattle.sqlite.specs.State.{State, HasCleanDisk, KeepsCommit, KeepsCounts, Shows, Survives}
+use Rattle.sqlite.specs.Steps.{FailsToCommit}
+use Rattle.sqlite.specs.declared.error.Error.{Error}
 use Rattle.sqlite.specs.declared.transaction.Transaction.{Transaction}
+use Rattle.registry_names.specs.declared.stop.Fault.{Fault}
+use Rattle.registry_rows.specs.Faults.{as_fault}
 use Rattle.registry_rows.specs.Ready.{Executed}
 
 -- Whatever it answers. `old` and `new` are the transaction at its entry and at its exit
@@ -19,3 +23,11 @@ pub record Stays {S : Type 0} (store : Ghosts S) (old new : Transaction S) : Typ
 -- a statement that writes was run with these parameters
 abbrev pub Wrote : List ℕ → Row → State → State → Type 0
 Wrote sql params old new = (n : ℕ) × Executed sql params old new (Ok n)
+
+-- what the transaction had is committed, and it has ended
+abbrev pub Commits : State → State → Type 0
+Commits old new = IsTrue old.in_transaction × Shows old new old.now old.now false × KeepsCounts old new × (new.marks ≡ [])
+
+-- it could not be committed, which this fault answers
+abbrev pub CommitFails : State → State → Fault → Type 0
+CommitFails old new fault = (e : Error) × FailsToCommit old new e × (fault ≡ as_fault e)

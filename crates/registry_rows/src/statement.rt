@@ -1,10 +1,11 @@
 //! Statements inside a transaction. An error of the database is answered as a fault.
 
-ghost use Rattle.std.specs.Prelude.{◌≡◌, IfOk, OnErr, OnOk};
+ghost use Rattle.std.specs.Prelude.{◌≡◌, IfErr, IfOk, OnErr, OnOk, false};
 ghost use Rattle.sqlite.specs.Held.{state};
+ghost use Rattle.sqlite.specs.State.{HasCleanDisk, Survives};
 ghost use Rattle.sqlite.specs.Values.{bound};
 ghost use Rattle.registry_rows.specs.Faults.{as_fault};
-ghost use Rattle.registry_rows.specs.Frames.{Stays, Wrote};
+ghost use Rattle.registry_rows.specs.Frames.{CommitFails, Commits, Stays, Wrote};
 ghost use Rattle.registry_rows.specs.Ready.{Queried};
 
 use registry_names::Fault;
@@ -51,6 +52,22 @@ pub fn read<S: Alter>(
 {
     match tx.query_all(text, params) {
         Ok(rows) => Ok(rows),
+        Err(error) => Err(fault_of(error)),
+    }
+}
+
+/// Commits the transaction. An earlier failure that has ended it is a fault.
+pub fn commit<S: Alter>(tx: Transaction<'_, S>) -> Result<(), Fault>
+    ensures ended { tx.exit.0.now.in_transaction ≡ false }
+    ensures ok { HasCleanDisk (state S.Store tx.exit.0.now) → OnOk result
+        (Commits (state S.Store tx.entry.conn.now) (state S.Store tx.exit.0.now)) }
+    ensures err { HasCleanDisk (state S.Store tx.exit.0.now) → IfErr result
+        (CommitFails (state S.Store tx.entry.conn.now) (state S.Store tx.exit.0.now)) }
+    ensures survives { Survives (state S.Store tx.entry.conn.now) (state S.Store tx.exit.0.now)
+        (λ db. db ≡ (state S.Store tx.entry.conn.now).now.trees) }
+{
+    match tx.commit() {
+        Ok(()) => Ok(()),
         Err(error) => Err(fault_of(error)),
     }
 }
