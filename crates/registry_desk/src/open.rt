@@ -1,9 +1,10 @@
 //! A registry in a file.
 
-ghost use Rattle.std.specs.Prelude.{◌≡◌, false, IfErr, IfOk, IfSome, IsTrue, OnOk};
+ghost use Rattle.std.specs.Prelude.{◌≡◌, codes, false, true, IfErr, IfOk, IfSome, IsTrue, OnOk};
 ghost use Rattle.sqlite.specs.Files.{file_state, image_of};
 ghost use Rattle.sqlite.specs.Held.{state};
 ghost use Rattle.sqlite.specs.State.{HasCleanDisk, Survives};
+ghost use Rattle.sqlite_std_file.specs.File.{IsFresh, file_is_usable};
 ghost use Rattle.sqlite_trees.specs.Tree.{Trees};
 ghost use Rattle.sqlite_wal.specs.Files.{image_at};
 ghost use Rattle.registry_rows.specs.Ready.{Ready};
@@ -25,10 +26,17 @@ use sqlite::{
 };
 use sqlite_disk::Disk;
 use sqlite_schema::schema::Schema;
+use sqlite_std_file::OpenError;
 use std::alloc::Global;
+use std::hash::{BuildHasher, RandomState};
+use std::io::ErrorKind;
 
 /// The number of the schema that a registry's tables have.
 const SCHEMA: u32 = 3;
+
+/// How many of the file's pages are kept in memory. Room for all of them is made when it is opened:
+/// 4 MB, since a page has 4 kB.
+const CACHE_PAGES: usize = 1_000;
 
 /// What is left of the files after an open that failed.
 pub enum Left<D: Disk> {
@@ -130,13 +138,48 @@ fn opened_from<S: Start>(
     ensures stays { IfOk result (λ r. HasCleanDisk (file_state r) → IsSure (file_state r)) }
     ensures left { IfErr result (λ e. IfSome e.1 (LeavesAtMost (image_at S.Start))) }
 {
-    match Connection::open_from(rt, path, true, start) {
-        Ok(conn) => match held(rt.alloc(), conn) {
-            Ok(registry) => Ok(registry),
-            Err((fault, conn)) => Err((fault, Some(Left::Database(conn)))),
-        },
-        Err((error, Some(left))) => Err((fault_of(error), Some(Left::Files(left)))),
-        Err((error, None)) => Err((fault_of(error), None)),
+    let options = options(rt).map_err(|fault| (fault, None))?;
+    let files = files_at(rt, path, start).map_err(|fault| (fault, None))?;
+    match Registry::open_files(rt.alloc(), files, options) {
+        Ok(registry) => Ok(registry),
+        Err((fault, left)) => Err((fault, Some(left))),
+    }
+}
+
+// How a registry's file is read and written.
+fn options(rt: &HostRuntime) -> Result<Options, Fault>
+    ensures { IfOk result (λ options. options.cache_pages ≡ CACHE_PAGES) }
+{
+    let random = RandomState::new(rt).map_err(|_| Fault::Database)?;
+    Ok(Options {
+        cache_pages: CACHE_PAGES,
+        ..Options::new(random.hash_one(&0u8))
+    })
+}
+
+// The files at the path, which are made if they are missing. To SQLite ":memory:" is no file and
+// what begins with "file:" is a URI, so no file of such a name is made.
+fn files_at<S: Start>(rt: &HostRuntime, path: &str, start: S) -> Result<Files<FileFrom<S>>, Fault>
+    ensures memory { path.now ≡ codes ":memory:" → result ≡ Err Fault.Database }
+    ensures log { IfOk result (λ files. IsTrue (file_is_usable S.Start files.log)) }
+    ensures db { IfOk result (λ files. IsTrue (file_is_usable S.Start files.db)) }
+    ensures fresh { IfOk result (λ files. IsFresh true files.log × IsFresh false files.db) }
+{
+    if path == ":memory:" || path.starts_with("file:") {
+        return Err(Fault::Database);
+    }
+    sqlite_std_file::open(rt, path, start).map_err(fault_of_open)
+}
+
+// The fault that is answered where the files at a path can't be opened.
+fn fault_of_open(error: OpenError) -> Fault
+    ensures memory { error ≡ OpenError.OutOfMemory → result ≡ Fault.Memory }
+    ensures busy { error ≡ OpenError.Busy → result ≡ Fault.Database }
+{
+    match error {
+        OpenError::OutOfMemory => Fault::Memory,
+        OpenError::Io(error) if error.kind() == ErrorKind::OutOfMemory => Fault::Memory,
+        _ => Fault::Database,
     }
 }
 

@@ -1,34 +1,39 @@
-use Rattle.std.proofs.Common.{ℕ, Bool, cond, List, ap₂}
+use Rattle.std.proofs.Common.{◌≡◌, ℕ, Bool, List, ap₂, cond, false, rules, subst, true}
 use Rattle.sqlite.specs.Files.{file_state}
 use Rattle.sqlite_disk.specs.Events.{Event, replay}
+use Rattle.sqlite_disk.specs.declared.calls.Calls as calls
+use Rattle.sqlite_disk.specs.declared.files.Files.{Files}
+use Rattle.sqlite_disk.specs.declared.modelled.Modelled.{Modelled}
+use Rattle.sqlite_disk.specs.declared.start.Start.{Ghosts}
+use Rattle.sqlite_std_file.specs.File.{IsFresh}
+use Rattle.sqlite_std_file.specs.declared.host.Host.{Host}
 use Rattle.sqlite_wal.specs.Files.{image_at}
 use Rattle.sqlite_wal.specs.Recovery.{Image}
-use Rattle.registry_desk.proofs.OpenedFacts.{fresh_if_empty, holds_each, holds_found, just_opened, leaves_at_most}
+use Rattle.registry_desk.specs.Opened.{HoldsEach, HoldsFound, IsFreshIfEmpty, LeavesAtMost}
 use Rattle.registry_desk.proofs.open.opened_from.Goals as goal
 
-pub held-requires-clause-opened : goal.held-requires-clause-opened
-held-requires-clause-opened g c = just_opened (image_at g.S.Start) (file_state c.in-Ok.conn) (file_state c.in-Ok.conn) c.in-Ok.ensures.opened c.in-Ok.ensures.found
-
-pub returns-in-Ok-held-clause-found : goal.returns-in-Ok-held-clause-found
-returns-in-Ok-held-clause-found g c = holds_found (image_at g.S.Start) (file_state c.in-Ok.conn) (file_state c.in-Ok-held.registry) c.in-Ok.ensures.opened c.in-Ok.ensures.found c.in-Ok-held.ensures.made
-
-pub returns-in-Ok-held-clause-each : goal.returns-in-Ok-held-clause-each
-returns-in-Ok-held-clause-each g c = holds_each (image_at g.S.Start) (file_state c.in-Ok.conn) (file_state c.in-Ok-held.registry) c.in-Ok.ensures.opened c.in-Ok.ensures.found c.in-Ok-held.ensures.made
-
-pub returns-in-Ok-held-clause-empty : goal.returns-in-Ok-held-clause-empty
-returns-in-Ok-held-clause-empty g c = fresh_if_empty (image_at g.S.Start) (file_state c.in-Ok.conn) (file_state c.in-Ok-held.registry) c.in-Ok.ensures.opened c.in-Ok.ensures.found c.in-Ok-held.ensures.made
-
-pub returns-in-Err-clause-left : goal.returns-in-Err-clause-left
-returns-in-Err-clause-left g c = leaves_at_most (image_at g.S.Start) (file_state c.in-Ok.conn) (file_state c.in-Err.conn) c.in-Ok.ensures.opened c.in-Ok.ensures.found c.in-Err.ensures.left
-
--- files that nothing has happened to hold what they were opened with
 abbrev image : List ℕ → List ℕ → Image
 image log db = record { log = log; db = db }
 
 abbrev seen : List ℕ → List ℕ → Bool → List Event → List ℕ
 seen log db is_log history = (replay (cond is_log log db) history).seen
 
-pub returns-in-Err-default-Some-clause-left : goal.returns-in-Err-default-Some-clause-left
-returns-in-Err-default-Some-clause-left g c =
-    let it = rw c.in-Err-default-Some.field-0-1-is at c.in-Err-default-Some.ensures.cause in
-    (it.0, ap₂ image (ap₂ (seen g.S.Start.log g.S.Start.db) it.1.0 it.1.1) (ap₂ (seen g.S.Start.log g.S.Start.db) it.2.0 it.2.1), λ clean. (it.3 clean).1)
+module _ {S : Type 0} {g : calls.Ghosts Host} {start : Ghosts S} where
+  abbrev seen_in : Modelled Host S g start → List ℕ
+  seen_in file = seen start.log start.db file.is_log file.calls.log.events
+
+  -- files that nothing has happened to hold what they were opened with
+  fresh_image : (files : Files (Modelled Host S g start)) → IsFresh true files.log → IsFresh false files.db → image (seen_in files.log) (seen_in files.db) ≡ image_at start
+  fresh_image files log db = ap₂ image (ap₂ (seen start.log start.db) log.0 log.1) (ap₂ (seen start.log start.db) db.0 db.1)
+
+pub returns-in-Ok-clause-found : goal.returns-in-Ok-clause-found
+returns-in-Ok-clause-found g c = subst (λ i. HoldsFound i (file_state c.in-Ok.registry)) (fresh_image c.in_ok-files.files (search rules) (search rules)) c.in-Ok.ensures.found
+
+pub returns-in-Ok-clause-each : goal.returns-in-Ok-clause-each
+returns-in-Ok-clause-each g c = subst (λ i. HoldsEach i (file_state c.in-Ok.registry)) (fresh_image c.in_ok-files.files (search rules) (search rules)) c.in-Ok.ensures.each
+
+pub returns-in-Ok-clause-empty : goal.returns-in-Ok-clause-empty
+returns-in-Ok-clause-empty g c = subst (λ i. IsFreshIfEmpty i (file_state c.in-Ok.registry)) (fresh_image c.in_ok-files.files (search rules) (search rules)) c.in-Ok.ensures.empty
+
+pub returns-in-Err-clause-left : goal.returns-in-Err-clause-left
+returns-in-Err-clause-left g c = subst (λ i. LeavesAtMost i c.in-Err.left) (fresh_image c.in_ok-files.files (search rules) (search rules)) c.in-Err.ensures.left
