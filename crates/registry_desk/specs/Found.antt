@@ -30,7 +30,8 @@ use Rattle.registry_desk.specs.declared.withdrawals.Life.{Life}
 use Rattle.registry_desk.specs.declared.rows.Rows.{Rows}
 use Rattle.registry_desk.specs.declared.rows.Rows.TheVariants as rows
 
--- The rows are those that answer the caller's action. A command is answered by none, but a deprecation by the live versions
+-- The rows are those that answer the caller's action. A command is answered by none, but a
+-- deprecation by the live versions
 abbrev pub AreRowsOf : Rows → State → Caller → Action → Type 0
 AreRowsOf (rows.Packument versions tags) S who (Packument p) =
     (map row_entry versions.items ≡ map (seen document) (of S.live p)) × (map tag_entry tags.items ≡ of S.tags p)
@@ -53,25 +54,29 @@ IsCallerIn c r who = Some who ≡ caller_of (registry_of c) r.who
 
 -- ---- parts of what decides
 
--- the user is there or not, is a member in this role or none, and another member is an owner or none is
+-- the user is there or not, is a member in this role or none, and another member is an owner or
+-- none is
 pub record IsCandidate (candidate : Candidate) (S : State) (o u : Text) : Type 0 where
   pub user_exists : candidate.user_exists ≡ has_user S u
   pub role : candidate.role ≡ at S.access.roles (o, u)
   pub other_owner : candidate.other_owner ≡ has_other_owner S o u
 
--- the team is there or not, and the user is a member of the organisation or not, and in the team or not
+-- the team is there or not, and the user is a member of the organisation or not, and in the team or
+-- not
 pub record IsPlace (place : Place) (S : State) (o t u : Text) : Type 0 where
   pub team_exists : place.team_exists ≡ has_team S o t
   pub is_member : place.is_member ≡ is_member S o u
   pub is_in_team : place.is_in_team ≡ is_in_team S o t u
 
--- the team is there or not, the package was published or never, and the team is granted something on it or nothing
+-- the team is there or not, the package was published or never, and the team is granted something
+-- on it or nothing
 pub record IsGrantable (grantable : Grantable) (S : State) (o t p : Text) : Type 0 where
   pub team_exists : grantable.team_exists ≡ has_team S o t
   pub is_published : grantable.is_published ≡ is_published S p
   pub stands : grantable.stands ≡ has_grant S o t p
 
--- the version lives or not, was withdrawn or not, its tag and `latest` stand or not, a version of its package lives or none, and one was withdrawn last or none
+-- the version lives or not, was withdrawn or not, its tag and `latest` stand or not, a version of
+-- its package lives or none, and one was withdrawn last or none
 pub record AreTaken (taken : Taken) (S : State) (f : FormParts) : Type 0 where
   pub version_lives : taken.version_lives ≡ is_live S f.name (version_of f)
   pub version_spent : taken.version_spent ≡ is_spent S f.name (version_of f)
@@ -80,7 +85,8 @@ pub record AreTaken (taken : Taken) (S : State) (f : FormParts) : Type 0 where
   pub lives : taken.lives ≡ has_live S f.name
   pub last_withdrawal : taken.last_withdrawal ≡ last_withdrawal S f.name
 
--- when the version was published, if it lives, whether another package needs it, the tags that name it, and the live versions
+-- when the version was published, if it lives, whether another package needs it, the tags that name
+-- it, and the live versions
 pub record IsLife (life : Life) (S : State) (p : Text) (v : VersionParts) : Type 0 where
   pub published : life.published ≡ published_at S p (text_of_version v)
   pub depended : life.depended ≡ is_depended S p v

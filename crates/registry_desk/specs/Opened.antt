@@ -31,7 +31,8 @@ IsJustOpened s = HasCleanDisk s → Opens s × IsLive s × HaveRowids s
 abbrev pub IsNumbered : Contents → Type 0
 IsNumbered c = at c.meta schema_key ≡ Some schema_number
 
--- the tables of a registry give what they hold, and a database without tables a fresh registry. Any other gives none
+-- the tables of a registry give what they hold, and a database without tables a fresh registry. Any
+-- other gives none
 abbrev pub IsMadeOf : Database → Contents → Type 0
 IsMadeOf db c = ((db.schema ≡ schema) × IsNumbered (contents db.trees) × (c ≡ contents db.trees)) ⊎ ((db.schema ≡ no_tables) × (c ≡ fresh))
 
@@ -64,7 +65,8 @@ module _ (image : Image) where
     IsFreshIfEmpty = HasCleanDisk s → image.db ≡ [] → stored s ≡ fresh
 
   module _ {D : Type 0} {g : disk.Ghosts D} where
-    -- after an open that failed, a crash leaves what it could have left before, or, where no table was found, none or those of a fresh registry
+    -- after an open that failed, a crash leaves what it could have left before, or, where no table
+    -- was found, none or those of a fresh registry
     abbrev pub LeavesAtMost : Left D g → Type 0
     LeavesAtMost (left.Files rest) = (files : Files D) × (image_of g files ≡ image) × (IsCleanLeft rest → LeavesFiles files rest)
     LeavesAtMost (left.Database conn) = HasCleanDisk (file_state conn) → (db : Trees) × AreFoundIn image db × ((later : Trees) → (file_state conn).may_leave later → LeavesFound db later)

@@ -1,5 +1,8 @@
--- What is promised of a request, and of a run, as long as the disk returns what was written to it. `old` and `new` are what the connection shows at the entry and at the exit.
--- What decides a request is read from rows that refer to others, and from the needs that are stored. So it is promised where those are there, and these are the needs of live versions (`HoldsSound`): of a new registry that is so, and every request keeps it.
+-- What is promised of a request, and of a run, as long as the disk returns what was written to it.
+-- `old` and `new` are what the connection shows at the entry and at the exit.
+-- What decides a request is read from rows that refer to others, and from the needs that are
+-- stored. So it is promised where those are there, and these are the needs of live versions
+-- (`HoldsSound`): of a new registry that is so, and every request keeps it.
 use Rattle.std.specs.Prelude.{◌≡◌, List, OnOk, IsTrue}
 use Rattle.sqlite_trees.specs.Tree.{Trees}
 use Rattle.sqlite.specs.State.{State as Shown, HasCleanDisk, Survives}
@@ -37,7 +40,8 @@ module _ (old new : Shown) where
   abbrev pub WasOpen : Type 0
   WasOpen = HasCleanDisk new → IsTrue new.is_open → IsTrue old.is_open
 
-  -- what stands goes on to refer to what is there, and the needs that are stored go on to be those of live versions
+  -- what stands goes on to refer to what is there, and the needs that are stored go on to be those
+  -- of live versions
   abbrev pub KeepsSound : Type 0
   KeepsSound = HoldsSound old → HasCleanDisk new → IsTrue new.is_open → HoldsSound new
 
@@ -95,6 +99,7 @@ module _ (old new : Shown) where
   WritesHistory rs os = HoldsNeeds (stored old) → HasCleanDisk new → IsTrue new.is_open → (h : List Entry) → Legal h → registry_in old ≡ after h
       → Says (history h (registry_in old) rs os) (registry_in new)
 
-  -- a crash leaves what it could have left before, or what one of the requests settles on what the earlier ones left
+  -- a crash leaves what it could have left before, or what one of the requests settles on what the
+  -- earlier ones left
   abbrev pub SurvivesRun : List Request → List Outcome → Type 0
   SurvivesRun rs os = Survives old new (λ db. HoldsSound old → SettlesOne rs os (stored old) (contents db))

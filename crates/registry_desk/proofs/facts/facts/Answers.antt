@@ -14,7 +14,8 @@ use Rattle.registry_tables.specs.Schema.{schema}
 use Rattle.registry_tables.specs.Teams.{AreTeamsSound}
 use Rattle.registry_desk.proofs.facts.facts.Goals as goal
 
--- what is told of this action, of which X is left open, is told of the action that is asked, and the more so where the needs that are stored are those of live versions
+-- what is told of this action, of which X is left open, is told of the action that is asked, and
+-- the more so where the needs that are stored are those of live versions
 told_each : {X : Type 0} (x : X) (reads : Type 0) (c : Contents) (who : Caller) (what : Action) (this : X → Action) (result : Result About Fault) → what ≡ this x
     → IfOk result (λ about. reads × ((y : X) → AreTeamsSound c → AboutTells about (registry_of c) who (this y)))
     → IfOk result (λ about. reads × (AreTeamsSound c → HoldsNeeds c → AboutTells about (registry_of c) who what))
