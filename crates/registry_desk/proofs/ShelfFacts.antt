@@ -1,15 +1,17 @@
 -- The texts that are kept stay the packuments of what is stored.
-use Rattle.std.proofs.Common.{◌≡◌, ◌⊎◌, inl, inr, ◌<◌, ◌+◌, ℕ, Bool, true, false, cond, ◌||◌, List, [], ◌∷◌, ◌++◌, length, map, take, get_or, MatchBool, Option, Some, None, Result, Ok, Err, OnOk, OnErr, IfOk, IsTrue, true≢false, refl, sym, ap, ◌∙◌, subst, subst₂}
-use Rattle.std.specs.List.{list_any}
-use Rattle.std.proofs.lemmas.Bool.{or_right}
+use Rattle.std.proofs.Common.{◌≡◌, ◌⊎◌, inl, inr, ◌<◌, ◌+◌, ℕ, nat_le, Bool, true, false, cond, not, ◌&&◌, ◌||◌, List, [], ◌∷◌, ◌++◌, length, filter, map, take, get_or, MatchBool, Option, Some, None, Result, Ok, Err, OnOk, OnErr, IfOk, IfNone, IfSome, IsTrue, refl, sym, ap, ◌∙◌, subst, subst₂}
+use Rattle.std.specs.Option.{option_map_or}
 use Rattle.std.proofs.lemmas.List.{map-append, take_more}
+use Rattle.std.proofs.lemmas.List.Folds.{list_any-append}
 use Rattle.sqlite.specs.State.{State as Shown, HasCleanDisk}
 use Rattle.registry_access.specs.declared.caller.Caller.{Caller}
 use Rattle.registry_names.specs.Texts.{Text, is}
 use Rattle.registry_names.specs.declared.refusal.Refusal.{Refusal}
-use Rattle.registry_texts.specs.Stores.{Store, asked, forgotten, kept, with_room, with_text}
-use Rattle.registry_texts.proofs.StoreFacts.{gone, kept-asked, kept-forgotten, put_keeps_right, room_keeps_right}
-use Rattle.registry_names.proofs.TextFacts.{is_true}
+use Rattle.registry_texts.specs.Stores.{Entries, Store, asked, forgotten, kept, store, with_room, with_text, without}
+use Rattle.registry_texts.proofs.StoreFacts.{kept-asked, put_keeps_right, room_keeps_right}
+use Rattle.registry_names.proofs.KeyFacts.{text_key}
+use Rattle.registry_names.proofs.MapFacts.{first_at-kept}
+use Rattle.registry_names.proofs.TextFacts.{is_sym, is_true}
 use Rattle.registry_rules.specs.Actions.{is_command}
 use Rattle.registry_rules.specs.Changes.{Change, change_of}
 use Rattle.registry_rules.specs.declared.change.Change as declared
@@ -28,116 +30,172 @@ use Rattle.registry_history.specs.Answers.{packument_in, reply_to}
 use Rattle.registry_history.specs.Apart.{are_about, is_about}
 use Rattle.registry_history.specs.Runs.{Outcome}
 use Rattle.registry_history.proofs.ApartFacts.{changes_of_others}
-use Rattle.registry_desk.specs.Shelves.{ArePackuments, Forgets, HasPackuments, HoldsMore, IsAbout, IsAboutNone, IsSoundFor, KeepsReply, Loses, ShowsPackument, Tends}
+use Rattle.registry_desk.specs.Shelves.{ArePackuments, HasPackuments, IsAbout, IsAboutNone, IsPut, IsSoundFor, KeepsLatest, KeepsNoMore, KeepsReply, LeavesTextsRight, ShowsPackument, without_changed}
 
 -- ---- what is forgotten
 
-other_found : (b : Bool) (P : Type 0) → MatchBool b ⊥ P → P
-other_found true P h = absurd h
-other_found false P h = h
+found_where : (b : Bool) (o : Option Text) (text : Text) → cond (not b) o None ≡ Some text → (b ≡ false) × (o ≡ Some text)
+found_where true o text h = (cc, cc)
+found_where false o text h = (refl, h)
 
--- a name that is forgotten brings no text
-pub forgotten_loses : (s : Store) (name : Text) → Loses s (forgotten s name)
-forgotten_loses s name p text h = other_found (is name p) _ (gone ⊥ (is name p) text _ (kept s p) (kept-forgotten s name p) h)
+-- what is kept still is of no package that is changed, and was kept
+pub changed_found : (cs : List Change) (s : Store) (p text : Text) → kept (without_changed cs s) p ≡ Some text → (are_about cs p ≡ false) × (kept s p ≡ Some text)
+changed_found cs s p text h = found_where (are_about cs p) (kept s p) text (sym (first_at-kept text_key s.entries (λ q. not (are_about cs q)) p) ∙ h)
 
-one_true : (b : Bool) → (b || false) ≡ true → b ≡ true
-one_true true e = refl
-one_true false e = e
+pub changed_no_more : (cs : List Change) (old new : Store) → new ≡ without_changed cs old → KeepsNoMore old new
+changed_no_more cs old new is = subst (KeepsNoMore old) (sym is) (record { limit = refl; before = λ p text h. (changed_found cs old p text h).1 })
 
-none_where : (b : Bool) (o : Option Text) → b ≡ true → cond b None o ≡ None
-none_where true o e = refl
-none_where false o e = absurd (true≢false (sym e))
+pub same_no_more : (s : Store) → KeepsNoMore s s
+same_no_more s = record { limit = refl; before = λ p text h. h }
 
--- the package of a change is forgotten
-pub forgets_one : (change : Change) (name : Text) (old new : Store) → IsAbout change name → new ≡ forgotten old name → Forgets (change ∷ []) new
-forgets_one change name old new about e p hit =
-    ap (λ (s : Store). kept s p) e ∙ kept-forgotten old name p ∙ none_where (is name p) (kept old p) (sym (about p) ∙ one_true (is_about change p) hit)
+all_stay : (es : Entries) → filter (λ e. true) es ≡ es
+all_stay [] = refl
+all_stay (e ∷ es) = ap (λ (fs : Entries). e ∷ fs) (all_stay es)
 
--- a change is of no package
-pub forgets_none : (change : Change) (s : Store) → IsAboutNone change → Forgets (change ∷ []) s
-forgets_none change s none p hit = absurd (true≢false (sym (one_true (is_about change p) hit) ∙ none p))
+or_none : (b : Bool) → (b || false) ≡ b
+or_none true = refl
+or_none false = refl
 
-lost : (old new : Option Text) → ((text : Text) → new ≡ Some text → old ≡ Some text) → old ≡ None → new ≡ None
-lost old None loses none = refl
-lost old (Some text) loses none = let there = loses text refl in cc
+module _ (s : Store) where
+  pub without_none : s ≡ without_changed [] s
+  without_none = ap (λ (es : Entries). store es s.limit) (sym (all_stay s.entries))
 
-either_true : (a b : Bool) → (a || b) ≡ true → (a ≡ true) ⊎ (b ≡ true)
-either_true true b e = inl refl
-either_true false b e = inr e
+  module _ (change : Change) where
+    -- the package of a change is forgotten
+    pub forgets_one : (name : Text) → IsAbout change name → forgotten s name ≡ without_changed (change ∷ []) s
+    forgets_one name about =
+        let same : (q : Text) → is q name ≡ are_about (change ∷ []) q = λ q. is_sym q name ∙ sym (about q) ∙ sym (or_none (is_about change q)) in
+        λ i. store (filter (λ (e : Text × Text). not (same e.0 i)) s.entries) s.limit
 
-any_push : (f : Change → Bool) (cs : List Change) (c : Change) → list_any f (cs ++ c ∷ []) ≡ true → (list_any f cs ≡ true) ⊎ (f c ≡ true)
-any_push f [] c e = elim (either_true (f c) false e) [ inl here ↦ inr here | inr none ↦ inl none ]
-any_push f (d ∷ cs) c e = elim (either_true (f d) (list_any f (cs ++ c ∷ [])) e) [
-  | inl here ↦ inl (ap (λ b. b || list_any f cs) here)
-  | inr there ↦ elim (any_push f cs c there) [ inl before ↦ inl (or_right (f d) (list_any f cs) before) | inr last ↦ inr last ]
-]
+    -- a change is of no package
+    pub forgets_none : IsAboutNone change → s ≡ without_changed (change ∷ []) s
+    forgets_none none =
+        let same : (q : Text) → false ≡ are_about (change ∷ []) q = λ q. sym (or_none (is_about change q) ∙ none q) in
+        without_none ∙ λ i. store (filter (λ (e : Text × Text). not (same e.0 i)) s.entries) s.limit
+
+filter_more : (g : Text × Text → Bool) (e : Text × Text) (a : Bool) (fs hs : Entries) → filter g fs ≡ hs → filter g (cond a (e ∷ fs) fs) ≡ cond (a && g e) (e ∷ hs) hs
+filter_more g e true fs hs h = ap (λ (xs : Entries). cond (g e) (e ∷ xs) xs) h
+filter_more g e false fs hs h = h
+
+filter_twice : (f g : Text × Text → Bool) (es : Entries) → filter g (filter f es) ≡ filter (λ e. f e && g e) es
+filter_twice f g [] = refl
+filter_twice f g (e ∷ es) = filter_more g e (f e) (filter f es) (filter (λ x. f x && g x) es) (filter_twice f g es)
+
+not_either : (a b : Bool) → (not a && not b) ≡ not (a || b)
+not_either true b = refl
+not_either false b = refl
+
+changed_then : (cs : List Change) (c : Change) (s : Store) → without_changed (c ∷ []) (without_changed cs s) ≡ without_changed (cs ++ c ∷ []) s
+changed_then cs c s =
+    let stays : (q : Text) → (not (are_about cs q) && not (are_about (c ∷ []) q)) ≡ not (are_about (cs ++ c ∷ []) q) = λ q.
+    not_either (are_about cs q) (are_about (c ∷ []) q) ∙ ap not (sym (list_any-append (λ d. is_about d q) cs (c ∷ []))) in
+    ap (λ (es : Entries). store es s.limit) (filter_twice (λ e. not (are_about cs e.0)) (λ e. not (are_about (c ∷ []) e.0)) s.entries)
+    ∙ λ i. store (filter (λ (e : Text × Text). stays e.0 i) s.entries) s.limit
 
 module _ (xs : List declared.Change) (i : ℕ) (x : declared.Change) (below : i < length xs) (is_next : x ≡ get_or xs i x) where
   more : map change_of (take i xs) ++ change_of x ∷ [] ≡ map change_of (take (i + 1) xs)
   more = sym (map-append change_of (take i xs) (x ∷ [])) ∙ ap (map change_of) (ap (λ q. take i xs ++ q ∷ []) is_next ∙ sym (take_more xs i x below))
 
-  about : (p : Text) → are_about (map change_of (take (i + 1) xs)) p ≡ true → (are_about (map change_of (take i xs)) p ≡ true) ⊎ (is_about (change_of x) p ≡ true)
-  about p e = any_push (λ c. is_about c p) (map change_of (take i xs)) (change_of x) (ap (λ cs. are_about cs p) more ∙ e)
-
   -- what one more change is about is forgotten
-  pub forgets_next : (old new : Store) → Forgets (map change_of (take i xs)) old → Forgets (change_of x ∷ []) new → Loses old new → Forgets (map change_of (take (i + 1) xs)) new
-  forgets_next old new so_far here loses p hit = elim (about p hit) [
-    | inl before ↦ lost (kept old p) (kept new p) (loses p) (so_far p before)
-    | inr last ↦ here p (ap (λ b. b || false) last)
-  ]
-
-pub loses_then : (a b c : Store) → Loses a b → Loses b c → Loses a c
-loses_then a b c first second p text h = first p text (second p text h)
+  pub forgets_next : (old mid new : Store) → mid ≡ without_changed (map change_of (take i xs)) old → new ≡ without_changed (change_of x ∷ []) mid → new ≡ without_changed (map change_of (take (i + 1) xs)) old
+  forgets_next old mid new so_far here =
+      here ∙ ap (without_changed (change_of x ∷ [])) so_far ∙ changed_then (map change_of (take i xs)) (change_of x) old ∙ ap (λ cs. without_changed cs old) more
 
 -- ---- what is kept of an answer
 
+none_case : (o : Option Text) {P : Type 0} → (o ≡ None → P) → IfNone o P
+none_case None h = h refl
+none_case (Some found) h = tt
+
+some_case : (o : Option Text) {P : Type 0} → ((found : Text) → o ≡ Some found → P) → IfSome o (λ _. P)
+some_case None h = tt
+some_case (Some found) h = h found refl
+
+either_case : (o : Option Text) {P Q R : Type 0} → IfNone o P → IfSome o (λ _. Q) → (P → R) → (Q → R) → R
+either_case None p q on_none on_some = on_none p
+either_case (Some found) p q on_none on_some = on_some q
+
+module _ (name text : Text) (s : Store) where
+  asked_none : kept s name ≡ None → asked s name ≡ s
+  asked_none none = ap (λ (o : Option Text). store (option_map_or (λ found. (name, found) ∷ without name s.entries) o s.entries) s.limit) none
+
+  -- nothing was kept under the name
+  pub latest_put : (new : Store) → kept s name ≡ None → IsPut name text (asked s name) new → KeepsLatest name text s new
+  latest_put new none is = record {
+    put = none_case (kept s name) (λ _. subst (λ (old : Store). IsPut name text old new) (asked_none none) is);
+    again = some_case (kept s name) (λ found there. cc);
+  }
+
+  -- nothing is put
+  pub latest_asked : (new : Store) → new ≡ asked s name → KeepsLatest name text s new
+  latest_asked new is = record {
+    put = none_case (kept s name) (λ none. inr (inr (is ∙ asked_none none)));
+    again = some_case (kept s name) (λ _ _. is);
+  }
+
+  -- whether it could be put or not
+  pub is_put : {E : Type 0} (result : Result (Unit {0}) E) (new : Store) → OnOk result (new ≡ with_text s name text) → OnErr result (new ≡ with_room s name text) → IsPut name text s new
+  is_put (Ok done) new ok err = inl ok
+  is_put (Err e) new ok err = inr (inl err)
+
+-- the same, where name and text are written otherwise
+pub is_put_as : {E : Type 0} (name text called found : Text) (result : Result (Unit {0}) E) (s new : Store) → called ≡ name → found ≡ text
+    → OnOk result (new ≡ with_text s called found) → OnErr result (new ≡ with_room s called found) → IsPut name text s new
+is_put_as name text called found result s new same_name same_text ok err =
+    subst₂ (λ (n t : Text). IsPut n t s new) same_name same_text (is_put called found s result new ok err)
+
+-- ---- nothing is kept but what was, and the text under the name
+
+other_found : (b : Bool) (P : Type 0) → MatchBool b ⊥ P → P
+other_found true P h = absurd h
+other_found false P h = h
+
 module _ (name text : Text) where
-  pub more_asked : (s : Store) (other : Text) → HoldsMore name text s (asked s other)
-  more_asked s other p found h = inl (sym (kept-asked s other p) ∙ h)
+  record HoldsMore (old new : Store) : Type 0 where
+    same_limit : new.limit ≡ old.limit
+    found : (p found : Text) → kept new p ≡ Some found → (kept old p ≡ Some found) ⊎ ((name ≡ p) × (text ≡ found))
+
+  more_same : (s : Store) → HoldsMore s s
+  more_same s = record { same_limit = refl; found = λ p found h. inl h }
+
+  more_asked : (s : Store) → HoldsMore s (asked s name)
+  more_asked s = record { same_limit = refl; found = λ p found h. inl (sym (kept-asked s name p) ∙ h) }
 
   put_or_before : (s : Store) (p found : Text) (b : Bool) → is name p ≡ b → MatchBool b (found ≡ text) (kept s p ≡ Some found) → (kept s p ≡ Some found) ⊎ ((name ≡ p) × (text ≡ found))
   put_or_before s p found true t h = inr (is_true name p t, sym h)
   put_or_before s p found false t h = inl h
 
-  more_put : (s : Store) → HoldsMore name text s (with_text s name text)
-  more_put s p found h = put_or_before s p found (is name p) refl (put_keeps_right s name text p found h)
+  limit_either : (s : Store) (b : Bool) → (cond b (store ((name, text) ∷ (with_room s name text).entries) s.limit) (forgotten s name)).limit ≡ s.limit
+  limit_either s true = refl
+  limit_either s false = refl
 
-  more_room : (s : Store) → HoldsMore name text s (with_room s name text)
-  more_room s p found h = inl (other_found (is name p) _ (room_keeps_right s name text p found h))
+  more_put : (s : Store) → HoldsMore s (with_text s name text)
+  more_put s = record {
+    same_limit = limit_either s (nat_le (length text) s.limit);
+    found = λ p found h. put_or_before s p found (is name p) refl (put_keeps_right s name text p found h);
+  }
 
-  -- whether it could be put or not
-  pub more_either : {E : Type 0} (result : Result (Unit {0}) E) (s new : Store) → OnOk result (new ≡ with_text s name text) → OnErr result (new ≡ with_room s name text) → HoldsMore name text s new
-  more_either (Ok done) s new ok err = subst (HoldsMore name text s) (sym ok) (more_put s)
-  more_either (Err e) s new ok err = subst (HoldsMore name text s) (sym err) (more_room s)
+  more_room : (s : Store) → HoldsMore s (with_room s name text)
+  more_room s = record { same_limit = refl; found = λ p found h. inl (other_found (is name p) _ (room_keeps_right s name text p found h)) }
 
-  -- the same, where name and text are written otherwise
-  pub more_put_as : {E : Type 0} (result : Result (Unit {0}) E) (called found : Text) (s new : Store) → called ≡ name → found ≡ text
-      → OnOk result (new ≡ with_text s called found) → OnErr result (new ≡ with_room s called found) → HoldsMore name text s new
-  more_put_as result called found s new same_name same_text ok err =
-      more_either result s new
-      (subst₂ (λ (n t : Text). OnOk result (new ≡ with_text s n t)) same_name same_text ok)
-      (subst₂ (λ (n t : Text). OnErr result (new ≡ with_room s n t)) same_name same_text err)
+  more_either : (old new : Store) → IsPut name text old new → HoldsMore old new
+  more_either old new (inl put) = subst (HoldsMore old) (sym put) (more_put old)
+  more_either old new (inr (inl room)) = subst (HoldsMore old) (sym room) (more_room old)
+  more_either old new (inr (inr same)) = subst (HoldsMore old) (sym same) (more_same old)
 
-  pub more_then : (a b c : Store) → HoldsMore name text a b → HoldsMore name text b c → HoldsMore name text a c
-  more_then a b c first second p found h = elim (second p found h) [ inl between ↦ first p found between | inr put ↦ inr put ]
+  more_kept : (old new : Store) → KeepsLatest name text old new → HoldsMore old new
+  more_kept old new keeps = either_case (kept old name) keeps.put keeps.again (more_either old new) (λ is. subst (HoldsMore old) (sym is) (more_asked old))
 
--- a packument that is replied is kept
-pub keeps_more : (what : Action) (given : Reply) (name text : Text) (old new : Store) → HoldsMore name text old new → what ≡ Packument name → given ≡ Doc text → KeepsReply what given old new
-keeps_more what given name text old new more asks told p found h = elim (more p found h) [
-  | inl before ↦ inl before
-  | inr same ↦ inr (asks ∙ ap (λ (q : Text). Packument q) same.0, told ∙ ap (λ (t : Text). Doc t) same.1)
-]
+pub reply_limit : (what : Action) (given : Reply) (old new : Store) → KeepsReply what given old new → new.limit ≡ old.limit
+reply_limit (Packument name) (Doc text) old new keeps = (more_kept name text old new keeps).same_limit
+reply_limit _ _ old new keeps = ap (λ (s : Store). s.limit) keeps
 
 -- ---- what changes make of what is kept
 
-none_about : (b : Bool) (o : Option Text) (text : Text) → (b ≡ true → o ≡ None) → o ≡ Some text → b ≡ false
-none_about true o text none some = let gone_here = none refl in cc
-none_about false o text none some = refl
-
-made_still : (c : Contents) (cs : List Change) (texts : Store) → HeldAreStored c → Forgets cs texts → (p text : Text) → kept texts p ≡ Some text → packument_in (registry_of (all_stored cs c)) p ≡ packument_in (registry_of c) p
-made_still c cs texts held forgets p text h =
+made_still : (c : Contents) (cs : List Change) (texts : Store) → HeldAreStored c → (p text : Text) → kept (without_changed cs texts) p ≡ Some text → packument_in (registry_of (all_stored cs c)) p ≡ packument_in (registry_of c) p
+made_still c cs texts held p text h =
     ap (λ S. packument_in S p) (changes_make cs c held)
-    ∙ changes_of_others (registry_of c) cs p (none_about (are_about cs p) (kept texts p) text (forgets p) h)
+    ∙ changes_of_others (registry_of c) cs p (changed_found cs texts p text h).0
 
 -- ---- what is answered
 
@@ -159,23 +217,23 @@ shows_packument c texts who what given told p text are asks h =
 -- ---- what becomes of the texts that are kept
 
 module _ (c d : Contents) (who : Option Caller) (what : Action) (cs : List Change) (old new : Store) where
-  tends_by : (given : Reply) → HeldAreStored c → d ≡ all_stored cs c → (is_command what ≡ false → cs ≡ []) → Forgets cs new
-      → (IsSoundFor what c old → given ≡ reply_to (registry_of c) who what) → Tends c d what old new given
-  tends_by given held is query forgets told = record {
-    still = λ p text h. ap (λ (e : Contents). packument_in (registry_of e) p) is ∙ made_still c cs new held forgets p text h;
+  leaves_by : (given : Reply) → HeldAreStored c → d ≡ all_stored cs c → (is_command what ≡ false → cs ≡ []) → new ≡ without_changed cs old
+      → (IsSoundFor what c old → given ≡ reply_to (registry_of c) who what) → LeavesTextsRight c d what old new given
+  leaves_by given held is query left told = record {
+    still = λ p text h. ap (λ (e : Contents). packument_in (registry_of e) p) is ∙ made_still c cs old held p text (ap (λ (s : Store). kept s p) (sym left) ∙ h);
     shown = shows_packument c old who what given told;
     asked = λ p asks. ap (λ (e : Contents). packument_in (registry_of e) p) (is ∙ ap (λ changes. all_stored changes c) (query (ap is_command asks)));
   }
 
   -- the same of an outcome
-  pub tends_accepted : (result : Outcome) (L : Type 0) → HeldAreStored c → (L → d ≡ all_stored cs c) → (is_command what ≡ false → cs ≡ [])
-      → OnOk result L → OnOk result (Forgets cs new) → (IsSoundFor what c old → IfOk result (λ given. given ≡ reply_to (registry_of c) who what)) → IfOk result (Tends c d what old new)
-  tends_accepted (Ok given) L held is query left forgets told = tends_by given held (is left) query forgets told
-  tends_accepted (Err fault) L held is query left forgets told = tt
+  pub leaves_accepted : (result : Outcome) (L : Type 0) → HeldAreStored c → (L → d ≡ all_stored cs c) → (is_command what ≡ false → cs ≡ [])
+      → OnOk result L → OnOk result (new ≡ without_changed cs old) → (IsSoundFor what c old → IfOk result (λ given. given ≡ reply_to (registry_of c) who what)) → IfOk result (LeavesTextsRight c d what old new)
+  leaves_accepted (Ok given) L held is query done left told = leaves_by given held (is done) query left told
+  leaves_accepted (Err fault) L held is query done left told = tt
 
 -- what is refused changes nothing
-pub tends_refused : (c d : Contents) (what : Action) (texts : Store) (why : Refusal) → d ≡ c → Tends c d what texts texts (Refused why)
-tends_refused c d what texts why same = record {
+pub leaves_refused : (c d : Contents) (what : Action) (texts : Store) (why : Refusal) → d ≡ c → LeavesTextsRight c d what texts texts (Refused why)
+leaves_refused c d what texts why same = record {
   still = λ p text h. ap (λ (e : Contents). packument_in (registry_of e) p) same;
   shown = λ p text are asks h. cc;
   asked = λ p asks. ap (λ (e : Contents). packument_in (registry_of e) p) same;
@@ -184,21 +242,27 @@ tends_refused c d what texts why same = record {
 -- ---- what is right after a request
 
 -- nothing was stored otherwise, and no text came
-pub right_unchanged : (old new : Shown) (was is_now : Store) → (HasCleanDisk new → IsTrue new.is_open → HasCleanDisk old × IsTrue old.is_open × (stored new ≡ stored old)) → Loses was is_now → HasPackuments old was → HasPackuments new is_now
-right_unchanged old new was is_now same loses right clean on =
+pub right_unchanged : (old new : Shown) (was is_now : Store) → (HasCleanDisk new → IsTrue new.is_open → HasCleanDisk old × IsTrue old.is_open × (stored new ≡ stored old)) → KeepsNoMore was is_now → HasPackuments old was → HasPackuments new is_now
+right_unchanged old new was is_now same keeps right clean on =
     let before = same clean on in
-    record { right = λ p text h. (right before.0 before.1).right p text (loses p text h) ∙ ap (λ (c : Contents). packument_in (registry_of c) p) (sym before.2) }
+    record { right = λ p text h. (right before.0 before.1).right p text (keeps.before p text h) ∙ ap (λ (c : Contents). packument_in (registry_of c) p) (sym before.2) }
 
 -- the request was answered
-pub right_answered : (c d : Contents) (what : Action) (was is_now : Store) (given : Reply) → Tends c d what was is_now given → Loses was is_now → ArePackuments c was → ArePackuments d is_now
-right_answered c d what was is_now given tends loses are = record { right = λ p text h. are.right p text (loses p text h) ∙ sym (tends.still p text h) }
+pub right_answered : (c d : Contents) (what : Action) (was is_now : Store) (given : Reply) → LeavesTextsRight c d what was is_now given → KeepsNoMore was is_now → ArePackuments c was → ArePackuments d is_now
+right_answered c d what was is_now given leaves keeps are = record { right = λ p text h. are.right p text (keeps.before p text h) ∙ sym (leaves.still p text h) }
 
-pub shown_answered : (c d : Contents) (what : Action) (was is_now : Store) (given : Reply) → Tends c d what was is_now given → ArePackuments c was → (p text : Text) → what ≡ Packument p → given ≡ Doc text → text ≡ packument_in (registry_of d) p
-shown_answered c d what was is_now given tends are p text asks h = tends.shown p text are asks h ∙ sym (tends.asked p asks)
+pub shown_answered : (c d : Contents) (what : Action) (was is_now : Store) (given : Reply) → LeavesTextsRight c d what was is_now given → ArePackuments c was → (p text : Text) → what ≡ Packument p → given ≡ Doc text → text ≡ packument_in (registry_of d) p
+shown_answered c d what was is_now given leaves are p text asks h = leaves.shown p text are asks h ∙ sym (leaves.asked p asks)
 
 -- what is replied is kept
 pub right_kept : (d : Contents) (what : Action) (given : Reply) (was is_now : Store) → ArePackuments d was
     → ((p text : Text) → what ≡ Packument p → given ≡ Doc text → text ≡ packument_in (registry_of d) p) → KeepsReply what given was is_now → ArePackuments d is_now
-right_kept d what given was is_now right shows keeps = record {
-  right = λ p text h. elim (keeps p text h) [ inl before ↦ right.right p text before | inr asked ↦ shows p text asked.0 asked.1 ];
-}
+right_kept d (Packument name) (Doc text) was is_now right shows keeps =
+    let more = more_kept name text was is_now keeps in
+    record {
+      right = λ p found h. elim (more.found p found h) [
+        | inl before ↦ right.right p found before
+        | inr same ↦ sym same.1 ∙ shows name text refl refl ∙ ap (packument_in (registry_of d)) same.0
+      ];
+    }
+right_kept d _ _ was is_now right shows keeps = subst (ArePackuments d) (sym keeps) right

@@ -1,9 +1,9 @@
 -- What the texts that are kept have to do with what is stored. `old` and `new` are what a store
 -- keeps at the entry and at the exit.
-use Rattle.std.specs.Prelude.{◌≡◌, ◌⊎◌, true, false, List, IsTrue, Some, None}
+use Rattle.std.specs.Prelude.{◌≡◌, ◌⊎◌, ◌^◌, ℕ, false, not, List, filter, IfNone, IfSome, IsTrue, Some}
 use Rattle.sqlite.specs.State.{State as Shown, HasCleanDisk}
 use Rattle.registry_names.specs.Texts.{Text, is}
-use Rattle.registry_texts.specs.Stores.{Store, AreRight, kept}
+use Rattle.registry_texts.specs.Stores.{Store, AreRight, asked, kept, store, with_room, with_text}
 use Rattle.registry_rules.specs.Changes.{Change}
 use Rattle.registry_rules.specs.declared.reply.Reply.{Reply}
 use Rattle.registry_rules.specs.declared.reply.Reply.TheVariants.{Doc}
@@ -24,20 +24,27 @@ ArePackuments c texts = AreRight (λ p text. text ≡ packument_in (registry_of 
 abbrev pub HasPackuments : Shown → Store → Type 0
 HasPackuments s texts = HasCleanDisk s → IsTrue s.is_open → ArePackuments (stored s) texts
 
+-- the most bytes that the texts which a registry keeps have together
+abbrev pub text_limit : ℕ
+text_limit = 2 ^ 26
+
 -- between requests
 pub record IsShelved (s : Shown) (texts : Store) : Type 0 where
   pub rests : Rests s
   pub right : HasPackuments s texts
+  pub limited : texts.limit ≡ text_limit
 
 -- ---- what is forgotten
 
--- no text comes, under any name
-abbrev pub Loses : Store → Store → Type 0
-Loses old new = (p text : Text) → kept new p ≡ Some text → kept old p ≡ Some text
+-- nothing is kept of the packages of which these change a version or a tag, and all else is as it
+-- was
+abbrev pub without_changed : List Change → Store → Store
+without_changed changes s = store (filter (λ e. not (are_about changes e.0)) s.entries) s.limit
 
--- nothing is kept of a package of which these change a version or a tag
-abbrev pub Forgets : List Change → Store → Type 0
-Forgets changes texts = (p : Text) → are_about changes p ≡ true → kept texts p ≡ None
+-- nothing is kept but what was, with the same limit
+pub record KeepsNoMore (old new : Store) : Type 0 where
+  pub limit : new.limit ≡ old.limit
+  pub before : (p text : Text) → kept new p ≡ Some text → kept old p ≡ Some text
 
 -- the change is about this package alone, and about none
 module _ (change : Change) where
@@ -49,13 +56,21 @@ module _ (change : Change) where
 
 -- ---- what is kept of a reply
 
--- nothing is kept but what was, and the text under the name
-abbrev pub HoldsMore : Text → Text → Store → Store → Type 0
-HoldsMore name text old new = (p found : Text) → kept new p ≡ Some found → (kept old p ≡ Some found) ⊎ ((name ≡ p) × (text ≡ found))
+-- the text is put under the name, or there is no memory for that
+abbrev pub IsPut : Text → Text → Store → Store → Type 0
+IsPut name text old new =
+    (new ≡ with_text old name text) ⊎ ((new ≡ with_room old name text) ⊎ (new ≡ old))
 
--- nothing is kept but what was, and a packument that is replied
+-- Where nothing was kept under the name, the text is put there. What was kept is the latest asked
+-- from now on
+pub record KeepsLatest (name text : Text) (old new : Store) : Type 0 where
+  pub put : IfNone (kept old name) (IsPut name text old new)
+  pub again : IfSome (kept old name) (λ _. new ≡ asked old name)
+
+-- of replies a packument alone is kept
 abbrev pub KeepsReply : Action → Reply → Store → Store → Type 0
-KeepsReply what given old new = (p text : Text) → kept new p ≡ Some text → (kept old p ≡ Some text) ⊎ ((what ≡ Packument p) × (given ≡ Doc text))
+KeepsReply (Packument name) (Doc text) old new = KeepsLatest name text old new
+KeepsReply _ _ old new = new ≡ old
 
 -- ---- a request
 
@@ -68,11 +83,18 @@ IsSoundFor _ c texts = Unit {0}
 
 -- a packument that is answered is the package's
 abbrev pub ShowsPackument : Contents → Store → Action → Reply → Type 0
-ShowsPackument c texts what given = (p text : Text) → ArePackuments c texts → what ≡ Packument p → given ≡ Doc text → text ≡ packument_in (registry_of c) p
+ShowsPackument c texts what given = (p text : Text)
+    → ArePackuments c texts → what ≡ Packument p → given ≡ Doc text
+    → text ≡ packument_in (registry_of c) p
+
+-- the packument of the package is the same in both
+abbrev pub IsSamePackument : Contents → Contents → Text → Type 0
+IsSamePackument c d p = packument_in (registry_of d) p ≡ packument_in (registry_of c) p
 
 -- The contents go from c to d: what is kept is of packages whose packuments stay, and a packument
 -- that is answered is the package's, before and after
-pub record Tends (c d : Contents) (what : Action) (old new : Store) (given : Reply) : Type 0 where
-  pub still : (p text : Text) → kept new p ≡ Some text → packument_in (registry_of d) p ≡ packument_in (registry_of c) p
+pub record LeavesTextsRight (c d : Contents) (what : Action) (old new : Store) (given : Reply)
+    : Type 0 where
+  pub still : (p text : Text) → kept new p ≡ Some text → IsSamePackument c d p
   pub shown : ShowsPackument c old what given
-  pub asked : (p : Text) → what ≡ Packument p → packument_in (registry_of d) p ≡ packument_in (registry_of c) p
+  pub asked : (p : Text) → what ≡ Packument p → IsSamePackument c d p

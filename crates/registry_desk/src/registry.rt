@@ -209,6 +209,7 @@ fn answered<S: Alter>(
     requires right { HasPackuments (state S.Store conn.old) texts.old }
     ensures rests { Rests (state S.Store conn.new) }
     ensures right { HasPackuments (state S.Store conn.new) texts.new }
+    ensures limit { texts.new.limit ≡ texts.old.limit }
     ensures answer { Answered (state S.Store conn.old) (state S.Store conn.new)
         request.now result }
     ensures served { Served (state S.Store conn.old) (state S.Store conn.new) result }

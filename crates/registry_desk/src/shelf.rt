@@ -1,8 +1,8 @@
 //! The texts of packuments that a registry keeps.
 
-ghost use Rattle.std.specs.Prelude.{[], ◌∷◌, map, IfNone, IfSome};
+ghost use Rattle.std.specs.Prelude.{◌≡◌, [], ◌∷◌, map, IfNone, IfSome};
 ghost use Rattle.registry_rules.specs.Changes.{change_of};
-ghost use Rattle.registry_desk.specs.Shelves.{Forgets, HoldsMore, IsAbout, IsAboutNone, KeepsReply, Loses};
+ghost use Rattle.registry_desk.specs.Shelves.{IsAbout, IsAboutNone, IsPut, KeepsLatest, KeepsReply, without_changed};
 
 use registry_names::Name;
 use registry_rules::{Action, Change, Reply};
@@ -19,16 +19,16 @@ pub(crate) fn keep_reply(texts: &mut Texts, what: &Action, reply: &Reply)
 }
 
 fn keep(texts: &mut Texts, name: &Name, text: &SharedText)
-    ensures { HoldsMore name.now text.now texts.old texts.new }
+    ensures { KeepsLatest name.now text.now texts.old texts.new }
 {
     match texts.get(name.text()) {
-        Ok(Some(_)) => {}
-        Ok(None) | Err(_) => put(texts, name, text),
+        Ok(None) => put(texts, name, text),
+        Ok(Some(_)) | Err(_) => {}
     }
 }
 
 fn put(texts: &mut Texts, name: &Name, text: &SharedText)
-    ensures { HoldsMore name.now text.now texts.old texts.new }
+    ensures { IsPut name.now text.now texts.old texts.new }
 {
     if let Ok(text) = text.share() {
         let _kept = texts.put(name.text(), text);
@@ -37,8 +37,7 @@ fn put(texts: &mut Texts, name: &Name, text: &SharedText)
 
 /// Forgets the packument of each package of which a version or a tag is changed.
 pub(crate) fn forget_changed(texts: &mut Texts, changes: &[Change<'_>])
-    ensures loses { Loses texts.old texts.new }
-    ensures forgets { Forgets (map change_of changes.now) texts.new }
+    ensures { texts.new ≡ without_changed (map change_of changes.now) texts.old }
 {
     for change in changes {
         forget(texts, change);
@@ -46,8 +45,7 @@ pub(crate) fn forget_changed(texts: &mut Texts, changes: &[Change<'_>])
 }
 
 fn forget(texts: &mut Texts, change: &Change<'_>)
-    ensures loses { Loses texts.old texts.new }
-    ensures forgets { Forgets (change_of change.now ∷ []) texts.new }
+    ensures { texts.new ≡ without_changed (change_of change.now ∷ []) texts.old }
 {
     match changed_package(change) {
         Some(name) => texts.forget(name.text()),

@@ -10,7 +10,7 @@ use Rattle.registry_tables.specs.Effects.{shown, stored_in}
 use Rattle.registry_tables.specs.Schema.{schema}
 use Rattle.registry_history.specs.Answers.{answer}
 use Rattle.registry_desk.specs.Resting.{settled_by}
-use Rattle.registry_desk.specs.Shelves.{IsSoundFor, Tends}
+use Rattle.registry_desk.specs.Shelves.{IsSoundFor, LeavesTextsRight}
 use Rattle.registry_desk.proofs.AnswerFacts.{known_stands}
 use Rattle.registry_desk.proofs.ShelfFacts.{sound_for}
 use Rattle.registry_desk.proofs.answer.answered_to.Goals as goal
@@ -52,8 +52,8 @@ returns-clause-served g c clean =
     let were : HasCleanDisk (shown g.S.Store c.facts.new.tx) = omega (arith, c.answered_by.ensures.stays.survives.clean, clean) in
     on_answer c.answered_by.result (λ _. (c.in_ok-about.ensures.tells were).0.was_open) (c.answered_by.ensures.goes_on clean)
 
-pub returns-clause-tends : goal.returns-clause-tends
-returns-clause-tends g c clean =
+pub returns-clause-right : goal.returns-clause-right
+returns-clause-right g c clean =
     let were : HasCleanDisk (shown g.S.Store c.facts.new.tx) = omega (arith, c.answered_by.ensures.stays.survives.clean, clean) in
     let same : stored_in g.S.Store c.facts.new.tx ≡ stored_in g.S.Store c.args.tx.now = ap (λ (d : Database). contents d.trees) (c.in_ok-about.ensures.tells were).0.same in
-    subst (λ (d : Contents). IfOk c.answered_by.result (Tends d (stored_in g.S.Store c.answered_by.new.tx) c.args.request.now.what c.args.texts.now c.answered_by.new.texts)) same (c.answered_by.ensures.tends clean)
+    subst (λ (d : Contents). IfOk c.answered_by.result (LeavesTextsRight d (stored_in g.S.Store c.answered_by.new.tx) c.args.request.now.what c.args.texts.now c.answered_by.new.texts)) same (c.answered_by.ensures.right clean)

@@ -1,7 +1,10 @@
-use Rattle.registry_desk.proofs.ShelfFacts.{keeps_more}
+use Rattle.std.proofs.Common.{sym, subst₂}
+use Rattle.registry_rules.specs.declared.reply.Reply.{Reply}
+use Rattle.registry_rules.specs.declared.request.Action.{Action}
+use Rattle.registry_desk.specs.Shelves.{KeepsReply}
 use Rattle.registry_desk.proofs.shelf.keep_reply.Goals as goal
 
 pub returns-in-Packument-Doc : goal.returns-in-Packument-Doc
 returns-in-Packument-Doc c =
     let it = c.in-Packument-Doc in
-    keeps_more c.args.what.now c.args.reply.now it.name it.text c.args.texts.now c.keep.new.texts c.keep.ensures it.is-0 it.is-1
+    subst₂ (λ (what : Action) (given : Reply). KeepsReply what given c.args.texts.now c.keep.new.texts) (sym it.is-0) (sym it.is-1) c.keep.ensures

@@ -1,6 +1,6 @@
-use Rattle.std.proofs.Common.{subst, sym}
+use Rattle.std.proofs.Common.{ap, subst, sym}
 use Rattle.sqlite.proofs.Callers.{memory_is_clean}
-use Rattle.registry_texts.specs.Stores.{AreRight}
+use Rattle.registry_texts.specs.Stores.{AreRight, Store}
 use Rattle.registry_texts.proofs.RightFacts.{new_right}
 use Rattle.registry_tables.specs.Archives.{HoldsArchives}
 use Rattle.registry_tables.specs.Contents.{Contents, registry_of}
@@ -17,6 +17,7 @@ pub invariant_of-result : goal.invariant_of-result
 invariant_of-result c = record {
   rests = c.in_ok-create_tables.ensures.rests;
   right = λ clean on. subst (AreRight _) (sym c.in_ok-texts.ensures) (new_right _ _);
+  limited = ap (λ (s : Store). s.limit) c.in_ok-texts.ensures;
 }
 
 pub returns-clause-fresh : goal.returns-clause-fresh
