@@ -1,13 +1,12 @@
 -- The texts that are kept stay the packuments of what is stored.
 use Rattle.std.proofs.Common.{◌≡◌, ◌⊎◌, inl, inr, ◌<◌, ◌+◌, ℕ, nat_le, Bool, true, false, cond, not, ◌&&◌, ◌||◌, List, [], ◌∷◌, ◌++◌, length, filter, map, take, get_or, MatchBool, Option, Some, None, Result, Ok, Err, OnOk, OnErr, IfOk, IfNone, IfSome, IsTrue, refl, sym, ap, ◌∙◌, subst, subst₂}
-use Rattle.std.specs.Option.{option_map_or}
 use Rattle.std.proofs.lemmas.List.{map-append, take_more}
 use Rattle.std.proofs.lemmas.List.Folds.{list_any-append}
 use Rattle.sqlite.specs.State.{State as Shown, HasCleanDisk}
 use Rattle.registry_access.specs.declared.caller.Caller.{Caller}
 use Rattle.registry_names.specs.Texts.{Text, is}
 use Rattle.registry_names.specs.declared.refusal.Refusal.{Refusal}
-use Rattle.registry_texts.specs.Stores.{Entries, Store, asked, forgotten, kept, store, with_room, with_text, without}
+use Rattle.registry_texts.specs.Stores.{Entries, Store, asked, forgotten, kept, store, with_room, with_text}
 use Rattle.registry_texts.proofs.StoreFacts.{kept-asked, put_keeps_right, room_keeps_right}
 use Rattle.registry_names.proofs.KeyFacts.{text_key}
 use Rattle.registry_names.proofs.MapFacts.{first_at-kept}
@@ -103,38 +102,13 @@ module _ (xs : List declared.Change) (i : ℕ) (x : declared.Change) (below : i 
 
 -- ---- what is kept of an answer
 
-none_case : (o : Option Text) {P : Type 0} → (o ≡ None → P) → IfNone o P
-none_case None h = h refl
-none_case (Some found) h = tt
-
-some_case : (o : Option Text) {P : Type 0} → ((found : Text) → o ≡ Some found → P) → IfSome o (λ _. P)
-some_case None h = tt
-some_case (Some found) h = h found refl
-
 either_case : (o : Option Text) {P Q R : Type 0} → IfNone o P → IfSome o (λ _. Q) → (P → R) → (Q → R) → R
 either_case None p q on_none on_some = on_none p
 either_case (Some found) p q on_none on_some = on_some q
 
 module _ (name text : Text) (s : Store) where
-  asked_none : kept s name ≡ None → asked s name ≡ s
-  asked_none none = ap (λ (o : Option Text). store (option_map_or (λ found. (name, found) ∷ without name s.entries) o s.entries) s.limit) none
-
-  -- nothing was kept under the name
-  pub latest_put : (new : Store) → kept s name ≡ None → IsPut name text (asked s name) new → KeepsLatest name text s new
-  latest_put new none is = record {
-    put = none_case (kept s name) (λ _. subst (λ (old : Store). IsPut name text old new) (asked_none none) is);
-    again = some_case (kept s name) (λ found there. cc);
-  }
-
-  -- nothing is put
-  pub latest_asked : (new : Store) → new ≡ asked s name → KeepsLatest name text s new
-  latest_asked new is = record {
-    put = none_case (kept s name) (λ none. inr (inr (is ∙ asked_none none)));
-    again = some_case (kept s name) (λ _ _. is);
-  }
-
   -- whether it could be put or not
-  pub is_put : {E : Type 0} (result : Result (Unit {0}) E) (new : Store) → OnOk result (new ≡ with_text s name text) → OnErr result (new ≡ with_room s name text) → IsPut name text s new
+  is_put : {E : Type 0} (result : Result (Unit {0}) E) (new : Store) → OnOk result (new ≡ with_text s name text) → OnErr result (new ≡ with_room s name text) → IsPut name text s new
   is_put (Ok done) new ok err = inl ok
   is_put (Err e) new ok err = inr (inl err)
 

@@ -1,7 +1,8 @@
 //! The texts of packuments that a registry keeps.
 
-ghost use Rattle.std.specs.Prelude.{◌≡◌, [], ◌∷◌, map, IfNone, IfSome};
+ghost use Rattle.std.specs.Prelude.{◌≡◌, false, [], ◌∷◌, map, IfNone, IfSome, None};
 ghost use Rattle.registry_rules.specs.Changes.{change_of};
+ghost use Rattle.registry_texts.specs.Stores.{asked, kept};
 ghost use Rattle.registry_desk.specs.Shelves.{IsAbout, IsAboutNone, IsPut, KeepsLatest, KeepsReply, without_changed};
 
 use registry_names::Name;
@@ -21,9 +22,19 @@ pub(crate) fn keep_reply(texts: &mut Texts, what: &Action, reply: &Reply)
 fn keep(texts: &mut Texts, name: &Name, text: &SharedText)
     ensures { KeepsLatest name.now text.now texts.old texts.new }
 {
+    if !ask(texts, name) {
+        put(texts, name, text);
+    }
+}
+
+// Whether a text is kept under the name, which is the latest asked from now on.
+fn ask(texts: &mut Texts, name: &Name) -> bool
+    ensures none { result ≡ false → kept texts.old name.now ≡ None }
+    ensures asked { texts.new ≡ asked texts.old name.now }
+{
     match texts.get(name.text()) {
-        Ok(None) => put(texts, name, text),
-        Ok(Some(_)) | Err(_) => {}
+        Ok(None) => false,
+        Ok(Some(_)) | Err(_) => true,
     }
 }
 
