@@ -1,5 +1,5 @@
 -- The first tables, and what a commit leaves.
-use Rattle.std.proofs.Common.{◌≡◌, ◌⊎◌, ◌∙◌, ◌+◌, ◌-◌, ◌^◌, ◌≤◌, Bool, min, arith, inl, inr, IsTrue, true, false, true≢false, refl, sym, ap, subst}
+use Rattle.std.proofs.Common.{◌≡◌, ◌⊎◌, ◌∙◌, ◌+◌, ◌-◌, ◌^◌, ◌≤◌, Bool, min, arith, inl, inr, IsTrue, OnOk, Result, Ok, Err, true, false, true≢false, refl, sym, ap, subst}
 use Rattle.std.specs.List.{AllByRecursion}
 use Rattle.sqlite.specs.Effect.{Database, IsDatabase}
 use Rattle.sqlite.specs.Held.{Held, state}
@@ -7,6 +7,7 @@ use Rattle.sqlite.specs.State.{State as Shown, HasCleanDisk, IsRolledBack, Keeps
 use Rattle.sqlite.specs.Steps.{FailsToCommit, IsEmpty}
 use Rattle.sqlite.specs.declared.error.Error.{Error}
 use Rattle.sqlite_trees.specs.declared.store.Store.{Ghosts}
+use Rattle.registry_rows.specs.Frames.{Commits}
 use Rattle.registry_rows.specs.Ready.{IsReady, Leaves, Ready}
 use Rattle.registry_rows.specs.Rows.{HasRowids}
 use Rattle.registry_tables.specs.Contents.{Contents, contents}
@@ -37,6 +38,12 @@ commit_rests left mid new ended leaves shows = record {
   in_form = λ clean _. ready_again mid new (shows clean).now_is (leaves clean).ready;
   settled = λ clean _. (shows clean).now_is ∙ sym (shows clean).committed_is;
 }
+
+-- the same of what the commit answers
+pub commit_rests_on : {A E : Type 0} (result : Result A E) (left : Contents) (mid new : Shown) → new.in_transaction ≡ false
+    → (HasCleanDisk new → Leaves schema contents left mid) → (HasCleanDisk new → OnOk result (Commits mid new)) → OnOk result (Rests new)
+commit_rests_on (Ok done) left mid new ended leaves commits = commit_rests left mid new ended leaves (λ clean. (commits clean).1)
+commit_rests_on (Err e) left mid new ended leaves commits = tt
 
 -- ---- what is left where nothing was committed
 

@@ -18,7 +18,7 @@ ghost use Rattle.registry_desk.specs.Resting.{Rests};
 use crate::registry::{Registry, TEXT_LIMIT, create_tables};
 use crate::same::is_same_schema;
 use registry_names::Fault;
-use registry_rows::fault_of;
+use registry_rows::{commit, fault_of};
 use registry_tables::opened;
 use registry_texts::Texts;
 use sqlite::{
@@ -265,8 +265,5 @@ fn check_number<S: Alter>(conn: &mut Connection<S>) -> Result<(), Fault>
     if opened(&mut tx)? != Some(SCHEMA) {
         return Err(Fault::Database);
     }
-    match tx.commit() {
-        Ok(()) => Ok(()),
-        Err(error) => Err(fault_of(error)),
-    }
+    commit(tx)
 }

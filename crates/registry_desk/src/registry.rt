@@ -18,7 +18,7 @@ ghost use Rattle.registry_desk.specs.Shelves.{HasPackuments};
 use crate::answer::answered_inside;
 use crate::shelf::keep_reply;
 use registry_names::Fault;
-use registry_rows::fault_of;
+use registry_rows::commit;
 use registry_rules::laws::requests_are_in_form;
 use registry_rules::{Reply, Request};
 use registry_tables::create;
@@ -192,10 +192,7 @@ pub(crate) fn create_tables<S: Alter>(conn: &mut Connection<S>) -> Result<(), Fa
 {
     let mut tx = conn.transaction();
     create(&mut tx)?;
-    match tx.commit() {
-        Ok(()) => Ok(()),
-        Err(error) => Err(fault_of(error)),
-    }
+    commit(tx)
 }
 
 // One transaction, which rolls back where `?` drops it.
@@ -220,11 +217,11 @@ fn answered<S: Alter>(
 {
     let mut tx = conn.transaction();
     let reply = answered_inside(alloc, &mut tx, texts, request)?;
-    match tx.commit() {
+    match commit(tx) {
         Ok(()) => {
             keep_reply(texts, &request.what, &reply);
             Ok(reply)
         }
-        Err(error) => Err(fault_of(error)),
+        Err(fault) => Err(fault),
     }
 }

@@ -1,4 +1,4 @@
-use Rattle.std.proofs.Common.{◌≡◌, ◌∙◌, arith, rules, ap, subst}
+use Rattle.std.proofs.Common.{◌≡◌, ◌∙◌, arith, rules, ap, subst, OnOk}
 use Rattle.sqlite.specs.Held.{state}
 use Rattle.sqlite.specs.State.{Survives}
 use Rattle.sqlite.proofs.StateLemmas.{survives_then}
@@ -8,41 +8,29 @@ use Rattle.registry_tables.specs.Contents.{contents}
 use Rattle.registry_tables.specs.Effects.{HasNoTables}
 use Rattle.registry_tables.specs.Fresh.{fresh}
 use Rattle.registry_desk.specs.Resting.{Rests}
-use Rattle.registry_desk.proofs.CommitFacts.{commit_rests, empty_begun}
+use Rattle.registry_desk.proofs.CommitFacts.{commit_rests_on, empty_begun}
 use Rattle.registry_desk.proofs.registry.create_tables.Goals as goal
 
-pub returns-in-Ok-clause-rests : goal.returns-in-Ok-clause-rests
-returns-in-Ok-clause-rests g c =
+pub returns-clause-rests : goal.returns-clause-rests
+returns-clause-rests g c =
     let old = c.args.conn.now in
     let mid = state g.S.Store c.create.new.tx.conn.now in
     let begun : HasNoTables g.S.Store c.transaction-tx.result = rw c.transaction-tx.ensures.begun (empty_begun g.S.Store old c.requires.empty) in
-    let new = state g.S.Store c.commit.new.self.0 in
-    let rests : Rests new = commit_rests fresh mid new c.commit.ensures.ended (λ clean. c.in_ok-create.ensures.made begun (omega (arith, c.commit.ensures.survives.clean, clean))) (λ clean. (c.in-Ok.ensures.ok clean).1) in
-    let same : c.commit.new.self.0 ≡ c.conn-2-1.given.0 = search rules in
-    subst (λ h. Rests (state g.S.Store h)) same rests
+    let new = state g.S.Store c.commit.new.tx.0 in
+    let rests = commit_rests_on c.commit.result fresh mid new c.commit.ensures.ended (λ clean. c.in_ok-create.ensures.made begun (omega (arith, c.commit.ensures.survives.clean, clean))) c.commit.ensures.ok in
+    let same : c.commit.new.tx.0 ≡ c.conn-2-1.given.0 = search rules in
+    subst (λ h. OnOk c.commit.result (Rests (state g.S.Store h))) same rests
 
-pub returns-in-Ok-clause-survives : goal.returns-in-Ok-clause-survives
-returns-in-Ok-clause-survives g c =
+pub returns-clause-survives : goal.returns-clause-survives
+returns-clause-survives g c =
     let old = c.args.conn.now in
     let mid = state g.S.Store c.create.new.tx.conn.now in
     let P = λ (db : Trees). contents db ≡ fresh in
     let begun : HasNoTables g.S.Store c.transaction-tx.result = rw c.transaction-tx.ensures.begun (empty_begun g.S.Store old c.requires.empty) in
-    let whole = survives_then (state g.S.Store old) mid (state g.S.Store c.commit.new.self.0) _ _ P (λ _ db none. absurd none)
+    let whole = survives_then (state g.S.Store old) mid (state g.S.Store c.commit.new.tx.0) _ _ P (λ _ db none. absurd none)
     (λ clean db is. ap contents is ∙ (c.in_ok-create.ensures.made begun (omega (arith, c.commit.ensures.survives.clean, clean))).holds)
     (survives_begin g.S.Store old mid _ (rw c.transaction-tx.ensures.begun at c.create.ensures.stays.survives)) c.commit.ensures.survives in
-    let same : c.commit.new.self.0 ≡ c.conn-2-1.given.0 = search rules in
-    subst (λ h. Survives (state g.S.Store old) (state g.S.Store h) P) same whole
-
-pub returns-in-Err-clause-survives : goal.returns-in-Err-clause-survives
-returns-in-Err-clause-survives g c =
-    let old = c.args.conn.now in
-    let mid = state g.S.Store c.create.new.tx.conn.now in
-    let P = λ (db : Trees). contents db ≡ fresh in
-    let begun : HasNoTables g.S.Store c.transaction-tx.result = rw c.transaction-tx.ensures.begun (empty_begun g.S.Store old c.requires.empty) in
-    let whole = survives_then (state g.S.Store old) mid (state g.S.Store c.commit.new.self.0) _ _ P (λ _ db none. absurd none)
-    (λ clean db is. ap contents is ∙ (c.in_ok-create.ensures.made begun (omega (arith, c.commit.ensures.survives.clean, clean))).holds)
-    (survives_begin g.S.Store old mid _ (rw c.transaction-tx.ensures.begun at c.create.ensures.stays.survives)) c.commit.ensures.survives in
-    let same : c.commit.new.self.0 ≡ c.conn-2-1.given.0 = search rules in
+    let same : c.commit.new.tx.0 ≡ c.conn-2-1.given.0 = search rules in
     subst (λ h. Survives (state g.S.Store old) (state g.S.Store h) P) same whole
 
 pub returns-in_err-create-clause-survives : goal.returns-in_err-create-clause-survives
