@@ -138,8 +138,14 @@ fn opened_from<S: Start>(
     ensures stays { IfOk result (λ r. HasCleanDisk (file_state r) → IsSure (file_state r)) }
     ensures left { IfErr result (λ e. IfSome e.1 (LeavesAtMost (image_at S.Start))) }
 {
-    let options = options(rt).map_err(|fault| (fault, None))?;
-    let files = files_at(rt, path, start).map_err(|fault| (fault, None))?;
+    let options = match options(rt) {
+        Ok(options) => options,
+        Err(fault) => return Err((fault, None)),
+    };
+    let files = match files_at(rt, path, start) {
+        Ok(files) => files,
+        Err(fault) => return Err((fault, None)),
+    };
     match Registry::open_files(rt.alloc(), files, options) {
         Ok(registry) => Ok(registry),
         Err((fault, left)) => Err((fault, Some(left))),

@@ -40,4 +40,3 @@ returns-clause-survives g c =
     before c.commit.ensures.survives in
     let same : c.commit.new.tx.0 ≡ c.conn-2-1.given.0 = search rules in
     subst (λ h. Survives old (state g.S.Store h) P) same whole
-

@@ -1,4 +1,4 @@
-use Rattle.std.proofs.Common.{◌≡◌, ℕ, Bool, List, ap₂, cond, false, rules, subst, true}
+use Rattle.std.proofs.Common.{◌≡◌, ℕ, Bool, List, ap₂, cond, false, subst, true}
 use Rattle.sqlite.specs.Files.{file_state}
 use Rattle.sqlite_disk.specs.Events.{Event, replay}
 use Rattle.sqlite_disk.specs.declared.calls.Calls as calls
@@ -26,14 +26,14 @@ module _ {S : Type 0} {g : calls.Ghosts Host} {start : Ghosts S} where
   fresh_image : (files : Files (Modelled Host S g start)) → IsFresh true files.log → IsFresh false files.db → image (seen_in files.log) (seen_in files.db) ≡ image_at start
   fresh_image files log db = ap₂ image (ap₂ (seen start.log start.db) log.0 log.1) (ap₂ (seen start.log start.db) db.0 db.1)
 
-pub returns-in-Ok-clause-found : goal.returns-in-Ok-clause-found
-returns-in-Ok-clause-found g c = subst (λ i. HoldsFound i (file_state c.in-Ok.registry)) (fresh_image c.in_ok-files.files (search rules) (search rules)) c.in-Ok.ensures.found
+pub returns-in-Ok-open_files-clause-found : goal.returns-in-Ok-open_files-clause-found
+returns-in-Ok-open_files-clause-found g c = subst (λ i. HoldsFound i (file_state c.in-Ok-open_files.registry)) (fresh_image c.in-Ok-files_at.files c.in-Ok-files_at.ensures.fresh.0 c.in-Ok-files_at.ensures.fresh.1) c.in-Ok-open_files.ensures.found
 
-pub returns-in-Ok-clause-each : goal.returns-in-Ok-clause-each
-returns-in-Ok-clause-each g c = subst (λ i. HoldsEach i (file_state c.in-Ok.registry)) (fresh_image c.in_ok-files.files (search rules) (search rules)) c.in-Ok.ensures.each
+pub returns-in-Ok-open_files-clause-each : goal.returns-in-Ok-open_files-clause-each
+returns-in-Ok-open_files-clause-each g c = subst (λ i. HoldsEach i (file_state c.in-Ok-open_files.registry)) (fresh_image c.in-Ok-files_at.files c.in-Ok-files_at.ensures.fresh.0 c.in-Ok-files_at.ensures.fresh.1) c.in-Ok-open_files.ensures.each
 
-pub returns-in-Ok-clause-empty : goal.returns-in-Ok-clause-empty
-returns-in-Ok-clause-empty g c = subst (λ i. IsFreshIfEmpty i (file_state c.in-Ok.registry)) (fresh_image c.in_ok-files.files (search rules) (search rules)) c.in-Ok.ensures.empty
+pub returns-in-Ok-open_files-clause-empty : goal.returns-in-Ok-open_files-clause-empty
+returns-in-Ok-open_files-clause-empty g c = subst (λ i. IsFreshIfEmpty i (file_state c.in-Ok-open_files.registry)) (fresh_image c.in-Ok-files_at.files c.in-Ok-files_at.ensures.fresh.0 c.in-Ok-files_at.ensures.fresh.1) c.in-Ok-open_files.ensures.empty
 
-pub returns-in-Err-clause-left : goal.returns-in-Err-clause-left
-returns-in-Err-clause-left g c = subst (λ i. LeavesAtMost i c.in-Err.left) (fresh_image c.in_ok-files.files (search rules) (search rules)) c.in-Err.ensures.left
+pub returns-in-Err-open_files-clause-left : goal.returns-in-Err-open_files-clause-left
+returns-in-Err-open_files-clause-left g c = subst (λ i. LeavesAtMost i c.in-Err-open_files.left) (fresh_image c.in-Ok-files_at.files c.in-Ok-files_at.ensures.fresh.0 c.in-Ok-files_at.ensures.fresh.1) c.in-Err-open_files.ensures.left
