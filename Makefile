@@ -1,29 +1,37 @@
-# Plain `make` says what there is.
+# `make` alone prints the targets.
 
 KIT := $(shell command -v rt 2>/dev/null)
 PROGRAM := crates/registry_main
-BENCH := crates/registry_bench
+STORIES := crates/registry_stories
 EXAMPLE := examples/lab-kit-1.0.0.publish.json
 PACKUMENT := examples/lab-kit-1.0.0.packument.json
 BODY := $(EXAMPLE)
+FILES := *.txt
 
-.PHONY: help try run build bench compare limits npm kill files test examples check fmt kit
+.PHONY: help try run build test check stories plants fmt npm kill files limits bench compare examples kit
 
 help:
-	@echo 'make try    run the program before any proof: some minutes, and nothing is proved'
-	@echo 'make run    prove and build the program, publish $(BODY)'
-	@echo '            to an empty registry, and print its packument: half an hour to an hour at first'
-	@echo 'make build  the same, but for the publish: leave the program as out/registry'
-	@echo 'make test   the gate: prove every crate from nothing, and run every test: an hour or more'
-	@echo 'make check  prove every crate over what earlier checks kept'
-	@echo 'make npm    the stock npm client publishes and installs over out/registry: a minute'
-	@echo 'make kill   kill a server 500 times while versions are published: 6 minutes'
-	@echo 'make files  fill a disk by publishes, and lay what is no registry in its place'
-	@echo 'make limits  try the limits of connections to out/registry: a minute and a half'
-	@echo 'make bench  print how long requests and the reading of bodies take'
-	@echo 'make compare  print how fast out/registry serves beside nginx, and keeps'
-	@echo '            what is published beside SQLite: 10 minutes on a quiet machine'
-	@echo 'make fmt    lay out the files'
+	@echo 'Build:'
+	@echo '  make try      runs the program before any proof: a few minutes, and nothing is proved'
+	@echo '  make run      proves and builds the program, and publishes $(BODY)'
+	@echo '  make build    proves and builds the program as out/registry'
+	@echo
+	@echo 'Test:'
+	@echo '  make test     the gate: proves every crate from nothing, and runs every test and story'
+	@echo '  make check    proves every crate over what earlier checks kept'
+	@echo '  make stories  runs the stories alone: FILES=tags.txt runs one file'
+	@echo '  make plants   tries every wrong body, also those outside the gate'
+	@echo '  make fmt      formats the files'
+	@echo
+	@echo 'Try the built program out/registry:'
+	@echo '  make npm      publishes and installs with the stock npm client: a minute'
+	@echo '  make kill     kills a server 500 times while versions are published: 6 minutes'
+	@echo '  make files    fills a disk, and opens files that hold no registry'
+	@echo '  make limits   tries the limits of connections: a minute and a half'
+	@echo
+	@echo 'Measure the built program out/registry:'
+	@echo '  make bench    how long requests and the reading of bodies take: 5 minutes'
+	@echo '  make compare  its speed beside nginx and SQLite: 10 minutes'
 
 kit:
 ifeq ($(KIT),)
@@ -36,7 +44,7 @@ try: kit
 	@(cd $(PROGRAM) && rt try) < $(BODY)
 	@echo 'Nothing was proved: make run proves the program.' >&2
 
-# A program stands in out/ only where this proof passes. It is run once, on the example.
+# There is a program in out/ only if this proof passes. It is run once, on the example.
 build: kit
 	@mkdir -p out
 	@rm -f out/registry
@@ -68,13 +76,23 @@ compare: out/registry
 	@tools/measure_http --program out/registry
 	@tools/measure_file --program out/registry
 
-bench: kit
-	@mkdir -p out
-	@tools/prove registry_bench out/bench.log < /dev/null > /dev/null
-	@$(BENCH)/out/registry_bench full
+bench: out/registry
+	@tools/measure_requests --program out/registry
 
 test: kit examples
+	@tools/check_listings
 	@rt ci
+
+# Proves and builds the program that runs stories, and runs it on a copy of their files.
+stories: kit
+	@mkdir -p out
+	@tools/prove registry_stories out/stories.log < /dev/null > /dev/null
+	@work=$$(mktemp -d); cp -r $(STORIES)/data/. $$work; \
+	(cd $$work && $(CURDIR)/$(STORIES)/out/registry_stories $(FILES)); \
+	status=$$?; rm -rf $$work; exit $$status
+
+plants: kit
+	@tools/plants
 
 # The gate runs the program on its own copies of the example.
 examples:

@@ -5,8 +5,8 @@
 #
 # PROGRAM is out/registry where it is left out, and TIMES 500. Each time the server is started on
 # the file that the last kill left, versions of one package are published one after the other, and
-# the server is killed by SIGKILL, wherever it is: up to 400 ms behind its start, and every second
-# time behind its first word, when it takes connections.
+# the server is killed by SIGKILL, wherever it is: up to 400 ms after its start, and every second
+# time after it printed `listening`, when it takes connections.
 # Then the file must open, each version whose publish was answered must be there with the archive
 # that was sent, and no other version than one that was sent. The status is 0 where that came out.
 # A file begins anew every 50 times. It needs curl, sha512sum and base64.

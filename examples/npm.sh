@@ -110,10 +110,10 @@ say 'npm pack @lab/kit@1.0.0 gives the bytes that were published'
 
 package tool 2.0.0 '{}'
 if as eve "$work/tool" publish; then fail 'eve published tool'; fi
-grep -q 'Denied A6' "$work/out" || fail 'the refusal is not told'
+grep -q 'Denied A6' "$work/out" || fail 'the refusal is not shown'
 say "eve may not publish tool: $(grep 'Denied A6' "$work/out" | head -n 1)"
 if as eve "$work/packed" view @lab/kit; then fail 'eve sees @lab/kit'; fi
-grep -q 'NotFound' "$work/out" || fail 'the refusal is not told'
+grep -q 'NotFound' "$work/out" || fail 'the refusal is not shown'
 say "eve does not see @lab/kit: $(grep 'NotFound' "$work/out" | head -n 1)"
 
 # ---- fifty packages, each of which needs two others

@@ -4,13 +4,13 @@
 #     examples/refused_files.sh [PROGRAM]
 #
 # PROGRAM is out/registry where it is left out. A disk of 2 MB is filled by publishes until one is
-# answered by a fault, first by the program's words and then over HTTP: once there is room again the
-# file must open, and have each version whose publish was answered with its archive, and no other
-# one. Then files lie in the registry's place that are none, or may not be written: each line must
-# say so, as docs/WORDS.md has it, and leave every byte. What can't be had here is left out, with a
-# word: the disk needs root and mount, a file that may not be written setpriv or su where root runs
-# it, another program's file python3. The status is 0 where all else came out. It needs curl,
-# sha512sum, base64 and timeout.
+# answered by a fault, first by the program's commands and then over HTTP: once there is room again
+# the file must open, and have each version whose publish was answered with its archive, and no
+# other one. Then the registry's file is one that is none, or that may not be written: each command
+# must say so, as docs/CLI.md has it, and leave every byte. What can't be had here is left out, and
+# the script says so: the disk needs root and mount, a file that may not be written setpriv or su
+# where root runs it, another program's file python3. The status is 0 where all else came out. It
+# needs curl, sha512sum, base64 and timeout.
 set -eu
 
 top=$(cd "$(dirname "$0")/.." && pwd)
@@ -45,7 +45,7 @@ ask() { curl -s -H 'authorization: Bearer npm_bob_000000001' -H 'expect:' "$@"; 
 : > "$work/out"
 : > "$work/errors"
 
-# The archive of a version, of 100,000 bytes or as many as are told, and the body that publishes it.
+# The archive of a version, of 100,000 bytes or as many as are given, and the body that publishes it.
 write_body() {
     head -c "${2:-100000}" /dev/urandom > "$work/$1.tgz"
     {
@@ -56,7 +56,7 @@ write_body() {
     } > "$work/body"
 }
 
-# A registry with the user bob and his token.
+# A registry with the user bob, who has a token.
 begin() {
     must "$1" --operator user-add bob
     must "$1" --operator token-add bob npm_bob_000000001
@@ -83,7 +83,7 @@ stop() {
 
 # ---- a full disk
 
-# Publishes by words until that fails.
+# Publishes by commands until that fails.
 fill_by_words() {
     begin "$db"
     while :; do
@@ -92,12 +92,12 @@ fill_by_words() {
         if ! asks "$db" --as bob publish "$work/body"; then break; fi
         echo "$version" >> "$work/answered"
     done
-    [ "$(head -n 1 "$work/errors")" = 'fault: Database' ] || fail "a full disk is told by $(cat "$work/errors")"
-    say "  $(wc -l < "$work/answered") publishes by words were answered, and then: $(paste -s -d ' ' "$work/errors")"
+    [ "$(head -n 1 "$work/errors")" = 'fault: Database' ] || fail "a full disk is answered with $(cat "$work/errors")"
+    say "  $(wc -l < "$work/answered") publishes by commands were answered, and then: $(paste -s -d ' ' "$work/errors")"
     if asks "$db" tags kit; then
         say "  the file opens on the full disk, too: $(cat "$work/out")"
     else
-        [ "$(paste -s -d ' ' "$work/errors")" = 'fault: Database the disk is full' ] || fail "an open then is told by $(cat "$work/errors")"
+        [ "$(paste -s -d ' ' "$work/errors")" = 'fault: Database the disk is full' ] || fail "an open then is answered with $(cat "$work/errors")"
         say "  an open on the full disk: $(paste -s -d ' ' "$work/errors")"
     fi
 }
@@ -113,10 +113,10 @@ fill_by_server() {
         if [ "$status" != 201 ]; then break; fi
         echo "$version" >> "$work/answered"
     done
-    [ "$status $(cat "$work/out")" = '500 {"error":"Database"}' ] || fail "a full disk is told by $status, $(cat "$work/out")"
+    [ "$status $(cat "$work/out")" = '500 {"error":"Database"}' ] || fail "a full disk is answered with $status, $(cat "$work/out")"
     say "  $(wc -l < "$work/answered") publishes over HTTP were answered, and then: $status $(cat "$work/out")"
     status=$(ask -o "$work/out" -w '%{http_code}' "http://127.0.0.1:$port/-/package/kit/dist-tags")
-    say "  a query of the server behind that: $status $(cat "$work/out")"
+    say "  a query of the server after that: $status $(cat "$work/out")"
     stop
 }
 
@@ -184,8 +184,8 @@ sums() {
     if [ "${log:-}" ]; then sha512sum < "$db-wal"; fi
 }
 
-# A registry with some versions. What is published stands in the log until that has 4 MB, and a
-# publish behind that puts it into the file: so the file by itself has the first of them, and must
+# A registry with some versions. What is published is in the log until that has 4 MB, and a
+# publish after that puts it into the file: so the file by itself has the first of them, and must
 # open, or what is made of it below shows nothing.
 made=$work/made.db
 begin "$made"

@@ -1,5 +1,5 @@
 #!/bin/sh
-# Adds a user beside a running server: stops it, runs the words, and starts it again.
+# Adds a user beside a running server: stops it, runs the commands, and starts it again.
 #
 #     examples/restart.sh FILE SERVER PORT USER TOKEN
 #

@@ -6,7 +6,7 @@
  *
  *     fixed FILE [memory]
  *
- * With the word `memory` a large response is sent from memory, too.
+ * With the argument `memory` a large response is sent from memory, too.
  * It prints the port on which it listens, and serves until it is killed. */
 #include <arpa/inet.h>
 #include <errno.h>
@@ -86,16 +86,16 @@ static int receive(struct connection *c) {
     return n > 0;
 }
 
-static void open_door(int door) {
+static void open_listener(int listener) {
     struct sockaddr_in name = {.sin_family = AF_INET, .sin_addr.s_addr = htonl(INADDR_LOOPBACK)};
     socklen_t len = sizeof name;
-    if (bind(door, (struct sockaddr *)&name, len) || listen(door, 128)) stop("cannot listen");
-    getsockname(door, (struct sockaddr *)&name, &len);
+    if (bind(listener, (struct sockaddr *)&name, len) || listen(listener, 128)) stop("cannot listen");
+    getsockname(listener, (struct sockaddr *)&name, &len);
     printf("%d\n", ntohs(name.sin_port));
     fflush(stdout);
 }
 
-static void seat(int poller, int socket) {
+static void place(int poller, int socket) {
     int one = 1;
     struct connection *c = calloc(1, sizeof *c);
     if (!c) stop("no memory");
@@ -113,18 +113,18 @@ int main(int count, char **words) {
     load(words[1]);
     from_memory = count > 2 || response_len < LARGE;
     signal(SIGPIPE, SIG_IGN);
-    int door = socket(AF_INET, SOCK_STREAM | SOCK_NONBLOCK, 0), poller = epoll_create1(0);
-    open_door(door);
+    int listener = socket(AF_INET, SOCK_STREAM | SOCK_NONBLOCK, 0), poller = epoll_create1(0);
+    open_listener(listener);
     struct epoll_event event = {.events = EPOLLIN, .data.ptr = NULL};
-    if (epoll_ctl(poller, EPOLL_CTL_ADD, door, &event)) stop("cannot watch");
+    if (epoll_ctl(poller, EPOLL_CTL_ADD, listener, &event)) stop("cannot watch");
     for (;;) {
         struct epoll_event events[64];
         int ready = epoll_wait(poller, events, 64, -1);
         for (int i = 0; i < ready; i++) {
             struct connection *c = events[i].data.ptr;
             if (!c) {
-                int socket = accept4(door, NULL, NULL, SOCK_NONBLOCK);
-                if (socket >= 0) seat(poller, socket);
+                int socket = accept4(listener, NULL, NULL, SOCK_NONBLOCK);
+                if (socket >= 0) place(poller, socket);
             } else if (!((events[i].events & EPOLLIN) == 0 || receive(c)) || !send_owed(c)) {
                 close(c->socket);
                 free(c);

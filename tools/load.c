@@ -2,11 +2,11 @@
  *
  *     load PORT CONNECTIONS SECONDS STATUS PATH [TOKEN]
  *
- * Each connection has one request under way. An answer's length is told by its content-length. An
+ * Each connection has one request under way. An answer's length is that of its content-length. An
  * answer of another status than STATUS ends the run. Where the server says that it ends a
  * connection (it may, after some number of requests), another is opened in its place.
  *
- * When the seconds are over, what was asked is awaited, so that the server is idle behind the run.
+ * When the seconds are over, what was asked is awaited, so that the server is idle after the run.
  *
  * One line is printed: answers a second, then in microseconds how long the middle answer took, and
  * the 99th of 100, then how much of a processor the client used (1 is all of one: then the client
@@ -32,7 +32,7 @@ struct connection {
     char head[HEAD];
     size_t head_len;
     long body_left; /* -1: the head isn't whole */
-    int last;       /* the server ends the connection behind this answer */
+    int last;       /* the server ends the connection after this answer */
 };
 
 static char request[2048];

@@ -26,7 +26,7 @@ def fail(text):
 
 
 def say(text):
-    """Tells on standard error how far it is: on standard output stand the figures alone."""
+    """Reports progress on standard error: standard output has the figures alone."""
     print(text, file=sys.stderr, flush=True)
 
 
@@ -56,7 +56,7 @@ def table(columns, rows):
 
 
 def figure(value):
-    """A number with three digits, or as many as stand before its point."""
+    """A number with three digits, or all those before its point."""
     if value >= 100:
         return f'{value:,.0f}'
     return f'{value:.3g}' if value >= 0.001 else '0'
@@ -67,7 +67,7 @@ def milliseconds(seconds):
 
 
 class Registry:
-    """A registry in a file, with the user bob, his token, and the organisation lab that he owns."""
+    """A registry in a file, with the user bob, a token of bob's, and the organisation lab, which bob owns."""
 
     def __init__(self, program, db):
         self.program, self.db = str(program), str(db)
@@ -76,7 +76,7 @@ class Registry:
         self.words('--operator', 'org-create', 'lab', 'bob')
 
     def words(self, *words):
-        """Runs the program on words. Gives its wall time and its processor time, in seconds."""
+        """Runs the program on these arguments. Gives its wall time and its processor time, in seconds."""
         began = time.perf_counter()
         run = subprocess.Popen([self.program, '--db', self.db, *words], stdout=subprocess.DEVNULL, stderr=subprocess.PIPE)
         said = run.stderr.read().decode()
@@ -180,7 +180,7 @@ def request_of(method, path, body=b'', token=None):
 
 
 def read_response(connection):
-    """A head with content-length, and the body behind it."""
+    """A head with content-length, and the body after it."""
     parts, head = [connection.recv(1 << 18)], b''
     while b'\r\n\r\n' not in (head := b''.join(parts)):
         parts.append(more(connection))
@@ -203,8 +203,8 @@ def more(connection):
 
 class Publication:
     """A version with an archive of its own of so many bytes, a manifest of 1 kB like npm's, and
-    seven packages that it needs; and the body that publishes it. So many bytes more stand in its
-    description."""
+    seven packages that it needs; and the body that publishes it. Its description has so many
+    bytes more."""
 
     def __init__(self, name, version, archive_len, needs=(), more=0):
         self.name, self.version = name, version

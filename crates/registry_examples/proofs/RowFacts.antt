@@ -13,7 +13,7 @@ use Rattle.registry_rows.specs.Ready.{Ready}
 use Rattle.registry_rows.specs.Statements.{Means}
 use Rattle.registry_rows.proofs.StatementFacts.{insert_puts}
 use Rattle.registry_tables.specs.Schema.{schema}
-use Rattle.registry_tables.proofs.MappedFacts.{users_mapped, orgs_mapped, members_mapped, teams_mapped, team_members_mapped, packages_mapped, grants_mapped, spent_mapped}
+use Rattle.registry_tables.proofs.MappedFacts.{users_mapped, organisations_mapped, members_mapped, teams_mapped, team_members_mapped, packages_mapped, grants_mapped, spent_mapped}
 
 -- ---- any number for a status
 
@@ -73,7 +73,7 @@ unfolding understood everything
 organisation_means = (refl, (refl, refl))
 
 pub organisation_keeps : (o : Text) (old new : State) → Ready schema old → Wrote organisation_text (Stored o ∷ []) old new → Ready schema new
-organisation_keeps o old new form call clean on = (insert_puts orgs_mapped organisation_text organisation_cells organisation_means (Stored o ∷ []) refl old new (Ok call.0) form call.1 clean).ready
+organisation_keeps o old new form call clean on = (insert_puts organisations_mapped organisation_text organisation_cells organisation_means (Stored o ∷ []) refl old new (Ok call.0) form call.1 clean).ready
 
 -- ---- members
 

@@ -1,4 +1,4 @@
-//! The requests that many examples begin with.
+//! The requests that many tests begin with.
 
 use crate::example::{Ask, Expected, Step, Who};
 use registry_access::Role;
@@ -9,9 +9,6 @@ pub(crate) const BOBS_TOKEN: &str = "npm_bob_000000001";
 /// The body that the npm client sends for `@lab/kit` 1.0.0.
 pub(crate) const KIT_BODY: &str =
     r#"{"_id":"@lab/kit","name":"@lab/kit","dist-tags":{"latest":"1.0.0"},"versions":{"1.0.0":{"name":"@lab/kit","version":"1.0.0","dist":{"integrity":"sha512-3a81oZNherrMQXNJriBBMRLm+k6JqX6iCp7u5ktV05ohkpkqJ0/BqDa6PCOj/uu9RU1EI2Q86A4qmslPpUyknw==","shasum":"a9993e364706816aba3e25717850c26c9cd0d89d","tarball":"http://localhost:8080/@lab/kit/-/@lab/kit-1.0.0.tgz"}}},"access":null,"_attachments":{"@lab/kit-1.0.0.tgz":{"content_type":"application/octet-stream","data":"YWJj","length":3}}}"#;
-
-/// None.
-pub(crate) const NOTHING: &[Step] = &[];
 
 /// The users `ann`, `bob` and `eve`, a token of `bob`, and the organisation `lab`: `ann` is its
 /// owner and `bob` a developer of it.

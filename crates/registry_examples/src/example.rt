@@ -1,18 +1,7 @@
-//! The form of an example.
+//! A request, and the reply to it, as data.
 
 use registry_access::{Grant, Role};
 use registry_names::{Refusal, Status};
-
-/// Requests to an empty registry, and what is answered.
-#[derive(Clone, Copy)]
-pub struct Example {
-    /// What it shows.
-    pub shows: &'static str,
-    /// The requests that come first, which many examples share.
-    pub before: &'static [Step],
-    /// The requests, in their order.
-    pub steps: &'static [Step],
-}
 
 /// A request, and the reply to it.
 #[derive(Clone, Copy)]
@@ -27,16 +16,16 @@ pub struct Step {
     pub expected: Expected,
 }
 
-/// What a caller shows of himself.
+/// By what a caller is known.
 #[derive(Clone, Copy)]
 pub enum Who {
-    /// That he runs the registry.
+    /// As the operator.
     Operator,
-    /// That he is this user.
+    /// As this user.
     User(&'static str),
-    /// This token.
+    /// By this token.
     Token(&'static str),
-    /// Nothing.
+    /// By nothing.
     Anonymous,
 }
 
@@ -79,7 +68,7 @@ pub enum Ask {
     TeamMembers(&'static str, &'static str),
     /// What a team is granted: organisation and team.
     TeamPackages(&'static str, &'static str),
-    /// The publication of a body as it stands.
+    /// The publication of this body.
     Body(&'static str),
     /// The publication of a version whose manifest has its name and its version alone, with the
     /// archive `abc`.

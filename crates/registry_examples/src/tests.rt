@@ -1,25 +1,21 @@
-//! The runner: requests on an empty registry, by `run` and by `apply` one by one. Its modules see
-//! long lists, and calls on the tables and on rows alone.
+//! The runner: requests on an empty registry, by `run` and by `apply` one by one.
 
+mod archives;
 mod body;
 mod connections;
 mod everything;
 mod files;
-mod hidden;
-mod limits;
 mod outcome;
 mod people;
+mod program;
+mod replies;
 mod rounds;
 mod rows;
 mod sizes;
 mod tables;
 mod withdrawals;
 
-use crate::example::{Ask, Example, Expected, Step, Who};
-use crate::packuments::{KEPT_PACKUMENTS, PACKUMENTS};
-use crate::people::{ORGANISATIONS, TEAMS, USERS};
-use crate::rights::{GRANTS, MAINTAINERS, STATUSES};
-use crate::table::{DOCUMENTS, PUBLISHES, QUERIES, TAGS};
+use crate::example::{Ask, Expected, Step, Who};
 use body::{ABC, body_of};
 use outcome::{otherwise, same};
 use people::{action_of, digest_of};
@@ -28,89 +24,10 @@ use registry_names::{Fault, Ident, Moment, Name, Stop, TagText, Ver};
 use registry_publish::PublishForm;
 use registry_rules::{Action, Asked, Credential, Reply, Request};
 use sqlite::Alter;
-use std::alloc::{AllocError, Global};
+use std::alloc::Global;
 use std::test::Fail;
 
 type Outcome = Result<Reply, Fault>;
-
-#[test]
-fn users_are_added(rt: HostRuntime) -> Result<(), Fail> {
-    all_have_their_replies(rt.alloc(), &USERS)
-}
-
-#[test]
-fn organisations_have_members(rt: HostRuntime) -> Result<(), Fail> {
-    all_have_their_replies(rt.alloc(), &ORGANISATIONS)
-}
-
-#[test]
-fn teams_come_and_go(rt: HostRuntime) -> Result<(), Fail> {
-    all_have_their_replies(rt.alloc(), &TEAMS)
-}
-
-#[test]
-fn teams_are_granted_rights(rt: HostRuntime) -> Result<(), Fail> {
-    all_have_their_replies(rt.alloc(), &GRANTS)
-}
-
-#[test]
-fn statuses_say_who_reads(rt: HostRuntime) -> Result<(), Fail> {
-    all_have_their_replies(rt.alloc(), &STATUSES)
-}
-
-#[test]
-fn packages_have_maintainers(rt: HostRuntime) -> Result<(), Fail> {
-    all_have_their_replies(rt.alloc(), &MAINTAINERS)
-}
-
-#[test]
-fn versions_are_published(rt: HostRuntime) -> Result<(), Fail> {
-    all_have_their_replies(rt.alloc(), &PUBLISHES)
-}
-
-#[test]
-fn queries_are_answered(rt: HostRuntime) -> Result<(), Fail> {
-    all_have_their_replies(rt.alloc(), &QUERIES)
-}
-
-#[test]
-fn packuments_follow_what_is_held(rt: HostRuntime) -> Result<(), Fail> {
-    all_have_their_replies(rt.alloc(), &PACKUMENTS)
-}
-
-#[test]
-fn kept_packuments_are_shown_by_rights(rt: HostRuntime) -> Result<(), Fail> {
-    all_have_their_replies(rt.alloc(), &KEPT_PACKUMENTS)
-}
-
-#[test]
-fn versions_have_documents(rt: HostRuntime) -> Result<(), Fail> {
-    all_have_their_replies(rt.alloc(), &DOCUMENTS)
-}
-
-#[test]
-fn tags_name_versions(rt: HostRuntime) -> Result<(), Fail> {
-    all_have_their_replies(rt.alloc(), &TAGS)
-}
-
-fn all_have_their_replies(alloc: Global, examples: &[Example]) -> Result<(), Fail> {
-    for example in examples {
-        has_its_replies(alloc, example)?;
-    }
-    Ok(())
-}
-
-fn has_its_replies(alloc: Global, example: &Example) -> Result<(), Fail> {
-    let steps = steps_of(alloc, example)?;
-    have_their_replies(alloc, example.shows, &steps)
-}
-
-fn steps_of(alloc: Global, example: &Example) -> Result<Vec<Step>, AllocError> {
-    let mut steps = Vec::new(alloc);
-    steps.extend_from_slice(example.before)?;
-    steps.extend_from_slice(example.steps)?;
-    Ok(steps)
-}
 
 // Whether the requests have the replies of these steps, all at once and one by one.
 fn have_their_replies(alloc: Global, shows: &str, steps: &[Step]) -> Result<(), Fail> {
@@ -257,19 +174,23 @@ fn publish_version(alloc: Global, name: &str, version: &str) -> Result<Action, S
 
 fn packument(alloc: Global, name: &str) -> Result<Action, Stop> {
     Ok(Action::Packument {
-        name: Name::parse(alloc, name)?,
+        package: Name::parse(alloc, name)?,
     })
 }
 
 fn tag_set(alloc: Global, name: &str, tag: &str, version: &str) -> Result<Action, Stop> {
     let (name, version) = version_of(alloc, name, version)?;
     let tag = TagText::shape(alloc, tag)?;
-    Ok(Action::TagSet { name, tag, version })
+    Ok(Action::TagSet {
+        package: name,
+        tag,
+        version,
+    })
 }
 
 fn tag_remove(alloc: Global, name: &str, tag: &str) -> Result<Action, Stop> {
     Ok(Action::TagRemove {
-        name: Name::parse(alloc, name)?,
+        package: Name::parse(alloc, name)?,
         tag: TagText::shape(alloc, tag)?,
     })
 }
@@ -277,19 +198,25 @@ fn tag_remove(alloc: Global, name: &str, tag: &str) -> Result<Action, Stop> {
 fn version_doc(alloc: Global, name: &str, version: &str) -> Result<Action, Stop> {
     let (name, version) = version_of(alloc, name, version)?;
     let version = Asked::Exact(version);
-    Ok(Action::VersionDoc { name, version })
+    Ok(Action::VersionDoc {
+        package: name,
+        version,
+    })
 }
 
 fn latest_doc(alloc: Global, name: &str) -> Result<Action, Stop> {
     Ok(Action::VersionDoc {
-        name: Name::parse(alloc, name)?,
+        package: Name::parse(alloc, name)?,
         version: Asked::Latest,
     })
 }
 
 fn archive(alloc: Global, name: &str, version: &str) -> Result<Action, Stop> {
     let (name, version) = version_of(alloc, name, version)?;
-    Ok(Action::Archive { name, version })
+    Ok(Action::Archive {
+        package: name,
+        version,
+    })
 }
 
 // A package, and a version.
@@ -301,7 +228,7 @@ fn version_of(alloc: Global, name: &str, version: &str) -> Result<(Name, Ver), S
 
 fn tags(alloc: Global, name: &str) -> Result<Action, Stop> {
     Ok(Action::Tags {
-        name: Name::parse(alloc, name)?,
+        package: Name::parse(alloc, name)?,
     })
 }
 

@@ -1,4 +1,6 @@
-//! The policy at a small registry, with answers written from the table of rules by hand.
+//! The policy on packages by the rows of a small registry, with answers written by hand from the
+//! table of rules. The program decides by a standing instead: the stories of who may do what have
+//! the same cases.
 //!
 //! The organisation `lab` has the owner ann, the admin amy and the developers bob and dan. Bob is
 //! in its teams `developers` and `ops`, dan is in none, and eve is no member. `@lab/kit` is
@@ -9,12 +11,10 @@
 
 mod fixture;
 
-use crate::access::fixture::{registry, standing};
+use crate::access::fixture::registry;
 use crate::outcome::same;
 use crate::parts::{ident, name};
-use registry_access::{
-    AccessRows, Ask, Caller, Level, Standing, allowed, allowed_by, level, level_of,
-};
+use registry_access::{AccessRows, Ask, Caller, Level, allowed, level};
 use registry_names::{Name, Refusal, Rule};
 use std::alloc::Global;
 use std::process::Abort;
@@ -25,12 +25,6 @@ const NO_CALLER: Answer = Err(Refusal::NoCaller);
 
 const NOT_FOUND: Answer = Err(Refusal::NotFound);
 
-const DENIED_A1: Answer = Err(Refusal::Denied(Rule::A1));
-
-const DENIED_A2: Answer = Err(Refusal::Denied(Rule::A2));
-
-const DENIED_A3: Answer = Err(Refusal::Denied(Rule::A3));
-
 const DENIED_A4: Answer = Err(Refusal::Denied(Rule::A4));
 
 const DENIED_A5: Answer = Err(Refusal::Denied(Rule::A5));
@@ -38,8 +32,6 @@ const DENIED_A5: Answer = Err(Refusal::Denied(Rule::A5));
 const DENIED_A6: Answer = Err(Refusal::Denied(Rule::A6));
 
 const DENIED_A7: Answer = Err(Refusal::Denied(Rule::A7));
-
-const DENIED_A9: Answer = Err(Refusal::Denied(Rule::A9));
 
 fn caller(rt: &impl Abort, alloc: Global, who: &str) -> Caller {
     match who {
@@ -77,7 +69,7 @@ const FIRST: Answers = [Ok(Rule::A5), NOT_FOUND, NOT_FOUND, NOT_FOUND];
 
 const MISSING: Answers = [NOT_FOUND, NOT_FOUND, NOT_FOUND, NOT_FOUND];
 
-/// A caller, a package, his level on it, and the answers.
+/// A caller, a package, the caller's level on it, and the answers.
 type Case = (&'static str, &'static str, Level, Answers);
 
 static PACKAGES: [Case; 31] = [
@@ -123,16 +115,7 @@ fn rows_say(rows: &AccessRows, caller: &Caller, name: &Name) -> Answers {
     ]
 }
 
-fn standing_says(standing: &Standing, caller: &Caller, name: &Name) -> Answers {
-    [
-        allowed_by(standing, caller, &Ask::Publish(name)),
-        allowed_by(standing, caller, &Ask::Write(name)),
-        allowed_by(standing, caller, &Ask::Owners(name)),
-        allowed_by(standing, caller, &Ask::Read(name)),
-    ]
-}
-
-fn is_told_by_rows(rt: &impl Abort, alloc: Global, rows: &AccessRows, case: &Case) {
+fn is_told(rt: &impl Abort, alloc: Global, rows: &AccessRows, case: &Case) {
     let (who, package, wanted, answers) = case;
     let caller = caller(rt, alloc, who);
     let name = name(rt, alloc, package);
@@ -141,90 +124,10 @@ fn is_told_by_rows(rt: &impl Abort, alloc: Global, rows: &AccessRows, case: &Cas
     same(rt, &shows, &rows_say(rows, &caller, &name), answers);
 }
 
-fn is_told_by_standing(rt: &impl Abort, alloc: Global, case: &Case) {
-    let (who, package, wanted, answers) = case;
-    let caller = caller(rt, alloc, who);
-    let name = name(rt, alloc, package);
-    let standing = standing(rt, alloc, who, package);
-    let shows = (*who, *package);
-    same(rt, &shows, &level_of(&standing, &caller), wanted);
-    same(
-        rt,
-        &shows,
-        &standing_says(&standing, &caller, &name),
-        answers,
-    );
-}
-
 #[test]
 fn packages_by_rows(rt: HostRuntime) {
     let rows = registry(&rt, rt.alloc());
     for case in &PACKAGES {
-        is_told_by_rows(&rt, rt.alloc(), &rows, case);
-    }
-}
-
-#[test]
-fn packages_by_standings(rt: HostRuntime) {
-    for case in &PACKAGES {
-        is_told_by_standing(&rt, rt.alloc(), case);
-    }
-}
-
-/// The answers where a caller asks to operate, and about the members, the teams and the sight of an
-/// organisation.
-type OrganisationAnswers = [Answer; 4];
-
-const OPERATOR: OrganisationAnswers = [Ok(Rule::A1), DENIED_A2, DENIED_A3, DENIED_A9];
-
-const OWNER: OrganisationAnswers = [DENIED_A1, Ok(Rule::A2), Ok(Rule::A3), Ok(Rule::A9)];
-
-const ADMIN: OrganisationAnswers = [DENIED_A1, DENIED_A2, Ok(Rule::A3), Ok(Rule::A9)];
-
-const DEVELOPER: OrganisationAnswers = [DENIED_A1, DENIED_A2, DENIED_A3, Ok(Rule::A9)];
-
-const NO_MEMBER: OrganisationAnswers = [DENIED_A1, DENIED_A2, DENIED_A3, DENIED_A9];
-
-const OPERATOR_OF_NONE: OrganisationAnswers = [Ok(Rule::A1), NOT_FOUND, NOT_FOUND, NOT_FOUND];
-
-const USER_OF_NONE: OrganisationAnswers = [DENIED_A1, NOT_FOUND, NOT_FOUND, NOT_FOUND];
-
-const NOBODY: OrganisationAnswers = [NO_CALLER, NO_CALLER, NO_CALLER, NO_CALLER];
-
-type OrganisationCase = (&'static str, &'static str, OrganisationAnswers);
-
-static ORGANISATIONS: [OrganisationCase; 12] = [
-    ("operator", "lab", OPERATOR),
-    ("operator", "ghost", OPERATOR_OF_NONE),
-    ("ann", "lab", OWNER),
-    ("ann", "ghost", USER_OF_NONE),
-    ("amy", "lab", ADMIN),
-    ("amy", "ghost", USER_OF_NONE),
-    ("bob", "lab", DEVELOPER),
-    ("bob", "ghost", USER_OF_NONE),
-    ("eve", "lab", NO_MEMBER),
-    ("eve", "ghost", USER_OF_NONE),
-    ("anonymous", "lab", NOBODY),
-    ("anonymous", "ghost", NOBODY),
-];
-
-fn is_answered(rt: &impl Abort, alloc: Global, rows: &AccessRows, case: &OrganisationCase) {
-    let (who, organisation, answers) = case;
-    let caller = caller(rt, alloc, who);
-    let asked = ident(rt, alloc, organisation);
-    let came_out = [
-        allowed(rows, &caller, &Ask::Operate),
-        allowed(rows, &caller, &Ask::OrgMembers(&asked)),
-        allowed(rows, &caller, &Ask::OrgTeams(&asked)),
-        allowed(rows, &caller, &Ask::OrgRead(&asked)),
-    ];
-    same(rt, &(*who, *organisation), &came_out, answers);
-}
-
-#[test]
-fn organisations(rt: HostRuntime) {
-    let rows = registry(&rt, rt.alloc());
-    for case in &ORGANISATIONS {
-        is_answered(&rt, rt.alloc(), &rows, case);
+        is_told(&rt, rt.alloc(), &rows, case);
     }
 }

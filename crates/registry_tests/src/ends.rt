@@ -1,4 +1,4 @@
-//! Ends over readers and writers in memory, and over some that fail.
+//! Byte streams over readers and writers in memory, and over some that fail.
 
 use crate::outcome::{is_displayed, same};
 use crate::parts::{as_text, repeated};

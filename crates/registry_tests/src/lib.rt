@@ -2,11 +2,13 @@
 //! no contract says, and what they answer to cases that are worked out by hand or by an outside
 //! program.
 //!
-//! They stand here, and not in the crates, since the gate proves a crate once more with its tests.
+//! They are here, and not in the crates, since the gate proves a crate once more with its tests.
 #![tactic(auto)]
 
 #[cfg(test)]
 mod access;
+#[cfg(test)]
+mod arguments;
 #[cfg(test)]
 mod ends;
 #[cfg(test)]
@@ -35,5 +37,3 @@ mod talk;
 mod texts;
 #[cfg(test)]
 mod wire;
-#[cfg(test)]
-mod words;

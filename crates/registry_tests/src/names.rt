@@ -1,235 +1,21 @@
-//! Texts in form and out of form, from the rules as they are written down.
+//! What names, moments, refusals and faults answer to calls that no command line makes.
 
 use crate::outcome::{is_displayed, same};
-use crate::parts::{blob, name, repeated, text, version};
-use registry_names::{
-    Blob, Fault, Ident, Message, Moment, Name, Refusal, Rule, Stop, TagText, Text, Ver,
-};
+use crate::parts::{blob, name, text};
+use registry_names::{Blob, Fault, Moment, Refusal, Rule, Stop, TagText, Text};
 use std::alloc::Global;
-use std::cmp::Ordering;
 use std::process::Abort;
 
-/// What a text is to be.
-enum Kind {
-    Name,
-    Ident,
-    Version,
-    Tag,
-    Message,
-}
-
-/// Why a text isn't given back, if it isn't.
-type Stopped = Option<Stop>;
-
-const READ: Stopped = None;
-
-const BAD_NAME: Stopped = Some(Stop::Refused(Refusal::BadName));
-
-const BAD_VERSION: Stopped = Some(Stop::Refused(Refusal::BadVersion));
-
-const BAD_TAG: Stopped = Some(Stop::Refused(Refusal::BadTag));
-
-const BAD_BODY: Stopped = Some(Stop::Refused(Refusal::BadBody));
-
-// Sees that a text is read as a kind and given back, or why it isn't.
-fn is_told(
-    rt: &impl Abort,
-    alloc: Global,
-    shows: &str,
-    kind: &Kind,
-    text: &str,
-    stopped: &Stopped,
-) {
-    match *kind {
-        Kind::Name => is_name(rt, alloc, shows, text, stopped),
-        Kind::Ident => is_ident(rt, alloc, shows, text, stopped),
-        Kind::Version => is_version(rt, alloc, shows, text, stopped),
-        Kind::Tag => is_tag(rt, alloc, shows, text, stopped),
-        Kind::Message => is_message(rt, alloc, shows, text, stopped),
-    }
-}
-
-fn is_name(rt: &impl Abort, alloc: Global, shows: &str, text: &str, stopped: &Stopped) {
-    match Name::parse(alloc, text) {
-        Ok(read) => is_given_back(rt, shows, read.text(), text, stopped),
-        Err(stop) => is_stopped(rt, shows, stop, stopped),
-    }
-}
-
-fn is_ident(rt: &impl Abort, alloc: Global, shows: &str, text: &str, stopped: &Stopped) {
-    match Ident::parse(alloc, text) {
-        Ok(read) => is_given_back(rt, shows, read.text(), text, stopped),
-        Err(stop) => is_stopped(rt, shows, stop, stopped),
-    }
-}
-
-fn is_version(rt: &impl Abort, alloc: Global, shows: &str, text: &str, stopped: &Stopped) {
-    match Ver::parse(alloc, text) {
-        Ok(read) => is_given_back(rt, shows, read.text(), text, stopped),
-        Err(stop) => is_stopped(rt, shows, stop, stopped),
-    }
-}
-
-fn is_tag(rt: &impl Abort, alloc: Global, shows: &str, text: &str, stopped: &Stopped) {
-    match TagText::shape(alloc, text) {
-        Ok(read) => is_given_back(rt, shows, read.text(), text, stopped),
-        Err(stop) => is_stopped(rt, shows, stop, stopped),
-    }
-}
-
-fn is_message(rt: &impl Abort, alloc: Global, shows: &str, text: &str, stopped: &Stopped) {
-    match Message::parse(alloc, text) {
-        Ok(read) => is_given_back(rt, shows, read.text(), text, stopped),
-        Err(stop) => is_stopped(rt, shows, stop, stopped),
-    }
-}
-
-fn is_given_back(rt: &impl Abort, shows: &str, came_out: &str, text: &str, stopped: &Stopped) {
-    same(rt, shows, &None, stopped);
-    same(rt, shows, came_out, text);
-}
-
-fn is_stopped(rt: &impl Abort, shows: &str, came_out: Stop, stopped: &Stopped) {
-    same(rt, shows, &Some(came_out), stopped);
-}
-
-/// Texts that are read as a kind, and why they aren't, if so.
-struct Form {
-    kind: Kind,
-    stopped: Stopped,
-    texts: &'static [&'static str],
-}
-
-static FORMS: [Form; 9] = [
-    Form {
-        kind: Kind::Name,
-        stopped: READ,
-        texts: &["kit", "@lab/kit", "@lab/.x", "@lab/_x", "@lab/9", "0.a-b_c"],
-    },
-    Form {
-        kind: Kind::Name,
-        stopped: BAD_NAME,
-        texts: &[
-            "",
-            ".x",
-            "_x",
-            "-x",
-            "Kit",
-            "node_modules",
-            "favicon.ico",
-            "@lab/..",
-            "@lab/.",
-            "@lab/-x",
-            "@lab/-",
-            "@lab/-.-",
-            "@lab/",
-            "@lab",
-            "@/kit",
-            "@Lab/kit",
-            "@lab/kit/x",
-            "a/b",
-            "k t",
-            "kité",
-        ],
-    },
-    Form {
-        kind: Kind::Ident,
-        stopped: READ,
-        texts: &["ann", "0", "a-b_c"],
-    },
-    Form {
-        kind: Kind::Ident,
-        stopped: BAD_NAME,
-        texts: &["", "-a", "_a", "Ann", "a.b", "a b", "@lab"],
-    },
-    Form {
-        kind: Kind::Version,
-        stopped: READ,
-        texts: &[
-            "1.0.0",
-            "0.0.0",
-            "9007199254740991.0.0",
-            "1.0.0-beta.0",
-            "1.0.0--",
-            "1.0.0-0a",
-        ],
-    },
-    Form {
-        kind: Kind::Version,
-        stopped: BAD_VERSION,
-        texts: &[
-            "",
-            "1.0",
-            "1.0.0+b",
-            "v1.0.0",
-            "=1.0.0",
-            " 1.0.0",
-            "9007199254740992.0.0",
-            "01.0.0",
-            "1.0.0-",
-            "1.0.0-01",
-            "1.0.0-a..b",
-        ],
-    },
-    Form {
-        kind: Kind::Tag,
-        stopped: READ,
-        texts: &["latest", "v", "next", "1.2.3.4", "-_.!~*'()"],
-    },
-    Form {
-        kind: Kind::Tag,
-        stopped: BAD_TAG,
-        texts: &["", "a/b", "a b", "a+b", "é"],
-    },
-    Form {
-        kind: Kind::Message,
-        stopped: READ,
-        texts: &["", "use @lab/kit 2"],
-    },
-];
-
+// The program refuses the empty text as a range before it asks whether it is a tag.
 #[test]
-fn texts_in_form_and_out_of_it(rt: HostRuntime) {
-    for form in &FORMS {
-        all_told(&rt, rt.alloc(), form);
+fn the_empty_text_is_no_tag(rt: HostRuntime) {
+    match TagText::shape(rt.alloc(), "") {
+        Ok(tag) => panic!(rt; "{:?} is a tag", tag.text()),
+        Err(stop) => same(&rt, "", &stop, &Stop::Refused(Refusal::BadTag)),
     }
 }
 
-fn all_told(rt: &impl Abort, alloc: Global, form: &Form) {
-    for text in form.texts {
-        is_told(rt, alloc, text, &form.kind, text, &form.stopped);
-    }
-}
-
-/// What is shown, a kind, how many ones are read as it, and why they aren't, if so.
-type Length = (&'static str, Kind, usize, Stopped);
-
-static LENGTHS: [Length; 9] = [
-    ("the longest name", Kind::Name, 214, READ),
-    ("a longer name", Kind::Name, 215, BAD_NAME),
-    ("the longest ident", Kind::Ident, 64, READ),
-    ("a longer ident", Kind::Ident, 65, BAD_NAME),
-    ("a longer version", Kind::Version, 260, BAD_VERSION),
-    ("the longest tag", Kind::Tag, 214, READ),
-    ("a longer tag", Kind::Tag, 215, BAD_TAG),
-    ("the longest message", Kind::Message, 1024, READ),
-    ("a longer message", Kind::Message, 1025, BAD_BODY),
-];
-
-#[test]
-fn the_longest_texts_and_longer_ones(rt: HostRuntime) {
-    for length in &LENGTHS {
-        is_long(&rt, rt.alloc(), length);
-    }
-}
-
-fn is_long(rt: &impl Abort, alloc: Global, length: &Length) {
-    let (shows, kind, count, stopped) = length;
-    let text = repeated(rt, alloc, "1", *count);
-    is_told(rt, alloc, shows, kind, &text, stopped);
-}
-
-/// A name, its scope, and the part behind it.
+/// A name, its scope, and the part after it.
 type Parts = (&'static str, Option<&'static str>, &'static str);
 
 static PARTS: [Parts; 3] = [
@@ -250,42 +36,6 @@ fn has_parts(rt: &impl Abort, alloc: Global, parts: &Parts) {
     let name = name(rt, alloc, text);
     same(rt, *text, &name.scope(), scope);
     same(rt, *text, name.part(), *part);
-}
-
-// The example of SemVer 2.0.0, item 11, and numbers that texts would turn round.
-static RISING: [&str; 13] = [
-    "1.0.0-alpha",
-    "1.0.0-alpha.1",
-    "1.0.0-alpha.beta",
-    "1.0.0-beta",
-    "1.0.0-beta.2",
-    "1.0.0-beta.11",
-    "1.0.0-rc.1",
-    "1.0.0",
-    "1.9.0",
-    "1.10.0",
-    "2.0.0-beta",
-    "2.0.0-rc.1",
-    "2.0.0",
-];
-
-fn order(rt: &impl Abort, alloc: Global, low: &str, high: &str) -> Ordering {
-    version(rt, alloc, low).cmp(&version(rt, alloc, high))
-}
-
-#[test]
-fn versions_in_order(rt: HostRuntime) {
-    for (place, low) in RISING.iter().enumerate() {
-        is_in_order(&rt, rt.alloc(), place, low);
-    }
-}
-
-// Sees that the version at this place stands to each as the places do.
-fn is_in_order(rt: &impl Abort, alloc: Global, place: usize, low: &str) {
-    for (other_place, other) in RISING.iter().enumerate() {
-        let came_out = order(rt, alloc, low, other);
-        same(rt, &(low, *other), &came_out, &place.cmp(&other_place));
-    }
 }
 
 // What is shown, seconds, the moment that they are, and the nearest moment.

@@ -113,7 +113,7 @@ fn all_told(rt: &impl Abort, alloc: Global, cases: &[Case]) {
     }
 }
 
-// Sees that there is to be no document, by the fault that tells so.
+// Sees that there is to be no document, by the fault that says so.
 fn has_none(rt: &impl Abort, shows: &str, fault: Fault, told: &Option<&str>) {
     same(rt, shows, &fault, &Fault::Database);
     same(rt, shows, &None, told);

@@ -1,7 +1,7 @@
 //! Values in form, of which the cases are made.
 
+use registry_cache::SharedText;
 use registry_names::{Blob, Ident, Name, Text, Ver};
-use registry_texts::SharedText;
 use std::alloc::Global;
 use std::fmt::Debug;
 use std::process::Abort;

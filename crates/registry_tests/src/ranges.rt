@@ -1,9 +1,8 @@
-//! The tables of `docs/RANGES.md`, and texts of each kind.
+//! The tables of `docs/RANGES.md`, and texts that are ranges and that are none.
 
 use crate::outcome::same;
 use crate::parts::{repeated, version};
-use registry_names::{Refusal, Stop};
-use registry_ranges::{Range, Selector, is_range, tag};
+use registry_ranges::{Range, is_range};
 use std::alloc::Global;
 use std::process::Abort;
 
@@ -204,7 +203,7 @@ fn texts_that_are_no_ranges(rt: HostRuntime) {
     }
 }
 
-/// A part, how often it stands in a range, and whether 1.0.0 is allowed.
+/// A part, how often a range repeats it, and whether 1.0.0 is allowed.
 type LongCase = (&'static str, usize, Allowed);
 
 static LONG_RANGES: [LongCase; 5] = [
@@ -220,105 +219,5 @@ fn long_ranges(rt: HostRuntime) {
     for (part, count, wanted) in &LONG_RANGES {
         let range = repeated(&rt, rt.alloc(), part, *count);
         both_say(&rt, rt.alloc(), part, &range, "1.0.0", *wanted);
-    }
-}
-
-/// Why a tag or a selector isn't read, if it isn't.
-type Stopped = Option<Stop>;
-
-const TAKEN: Stopped = None;
-
-const RANGE_TAG: Stopped = Some(Stop::Refused(Refusal::RangeTag));
-
-const BAD_TAG: Stopped = Some(Stop::Refused(Refusal::BadTag));
-
-static TAGS: [(&str, Stopped); 14] = [
-    ("v", TAKEN),
-    ("next", TAKEN),
-    ("1.2.3.4", TAKEN),
-    ("latest", TAKEN),
-    ("", RANGE_TAG),
-    ("x", RANGE_TAG),
-    ("v1.4", RANGE_TAG),
-    ("~1", RANGE_TAG),
-    ("1.2.3-beta", RANGE_TAG),
-    (">=1 <2", RANGE_TAG),
-    ("a/b", BAD_TAG),
-    ("a b", BAD_TAG),
-    ("1.2.3.4 5", BAD_TAG),
-    ("ü", BAD_TAG),
-];
-
-fn is_tag(rt: &impl Abort, alloc: Global, text: &str, stopped: &Stopped) {
-    match tag(alloc, text) {
-        Ok(tag) => {
-            same(rt, text, &None, stopped);
-            same(rt, text, tag.text(), text);
-        }
-        Err(stop) => same(rt, text, &Some(stop), stopped),
-    }
-}
-
-#[test]
-fn tags(rt: HostRuntime) {
-    for (text, stopped) in &TAGS {
-        is_tag(&rt, rt.alloc(), text, stopped);
-    }
-}
-
-/// Whether a selector selects a version; or why the text is refused.
-type Selected = Result<bool, Stop>;
-
-const SELECTED: Selected = Ok(true);
-
-const NOT_SELECTED: Selected = Ok(false);
-
-const BAD_SELECTOR: Selected = Err(Stop::Refused(Refusal::BadSelector));
-
-/// A selector, a version, and whether it is selected.
-type Selection = (&'static str, &'static str, Selected);
-
-static SELECTORS: [Selection; 29] = [
-    ("1.x", "1.0.0-beta.0", SELECTED),
-    ("1.x", "1.2.0", SELECTED),
-    ("1.2", "1.2.0-rc.1", SELECTED),
-    ("1.2.0", "1.2.0", SELECTED),
-    ("=1.2.0", "1.2.0", SELECTED),
-    ("< 0.2.3", "0.2.3-beta", SELECTED),
-    ("<= 0.2.3", "0.2.3", SELECTED),
-    (">1.0.0 <2.0.0", "2.0.0-a", SELECTED),
-    ("1.x || 3.0.0", "3.0.0", SELECTED),
-    ("*", "1.0.0-a", SELECTED),
-    ("", "1.0.0-a", SELECTED),
-    ("9.x ||", "1.0.0", SELECTED),
-    ("1.x", "2.0.0-rc.1", NOT_SELECTED),
-    ("1.2.0", "1.2.0-beta", NOT_SELECTED),
-    ("1.2.0", "1.2.1", NOT_SELECTED),
-    ("9.x", "1.2.0", NOT_SELECTED),
-    ("< 0.2.3", "0.2.3", NOT_SELECTED),
-    (">1.0.0 <2.0.0", "2.0.0", NOT_SELECTED),
-    (">=1.0.0", "1.0.0-a", NOT_SELECTED),
-    ("^1.0.0", "1.0.0", BAD_SELECTOR),
-    ("~1", "1.0.0", BAD_SELECTOR),
-    ("~>1", "1.0.0", BAD_SELECTOR),
-    ("1 - 2", "1.0.0", BAD_SELECTOR),
-    ("=1.x", "1.0.0", BAD_SELECTOR),
-    ("=*", "1.0.0", BAD_SELECTOR),
-    (">1", "1.0.0", BAD_SELECTOR),
-    ("<=1.2", "1.0.0", BAD_SELECTOR),
-    ("1.0.0 || ^2.0.0", "1.0.0", BAD_SELECTOR),
-    ("next", "1.0.0", BAD_SELECTOR),
-];
-
-fn selects(rt: &impl Abort, alloc: Global, selector: &str, text: &str) -> Selected {
-    let version = version(rt, alloc, text);
-    Ok(Selector::parse(alloc, selector)?.selects(&version))
-}
-
-#[test]
-fn selectors(rt: HostRuntime) {
-    for (selector, version, wanted) in &SELECTORS {
-        let came_out = selects(&rt, rt.alloc(), selector, version);
-        same(&rt, &(*selector, *version), &came_out, wanted);
     }
 }

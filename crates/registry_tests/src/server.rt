@@ -2,18 +2,18 @@
 
 use crate::outcome::same;
 use crate::parts::as_text;
-use crate::talk::connections::{CONNECTIONS, CUT_OUT, Case, Shelf, Steps, TAGS, TAGS_OUT};
-use registry_server::{Line, Progress, Server};
-use registry_talk::End;
+use crate::talk::connections::{CONNECTIONS, CUT_OUT, Case, FixedTags, Steps, TAGS, TAGS_OUT};
+use registry_server::{ConnectionState, Progress, Server};
+use registry_service::End;
 use std::alloc::Global;
 use std::io::{Read, Write};
 use std::net::{Ipv4Addr, Net, OpenStream, Shutdown, SocketAddr};
 use std::process::Abort;
 
-// Puts what isn't sent of a line behind the rest, a few bytes at a time.
-fn take_all(rt: &impl Abort, line: &mut Line, out: &mut Vec<u8>) {
+// Puts what isn't sent of a line after the rest, a few bytes at a time.
+fn take_all(rt: &impl Abort, state: &mut ConnectionState, out: &mut Vec<u8>) {
     for _ in 0..1_000 {
-        let (head, body) = line.unsent().parts();
+        let (head, body) = state.outgoing().parts();
         let (front, _) = head.split_at(head.len().min(7));
         let front = if front.is_empty() {
             body.split_at(body.len().min(7)).0
@@ -25,11 +25,11 @@ fn take_all(rt: &impl Abort, line: &mut Line, out: &mut Vec<u8>) {
             break;
         }
         out.extend_from_slice(front).expect(rt, "memory");
-        line.sent(count);
+        state.sent(count);
     }
 }
 
-// Puts what a line answers to the input, which comes in pieces of a length, behind the rest, and
+// Puts what a line answers to the input, which comes in pieces of a length, after the rest, and
 // says how it ends.
 fn answers(
     rt: &impl Abort,
@@ -38,22 +38,22 @@ fn answers(
     piece_len: usize,
     out: &mut Vec<u8>,
 ) -> Option<End> {
-    let mut desk = Shelf {
+    let mut service = FixedTags {
         asked: Vec::new(alloc),
     };
     let mut clock = Steps { next: 0 };
-    let mut line = Line::new(alloc);
+    let mut state = ConnectionState::new(alloc);
     let mut rest = input;
     let mut end = None;
     for _ in 0..10_000 {
-        match line.take_turn(alloc, &mut desk, &mut clock, rest.is_empty()) {
+        match state.take_turn(alloc, &mut service, &mut clock, rest.is_empty()) {
             Progress::Answered => {
-                take_all(rt, &mut line, out);
-                end = line.ends();
+                take_all(rt, &mut state, out);
+                end = state.ends();
             }
             Progress::Waits => {
                 let (piece, after) = rest.split_at(rest.len().min(piece_len));
-                line.came(piece).expect(rt, "memory");
+                state.came(piece).expect(rt, "memory");
                 rest = after;
             }
             Progress::Closed => end = Some(End::Closed),
@@ -104,10 +104,10 @@ fn a_server_answers_over_loopback(rt: HostRuntime) {
     let port = server.port().expect(&rt, "a port");
     let mut cut = client(&rt, port, "GET /kit HTTP/1.1\r\nhost: l");
     let mut whole = client(&rt, port, TAGS);
-    let mut desk = Shelf {
+    let mut service = FixedTags {
         asked: Vec::new(alloc),
     };
-    server.run(&rt, alloc, &mut desk).expect(&rt, "a run");
+    server.run(&rt, alloc, &mut service).expect(&rt, "a run");
     hears(&rt, alloc, "whole", &mut whole, TAGS_OUT);
     hears(&rt, alloc, "cut", &mut cut, CUT_OUT);
 }

@@ -2,7 +2,7 @@
 
 use crate::outcome::same;
 use crate::parts::{shared, text};
-use registry_texts::{SharedText, Texts};
+use registry_cache::{SharedText, TextCache};
 use std::alloc::Global;
 use std::process::Abort;
 
@@ -189,7 +189,7 @@ static ORDER: [Case; 5] = [
 
 // Sees that a store of the case's limit keeps what it is to keep.
 fn keeps(rt: &impl Abort, alloc: Global, case: &Case) {
-    let mut store = Texts::new(alloc, case.limit).expect(rt, "memory");
+    let mut store = TextCache::new(alloc, case.limit).expect(rt, "memory");
     for stage in case.stages {
         goes_on(rt, alloc, &mut store, case.shows, stage);
     }
@@ -197,14 +197,14 @@ fn keeps(rt: &impl Abort, alloc: Global, case: &Case) {
 }
 
 // Takes a step, and sees that so many bytes are kept after it.
-fn goes_on(rt: &impl Abort, alloc: Global, store: &mut Texts, shows: &str, stage: &Stage) {
+fn goes_on(rt: &impl Abort, alloc: Global, store: &mut TextCache, shows: &str, stage: &Stage) {
     let (step, size) = stage;
     take(rt, alloc, store, shows, step);
     same(rt, shows, store.size(), *size);
 }
 
 // Takes a step, and sees that a look-up finds what it is to find.
-fn take(rt: &impl Abort, alloc: Global, store: &mut Texts, shows: &str, step: &Step) {
+fn take(rt: &impl Abort, alloc: Global, store: &mut TextCache, shows: &str, step: &Step) {
     match *step {
         Step::Put(name, text) => {
             let text = shared(rt, alloc, text);

@@ -1,10 +1,9 @@
-//! Connections to a registry in memory that holds `@lab/kit`. The cases of a table are served with
-//! all bytes at once, and with one byte a read.
+//! Connections to a registry in memory that holds `@lab/kit`, with readers that fail and over
+//! loopback. Each case is served with all bytes at once, and with one byte a read. What else comes
+//! on connections is in the stories of HTTP.
 
-mod commands;
 mod ends;
 mod loopback;
-mod queries;
 mod source;
 
 ghost use Rattle.std.specs.Prelude.{None};
@@ -13,16 +12,24 @@ use super::all_have_their_reply;
 use super::outcome::{otherwise, same};
 use crate::beginnings::LAB_KIT;
 use registry_desk::Registry;
-use registry_http::FrontDesk;
+use registry_http::RegistryService;
 use registry_names::{ByteIn, Fault, FromRead, Moment, ToWrite};
 use registry_rules::{Reply, Request};
-use registry_talk::{Clock, Desk, End, Served, serve};
+use registry_service::{Clock, End, Served, Service, serve};
 use registry_wire::Inbox;
 use source::Source;
 use sqlite::MemStore;
 use std::alloc::Global;
 use std::str;
 use std::test::Fail;
+
+/// A request for the tags of `@lab/kit` by `bob`.
+const TAGS: &str =
+    "GET /-/package/@lab%2fkit/dist-tags HTTP/1.1\r\nauthorization: Bearer npm_bob_000000001\r\n\r\n";
+
+/// What it is answered.
+const TAGS_OUT: &str =
+    "HTTP/1.1 200 OK\r\ncontent-type: application/json\r\ncontent-length: 18\r\n\r\n{\"latest\":\"1.0.0\"}";
 
 /// What comes on a connection, and what comes of it.
 #[derive(Clone, Copy)]
@@ -44,20 +51,20 @@ struct Case<'a> {
 /// A registry that counts what is asked of it.
 #[derive(Drop)]
 struct Counting {
-    desk: FrontDesk<MemStore>,
+    service: RegistryService<MemStore>,
     asked: u32,
 }
 
-impl Desk for Counting {
+impl Service for Counting {
     ghost answers = { λ M r o N. Unit {0} };
 
     fn answer(&mut self, alloc: Global, request: &Request) -> Result<Reply, Fault> {
         self.asked = self.asked.saturating_add(1);
-        self.desk.answer(alloc, request)
+        self.service.answer(alloc, request)
     }
 }
 
-/// A clock that stands.
+/// A clock that always shows one moment.
 #[derive(Drop)]
 struct Noon;
 
@@ -74,7 +81,7 @@ fn kit(alloc: Global) -> Result<Counting, Fail> {
     let mut registry = Registry::in_memory(alloc)?;
     all_have_their_reply(alloc, &mut registry, LAB_KIT)?;
     Ok(Counting {
-        desk: FrontDesk::new(registry),
+        service: RegistryService::new(registry),
         asked: 0,
     })
 }
@@ -92,22 +99,22 @@ fn comes_out(alloc: Global, case: &Case<'_>, piece_len: usize) -> Result<(), Fai
 
 // The same of any reader.
 fn is_served<R: ByteIn + Drop>(alloc: Global, case: &Case<'_>, reader: R) -> Result<(), Fail> {
-    let mut desk = kit(alloc)?;
-    is_served_at(alloc, &mut desk, case, reader)
+    let mut service = kit(alloc)?;
+    is_served_at(alloc, &mut service, case, reader)
 }
 
 // The same at a registry of which nothing was counted.
 fn is_served_at<R: ByteIn + Drop>(
     alloc: Global,
-    desk: &mut Counting,
+    service: &mut Counting,
     case: &Case<'_>,
     reader: R,
 ) -> Result<(), Fail> {
     let mut inbox = Inbox::new(alloc, reader);
     let mut out = Vec::new(alloc);
     let mut writer = ToWrite::new(&mut out);
-    let served = serve(alloc, desk, &mut inbox, &mut writer, &mut Noon);
-    is_wanted(case, served, desk.asked, &out)
+    let served = serve(alloc, service, &mut inbox, &mut writer, &mut Noon);
+    is_wanted(case, served, service.asked, &out)
 }
 
 // Whether a case has this end, as many requests asked, and this answer.
@@ -134,11 +141,4 @@ fn same_text(case: &str, came_out: &[u8], wanted: &str) -> Result<(), Fail> {
 fn both_come_out(alloc: Global, case: &Case<'_>) -> Result<(), Fail> {
     comes_out(alloc, case, usize::MAX)?;
     comes_out(alloc, case, 1)
-}
-
-fn all_come_out(alloc: Global, cases: &[Case<'_>]) -> Result<(), Fail> {
-    for case in cases {
-        both_come_out(alloc, case)?;
-    }
-    Ok(())
 }

@@ -1,4 +1,4 @@
-//! Registries in files: in those of the machine, and in files in memory. The machine's stand in a
+//! Registries in files: in those of the machine, and in files in memory. The machine's are in a
 //! folder of their own where the tests run.
 
 ghost use Rattle.std.specs.Prelude.{IsTrue};
@@ -318,7 +318,7 @@ fn opens_whole(alloc: Global, whole: &[u8]) -> Result<(), Fail> {
 }
 
 // No registry opens from files of these bytes with one byte of the head changed. The first page
-// ends in a sum of its bytes, which no change of one byte leaves right, and no log stands for it;
+// ends in a sum of its bytes, which no change of one byte leaves right, and no log replaces it;
 // and what comes of a change in the size of pages or of sums is no size.
 fn all_are_refused(alloc: Global, whole: &[u8]) -> Result<(), Fail> {
     for place in &HEAD {

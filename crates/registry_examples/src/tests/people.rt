@@ -96,34 +96,34 @@ fn query_of(alloc: Global, ask: Ask) -> Result<Action, Stop> {
 
 fn right_action_of(alloc: Global, ask: Ask) -> Result<Action, Stop> {
     match ask {
-        Ask::Grant(organisation, team, name, grant) => {
-            let (name, organisation, team) = team_of(alloc, name, organisation, team)?;
+        Ask::Grant(organisation, team, package, grant) => {
+            let (package, organisation, team) = team_of(alloc, package, organisation, team)?;
             Ok(Action::Grant {
                 organisation,
                 team,
-                name,
+                package,
                 grant,
             })
         }
-        Ask::Revoke(organisation, team, name) => {
-            let (name, organisation, team) = team_of(alloc, name, organisation, team)?;
+        Ask::Revoke(organisation, team, package) => {
+            let (package, organisation, team) = team_of(alloc, package, organisation, team)?;
             Ok(Action::Revoke {
                 organisation,
                 team,
-                name,
+                package,
             })
         }
-        Ask::SetAccess(name, status) => {
-            let name = Name::parse(alloc, name)?;
-            Ok(Action::SetAccess { name, status })
+        Ask::SetAccess(package, status) => {
+            let package = Name::parse(alloc, package)?;
+            Ok(Action::SetAccess { package, status })
         }
-        Ask::OwnerAdd(name, user) => {
-            let (name, user) = user_of(alloc, name, user)?;
-            Ok(Action::OwnerAdd { name, user })
+        Ask::OwnerAdd(package, user) => {
+            let (package, user) = user_of(alloc, package, user)?;
+            Ok(Action::OwnerAdd { package, user })
         }
-        Ask::OwnerRemove(name, user) => {
-            let (name, user) = user_of(alloc, name, user)?;
-            Ok(Action::OwnerRemove { name, user })
+        Ask::OwnerRemove(package, user) => {
+            let (package, user) = user_of(alloc, package, user)?;
+            Ok(Action::OwnerRemove { package, user })
         }
         _ => package_action_of(alloc, ask),
     }

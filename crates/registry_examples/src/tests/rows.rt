@@ -49,7 +49,7 @@ enum Call {
     First(&'static str),
 }
 
-/// Calls, and what each tells.
+/// Calls, and what each answers.
 static CALLS: [(Call, Result<&str, Fault>); 15] = [
     (
         Call::Write(

@@ -27,7 +27,7 @@ fn a_larger_body_asks_nothing(rt: HostRuntime) -> Result<(), Fail> {
     same("a byte more", asked, Some(Stop::Refused(Refusal::TooLarge)))
 }
 
-// The body of `@lab/kit`, with spaces behind it up to this length.
+// The body of `@lab/kit`, with spaces after it up to this length.
 fn padded(alloc: Global, length: usize) -> Result<String, AllocError> {
     let mut body = String::from_str(alloc, KIT_BODY)?;
     let spaces = " ".repeat(alloc, length.saturating_sub(body.len()))?;

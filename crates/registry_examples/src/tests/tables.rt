@@ -1,5 +1,5 @@
 //! Calls on an empty database, with enough memory. No contract says that one ever succeeds: here
-//! each does, and tells what the calls before it put.
+//! each does, and shows what the calls before it put.
 
 mod call;
 mod rights;
@@ -11,8 +11,8 @@ use call::{Call, Case, End, all_come_out};
 use registry_access::Grant::{ReadOnly, ReadWrite};
 use registry_names::Status;
 use rights::RightCall::{
-    Anonymous, DropGrant, DropMaintainer, HasGrant, IsMaintainer, NewGrant, NewMaintainer,
-    OtherGrant, OtherMaintainer, Packages, Standing,
+    Anonymous, DropGrant, DropOwner, HasGrant, IsMaintainer, NewGrant, NewMaintainer, OtherGrant,
+    OtherMaintainer, Packages, Standing,
 };
 use std::test::Fail;
 use teams::TeamCall::{Grant, Grants, Member, Organisation, Team, TeamMember, Teams, User, Users};
@@ -470,7 +470,7 @@ static RIGHTS: [Case; 4] = [
             ("@lab/kit", Call::Rights(OtherMaintainer("bob")), "false"),
             ("@lab/kit", Call::Rights(NewMaintainer("ann")), "done"),
             ("@lab/kit", Call::Rights(OtherMaintainer("bob")), "true"),
-            ("@lab/kit", Call::Rights(DropMaintainer("bob")), "done"),
+            ("@lab/kit", Call::Rights(DropOwner("bob")), "done"),
             ("@lab/kit", Call::Rights(IsMaintainer("bob")), "false"),
             (
                 "@lab/kit",

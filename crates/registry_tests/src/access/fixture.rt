@@ -1,9 +1,8 @@
-//! The rows of the registry of these tests, and the standings in it.
+//! The rows of the registry of these tests.
 
 use crate::parts::text;
 use registry_access::{
-    AccessRows, Grant, GrantRow, MaintainerRow, MemberRow, PackageRow, Role, Standing,
-    TeamMemberRow,
+    AccessRows, Grant, GrantRow, MaintainerRow, MemberRow, PackageRow, Role, TeamMemberRow,
 };
 use registry_names::Status;
 use std::alloc::Global;
@@ -138,49 +137,4 @@ pub(super) fn registry(rt: &impl Abort, alloc: Global) -> AccessRows {
         add(rt, alloc, &mut rows, fact);
     }
     rows
-}
-
-// The members of `lab`.
-static LAB: [(&str, Role); 4] = [
-    ("amy", Role::Admin),
-    ("ann", Role::Owner),
-    ("bob", Role::Developer),
-    ("dan", Role::Developer),
-];
-
-fn role_in_lab(who: &str) -> Option<Role> {
-    for (member, role) in &LAB {
-        if *member == who {
-            return Some(*role);
-        }
-    }
-    None
-}
-
-fn status_of(package: &str) -> Option<Status> {
-    match package {
-        "@lab/kit" => Some(Status::Restricted),
-        "@lab/app" | "tool" => Some(Status::Public),
-        _ => None,
-    }
-}
-
-fn grants_to(who: &str, package: &str) -> &'static [Grant] {
-    match (who, package) {
-        ("bob", "@lab/kit") => &[Grant::ReadWrite, Grant::ReadOnly],
-        ("bob", "@lab/app") => &[Grant::ReadOnly, Grant::ReadWrite],
-        _ => &[],
-    }
-}
-
-// How a caller stands to a package.
-pub(super) fn standing(rt: &impl Abort, alloc: Global, who: &str, package: &str) -> Standing {
-    let organisation = package.starts_with("@lab/");
-    Standing {
-        organisation,
-        role: if organisation { role_in_lab(who) } else { None },
-        status: status_of(package),
-        maintainer: who == "bob" && package == "tool",
-        grants: Vec::from_slice(alloc, grants_to(who, package)).expect(rt, "memory"),
-    }
 }

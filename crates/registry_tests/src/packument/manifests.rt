@@ -93,9 +93,9 @@ fn a_manifest_nests_127_deep(rt: HostRuntime) {
     }
 }
 
-const FRONT: &str = r#"{"_id":"kit","dist-tags":{},"name":"kit","versions":{"1.0.0":{}"#;
+const PREFIX: &str = r#"{"_id":"kit","dist-tags":{},"name":"kit","versions":{"1.0.0":{}"#;
 
-// Sees that no text of these rows is told.
+// Sees that these rows have no text.
 fn has_no_text(rt: &impl Abort, alloc: Global, head: &PackHead, rows: &[VersionCase]) {
     let told = packument_text(alloc, head, &mut source(rt, alloc, rows)).err();
     same(rt, rows, &told, &Some(Fault::Database));
@@ -107,13 +107,13 @@ fn has_no_length(rt: &impl Abort, alloc: Global, head: &PackHead, rows: &[Versio
     same(rt, rows, &counted, &Err(Fault::Database));
 }
 
-// Sees that what stands before the one out of form is written.
-fn has_a_front(rt: &impl Abort, alloc: Global, head: &PackHead, rows: &[VersionCase]) {
+// Sees that what comes before the one out of form is written.
+fn has_a_prefix(rt: &impl Abort, alloc: Global, head: &PackHead, rows: &[VersionCase]) {
     let mut out = Vec::new(alloc);
     let mut source = source(rt, alloc, rows);
     let end = write_packument(alloc, head, &mut source, &mut ToWrite::new(&mut out));
     same(rt, rows, &end, &Err(PackFault::Source(Fault::Database)));
-    same(rt, rows, as_text(&out), FRONT);
+    same(rt, rows, as_text(&out), PREFIX);
 }
 
 // Sees that where a manifest follows one in form, there is no packument.
@@ -127,7 +127,7 @@ fn is_no_packument(
     let rows = [("1.0.0", "{}", ""), ("1.0.1", text, message)];
     has_no_text(rt, alloc, head, &rows);
     has_no_length(rt, alloc, head, &rows);
-    has_a_front(rt, alloc, head, &rows);
+    has_a_prefix(rt, alloc, head, &rows);
 }
 
 #[test]
@@ -139,7 +139,7 @@ fn what_is_no_object_is_in_no_packument(rt: HostRuntime) {
     }
 }
 
-/// Versions, and whether they stand in byte order, each once.
+/// Versions, and whether they are in byte order, each once.
 type Order = (&'static [&'static str], bool);
 
 static ORDERS: [Order; 7] = [

@@ -101,7 +101,7 @@ fn is_told(rt: &impl Abort, alloc: Global, shows: &str, case: &Case) {
     is_written(rt, alloc, shows, &head, case);
 }
 
-// A length is told where the source has no fault, whatever the writer does.
+// A length is given where the source has no fault, whatever the writer does.
 fn is_counted(rt: &impl Abort, alloc: Global, shows: &str, head: &PackHead, case: &Case) {
     let came_out = packument_len(alloc, head, &mut source_of(rt, alloc, case));
     let wanted = match case.end {
@@ -159,7 +159,7 @@ fn written_and_counted_alike(rt: HostRuntime) {
 
 const SOURCE_FAILED: Result<(), PackFault> = Err(PackFault::Source(Fault::Database));
 
-static FRONTS: [Row; 5] = [
+static PREFIXES: [Row; 5] = [
     (
         "no answer",
         KIT_VERSIONS,
@@ -197,12 +197,12 @@ static FRONTS: [Row; 5] = [
 ];
 
 #[test]
-fn a_fault_of_the_source_leaves_a_front(rt: HostRuntime) {
-    all_told(&rt, rt.alloc(), &FRONTS, SOURCE_FAILED);
+fn a_fault_of_the_source_leaves_a_prefix(rt: HostRuntime) {
+    all_told(&rt, rt.alloc(), &PREFIXES, SOURCE_FAILED);
 }
 
 #[test]
-fn a_failed_write_leaves_a_front(rt: HostRuntime) {
+fn a_failed_write_leaves_a_prefix(rt: HostRuntime) {
     for room in 0..KIT.len() {
         let case = Case {
             versions: KIT_VERSIONS,

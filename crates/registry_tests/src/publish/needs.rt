@@ -1,14 +1,16 @@
 //! What manifests depend on.
 
 use crate::outcome::{is_refused, same};
-use crate::publish::case::NeedCase;
 use registry_names::Refusal;
 use registry_publish::{Need, needs_of};
 use std::alloc::Global;
 use std::process::Abort;
 
+/// A target, and the range of it that is needed.
+type NeedCase = (&'static str, &'static str);
+
 // Sees that these are the targets and the ranges of the needs, in their order.
-pub(super) fn are_needed(rt: &impl Abort, shows: &str, needs: &[Need], wanted: &[NeedCase]) {
+fn are_needed(rt: &impl Abort, shows: &str, needs: &[Need], wanted: &[NeedCase]) {
     same(rt, shows, &needs.len(), &wanted.len());
     for (need, case) in needs.iter().zip(wanted) {
         is_needed(rt, shows, need, case);

@@ -50,7 +50,7 @@ static METHODS: [Method; 5] = [Get, Put, Post, Delete, Other];
 // Segments, none of which begins a scope.
 static SEGMENTS: [&str; 6] = ["kit", "@lab%2Fkit", "-", "org", "team", "%2d"];
 
-static FRONTS: [&str; 4] = ["/-/package", "/-/org", "/-/team", "/-/grant"];
+static PREFIXES: [&str; 4] = ["/-/package", "/-/org", "/-/team", "/-/grant"];
 
 static ENDS: [&str; 6] = [
     "kit",
@@ -72,7 +72,7 @@ fn router_of(rt: &impl Abort, alloc: Global, method: Method) -> Router<Endpoint>
     router
 }
 
-// The route that `matchit` finds, but for one of a name that is `-`.
+// The route that `matchit` finds, except one of a name that is `-`.
 fn found<'a>(router: &Router<Endpoint>, path: &'a str) -> Option<Route<'a>> {
     let Ok(found) = router.at(path) else {
         return None;
@@ -103,7 +103,7 @@ fn agree(rt: &impl Abort, router: &Router<Endpoint>, method: Method, path: &str)
     same(rt, &(method, path), &came_out, &found(router, path));
 }
 
-// Sees that they do of each path of a front and one segment.
+// Sees that they do of each path of a prefix and one segment.
 fn agree_behind(
     rt: &impl Abort,
     alloc: Global,
@@ -118,7 +118,7 @@ fn agree_behind(
     }
 }
 
-// Sees that they do of each path of a front and one or two segments.
+// Sees that they do of each path of a prefix and one or two segments.
 fn agree_on_two(
     rt: &impl Abort,
     alloc: Global,
@@ -134,7 +134,7 @@ fn agree_on_two(
     }
 }
 
-// Sees that they do of each path of a front and one to three of these segments.
+// Sees that they do of each path of a prefix and one to three of these segments.
 fn agree_on(
     rt: &impl Abort,
     alloc: Global,
@@ -155,7 +155,7 @@ fn the_table_agrees_with_matchit(rt: HostRuntime) {
     for method in &METHODS {
         let router = router_of(&rt, rt.alloc(), *method);
         agree_on(&rt, rt.alloc(), &router, *method, "", &SEGMENTS);
-        for front in &FRONTS {
+        for front in &PREFIXES {
             agree_on(&rt, rt.alloc(), &router, *method, front, &ENDS);
         }
     }

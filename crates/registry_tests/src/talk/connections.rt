@@ -1,32 +1,32 @@
-//! Whole connections, at a desk that knows one package and nobody.
+//! Whole connections, by a service that knows one package and nobody.
 
 ghost use Rattle.std.specs.Prelude.{None};
 
 use crate::outcome::same;
 use crate::parts::{around, as_text, repeated};
 use crate::wire::reader::{Drip, Faltering, Narrow};
+use registry_cache::SharedText;
 use registry_names::{ByteIn, Fault, FromRead, Moment, Refusal, ToWrite};
 use registry_rules::{Action, Credential, Reply, Request};
-use registry_talk::{Clock, Desk, End, Served, serve};
-use registry_texts::SharedText;
+use registry_service::{Clock, End, Served, Service, serve};
 use registry_wire::Inbox;
 use std::alloc::Global;
 use std::io::ErrorKind;
 use std::process::Abort;
 
-/// A desk that tells the tags of any package to who shows a token, and has a fault for teams.
+/// A service that shows the tags of any package to who shows a token, and has a fault for teams.
 #[derive(Drop)]
-pub struct Shelf {
+pub struct FixedTags {
     pub asked: Vec<i64>,
 }
 
-impl Desk for Shelf {
+impl Service for FixedTags {
     ghost answers = { λ M r o N. Unit {0} };
 
     fn answer(&mut self, alloc: Global, request: &Request) -> Result<Reply, Fault> {
         self.asked.push(request.at.seconds())?;
         match (&request.what, &request.who) {
-            (Action::Tags { name: _ }, Credential::Token(_)) => {
+            (Action::Tags { package: _ }, Credential::Token(_)) => {
                 Ok(Reply::Doc(SharedText::from_str(alloc, "{\"latest\":\"1.0.0\"}")?))
             }
             (Action::Teams { organisation: _ }, _) => Err(Fault::Database),
@@ -63,17 +63,17 @@ fn is_served<R: ByteIn + Drop>(
     written: &str,
     served: Served,
 ) {
-    let mut desk = Shelf {
+    let mut service = FixedTags {
         asked: Vec::new(alloc),
     };
     let mut clock = Steps { next: 0 };
     let mut inbox = Inbox::new(alloc, reader);
     let mut out = Vec::new(alloc);
     let mut writer = ToWrite::new(&mut out);
-    let came_out = serve(alloc, &mut desk, &mut inbox, &mut writer, &mut clock);
+    let came_out = serve(alloc, &mut service, &mut inbox, &mut writer, &mut clock);
     same(rt, case, &came_out, &served);
     same(rt, case, as_text(&out), written);
-    same(rt, case, &desk.asked.is_sorted(), &true);
+    same(rt, case, &service.asked.is_sorted(), &true);
 }
 
 pub const TAGS: &str =
@@ -201,7 +201,7 @@ fn interrupted_reads_are_tried_again(rt: HostRuntime) {
 // Sees how a connection of two requests ends where so many bytes are taken.
 fn is_cut(rt: &impl Abort, alloc: Global, limit: usize, requests: u32) {
     let two = repeated(rt, alloc, TAGS, 2);
-    let mut desk = Shelf {
+    let mut service = FixedTags {
         asked: Vec::new(alloc),
     };
     let mut clock = Steps { next: 0 };
@@ -211,7 +211,7 @@ fn is_cut(rt: &impl Abort, alloc: Global, limit: usize, requests: u32) {
         limit,
     };
     let mut writer = ToWrite::new(&mut narrow);
-    let served = serve(alloc, &mut desk, &mut inbox, &mut writer, &mut clock);
+    let served = serve(alloc, &mut service, &mut inbox, &mut writer, &mut clock);
     let end = End::WriteFault;
     same(rt, &limit, &served, &Served { requests, end });
     let front = TAGS_OUT.get(..limit).unwrap_or("?");

@@ -1,8 +1,8 @@
-//! The bytes of responses.
+//! The bytes of responses that no story shows, and of one that is cut.
 
 use super::reader::Narrow;
 use crate::outcome::same;
-use crate::parts::{as_text, concat, repeated};
+use crate::parts::as_text;
 use http::StatusCode;
 use registry_names::{ToWrite, WriteFailed};
 use registry_wire::{ContentKind, Response, ShortText, write_response};
@@ -12,30 +12,12 @@ use std::process::Abort;
 // A status, a body, whether the connection ends, and the bytes of the response.
 type Case = (u16, &'static str, bool, &'static str);
 
-static CASES: [Case; 7] = [
+static CASES: [Case; 4] = [
     (
         400,
         "{\"error\":\"BadBody\"}",
         true,
         "HTTP/1.1 400 Bad Request\r\ncontent-type: application/json\r\ncontent-length: 19\r\nconnection: close\r\n\r\n{\"error\":\"BadBody\"}",
-    ),
-    (
-        200,
-        "{\"latest\":\"1.0.0\"}",
-        false,
-        "HTTP/1.1 200 OK\r\ncontent-type: application/json\r\ncontent-length: 18\r\n\r\n{\"latest\":\"1.0.0\"}",
-    ),
-    (
-        404,
-        "{\"error\":\"NotFound\"}",
-        false,
-        "HTTP/1.1 404 Not Found\r\ncontent-type: application/json\r\ncontent-length: 20\r\n\r\n{\"error\":\"NotFound\"}",
-    ),
-    (
-        401,
-        "{\"error\":\"NoCaller\"}",
-        true,
-        "HTTP/1.1 401 Unauthorized\r\ncontent-type: application/json\r\ncontent-length: 20\r\nwww-authenticate: Bearer\r\nconnection: close\r\n\r\n{\"error\":\"NoCaller\"}",
     ),
     (
         413,
@@ -87,36 +69,12 @@ fn responses_are_written(rt: HostRuntime) {
 }
 
 #[test]
-fn a_failed_write_leaves_a_front_of_a_response(rt: HostRuntime) {
+fn a_failed_write_leaves_a_prefix_of_a_response(rt: HostRuntime) {
     let [case, ..] = &CASES;
     for limit in 0..case.3.len() {
         let front = case.3.get(..limit).unwrap_or(case.3);
         is_written(&rt, rt.alloc(), case, limit, (Err(WriteFailed), front));
     }
-}
-
-const LONG_HEAD: &str =
-    "HTTP/1.1 200 OK\r\ncontent-type: application/octet-stream\r\ncontent-length: 16000\r\n\r\n";
-
-#[test]
-fn long_bodies_are_written(rt: HostRuntime) {
-    let body = repeated(&rt, rt.alloc(), "archive ", 2_000);
-    let wanted = concat(&rt, rt.alloc(), &[LONG_HEAD, body.as_str()]);
-    is_whole(&rt, rt.alloc(), body.as_bytes(), wanted.as_str());
-}
-
-// Sees that a response with this body is written so.
-fn is_whole(rt: &impl Abort, alloc: Global, body: &[u8], wanted: &str) {
-    let response = Response {
-        status: StatusCode::OK,
-        kind: ContentKind::Bytes,
-        body,
-        closes: false,
-    };
-    let mut out = Vec::new(alloc);
-    let outcome = write_response(&response, &mut ToWrite::new(&mut out));
-    same(rt, "a long body", &outcome, &Ok(()));
-    same(rt, "a long body", as_text(&out), wanted);
 }
 
 #[test]

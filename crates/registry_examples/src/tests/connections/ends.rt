@@ -1,11 +1,10 @@
 //! Connections that end by what comes on them: by what is no request, by the limits, and by reads
 //! that fail.
 
-use super::queries::{TAGS, TAGS_OUT};
 use super::source::Source;
-use super::{Case, both_come_out, is_served};
+use super::{Case, TAGS, TAGS_OUT, both_come_out, is_served};
 use registry_names::FromRead;
-use registry_talk::End;
+use registry_service::End;
 use std::alloc::{AllocError, Global};
 use std::test::Fail;
 
@@ -51,6 +50,19 @@ fn what_is_no_request_ends_a_connection(rt: HostRuntime) -> Result<(), Fail> {
     Ok(())
 }
 
+#[test]
+fn a_method_that_no_route_has_asks_nothing(rt: HostRuntime) -> Result<(), Fail> {
+    let case = Case {
+        shows: "a method that no route has",
+        input: "HEAD /kit HTTP/1.1\r\n\r\n",
+        output: "HTTP/1.1 404 Not Found\r\ncontent-type: application/json\r\ncontent-length: 20\r\nconnection: close\r\n\r\n{\"error\":\"NotFound\"}",
+        requests: 1,
+        asked: 0,
+        end: End::Closed,
+    };
+    both_come_out(rt.alloc(), &case)
+}
+
 // A head of so many fields, each of four bytes.
 fn head_of(alloc: Global, fields: usize) -> Result<String, AllocError> {
     let mut head = String::from_str(alloc, "GET /kit HTTP/1.1\r\n")?;
@@ -76,7 +88,7 @@ fn a_head_has_at_most_64_fields(rt: HostRuntime) -> Result<(), Fail> {
 }
 
 // The first so many bytes of a head that doesn't end.
-fn long_front(alloc: Global, len: usize) -> Result<String, AllocError> {
+fn long_prefix(alloc: Global, len: usize) -> Result<String, AllocError> {
     let start = "GET /kit HTTP/1.1\r\na: ";
     let mut front = String::from_str(alloc, start)?;
     front.push_str(&"b".repeat(alloc, len.saturating_sub(start.len()))?)?;
@@ -85,7 +97,7 @@ fn long_front(alloc: Global, len: usize) -> Result<String, AllocError> {
 
 #[test]
 fn a_head_has_at_most_16384_bytes(rt: HostRuntime) -> Result<(), Fail> {
-    let front = long_front(rt.alloc(), 16_385)?;
+    let front = long_prefix(rt.alloc(), 16_385)?;
     is_turned_away(rt.alloc(), "16,385 bytes", &front, BAD_BODY)
 }
 
@@ -95,7 +107,7 @@ static LARGE: [&str; 2] = [
     "PUT /kit HTTP/1.1\r\ncontent-length: 18446744073709551616\r\n\r\n",
 ];
 
-// A read behind the head would fail.
+// A read after the head would fail.
 fn is_unread(alloc: Global, head: &'static str, piece_len: usize) -> Result<(), Fail> {
     let case = Case {
         shows: head,

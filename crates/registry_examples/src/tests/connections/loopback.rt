@@ -1,10 +1,9 @@
 //! A connection over loopback.
 
-use super::queries::{TAGS, TAGS_OUT};
-use super::{Noon, kit, same};
+use super::{Noon, TAGS, TAGS_OUT, kit, same};
 use registry_names::{FromRead, ToWrite, read_whole, write_whole};
 use registry_server::Server;
-use registry_talk::{End, Served, serve};
+use registry_service::{End, Served, serve};
 use registry_wire::Inbox;
 use std::net::{Ipv4Addr, Net, OpenListener, OpenStream, Shutdown, SocketAddr, TcpStream};
 use std::str;
@@ -30,10 +29,10 @@ fn is_sent(rt: &HostRuntime, stream: &TcpStream, wanted: &str) -> Result<(), Fai
 
 // Serves a connection until it ends.
 fn serve_stream(rt: &HostRuntime, stream: &TcpStream) -> Result<Served, Fail> {
-    let mut desk = kit(rt.alloc())?;
+    let mut service = kit(rt.alloc())?;
     let mut inbox = Inbox::new(rt.alloc(), FromRead::new(stream));
     let mut writer = ToWrite::new(stream);
-    Ok(serve(rt.alloc(), &mut desk, &mut inbox, &mut writer, &mut Noon))
+    Ok(serve(rt.alloc(), &mut service, &mut inbox, &mut writer, &mut Noon))
 }
 
 #[test]
@@ -57,8 +56,8 @@ fn a_server_answers_at_a_registry(rt: HostRuntime) -> Result<(), Fail> {
     let port = server.port()?;
     let first = client(&rt, port, TAGS)?;
     let second = client(&rt, port, TAGS)?;
-    let mut desk = kit(rt.alloc())?;
-    server.run(&rt, rt.alloc(), &mut desk)?;
+    let mut service = kit(rt.alloc())?;
+    server.run(&rt, rt.alloc(), &mut service)?;
     is_sent(&rt, &second, TAGS_OUT)?;
     is_sent(&rt, &first, TAGS_OUT)
 }

@@ -4,7 +4,7 @@ use std::io;
 use std::io::{ErrorKind, Read};
 
 /// A reader that is interrupted so many times and then gives a text, in pieces of so many bytes at
-/// most. Behind the text it ends, or breaks.
+/// most. After the text it ends, or breaks.
 #[derive(Drop)]
 pub struct Source<'a> {
     pub interruptions: u32,

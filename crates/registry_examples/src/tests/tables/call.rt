@@ -1,4 +1,4 @@
-//! Calls on made tables, one after another, and what each tells.
+//! Calls on made tables, one after another, and what each answers.
 
 ghost use Rattle.std.specs.Prelude.{◌≡◌, OnOk};
 ghost use Rattle.sqlite.specs.Held.{state};
@@ -32,7 +32,7 @@ const TABLE_OF_EACH_ROW: &str =
 pub struct Case {
     /// What they show.
     pub shows: &'static str,
-    /// The calls, each with the name of its package, and what it tells.
+    /// The calls, each with the name of its package, and what it answers.
     pub calls: &'static [(&'static str, Call, &'static str)],
     /// What comes after them.
     pub end: End,
@@ -55,7 +55,7 @@ pub enum Call {
     Withdrawn(&'static str),
     /// A new tag is to name the version.
     NewTag(&'static str, &'static str),
-    /// A tag that stands is to name the version.
+    /// A tag that exists is to name the version.
     MovedTag(&'static str, &'static str),
     /// Drops the tag.
     DropTag(&'static str),

@@ -26,22 +26,22 @@ pub enum RightCall {
     /// A user is to be a maintainer of it.
     NewMaintainer(&'static str),
     /// A user is to be none.
-    DropMaintainer(&'static str),
+    DropOwner(&'static str),
     /// Whether a team is granted something on it.
     HasGrant(&'static str, &'static str),
     /// Whether a user is a maintainer of it.
     IsMaintainer(&'static str),
     /// Whether another user than this is one.
     OtherMaintainer(&'static str),
-    /// How a user stands to it.
+    /// What a user is to it.
     Standing(&'static str),
-    /// How somebody without a credential stands to it.
+    /// What somebody without a credential is to it.
     Anonymous,
-    /// What a team is granted on packages that the user reads, who stands first.
+    /// What a team is granted on packages that the user reads, who comes first.
     Packages(&'static str, &'static str, &'static str),
 }
 
-/// What a call tells.
+/// What a call answers.
 pub fn told<S: Alter>(
     alloc: Global,
     tx: &mut Transaction<'_, S>,
@@ -53,12 +53,20 @@ pub fn told<S: Alter>(
     ensures in_form { OnOk result (InForm S.Store tx.new) }
 {
     match call {
-        RightCall::HasGrant(org, team) => word_text(alloc, has_grant(tx, org, team, name)?),
+        RightCall::HasGrant(organisation, team) => word_text(
+            alloc,
+            has_grant(tx, organisation, team, name)?,
+        ),
         RightCall::IsMaintainer(user) => word_text(alloc, is_maintainer(tx, name, user)?),
         RightCall::OtherMaintainer(user) => other_maintainer(alloc, tx, name, user),
         RightCall::Standing(user) => standing(alloc, tx, name, user),
         RightCall::Anonymous => standing_of(alloc, tx, name, &Caller::Anonymous),
-        RightCall::Packages(user, org, team) => packages(alloc, tx, user, (org, team)),
+        RightCall::Packages(user, organisation, team) => packages(
+            alloc,
+            tx,
+            user,
+            (organisation, team),
+        ),
         _ => {
             put(alloc, tx, name, call)?;
             done(alloc)
@@ -78,11 +86,23 @@ fn put<S: Alter>(
     ensures in_form { OnOk result (InForm S.Store tx.new) }
 {
     match call {
-        RightCall::NewGrant(org, team, grant) => put_grant(tx, (org, team), package, grant, false),
-        RightCall::OtherGrant(org, team, grant) => put_grant(tx, (org, team), package, grant, true),
-        RightCall::DropGrant(org, team) => drop_grant(tx, (org, team), package),
-        RightCall::NewMaintainer(user) => put_maintainer(alloc, tx, package, user),
-        RightCall::DropMaintainer(user) => drop_maintainer(alloc, tx, package, user),
+        RightCall::NewGrant(organisation, team, grant) => put_grant(
+            tx,
+            (organisation, team),
+            package,
+            grant,
+            false,
+        ),
+        RightCall::OtherGrant(organisation, team, grant) => put_grant(
+            tx,
+            (organisation, team),
+            package,
+            grant,
+            true,
+        ),
+        RightCall::DropGrant(organisation, team) => drop_grant(tx, (organisation, team), package),
+        RightCall::NewMaintainer(user) => put_owner(alloc, tx, package, user),
+        RightCall::DropOwner(user) => drop_owner(alloc, tx, package, user),
         _ => Ok(()),
     }
 }
@@ -129,7 +149,7 @@ fn drop_grant<S: Alter>(
     )
 }
 
-fn put_maintainer<S: Alter>(
+fn put_owner<S: Alter>(
     alloc: Global,
     tx: &mut Transaction<'_, S>,
     package: &Name,
@@ -140,10 +160,10 @@ fn put_maintainer<S: Alter>(
     ensures in_form { OnOk result (InForm S.Store tx.new) }
 {
     let user = &Ident::parse(alloc, user)?;
-    made(tx, &Change::PutMaintainer { package, user })
+    made(tx, &Change::PutOwner { package, user })
 }
 
-fn drop_maintainer<S: Alter>(
+fn drop_owner<S: Alter>(
     alloc: Global,
     tx: &mut Transaction<'_, S>,
     package: &Name,
@@ -154,7 +174,7 @@ fn drop_maintainer<S: Alter>(
     ensures in_form { OnOk result (InForm S.Store tx.new) }
 {
     let user = &Ident::parse(alloc, user)?;
-    made(tx, &Change::DropMaintainer { package, user })
+    made(tx, &Change::DropOwner { package, user })
 }
 
 fn other_maintainer<S: Alter>(

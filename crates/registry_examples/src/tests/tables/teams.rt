@@ -10,7 +10,7 @@ use registry_tables::{load_grants, load_team_users, load_user_teams};
 use sqlite::{Alter, Transaction, params};
 use std::alloc::Global;
 
-/// A call over an organisation, which stands first, on its teams and users.
+/// A call over an organisation, which comes first, on its teams and users.
 #[derive(Clone, Copy, Debug)]
 pub enum TeamCall {
     /// A statement puts a user.
@@ -29,11 +29,11 @@ pub enum TeamCall {
     Users(&'static str, &'static str),
     /// The teams that a user is in.
     Teams(&'static str, &'static str),
-    /// What his teams are granted on the package.
+    /// What their teams are granted on the package.
     Grants(&'static str, &'static str),
 }
 
-/// What a call tells.
+/// What a call answers.
 pub fn told<S: Alter>(
     alloc: Global,
     tx: &mut Transaction<'_, S>,
@@ -45,9 +45,9 @@ pub fn told<S: Alter>(
     ensures in_form { OnOk result (InForm S.Store tx.new) }
 {
     match call {
-        TeamCall::Users(org, team) => users(alloc, tx, org, team),
-        TeamCall::Teams(org, user) => teams(alloc, tx, org, user),
-        TeamCall::Grants(org, user) => grants(alloc, tx, org, user, name),
+        TeamCall::Users(organisation, team) => users(alloc, tx, organisation, team),
+        TeamCall::Teams(organisation, user) => teams(alloc, tx, organisation, user),
+        TeamCall::Grants(organisation, user) => grants(alloc, tx, organisation, user, name),
         _ => {
             put(tx, name, call)?;
             done(alloc)
@@ -63,11 +63,21 @@ fn put<S: Alter>(tx: &mut Transaction<'_, S>, name: &Name, call: TeamCall) -> Re
 {
     match call {
         TeamCall::User(user) => put_user(tx, user),
-        TeamCall::Organisation(org) => put_organisation(tx, org),
-        TeamCall::Member(org, user) => put_member(tx, org, user),
-        TeamCall::Team(org, team) => put_team(tx, org, team),
-        TeamCall::TeamMember(org, team, user) => put_team_member(tx, org, team, user),
-        TeamCall::Grant(org, team, number) => put_grant(tx, (org, team), name, number),
+        TeamCall::Organisation(organisation) => put_organisation(tx, organisation),
+        TeamCall::Member(organisation, user) => put_member(tx, organisation, user),
+        TeamCall::Team(organisation, team) => put_team(tx, organisation, team),
+        TeamCall::TeamMember(organisation, team, user) => put_team_member(
+            tx,
+            organisation,
+            team,
+            user,
+        ),
+        TeamCall::Grant(organisation, team, number) => put_grant(
+            tx,
+            (organisation, team),
+            name,
+            number,
+        ),
         _ => Ok(()),
     }
 }
@@ -75,35 +85,35 @@ fn put<S: Alter>(tx: &mut Transaction<'_, S>, name: &Name, call: TeamCall) -> Re
 fn users<S: Alter>(
     alloc: Global,
     tx: &mut Transaction<'_, S>,
-    org: &str,
+    organisation: &str,
     team: &str,
 ) -> Result<String, Stop>
     requires in_form { InForm S.Store tx.old }
     ensures same_reference { tx.new.conn.ghost_name ≡ tx.old.conn.ghost_name }
     ensures in_form { OnOk result (InForm S.Store tx.new) }
 {
-    let users = load_team_users(alloc, tx, org, team)?;
+    let users = load_team_users(alloc, tx, organisation, team)?;
     names_text(alloc, &users)
 }
 
 fn teams<S: Alter>(
     alloc: Global,
     tx: &mut Transaction<'_, S>,
-    org: &str,
+    organisation: &str,
     user: &str,
 ) -> Result<String, Stop>
     requires in_form { InForm S.Store tx.old }
     ensures same_reference { tx.new.conn.ghost_name ≡ tx.old.conn.ghost_name }
     ensures in_form { OnOk result (InForm S.Store tx.new) }
 {
-    let teams = load_user_teams(alloc, tx, org, user)?;
+    let teams = load_user_teams(alloc, tx, organisation, user)?;
     names_text(alloc, &teams)
 }
 
 fn grants<S: Alter>(
     alloc: Global,
     tx: &mut Transaction<'_, S>,
-    org: &str,
+    organisation: &str,
     user: &str,
     name: &Name,
 ) -> Result<String, Stop>
@@ -111,7 +121,7 @@ fn grants<S: Alter>(
     ensures same_reference { tx.new.conn.ghost_name ≡ tx.old.conn.ghost_name }
     ensures in_form { OnOk result (InForm S.Store tx.new) }
 {
-    let grants = load_grants(alloc, tx, org, user, name)?;
+    let grants = load_grants(alloc, tx, organisation, user, name)?;
     grants_text(alloc, &grants)
 }
 
@@ -123,15 +133,19 @@ fn put_user<S: Alter>(tx: &mut Transaction<'_, S>, user: &str) -> Result<(), Fau
     write(tx, "INSERT INTO users VALUES (?1)", params![user])
 }
 
-fn put_organisation<S: Alter>(tx: &mut Transaction<'_, S>, org: &str) -> Result<(), Fault>
+fn put_organisation<S: Alter>(tx: &mut Transaction<'_, S>, organisation: &str) -> Result<(), Fault>
     requires in_form { InForm S.Store tx.old }
     ensures same_reference { tx.new.conn.ghost_name ≡ tx.old.conn.ghost_name }
     ensures in_form { OnOk result (InForm S.Store tx.new) }
 {
-    write(tx, "INSERT INTO orgs VALUES (?1)", params![org])
+    write(tx, "INSERT INTO orgs VALUES (?1)", params![organisation])
 }
 
-fn put_member<S: Alter>(tx: &mut Transaction<'_, S>, org: &str, user: &str) -> Result<(), Fault>
+fn put_member<S: Alter>(
+    tx: &mut Transaction<'_, S>,
+    organisation: &str,
+    user: &str,
+) -> Result<(), Fault>
     requires in_form { InForm S.Store tx.old }
     ensures same_reference { tx.new.conn.ghost_name ≡ tx.old.conn.ghost_name }
     ensures in_form { OnOk result (InForm S.Store tx.new) }
@@ -139,21 +153,29 @@ fn put_member<S: Alter>(tx: &mut Transaction<'_, S>, org: &str, user: &str) -> R
     write(
         tx,
         "INSERT INTO members VALUES (?1, ?2, 0)",
-        params![org, user],
+        params![organisation, user],
     )
 }
 
-fn put_team<S: Alter>(tx: &mut Transaction<'_, S>, org: &str, team: &str) -> Result<(), Fault>
+fn put_team<S: Alter>(
+    tx: &mut Transaction<'_, S>,
+    organisation: &str,
+    team: &str,
+) -> Result<(), Fault>
     requires in_form { InForm S.Store tx.old }
     ensures same_reference { tx.new.conn.ghost_name ≡ tx.old.conn.ghost_name }
     ensures in_form { OnOk result (InForm S.Store tx.new) }
 {
-    write(tx, "INSERT INTO teams VALUES (?1, ?2)", params![org, team])
+    write(
+        tx,
+        "INSERT INTO teams VALUES (?1, ?2)",
+        params![organisation, team],
+    )
 }
 
 fn put_team_member<S: Alter>(
     tx: &mut Transaction<'_, S>,
-    org: &str,
+    organisation: &str,
     team: &str,
     user: &str,
 ) -> Result<(), Fault>
@@ -164,7 +186,7 @@ fn put_team_member<S: Alter>(
     write(
         tx,
         "INSERT INTO team_members VALUES (?1, ?2, ?3)",
-        params![org, team, user],
+        params![organisation, team, user],
     )
 }
 

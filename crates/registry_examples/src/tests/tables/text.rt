@@ -1,4 +1,4 @@
-//! Bodies of publications, and texts that tell what was loaded.
+//! Bodies of publications, and texts that show what was loaded.
 
 use crate::tests::body::{ABC, body_of};
 use registry_access::{Grant, Role, Standing};
@@ -43,7 +43,7 @@ fn archive_body(
     body_of(alloc, name, version, &archive)
 }
 
-/// What a call tells that only writes.
+/// What a call answers that only writes.
 pub fn done(alloc: Global) -> Result<String, Stop> {
     Ok(String::from_str(alloc, "done")?)
 }
@@ -150,7 +150,7 @@ pub fn granted_text(alloc: Global, rows: &[Granted]) -> Result<String, Stop> {
 }
 
 /// Whether the organisation is there, the role in it, the package's status, whether the caller is
-/// a maintainer, and what he is granted.
+/// a maintainer, and what they are granted.
 pub fn standing_text(alloc: Global, standing: &Standing) -> Result<String, Stop> {
     let role = role_word(standing.role);
     let status = status_word(standing.status);

@@ -1,0 +1,159 @@
+//! What the program does where it is given arguments.
+
+ghost use Rattle.std.specs.Prelude.{◌≡◌, false};
+ghost use Rattle.registry_cli.specs.Lines.{IsWhole, asks_to_serve};
+
+use crate::ending::{Ending, Failure};
+use crate::moment::read_moment;
+use crate::opening::{let_go, open};
+use crate::run::MOST_READ;
+use crate::serving::serve;
+use registry_cli::{Line, Printed, action_of, line, render};
+use registry_desk::Registry;
+use registry_http::RegistryService;
+use registry_names::{ByteOut, Fault, FromRead, Moment, ReadStop, Text, read_whole, write_whole};
+use registry_rules::{Reply, Request};
+use registry_service::Service;
+use sqlite::{Alter, FileStore};
+use sqlite_disk::Disk;
+use std::alloc::Global;
+use std::fs;
+use std::io::ErrorKind;
+
+/// Answers what the arguments ask for, prints the answer, and gives the exit status: 0, or 1 where
+/// it is refused.
+///
+/// The moment is read first, where the arguments say none, then the file of a publish, then the
+/// texts in their order, and last the registry's file is opened. Arguments that ask to serve are
+/// answered once the last connection has ended.
+pub fn answer_command<O: ByteOut, E: ByteOut>(
+    rt: &HostRuntime,
+    alloc: Global,
+    arguments: &[Text],
+    output: &mut O,
+    errors: &mut E,
+) -> Result<u8, Ending> {
+    let line = line(alloc, arguments)?;
+    if line.asks_to_serve() {
+        serve(rt, alloc, &line, output)
+    } else {
+        print_answer(rt, alloc, &line, output, errors)
+    }
+}
+
+// Prints the answer to what a line asks for.
+fn print_answer<O: ByteOut, E: ByteOut>(
+    rt: &HostRuntime,
+    alloc: Global,
+    line: &Line,
+    output: &mut O,
+    errors: &mut E,
+) -> Result<u8, Ending>
+    requires whole { IsWhole line.now.what }
+    requires asks { asks_to_serve line.now.what ≡ false }
+{
+    let request = request(rt, alloc, line)?;
+    let printed = answer(rt, alloc, line.db.as_str(), &request)?;
+    print(&printed, output, errors)
+}
+
+// What a line asks for, and when.
+fn request(rt: &HostRuntime, alloc: Global, line: &Line) -> Result<Request, Ending>
+    requires whole { IsWhole line.now.what }
+    requires asks { asks_to_serve line.now.what ≡ false }
+{
+    let at = asked_at(rt, line)?;
+    let body = body(rt, alloc, line)?;
+    let (who, what) = action_of(alloc, line, &body)?;
+    Ok(Request { at, who, what })
+}
+
+// When a line asks: at the moment that it says, or now.
+fn asked_at(rt: &HostRuntime, line: &Line) -> Result<Moment, Ending> {
+    match line.at {
+        Some(at) => Ok(at),
+        None => match read_moment(rt) {
+            Some(now) => Ok(now),
+            None => Err(Ending::Fault(Failure::Read)),
+        },
+    }
+}
+
+// The bytes of the file that a line names. Without a file there are none.
+fn body(rt: &HostRuntime, alloc: Global, line: &Line) -> Result<Vec<u8>, Ending> {
+    match line.file() {
+        Some(path) => file_bytes(rt, alloc, path),
+        None => Ok(Vec::new(alloc)),
+    }
+}
+
+// The bytes of a file, at most one more than a body may have.
+fn file_bytes(rt: &HostRuntime, alloc: Global, path: &str) -> Result<Vec<u8>, Ending> {
+    let file = match fs::open(rt, path) {
+        Ok(file) => file,
+        Err(error) if error.kind() == ErrorKind::OutOfMemory => {
+            return Err(Ending::from(Fault::Memory));
+        }
+        Err(_) => return Err(Ending::Fault(Failure::File)),
+    };
+    match read_whole(alloc, &mut FromRead::new(file), MOST_READ) {
+        Ok(bytes) => Ok(bytes),
+        Err(ReadStop::Read) => Err(Ending::Fault(Failure::File)),
+        Err(ReadStop::Memory) => Err(Ending::from(Fault::Memory)),
+    }
+}
+
+// The answer of the registry in the file at the path.
+fn answer(
+    rt: &HostRuntime,
+    alloc: Global,
+    path: &str,
+    request: &Request,
+) -> Result<Printed, Ending> {
+    let reply = reply(rt, alloc, path, request)?;
+    Ok(render(alloc, &reply)?)
+}
+
+fn reply(rt: &HostRuntime, alloc: Global, path: &str, request: &Request) -> Result<Reply, Ending> {
+    match open(rt, path) {
+        Ok(registry) => reply_in(alloc, registry, request),
+        Err(ending) => Err(ending),
+    }
+}
+
+// The reply of a registry, which is let go.
+fn reply_in<D: Disk + Drop>(
+    alloc: Global,
+    registry: Registry<FileStore<D>>,
+    request: &Request,
+) -> Result<Reply, Ending> {
+    let mut service = RegistryService::new(registry);
+    let reply = reply_of(alloc, &mut service, request);
+    let_go(service.into_registry());
+    reply
+}
+
+// The service answers as `Registry::apply` does, by a contract of one clause.
+fn reply_of<S: Alter>(
+    alloc: Global,
+    service: &mut RegistryService<S>,
+    request: &Request,
+) -> Result<Reply, Ending> {
+    match service.answer(alloc, request) {
+        Ok(reply) => Ok(reply),
+        Err(fault) => Err(Ending::from(fault)),
+    }
+}
+
+// Prints an answer, and gives its exit status.
+fn print<O: ByteOut, E: ByteOut>(
+    printed: &Printed,
+    output: &mut O,
+    errors: &mut E,
+) -> Result<u8, Ending> {
+    if write_whole(output, printed.out.as_slice()).is_err() {
+        return Err(Ending::Fault(Failure::Write));
+    }
+    let _ = write_whole(errors, printed.err.as_str().as_bytes());
+    Ok(printed.status)
+}

@@ -1,0 +1,97 @@
+//! Why the program ends without an answer.
+
+use registry_cli::Usage;
+use registry_names::{Fault, ReadStop, Refusal, Stop, Text};
+use std::alloc::AllocError;
+use std::io;
+use std::io::ErrorKind;
+
+/// Why nothing is printed on standard output.
+#[derive(Drop)]
+pub enum Ending {
+    /// What is asked is refused.
+    Refused(Refusal),
+    /// The arguments are none that the program takes, or ask for help: what is said of them.
+    Usage(Text),
+    /// The arguments are none that the program takes: what is said of them.
+    Wrong(&'static str),
+    /// The machine failed.
+    Fault(Failure),
+}
+
+/// What failed.
+#[derive(Clone, Copy)]
+pub enum Failure {
+    /// The registry.
+    Registry(Fault),
+    /// The registry's file, which can't be opened.
+    Opening(Obstacle),
+    /// Standard input, the machine's clock, or the port where connections are to come in.
+    Read,
+    /// A file that the arguments name.
+    File,
+    /// Standard output.
+    Write,
+}
+
+/// Why the registry's file can't be opened.
+#[derive(Clone, Copy)]
+pub enum Obstacle {
+    /// Another process has it.
+    Busy,
+    /// It, or its log, can't be opened or written.
+    Unreachable,
+    /// The disk is full.
+    Full,
+    /// It holds no registry that can be read.
+    Foreign,
+}
+
+impl From<Fault> for Ending {
+    fn from(fault: Fault) -> Ending {
+        Ending::Fault(Failure::Registry(fault))
+    }
+}
+
+impl From<AllocError> for Ending {
+    fn from(error: AllocError) -> Ending {
+        Ending::from(Fault::from(error))
+    }
+}
+
+impl From<Usage> for Ending {
+    fn from(usage: Usage) -> Ending {
+        match usage {
+            Usage::Words(said) => Ending::Usage(said),
+            Usage::Memory => Ending::from(Fault::Memory),
+        }
+    }
+}
+
+impl From<Stop> for Ending {
+    fn from(stop: Stop) -> Ending {
+        match stop {
+            Stop::Refused(refusal) => Ending::Refused(refusal),
+            Stop::Fault(fault) => Ending::from(fault),
+        }
+    }
+}
+
+impl From<io::Error> for Ending {
+    fn from(error: io::Error) -> Ending {
+        if error.kind() == ErrorKind::OutOfMemory {
+            Ending::from(Fault::Memory)
+        } else {
+            Ending::Fault(Failure::Read)
+        }
+    }
+}
+
+impl From<ReadStop> for Ending {
+    fn from(stop: ReadStop) -> Ending {
+        match stop {
+            ReadStop::Read => Ending::Fault(Failure::Read),
+            ReadStop::Memory => Ending::from(Fault::Memory),
+        }
+    }
+}

@@ -1,0 +1,14 @@
+//! The registry as a program, over any byte streams: `main` calls it, and so do the stories.
+#![tactic(auto)]
+
+mod commands;
+mod ending;
+mod moment;
+mod opening;
+mod publication;
+mod run;
+mod serving;
+
+pub use crate::ending::{Ending, Failure, Obstacle};
+pub use crate::opening::let_go;
+pub use crate::run::{program, report};

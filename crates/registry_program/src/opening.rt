@@ -1,0 +1,59 @@
+//! Opening the file that keeps the registry, and letting go of it.
+
+use crate::ending::{Ending, Failure, Obstacle};
+use registry_desk::Registry;
+use registry_names::Fault;
+use sqlite::{Alter, Connection, Error, ErrorCode, File, FileStore};
+use sqlite_disk::Disk;
+
+/// The registry in the file at the path.
+pub fn open(rt: &HostRuntime, path: &str) -> Result<Registry<FileStore<File>>, Ending> {
+    match Registry::open(rt, path) {
+        Ok(registry) => Ok(registry),
+        Err(Fault::Memory) => Err(Ending::from(Fault::Memory)),
+        Err(Fault::Database) => Err(Ending::Fault(Failure::Opening(obstacle(rt, path)))),
+    }
+}
+
+/// Lets go of a registry's files. Its log isn't copied into the database file: the next open does
+/// what is to be done.
+pub fn let_go<D: Disk + Drop>(registry: Registry<FileStore<D>>) {
+    close(registry.release());
+}
+
+// The store's own `close` leaves only the files to be dropped, and none of what is built on them.
+fn close<D: Disk + Drop>(conn: Connection<FileStore<D>>) {
+    drop(conn.into_store().close());
+}
+
+// Why the file at the path wasn't opened: it is tried once more, as any database.
+fn obstacle(rt: &HostRuntime, path: &str) -> Obstacle {
+    match Connection::open_with_sums(rt, path) {
+        Ok(conn) => {
+            let obstacle = obstacle_in(&conn);
+            close(conn);
+            obstacle
+        }
+        Err(error) => obstacle_of(error),
+    }
+}
+
+// What keeps an open database from being a registry. One that has no tables yet is a registry's
+// that couldn't be written.
+fn obstacle_in<S: Alter>(conn: &Connection<S>) -> Obstacle {
+    if conn.schema().tables.is_empty() {
+        Obstacle::Unreachable
+    } else {
+        Obstacle::Foreign
+    }
+}
+
+fn obstacle_of(error: Error) -> Obstacle {
+    match error {
+        Error::SqliteFailure(ErrorCode::DatabaseBusy) => Obstacle::Busy,
+        Error::SqliteFailure(ErrorCode::DiskFull) => Obstacle::Full,
+        Error::SqliteFailure(ErrorCode::CannotOpen | ErrorCode::SystemIoFailure) =>
+            Obstacle::Unreachable,
+        _ => Obstacle::Foreign,
+    }
+}

@@ -1,0 +1,100 @@
+//! What the program does, over any byte streams.
+
+use crate::commands::answer_command;
+use crate::ending::{Ending, Failure, Obstacle};
+use crate::publication::packument_of;
+use registry_names::{BODY_LIMIT, ByteIn, ByteOut, Fault, Text, read_whole, write_whole};
+use std::alloc::Global;
+
+/// One byte more than a body may have: enough to see that it is too large.
+pub(crate) const MOST_READ: usize = BODY_LIMIT + 1;
+
+/// Runs the program on the arguments after its name, and answers its exit status.
+///
+/// Without arguments it reads a publish body from the input. The user `first` publishes it at
+/// moment 0 to an empty registry in memory, where they own the organisation of the package's scope,
+/// if it has one. The packument as they see it goes to the output, with a newline. With arguments
+/// the program answers what they ask for (`docs/CLI.md`).
+///
+/// The status is 0 where this is done. Otherwise nothing goes to the output, and the errors say
+/// why:
+///
+/// - 1: `refused: ` and the refusal;
+/// - 2: what is wrong with the arguments, or the help that they ask for;
+/// - 3: `fault: ` and what failed, with a second line that gives the reason where the registry's
+///   file can't be opened.
+pub fn program<I: ByteIn, O: ByteOut, E: ByteOut>(
+    rt: &HostRuntime,
+    alloc: Global,
+    arguments: &[Text],
+    input: &mut I,
+    output: &mut O,
+    errors: &mut E,
+) -> u8 {
+    let done = if arguments.is_empty() {
+        print_packument(alloc, input, output)
+    } else {
+        answer_command(rt, alloc, arguments, output, errors)
+    };
+    match done {
+        Ok(status) => status,
+        Err(ending) => report(errors, &ending),
+    }
+}
+
+/// Prints why the program ends so, as far as it can, and answers its exit status.
+pub fn report<E: ByteOut>(errors: &mut E, ending: &Ending) -> u8 {
+    let (status, front, text) = match ending {
+        Ending::Refused(refusal) => (1, "refused: ", refusal.text()),
+        Ending::Usage(said) => (2, "", said.as_str()),
+        Ending::Wrong(said) => (2, "", *said),
+        Ending::Fault(failure) => (3, "fault: ", failure_text(*failure)),
+    };
+    print_line(errors, front, text);
+    if let Ending::Fault(Failure::Opening(obstacle)) = ending {
+        print_line(errors, "", obstacle_text(*obstacle));
+    }
+    status
+}
+
+// Prints a text after another, and a newline where it doesn't end in one.
+fn print_line<E: ByteOut>(errors: &mut E, front: &str, text: &str) {
+    let end = if text.ends_with('\n') { "" } else { "\n" };
+    for text in [front, text, end] {
+        let _ = write_whole(errors, text.as_bytes());
+    }
+}
+
+fn failure_text(failure: Failure) -> &'static str {
+    match failure {
+        Failure::Registry(fault) => fault.text(),
+        Failure::Opening(_) => Fault::Database.text(),
+        Failure::Read => "Read",
+        Failure::File => "File",
+        Failure::Write => "Write",
+    }
+}
+
+fn obstacle_text(obstacle: Obstacle) -> &'static str {
+    match obstacle {
+        Obstacle::Busy => "another process has the registry's file",
+        Obstacle::Unreachable => "the registry's file can't be opened or written",
+        Obstacle::Full => "the disk is full",
+        Obstacle::Foreign => "the file holds no registry, or was changed by another hand",
+    }
+}
+
+fn print_packument<I: ByteIn, O: ByteOut>(
+    alloc: Global,
+    input: &mut I,
+    output: &mut O,
+) -> Result<u8, Ending> {
+    let body = read_whole(alloc, input, MOST_READ)?;
+    let packument = packument_of(alloc, &body)?;
+    let mut text = String::from_str(alloc, packument.as_str())?;
+    text.push('\n')?;
+    match write_whole(output, text.as_bytes()) {
+        Ok(()) => Ok(0),
+        Err(_) => Err(Ending::Fault(Failure::Write)),
+    }
+}

@@ -1,0 +1,90 @@
+//! Serving the registry in a file over HTTP.
+
+use crate::ending::{Ending, Failure};
+use crate::moment::read_moment;
+use crate::opening::{let_go, open};
+use registry_cli::Line;
+use registry_desk::Registry;
+use registry_http::RegistryService;
+use registry_names::{ByteOut, Text, write_whole};
+use registry_server::Server;
+use sqlite::{Alter, FileStore};
+use sqlite_disk::Disk;
+use std::alloc::Global;
+
+/// What is said of a port or of connections that are no number.
+const NO_NUMBER: &str = "error: --port and --connections take whole numbers";
+
+/// Where connections come in, and how many.
+#[derive(Clone, Copy)]
+struct Entrance {
+    port: u16,
+    connections: u64,
+}
+
+impl Entrance {
+    // What the arguments of `serve` say: its name, the port and the connections.
+    fn of(arguments: &[Text]) -> Option<Entrance> {
+        let port = arguments.get(1)?.as_str().parse::<u16>().ok()?;
+        let connections = arguments.get(2)?.as_str().parse::<u64>().ok()?;
+        Some(Entrance { port, connections })
+    }
+}
+
+/// Serves the registry in the line's file to as many connections as it says, and answers the exit
+/// status, 0, once all have ended. Where it listens is printed on the output before the first one
+/// is accepted.
+pub fn serve<O: ByteOut>(
+    rt: &HostRuntime,
+    alloc: Global,
+    line: &Line,
+    output: &mut O,
+) -> Result<u8, Ending> {
+    let Some(entrance) = Entrance::of(line.what.as_slice()) else {
+        return Err(Ending::Wrong(NO_NUMBER));
+    };
+    match open(rt, line.db.as_str()) {
+        Ok(registry) => serve_registry(rt, alloc, entrance, registry, output),
+        Err(ending) => Err(ending),
+    }
+}
+
+// Serves a registry, and lets go of it.
+fn serve_registry<D: Disk + Drop, O: ByteOut>(
+    rt: &HostRuntime,
+    alloc: Global,
+    entrance: Entrance,
+    registry: Registry<FileStore<D>>,
+    output: &mut O,
+) -> Result<u8, Ending> {
+    let mut service = RegistryService::new(registry);
+    let status = serve_at(rt, alloc, entrance, &mut service, output);
+    let_go(service.into_registry());
+    status
+}
+
+// Serves with the service. The clock is read before anything is printed.
+fn serve_at<S: Alter, O: ByteOut>(
+    rt: &HostRuntime,
+    alloc: Global,
+    entrance: Entrance,
+    service: &mut RegistryService<S>,
+    output: &mut O,
+) -> Result<u8, Ending> {
+    if read_moment(rt).is_none() {
+        return Err(Ending::Fault(Failure::Read));
+    }
+    let server = Server::bind(rt, alloc, entrance.port, entrance.connections)?;
+    announce(alloc, &server, output)?;
+    server.run(rt, alloc, service)?;
+    Ok(0)
+}
+
+// Prints where the server listens.
+fn announce<O: ByteOut>(alloc: Global, server: &Server, output: &mut O) -> Result<(), Ending> {
+    let said = format!(in alloc; "listening 127.0.0.1:{}\n", server.port()?)?;
+    match write_whole(output, said.as_bytes()) {
+        Ok(()) => Ok(()),
+        Err(_) => Err(Ending::Fault(Failure::Write)),
+    }
+}

@@ -1,0 +1,181 @@
+//! A connection over HTTP to the registry in the file, without a socket: the server's own state of
+//! a connection is given what comes, and asked what is to be sent.
+
+use crate::clock::StatedClock;
+use crate::failure::{Stop, failed};
+use registry_desk::Registry;
+use registry_http::RegistryService;
+use registry_names::{Fault, Moment};
+use registry_program::let_go;
+use registry_server::{ConnectionState, Progress};
+use registry_service::{End, REQUEST_LIMIT, Service};
+use sqlite::FileStore;
+use sqlite_disk::Disk;
+use std::alloc::{AllocError, Global};
+
+/// The file of the registry.
+pub const DB: &str = "registry.db";
+
+/// From so many bytes on, what comes in pieces comes in large ones.
+const MANY: usize = 20_000;
+
+/// The bytes of a large piece.
+const LARGE_PIECE: usize = 4_096;
+
+/// How the bytes come on a connection.
+#[derive(Clone, Copy, PartialEq, Eq)]
+pub enum Pace {
+    /// All at once.
+    AtOnce,
+    /// One byte a read, or some thousand where there are many.
+    InPieces,
+}
+
+/// What is answered on a connection, and how it ends.
+#[derive(Drop)]
+pub struct Answer {
+    pub bytes: Vec<u8>,
+    pub end: Option<End>,
+}
+
+/// What the registry in the file answers at this moment on a connection on which these bytes come.
+pub fn answered(
+    rt: &HostRuntime,
+    alloc: Global,
+    at: Moment,
+    asked: &[u8],
+    pace: Pace,
+) -> Result<Answer, Stop> {
+    match Registry::open(rt, DB) {
+        Ok(registry) => Ok(answered_by(alloc, registry, at, asked, pace)?),
+        Err(_) => Err(failed(alloc, "the registry's file can't be opened")),
+    }
+}
+
+fn answered_by<D: Disk + Drop>(
+    alloc: Global,
+    registry: Registry<FileStore<D>>,
+    at: Moment,
+    asked: &[u8],
+    pace: Pace,
+) -> Result<Answer, AllocError> {
+    let mut service = RegistryService::new(registry);
+    let answered = Exchange::new(alloc, at).carry(alloc, &mut service, asked, pace);
+    let_go(service.into_registry());
+    answered
+}
+
+/// A connection, its clock, what it has answered so far, and how it ended, if it did.
+#[derive(Drop)]
+struct Exchange {
+    state: ConnectionState,
+    clock: StatedClock,
+    bytes: Vec<u8>,
+    end: Option<End>,
+}
+
+impl Exchange {
+    fn new(alloc: Global, at: Moment) -> Exchange {
+        Exchange {
+            state: ConnectionState::new(alloc),
+            clock: StatedClock { at },
+            bytes: Vec::new(alloc),
+            end: None,
+        }
+    }
+
+    // Gives the connection what comes, and then says that no more comes.
+    fn carry<D: Service>(
+        self,
+        alloc: Global,
+        service: &mut D,
+        asked: &[u8],
+        pace: Pace,
+    ) -> Result<Answer, AllocError> {
+        let mut exchange = self;
+        match pace {
+            Pace::AtOnce => exchange.give(alloc, service, asked)?,
+            Pace::InPieces => exchange.give_pieces(alloc, service, asked)?,
+        }
+        if exchange.end.is_none() {
+            exchange.end = exchange.take_turns(alloc, service, true)?;
+        }
+        let Exchange { bytes, end, .. } = exchange;
+        Ok(Answer { bytes, end })
+    }
+
+    // Gives the connection piece after piece.
+    fn give_pieces<D: Service>(
+        &mut self,
+        alloc: Global,
+        service: &mut D,
+        asked: &[u8],
+    ) -> Result<(), AllocError> {
+        let piece_len = if asked.len() > MANY { LARGE_PIECE } else { 1 };
+        for piece in asked.chunks(piece_len) {
+            self.give(alloc, service, piece)?;
+        }
+        Ok(())
+    }
+
+    // Gives the connection one piece. What comes after it has ended is dropped.
+    fn give<D: Service>(
+        &mut self,
+        alloc: Global,
+        service: &mut D,
+        piece: &[u8],
+    ) -> Result<(), AllocError> {
+        if self.end.is_none() {
+            self.state.came(piece)?;
+            self.end = self.take_turns(alloc, service, false)?;
+        }
+        Ok(())
+    }
+
+    // Takes turns until the connection waits for more, or ends. Answers how it ends, if it does.
+    fn take_turns<D: Service>(
+        &mut self,
+        alloc: Global,
+        service: &mut D,
+        is_over: bool,
+    ) -> Result<Option<End>, AllocError> {
+        for _ in 0..=REQUEST_LIMIT {
+            match self
+                .state
+                .take_turn(alloc, service, &mut self.clock, is_over)
+            {
+                Progress::Answered => self.send()?,
+                Progress::Waits => return Ok(None),
+                Progress::Closed => return Ok(Some(End::Closed)),
+            }
+            if let Some(end) = self.state.ends() {
+                return Ok(Some(end));
+            }
+        }
+        Ok(None)
+    }
+
+    // Sends all that isn't sent.
+    fn send(&mut self) -> Result<(), AllocError> {
+        let (head, body) = self.state.outgoing().parts();
+        self.bytes.extend_from_slice(head)?;
+        self.bytes.extend_from_slice(body)?;
+        let count = head.len().saturating_add(body.len());
+        self.state.sent(count);
+        Ok(())
+    }
+}
+
+/// How a connection ended, as a story says it.
+pub fn end_text(end: Option<End>) -> &'static str {
+    match end {
+        None => "[open]",
+        Some(End::Closed) => "[closed]",
+        Some(End::Limit) => "[limit]",
+        Some(End::BadInput) => "[bad input]",
+        Some(End::ReadFault) => "[read fault]",
+        Some(End::WriteFault) => "[write fault]",
+        Some(End::Faulted(Fault::Memory)) => "[faulted Memory]",
+        Some(End::Faulted(Fault::Database)) => "[faulted Database]",
+    }
+}

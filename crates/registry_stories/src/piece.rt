@@ -1,0 +1,72 @@
+//! The bytes that a line of a story spells after its arrow.
+
+use crate::escapes::unescaped;
+use crate::failure::{Stop, failed};
+use std::alloc::{AllocError, Global};
+use std::fs;
+
+/// How the text of a line is read.
+#[derive(Clone, Copy)]
+struct Marks {
+    /// The text has escapes.
+    is_escaped: bool,
+    /// The text is repeated so many times.
+    times: u64,
+}
+
+/// The bytes of `TEXT`, `! TEXT`, `*N TEXT`, `!*N TEXT` or `file NAME`: the text is followed by
+/// `end`, and has escapes or is repeated where the marks before it say so.
+pub fn piece(rt: &HostRuntime, alloc: Global, spelled: &str, end: &str) -> Result<Vec<u8>, Stop> {
+    if let Some(name) = spelled.strip_prefix("file ") {
+        return file_bytes(rt, alloc, name);
+    }
+    let (marks, text) = spelled.split_once(' ').unwrap_or((spelled, ""));
+    let Some(marks) = marks_of(marks) else {
+        return Err(failed(alloc, "the marks after the arrow are unknown"));
+    };
+    let mut once = text_bytes(alloc, text, marks.is_escaped)?;
+    once.extend_from_slice(end.as_bytes())?;
+    Ok(repeated(alloc, &once, marks.times)?)
+}
+
+/// The bytes of a file.
+pub fn file_bytes(rt: &HostRuntime, alloc: Global, name: &str) -> Result<Vec<u8>, Stop> {
+    match fs::read(rt, name) {
+        Ok(bytes) => Ok(bytes),
+        Err(_) => {
+            let said = format!(in alloc; "the file {name} can't be read")?;
+            Err(Stop::Failed(said))
+        }
+    }
+}
+
+fn marks_of(marks: &str) -> Option<Marks> {
+    let (is_escaped, count) = match marks.strip_prefix('!') {
+        Some(rest) => (true, rest),
+        None => (false, marks),
+    };
+    let times = match count.strip_prefix('*') {
+        Some(number) => number.parse::<u64>().ok()?,
+        None if count.is_empty() => 1,
+        None => return None,
+    };
+    Some(Marks { is_escaped, times })
+}
+
+fn repeated(alloc: Global, once: &[u8], times: u64) -> Result<Vec<u8>, AllocError> {
+    let mut bytes = Vec::new(alloc);
+    for _ in 0..times {
+        bytes.extend_from_slice(once)?;
+    }
+    Ok(bytes)
+}
+
+// The bytes of a text: without escapes they are its own.
+fn text_bytes(alloc: Global, text: &str, is_escaped: bool) -> Result<Vec<u8>, Stop> {
+    if is_escaped {
+        return unescaped(alloc, text);
+    }
+    let mut bytes = Vec::new(alloc);
+    bytes.extend_from_slice(text.as_bytes())?;
+    Ok(bytes)
+}
