@@ -1,4 +1,4 @@
--- States that agree on what an ask concerns allow the same, and a standing that stands for a state
+-- States that agree on what an ask concerns allow the same, and a standing that agrees with a state
 -- says what the state says.
 use Rattle.std.proofs.Common.{◌≡◌, Bool, true, false, ◌||◌, Some, None, Option, Ok, Err, is_some, refl, ap, ap₂, ◌∙◌, if◌then◌else◌}
 use Rattle.registry_names.specs.Texts.{Text}
@@ -9,7 +9,7 @@ use Rattle.registry_names.specs.declared.status.Status.{Status}
 use Rattle.registry_access.specs.Access.{Access}
 use Rattle.registry_access.specs.Agreement.{SameOrganisation, SamePackage, SameFor}
 use Rattle.registry_access.specs.Callers.{is_maintainer, is_user, granted}
-use Rattle.registry_access.specs.Levels.{greatest, is_owner_or_admin, reads, writes}
+use Rattle.registry_access.specs.Levels.{greatest_grant, is_owner_or_admin, reads, writes}
 use Rattle.registry_access.specs.Policy.{may_manage_members, may_manage_teams, may_see_organisation, may_read, may_write, may_manage_maintainers, may_publish, allowed_at, allowed_in, by_rule, for_known, where_found}
 use Rattle.registry_access.specs.Positions.{has_scope, scope_role, position_in, level_at, level_by, level_in}
 use Rattle.registry_access.specs.RowsFor.{StandingTells, asked_package}
@@ -89,7 +89,7 @@ standing_alike s S (User u) p h = record {
   maintainer = h.maintainer;
   level =
       level_alike s.status (is_owner_or_admin s.role) s.maintainer _ _ (λ other. greatest_alike (is_listed s.grants.items) (granted S (User u) p) (h.grants other))
-      ∙ (λ i. level_by (h.status i) (is_owner_or_admin (h.role i) || h.maintainer i) (greatest (granted S (User u) p)));
+      ∙ (λ i. level_by (h.status i) (is_owner_or_admin (h.role i) || h.maintainer i) (greatest_grant (granted S (User u) p)));
 }
 standing_alike s S Anonymous p h = same_alike _ _
     (λ i. record { organisation = h.organisation i; role = anonymous_role S (scope_of p) i; status = h.status i; maintainer = is_maintainer S Anonymous p; grant = (position_in S Anonymous p).grant })
@@ -116,7 +116,7 @@ module _ (caller : Caller) (P Q : Position) (same : AreAlike P Q) where
   verdict_alike (Read p) = λ i. where_found (reads (same.level i)) (Ok A8)
   verdict_alike (OrgRead o) = refl
 
--- an ask about a package is decided by how the caller stands to it
+-- an ask about a package is decided by what the caller is to it
 pub asked_at : (S : Access) (caller : Caller) (ask : Ask) (p : Text) → asked_package ask ≡ Some p → allowed_at caller ask (position_in S caller p) ≡ allowed_in S caller ask
 asked_at S caller Operate p e = cc
 asked_at S caller (OrgMembers o) p e = cc

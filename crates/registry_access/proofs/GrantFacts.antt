@@ -63,7 +63,7 @@ granted_alike S T caller p h g = both_ways _ _
     (λ e. let some = granted_by S caller p g e in by_granted T caller some.0 some.1.0 p g (ap (λ o. grants o g) (sym (h some.0 some.1.0)) ∙ some.1.1))
     (λ e. let some = granted_by T caller p g e in by_granted S caller some.0 some.1.0 p g (ap (λ o. grants o g) (h some.0 some.1.0) ∙ some.1.1))
 
--- grants that teams give the caller, and all of those, are what is granted to him
+-- grants that teams give the caller, and all of those, are what is granted to them
 pub listed_are_granted : (S : Access) (caller : Caller) (p : Text) (gs : List Grant)
     → ((g : Grant) → is_listed gs g ≡ true → (o : Text) × ((t : Text) × (grants (team_grant S caller o t p) g ≡ true)))
     → ((o t : Text) (g : Grant) → grants (team_grant S caller o t p) g ≡ true → is_listed gs g ≡ true)

@@ -2,24 +2,24 @@
 use Rattle.std.proofs.Common.{◌≡◌, Bool, true, false, Option, Some, None, refl, sym, ap, ◌∙◌, if◌then◌else◌}
 use Rattle.registry_names.specs.declared.status.Status.{Status}
 use Rattle.registry_names.specs.declared.status.Status.TheVariants.{Public, Restricted}
-use Rattle.registry_access.specs.Levels.{greatest, larger, level_granted}
+use Rattle.registry_access.specs.Levels.{greatest_grant, larger, level_granted}
 use Rattle.registry_access.specs.Positions.{level_by}
 use Rattle.registry_access.specs.declared.grant.Grant.{Grant}
 use Rattle.registry_access.specs.declared.grant.Grant.TheVariants.{ReadOnly, ReadWrite}
 use Rattle.registry_access.specs.declared.levels.Level.{Level}
 use Rattle.registry_access.specs.declared.levels.Level.TheVariants.{Nothing, Read, Write}
 
-pub greatest_write : (test : Grant → Bool) → test ReadWrite ≡ true → Some ReadWrite ≡ greatest test
+pub greatest_write : (test : Grant → Bool) → test ReadWrite ≡ true → Some ReadWrite ≡ greatest_grant test
 greatest_write test w = sym (ap (λ b. if b then Some ReadWrite else (if test ReadOnly then Some ReadOnly else None)) w)
 
-pub greatest_read : (test : Grant → Bool) → test ReadWrite ≡ false → test ReadOnly ≡ true → Some ReadOnly ≡ greatest test
+pub greatest_read : (test : Grant → Bool) → test ReadWrite ≡ false → test ReadOnly ≡ true → Some ReadOnly ≡ greatest_grant test
 greatest_read test w r = sym (ap (λ b. if b then Some ReadWrite else (if test ReadOnly then Some ReadOnly else None)) w ∙ ap (λ b. if b then Some ReadOnly else None) r)
 
-pub greatest_none : (test : Grant → Bool) → test ReadWrite ≡ false → test ReadOnly ≡ false → ◌≡◌ {A = Option Grant} None (greatest test)
+pub greatest_none : (test : Grant → Bool) → test ReadWrite ≡ false → test ReadOnly ≡ false → ◌≡◌ {A = Option Grant} None (greatest_grant test)
 greatest_none test w r = sym (ap (λ b. if b then Some ReadWrite else (if test ReadOnly then Some ReadOnly else None)) w ∙ ap (λ b. if b then Some ReadOnly else None) r)
 
 -- tests that agree have the same greatest grant
-pub greatest_alike : (f g : Grant → Bool) → ((h : Grant) → f h ≡ g h) → greatest f ≡ greatest g
+pub greatest_alike : (f g : Grant → Bool) → ((h : Grant) → f h ≡ g h) → greatest_grant f ≡ greatest_grant g
 greatest_alike f g same =
     ap (λ b. if b then Some ReadWrite else (if f ReadOnly then Some ReadOnly else None)) (same ReadWrite)
     ∙ ap (λ b. if g ReadWrite then Some ReadWrite else (if b then Some ReadOnly else None)) (same ReadOnly)

@@ -1,4 +1,4 @@
--- Rows that say all that a state says stand for it, whatever is asked.
+-- Rows that say all that a state says agree with it, whatever is asked.
 use Rattle.std.proofs.Common.{◌≡◌, is_some, None, refl, ap, ap₂, if◌then◌else◌}
 use Rattle.registry_names.specs.Texts.{Text}
 use Rattle.registry_names.specs.Maps.{at}

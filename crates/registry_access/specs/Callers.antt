@@ -26,25 +26,25 @@ is_anonymous Operator = false
 is_anonymous (User u) = false
 is_anonymous Anonymous = true
 
--- his role in an organisation, if he is a member
+-- their role in an organisation, if they are a member
 abbrev pub role_of : Access → Caller → Text → Option Role
 role_of S Operator o = None
 role_of S (User u) o = at S.roles (o, u)
 role_of S Anonymous o = None
 
--- whether he is a maintainer of a package
+-- whether they are a maintainer of a package
 abbrev pub is_maintainer : Access → Caller → Text → Bool
 is_maintainer S Operator p = false
 is_maintainer S (User u) p = is_some (at S.maintainers (p, u))
 is_maintainer S Anonymous p = false
 
--- whether he is in a team of an organisation
+-- whether they are in a team of an organisation
 abbrev pub in_team : Access → Caller → Text → Text → Bool
 in_team S Operator o t = false
 in_team S (User u) o t = is_some (at S.team_members (o, (t, u)))
 in_team S Anonymous o t = false
 
--- what a team grants him on a package, if he is in it
+-- what a team grants them on a package, if they are in it
 abbrev pub team_grant : Access → Caller → Text → Text → Text → Option Grant
 team_grant S caller o t p = if in_team S caller o t then at S.grants (o, (t, p)) else None
 
@@ -57,7 +57,7 @@ grants (Some h) g = is_grant h g
 abbrev pub team_granted : Access → Text → Text → Grant → Bool
 team_granted S u p g = list_any (λ k. is k.1.1 u && grants (at S.grants (k.0, (k.1.0, p))) g) (keys (entries S.team_members))
 
--- whether a team of his has this grant on the package
+-- whether a team of theirs has this grant on the package
 abbrev pub granted : Access → Caller → Text → Grant → Bool
 granted S Operator p g = false
 granted S (User u) p g = team_granted S u p g

@@ -13,8 +13,8 @@ use Rattle.registry_access.specs.declared.ask.Ask.{Ask}
 use Rattle.registry_access.specs.declared.ask.Ask.TheVariants.{Operate, OrgMembers, OrgTeams, Publish, Write, Owners, Read, OrgRead}
 
 -- the state in which the package was never published
-abbrev pub without : Access → Text → Access
-without S p = record S {
+abbrev pub access_without : Access → Text → Access
+access_without S p = record S {
   statuses = erase S.statuses p;
   grants = keep S.grants (λ k. not (is k.1.1 p));
   maintainers = keep S.maintainers (λ k. not (is k.0 p));
@@ -35,10 +35,10 @@ publishes_as_member S caller p (Owners q) = false
 publishes_as_member S caller p (Read q) = false
 publishes_as_member S caller p (OrgRead o) = false
 
--- whatever else the caller asks, he gets what he would get were the package never published
+-- whatever else the caller asks, they get what they would get were the package never published
 abbrev pub IsHidden : Access → Caller → Text → Type 0
-IsHidden S caller p = (ask : Ask) → publishes_as_member S caller p ask ≡ false → allowed_in S caller ask ≡ allowed_in (without S p) caller ask
+IsHidden S caller p = (ask : Ask) → publishes_as_member S caller p ask ≡ false → allowed_in S caller ask ≡ allowed_in (access_without S p) caller ask
 
--- what a caller may not read is hidden from him
+-- what a caller may not read is hidden from them
 abbrev pub UnreadAreHidden : Type 0
 UnreadAreHidden = (S : Access) (caller : Caller) (p : Text) → UnscopedArePublic S → level_in S caller p ≡ Nothing → IsHidden S caller p

@@ -16,17 +16,17 @@ use Rattle.registry_access.specs.declared.ask.Ask.{Ask}
 use Rattle.registry_access.specs.declared.position.Position.{Position}
 use Rattle.registry_access.specs.declared.rows.AccessRows.{AccessRows}
 
--- a team grants the caller this, and none grants him more
+-- a team grants the caller this, and none grants them more
 pub record IsGreatestOf (S : Access) (caller : Caller) (p : Text) (greatest : Grant) : Type 0 where
   pub given : (o : Text) × ((t : Text) × (team_grant S caller o t p ≡ Some greatest))
   pub above : (o t : Text) (g : Grant) → team_grant S caller o t p ≡ Some g → IsTrue (covers greatest g)
 
--- the greatest of what teams grant the caller, if one grants him anything
+-- the greatest of what teams grant the caller, if one grants them anything
 abbrev pub IsGreatestGrant : Access → Caller → Text → Option Grant → Type 0
 IsGreatestGrant S caller p None = (o t : Text) → team_grant S caller o t p ≡ None
 IsGreatestGrant S caller p (Some greatest) = IsGreatestOf S caller p greatest
 
--- the grant that counts is the greatest, in whatever order the teams stand
+-- the grant that counts is the greatest, in whatever order the teams come
 abbrev pub GreatestGrantCounts : Type 0
 GreatestGrantCounts = (S : Access) (caller : Caller) (p : Text) → IsGreatestGrant S caller p (position_in S caller p).grant
 
@@ -39,10 +39,10 @@ pub record IsReadable (caller : Caller) (scoped : Bool) (at : Position) : Type 0
 abbrev pub WritersRead : Type 0
 WritersRead = (caller : Caller) (scoped : Bool) (at : Position) → IsReadable caller scoped at
 
--- states that agree on what the caller asks allow him the same
+-- states that agree on what the caller asks allow them the same
 abbrev pub AgreeingAllow : Type 0
 AgreeingAllow = (S T : Access) (caller : Caller) (ask : Ask) → SameFor S T caller ask → allowed_in S caller ask ≡ allowed_in T caller ask
 
--- rows that say all that a state says stand for it, whoever asks for whatever
+-- rows that say all that a state says agree with it, whoever asks for whatever
 abbrev pub WholeRowsStand : Type 0
 WholeRowsStand = (rows : AccessRows) (S : Access) → RowsTellAll rows S → (caller : Caller) (ask : Ask) → RowsTell rows S caller ask

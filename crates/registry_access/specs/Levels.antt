@@ -43,8 +43,8 @@ covers ReadWrite g = true
 covers ReadOnly g = is_grant ReadOnly g
 
 -- the greatest of the grants that pass a test, if one does
-abbrev pub greatest : (Grant → Bool) → Option Grant
-greatest test = if test ReadWrite then Some ReadWrite else (if test ReadOnly then Some ReadOnly else None)
+abbrev pub greatest_grant : (Grant → Bool) → Option Grant
+greatest_grant test = if test ReadWrite then Some ReadWrite else (if test ReadOnly then Some ReadOnly else None)
 
 -- what everybody has on a package of this status
 abbrev pub open_level : Status → Level

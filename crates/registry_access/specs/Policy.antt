@@ -56,41 +56,41 @@ may_see_organisation caller there role = for_known caller (where_found there (by
 
 -- A8: whoever reads it
 abbrev pub may_read : Position → Verdict
-may_read at = where_found (reads (level_at at)) (Ok A8)
+may_read position = where_found (reads (level_at position)) (Ok A8)
 
 -- A6: whoever writes it
 abbrev pub may_write : Caller → Position → Verdict
-may_write caller at = for_known caller (where_found (reads (level_at at)) (by_rule A6 (writes (level_at at))))
+may_write caller position = for_known caller (where_found (reads (level_at position)) (by_rule A6 (writes (level_at position))))
 
 -- A7: a maintainer
 abbrev pub may_manage_maintainers : Caller → Position → Verdict
-may_manage_maintainers caller at = for_known caller (where_found (reads (level_at at)) (by_rule A7 at.maintainer))
+may_manage_maintainers caller position = for_known caller (where_found (reads (level_at position)) (by_rule A7 position.maintainer))
 
 -- a name without a scope. A5, for its first version: any user. A6, for a further one: whoever
 -- writes it
 abbrev pub may_publish_unscoped : Caller → Position → Verdict
-may_publish_unscoped caller at =
-    for_known caller (if is_some at.status then by_rule A6 (writes (level_at at)) else by_rule A5 (is_user caller))
+may_publish_unscoped caller position =
+    for_known caller (if is_some position.status then by_rule A6 (writes (level_at position)) else by_rule A5 (is_user caller))
 
 -- a name with a scope. A4, for its first version: a member. A6, for a further one: a member who
 -- writes it
 abbrev pub may_publish_scoped : Caller → Position → Verdict
-may_publish_scoped caller at =
-    for_known caller (where_found at.organisation (if is_some at.role
-    then (if is_some at.status then by_rule A6 (writes (level_at at)) else Ok A4)
+may_publish_scoped caller position =
+    for_known caller (where_found position.organisation (if is_some position.role
+    then (if is_some position.status then by_rule A6 (writes (level_at position)) else Ok A4)
     else Err (Denied A4)))
 
 abbrev pub may_publish : Caller → Bool → Position → Verdict
-may_publish caller scoped at = if scoped then may_publish_scoped caller at else may_publish_unscoped caller at
+may_publish caller scoped position = if scoped then may_publish_scoped caller position else may_publish_unscoped caller position
 
--- what an ask about a package comes to, by how the caller stands to it. An ask about none finds
+-- what an ask about a package comes to, by what the caller is to it. An ask about none finds
 -- nothing
 abbrev pub allowed_at : Caller → Ask → Position → Verdict
-allowed_at caller (Publish p) at = may_publish caller (is_some (scope_of p.now)) at
-allowed_at caller (Write p) at = may_write caller at
-allowed_at caller (Owners p) at = may_manage_maintainers caller at
-allowed_at caller (Read p) at = may_read at
-allowed_at caller _ at = Err NotFound
+allowed_at caller (Publish p) position = may_publish caller (is_some (scope_of p.now)) position
+allowed_at caller (Write p) position = may_write caller position
+allowed_at caller (Owners p) position = may_manage_maintainers caller position
+allowed_at caller (Read p) position = may_read position
+allowed_at caller _ position = Err NotFound
 
 -- what an ask comes to in a state
 abbrev pub allowed_in : Access → Caller → Ask → Verdict

@@ -1,11 +1,11 @@
--- How a caller stands to a package, and the level that follows from it.
+-- What a caller is to a package, and the level that follows from it.
 use Rattle.std.specs.Prelude.{Bool, false, ◌||◌, is_some, Option, Some, None, if◌then◌else◌}
 use Rattle.registry_names.specs.Texts.{Text}
 use Rattle.registry_names.specs.Maps.{at}
 use Rattle.registry_names.specs.declared.status.Status.{Status}
 use Rattle.registry_access.specs.Access.{Access}
 use Rattle.registry_access.specs.Callers.{role_of, is_maintainer, granted}
-use Rattle.registry_access.specs.Levels.{larger, level_granted, greatest, open_level, is_owner_or_admin}
+use Rattle.registry_access.specs.Levels.{larger, level_granted, greatest_grant, open_level, is_owner_or_admin}
 use Rattle.registry_names.specs.Names.{scope_of}
 use Rattle.registry_access.specs.declared.grant.Grant.{Grant}
 use Rattle.registry_access.specs.declared.role.Role.{Role}
@@ -22,19 +22,19 @@ abbrev pub has_scope : Access → Option Text → Bool
 has_scope S None = false
 has_scope S (Some o) = has_organisation S o
 
--- his role in the organisation of the scope
+-- their role in the organisation of the scope
 abbrev pub scope_role : Access → Caller → Option Text → Option Role
 scope_role S caller None = None
 scope_role S caller (Some o) = role_of S caller o
 
--- how the caller stands to the package
+-- what the caller is to the package
 abbrev pub position_in : Access → Caller → Text → Position
 position_in S caller p = record {
   organisation = has_scope S (scope_of p);
   role = scope_role S caller (scope_of p);
   status = at S.statuses p;
   maintainer = is_maintainer S caller p;
-  grant = greatest (granted S caller p);
+  grant = greatest_grant (granted S caller p);
 }
 
 -- Nothing on a package that was never published. Else what one who writes has, or the greater of

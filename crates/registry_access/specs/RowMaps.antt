@@ -38,7 +38,7 @@ package_entry r = (r.package, r.status)
 abbrev pub maintainer_entry : MaintainerRow → Pair × Unit {0}
 maintainer_entry r = ((r.package, r.user), tt)
 
--- where a key stands twice, its first row counts
+-- where a key occurs twice, its first row counts
 abbrev pub state_of : AccessRows → Access
 state_of r = record {
   users = empty;

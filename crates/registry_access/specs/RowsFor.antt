@@ -1,4 +1,4 @@
--- Rows, and standings, that tell of a state.
+-- Rows, and standings, that agree with a state.
 use Rattle.std.specs.Prelude.{◌≡◌, false, Option, Some, None}
 use Rattle.registry_names.specs.Texts.{Text}
 use Rattle.registry_names.specs.Maps.{at}
@@ -17,8 +17,8 @@ use Rattle.registry_access.specs.declared.ask.Ask.TheVariants.{Operate, OrgMembe
 use Rattle.registry_access.specs.declared.rows.AccessRows.{AccessRows}
 use Rattle.registry_access.specs.declared.standing.Standing.{Standing}
 
--- Rows tell of a state, at what a caller asks, where they say the same of it. For an ask about an
--- organisation these rows are enough: the organisation's, and the caller's membership in it. For
+-- Rows agree with a state, at what a caller asks, where they say the same of it. For an ask about
+-- an organisation these rows are enough: the organisation's, and the caller's membership in it. For
 -- one about a package: those of the organisation of its scope, the package's, the caller's among
 -- its maintainers, and of each team that the caller is in and that is granted something on the
 -- package, the caller's row in the team and the grant. More rows of the state do no harm.
@@ -29,9 +29,9 @@ RowsTell rows S caller ask = SameFor (state_of rows) S caller ask
 abbrev pub RowsTellOfPackage : AccessRows → Access → Caller → Text → Type 0
 RowsTellOfPackage rows S caller p = SamePackage (state_of rows) S caller p
 
--- A standing tells of a state at a caller and a package. Of an owner or admin, whose role alone
--- lets him write, its list of grants tells nothing. In `grants` neither the order counts
--- nor how often a grant stands there.
+-- A standing agrees with a state at a caller and a package. Of an owner or admin, whose role alone
+-- lets them write, its list of grants means nothing. In `grants` neither the order counts
+-- nor how often a grant occurs there.
 pub record StandingTells (standing : Standing) (S : Access) (caller : Caller) (p : Text) : Type 0 where
   pub organisation : standing.organisation ≡ has_scope S (scope_of p)
   pub role : standing.role ≡ scope_role S caller (scope_of p)

@@ -1,7 +1,7 @@
 -- What a standing says of a caller.
 use Rattle.std.specs.Prelude.{Bool, false, List, None}
 use Rattle.std.specs.List.{list_any}
-use Rattle.registry_access.specs.Levels.{is_grant, greatest}
+use Rattle.registry_access.specs.Levels.{is_grant, greatest_grant}
 use Rattle.registry_access.specs.declared.grant.Grant.{Grant}
 use Rattle.registry_access.specs.declared.caller.Caller.{Caller}
 use Rattle.registry_access.specs.declared.caller.Caller.TheVariants.{Operator, User, Anonymous}
@@ -17,5 +17,5 @@ outsider s = record { organisation = s.organisation; role = None; status = s.sta
 
 abbrev pub position_of : Standing → Caller → Position
 position_of s Operator = outsider s
-position_of s (User u) = record { organisation = s.organisation; role = s.role; status = s.status; maintainer = s.maintainer; grant = greatest (is_listed s.grants.items) }
+position_of s (User u) = record { organisation = s.organisation; role = s.role; status = s.status; maintainer = s.maintainer; grant = greatest_grant (is_listed s.grants.items) }
 position_of s Anonymous = outsider s

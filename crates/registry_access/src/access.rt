@@ -23,7 +23,7 @@ use registry_names::{Ident, Name, Refusal, Rule};
 
 /// The caller's level on a package.
 ///
-/// It is what the rows say as they stand, and so what each state says that they stand for: each
+/// It is what the rows say, and so what each state says with which they agree: each
 /// that has the same of this caller and this package. More rows than are needed do no harm.
 pub fn level(rows: &AccessRows, caller: &Caller, name: &Name) -> Level
     ensures of_rows { result ≡ level_in (state_of rows.now) caller.now name.now }
@@ -42,11 +42,11 @@ pub fn level_of(standing: &Standing, caller: &Caller) -> Level
     Position::in_standing(standing, caller).level()
 }
 
-/// The rule that allows the caller what he asks, or the first of these refusals.
+/// The rule that allows the caller what they ask, or the first of these refusals.
 ///
 /// - `NoCaller`: an anonymous caller asks for anything but to see a package.
 /// - `NotFound`: an organisation that is named, or that the scope of a publish names, isn't there;
-///   or the caller has level nothing on a package that he asks about, but to publish it.
+/// or the caller has level nothing on a package that they ask about, except to publish it.
 /// - `Denied`: the rule that would allow it doesn't.
 pub fn allowed(rows: &AccessRows, caller: &Caller, ask: &Ask) -> Result<Rule, Refusal>
     ensures of_rows { result ≡ allowed_in (state_of rows.now) caller.now ask.now }

@@ -6,7 +6,7 @@ use registry_names::Ident;
 /// names nobody makes no caller.
 #[derive(Drop)]
 pub enum Caller {
-    /// Who runs the registry. He manages its users, tokens and organisations, and else has what
+    /// Who runs the registry: manages its users, tokens and organisations, and else has what
     /// everybody has.
     Operator,
     /// A user.

@@ -1,17 +1,17 @@
-//! Laws of the policy. Each stands as the contract of a function that does nothing.
+//! Laws of the policy. Each is the contract of a function that does nothing.
 
 ghost use Rattle.registry_access.specs.Hiding.{UnreadAreHidden};
 ghost use Rattle.registry_access.specs.Laws.{AgreeingAllow, GreatestGrantCounts, WholeRowsStand, WritersRead};
 
-/// A package that a caller may not read is hidden from him: where every package without a scope is
-/// public, whatever he asks, but to publish it as a member of its scope, he gets what he would get
-/// were it never published.
+/// A package that a caller may not read is hidden from them: where every package without a scope is
+/// public, whatever they ask, except to publish it as a member of its scope, they get what they
+/// would get were it never published.
 pub fn unread_are_hidden()
     ensures { UnreadAreHidden }
 {}
 
 /// Of what a caller's teams are granted on a package the greatest counts, in whatever order the
-/// teams stand.
+/// teams come.
 pub fn greatest_grant_counts()
     ensures { GreatestGrantCounts }
 {}
@@ -22,9 +22,9 @@ pub fn writers_read()
     ensures { WritersRead }
 {}
 
-/// A caller is allowed by nothing but what his ask concerns: of an organisation, whether it is
-/// there and his role in it; of a package, besides, its status, whether he is a maintainer of it,
-/// and what his teams are granted on it.
+/// A caller is allowed by nothing but what their ask concerns: of an organisation, whether it is
+/// there and their role in it; of a package, besides, its status, whether they are a maintainer of
+/// it, and what their teams are granted on it.
 pub fn agreeing_states_allow_the_same()
     ensures { AgreeingAllow }
 {}

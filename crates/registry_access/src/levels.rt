@@ -3,10 +3,11 @@
 /// What a caller may do with a package, in rising order.
 #[derive(Clone, Copy, Debug, PartialEq, Eq, PartialOrd, Ord)]
 pub enum Level {
-    /// He can't tell it from a package that was never published.
+    /// As if the package had never been published, except to a member of its scope who publishes
+    /// it.
     Nothing,
-    /// He sees it.
+    /// To see it.
     Read,
-    /// He also publishes its versions, and changes and withdraws them.
+    /// To publish, change and withdraw its versions, too.
     Write,
 }

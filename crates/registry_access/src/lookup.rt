@@ -6,7 +6,7 @@ ghost use Rattle.registry_names.specs.Maps.{at};
 ghost use Rattle.registry_names.specs.Texts as texts;
 ghost use Rattle.registry_access.specs.Callers as spec;
 ghost use Rattle.registry_access.specs.Callers.{granted, team_granted};
-ghost use Rattle.registry_access.specs.Levels.{greatest};
+ghost use Rattle.registry_access.specs.Levels.{greatest_grant};
 ghost use Rattle.registry_access.specs.RowMaps.{state_of};
 
 use crate::caller::Caller;
@@ -35,7 +35,7 @@ impl AccessRows {
         status_of(&self.packages, name)
     }
 
-    /// The caller's role in the organisation, if he is a member.
+    /// The caller's role in the organisation, if they are a member.
     pub(crate) fn role_of(&self, caller: &Caller, organisation: &str) -> Option<Role>
         ensures { result ≡ spec.role_of (state_of self.now) caller.now organisation.now }
     {
@@ -80,7 +80,7 @@ impl AccessRows {
 
     // The greatest of what the user's teams are granted on the package.
     fn user_grant(&self, user: &str, name: &str) -> Option<Grant>
-        ensures { result ≡ greatest (team_granted (state_of self.now) user.now name.now) }
+        ensures { result ≡ greatest_grant (team_granted (state_of self.now) user.now name.now) }
     {
         if self.is_granted(user, name, Grant::ReadWrite) {
             Some(Grant::ReadWrite)
@@ -93,7 +93,7 @@ impl AccessRows {
 
     /// The greatest of what the caller's teams are granted on the package.
     pub(crate) fn greatest_grant(&self, caller: &Caller, name: &str) -> Option<Grant>
-        ensures { result ≡ greatest (granted (state_of self.now) caller.now name.now) }
+        ensures { result ≡ greatest_grant (granted (state_of self.now) caller.now name.now) }
     {
         match caller {
             Caller::User(user) => self.user_grant(user.text(), name),

@@ -51,7 +51,7 @@ pub fn may_operate(caller: &Caller) -> Result<Rule, Refusal>
     by_rule(Rule::A1, matches!(caller, Caller::Operator))
 }
 
-// What the rule says to a known caller, where what he asks for is found.
+// What the rule says to a known caller, where what they ask for is found.
 fn where_found(caller: &Caller, found: bool, rule: Rule, holds: bool) -> Result<Rule, Refusal>
     ensures { result
         ≡ spec.for_known caller.now (spec.where_found found (spec.by_rule rule holds)) }

@@ -1,8 +1,8 @@
-//! How a caller stands to a package, and the level that follows from it.
+//! What a caller is to a package, and the level that follows from it.
 
 ghost use Rattle.std.specs.Prelude.{◌≡◌};
 ghost use Rattle.registry_access.specs.Levels as levels;
-ghost use Rattle.registry_access.specs.Levels.{greatest};
+ghost use Rattle.registry_access.specs.Levels.{greatest_grant};
 ghost use Rattle.registry_access.specs.Positions.{level_at, position_in};
 ghost use Rattle.registry_access.specs.RowMaps.{state_of};
 ghost use Rattle.registry_access.specs.Standings.{is_listed, position_of};
@@ -62,7 +62,7 @@ fn is_listed(grants: &[Grant], grant: Grant) -> bool
 }
 
 fn greatest_listed(grants: &[Grant]) -> Option<Grant>
-    ensures { result ≡ greatest (is_listed grants.now) }
+    ensures { result ≡ greatest_grant (is_listed grants.now) }
 {
     if is_listed(grants, Grant::ReadWrite) {
         Some(Grant::ReadWrite)

@@ -11,7 +11,7 @@ pub struct MemberRow {
     pub organisation: Text,
     /// The member's name.
     pub user: Text,
-    /// What he is in it.
+    /// What they are in it.
     pub role: Role,
 }
 
@@ -66,7 +66,7 @@ pub struct MaintainerRow {
     pub user: Text,
 }
 
-/// Rows of the registry's tables, all of them or those that an ask concerns. Where a key stands
+/// Rows of the registry's tables, all of them or those that an ask concerns. Where a key occurs
 /// twice in a list, its first row counts.
 pub struct AccessRows {
     /// The names of the organisations.

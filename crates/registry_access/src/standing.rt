@@ -1,21 +1,21 @@
-//! How one caller stands to one package.
+//! What one caller is to one package.
 
 use crate::grant::Grant;
 use crate::role::Role;
 use registry_names::Status;
 
-/// How one caller stands to one package.
+/// What one caller is to one package.
 #[derive(Drop)]
 pub struct Standing {
     /// Whether the organisation of the package's scope is there. False for a package without one.
     pub organisation: bool,
-    /// The caller's role in that organisation, if he is a member of it.
+    /// The caller's role in that organisation, if they are a member of it.
     pub role: Option<Role>,
     /// The package's status. None where it was never published.
     pub status: Option<Status>,
     /// Whether the caller is a maintainer of the package.
     pub maintainer: bool,
     /// What the caller's teams are granted on the package, in any order. Of an owner or admin,
-    /// whose role alone lets him write, it tells nothing.
+    /// whose role alone lets them write, it means nothing.
     pub grants: Vec<Grant>,
 }

@@ -6,7 +6,7 @@ use Rattle.std.proofs.lemmas.Slice.Eq.{bytes_eq-Decides}
 use Rattle.clap.specs.Walk.{Rule, Text}
 use Rattle.registry_cli.proofs.WholeFacts.{found_has}
 use Rattle.registry_cli.specs.Asked.{verb_of}
-use Rattle.registry_cli.specs.Lines.{IsWhole, asks_to_serve, word_at}
+use Rattle.registry_cli.specs.Lines.{IsWhole, asks_to_serve, argument_at}
 use Rattle.registry_cli.specs.Subcommands.{subcommands}
 
 all_ask : list_all (λ s. bytes_eq s.0 (codes "serve") || is_some (verb_of s.0)) subcommands ≡ true
@@ -25,9 +25,9 @@ or_else : (a b : Bool) → a ≡ false → (a || b) ≡ true → b ≡ true
 or_else true b isnt e = absurd (true≢false isnt)
 or_else false b isnt e = e
 
-pub verb_is : (what : List Text) → IsWhole what → asks_to_serve what ≡ false → is_some (verb_of (word_at what 0)) ≡ true
+pub verb_is : (what : List Text) → IsWhole what → asks_to_serve what ≡ false → is_some (verb_of (argument_at what 0)) ≡ true
 verb_is [] whole asks = absurd whole
-verb_is (name ∷ words) whole asks = go (find (λ s. bytes_eq s.0 name) subcommands) refl whole.0
+verb_is (name ∷ arguments) whole asks = go (find (λ s. bytes_eq s.0 name) subcommands) refl whole.0
   where
     go : (o : Option (Text × List Rule)) → find (λ s. bytes_eq s.0 name) subcommands ≡ o → is_some o ≡ true → is_some (verb_of name) ≡ true
     go None found given = absurd (true≢false (sym given))

@@ -1,4 +1,4 @@
--- What a line names is a subcommand with as many words as it has.
+-- What a line names is a subcommand with as many arguments as it has.
 use Rattle.std.proofs.Common.{◌≡◌, ◌∙◌, Bool, true, false, List, [], ◌∷◌, Option, Some, None, ap, cond, find, is_some, option_map, refl, sym, true≢false}
 use Rattle.std.specs.Prelude.{Box}
 use Rattle.std.specs.List.{list_all}
@@ -7,7 +7,7 @@ use Rattle.clap.specs.Simple.{Shape, built, entered, label_of, names_of, argumen
 use Rattle.clap.specs.Walk.{Text, answers_to, stop_after}
 use Rattle.clap.specs.declared.parser.matches.SubCommand.{SubCommand}
 use Rattle.clap.proofs.WalkLemmas.{both}
-use Rattle.registry_cli.specs.Lines.{IsWhole, is_called, told, value_in, words_of}
+use Rattle.registry_cli.specs.Lines.{IsWhole, is_called, told, value_in, parameters_of}
 use Rattle.registry_cli.specs.Subcommands.{registry}
 
 -- what is found has what all have
@@ -31,10 +31,10 @@ entered_whole (Some p) given = go (find (λ s. answers_to p.0 (label_of s)) (bui
         → is_some (option_map (λ s. rows_at s p.1) o) ≡ true → IsWhole (told (option_map (λ s. rows_at s p.1) o))
     go None found given = absurd (true≢false (sym given))
     go (Some s) found given =
-        (found_has (λ s. is_called s.name) (λ s. answers_to p.0 (label_of s)) (built registry).subs s all_called found, length-map (words_of s.name) (value_in (rows_at s p.1).1))
+        (found_has (λ s. is_called s.name) (λ s. answers_to p.0 (label_of s)) (built registry).subs s all_called found, length-map (parameters_of s.name) (value_in (rows_at s p.1).1))
 
-pub whole_of : (words : List Text) → is_some (subcommand_of registry words) ≡ true → IsWhole (told (subcommand_of registry words))
-whole_of words given = entered_whole (stop_after (built registry).top.rules (names_of (built registry)) (argument_words registry words)) given
+pub whole_of : (arguments : List Text) → is_some (subcommand_of registry arguments) ≡ true → IsWhole (told (subcommand_of registry arguments))
+whole_of arguments given = entered_whole (stop_after (built registry).top.rules (names_of (built registry)) (argument_words registry arguments)) given
 
 pub used_is : {Z : Type 0} (b : Option (Box SubCommand Z)) → is_some b ≡ true → is_some (subcommand_rows b) ≡ true
 used_is None given = given

@@ -7,7 +7,7 @@ use Rattle.registry_rules.specs.declared.request.Action.{Action}
 use Rattle.registry_rules.specs.declared.request.Action.TheVariants as action
 use Rattle.registry_rules.specs.declared.request.Credential.{Credential}
 use Rattle.registry_rules.specs.declared.request.Credential.TheVariants as credential
-use Rattle.registry_cli.specs.Lines.{word_at}
+use Rattle.registry_cli.specs.Lines.{argument_at}
 use Rattle.registry_cli.specs.Readings.{Reading, four, gives, one, read_then, reads_asked, reads_ident, reads_level, reads_message, reads_name, reads_role, reads_selector, reads_status, reads_tag, reads_token, reads_version, three, two}
 use Rattle.registry_cli.specs.declared.action.Verb.{Verb}
 use Rattle.registry_cli.specs.declared.action.Verb.TheVariants.{UserAdd, TokenAdd, OrgCreate, OrgSet, OrgRemove, TeamCreate, TeamDestroy, TeamAdd, TeamRemove, Grant, Revoke, SetAccess, OwnerAdd, OwnerRemove, Publish, TagSet, TagRemove, Deprecate, Withdraw, Packument, VersionDoc, Archive, Tags, Members, Teams, TeamMembers, TeamPackages}
@@ -58,45 +58,45 @@ verb_of name =
 abbrev pub reads_form : List ℕ → Reading FormParts
 reads_form body result = MatchResult result (IsFormOf body) (StopsForm body)
 
--- the words behind the subcommand's name, in their order, and what they ask for
+-- the arguments after the subcommand's name, in their order, and what they ask for
 abbrev pub asked : Verb → List Text → List ℕ → Reading Action
-asked UserAdd words body = read_then (one reads_ident words) (λ p. gives (action.UserAdd p))
-asked TokenAdd words body = read_then (two reads_ident reads_token words) (λ p. gives (action.TokenAdd p.0 p.1))
-asked OrgCreate words body = read_then (two reads_ident reads_ident words) (λ p. gives (action.OrgCreate p.0 p.1))
-asked OrgSet words body = read_then (three reads_ident reads_ident reads_role words) (λ p. gives (action.OrgSet p.0 p.1 p.2))
-asked OrgRemove words body = read_then (two reads_ident reads_ident words) (λ p. gives (action.OrgRemove p.0 p.1))
-asked TeamCreate words body = read_then (two reads_ident reads_ident words) (λ p. gives (action.TeamCreate p.0 p.1))
-asked TeamDestroy words body = read_then (two reads_ident reads_ident words) (λ p. gives (action.TeamDestroy p.0 p.1))
-asked TeamAdd words body = read_then (three reads_ident reads_ident reads_ident words) (λ p. gives (action.TeamAdd p.0 p.1 p.2))
-asked TeamRemove words body = read_then (three reads_ident reads_ident reads_ident words) (λ p. gives (action.TeamRemove p.0 p.1 p.2))
-asked Grant words body = read_then (four reads_ident reads_ident reads_name reads_level words) (λ p. gives (action.Grant p.0 p.1 p.2 p.3))
-asked Revoke words body = read_then (three reads_ident reads_ident reads_name words) (λ p. gives (action.Revoke p.0 p.1 p.2))
-asked SetAccess words body = read_then (two reads_name reads_status words) (λ p. gives (action.SetAccess p.0 p.1))
-asked OwnerAdd words body = read_then (two reads_name reads_ident words) (λ p. gives (action.OwnerAdd p.0 p.1))
-asked OwnerRemove words body = read_then (two reads_name reads_ident words) (λ p. gives (action.OwnerRemove p.0 p.1))
-asked Publish words body = read_then (reads_form body) (λ form. gives (action.Publish form))
-asked TagSet words body = read_then (three reads_name reads_tag reads_version words) (λ p. gives (action.TagSet p.0 p.1 p.2))
-asked TagRemove words body = read_then (two reads_name reads_tag words) (λ p. gives (action.TagRemove p.0 p.1))
-asked Deprecate words body = read_then (three reads_name reads_selector reads_message words) (λ p. gives (action.Deprecate p.0 p.1 p.2))
-asked Withdraw words body = read_then (two reads_name reads_version words) (λ p. gives (action.Withdraw p.0 p.1))
-asked Packument words body = read_then (one reads_name words) (λ p. gives (action.Packument p))
-asked VersionDoc words body = read_then (two reads_name reads_asked words) (λ p. gives (action.VersionDoc p.0 p.1))
-asked Archive words body = read_then (two reads_name reads_version words) (λ p. gives (action.Archive p.0 p.1))
-asked Tags words body = read_then (one reads_name words) (λ p. gives (action.Tags p))
-asked Members words body = read_then (one reads_ident words) (λ p. gives (action.Members p))
-asked Teams words body = read_then (one reads_ident words) (λ p. gives (action.Teams p))
-asked TeamMembers words body = read_then (two reads_ident reads_ident words) (λ p. gives (action.TeamMembers p.0 p.1))
-asked TeamPackages words body = read_then (two reads_ident reads_ident words) (λ p. gives (action.TeamPackages p.0 p.1))
+asked UserAdd arguments body = read_then (one reads_ident arguments) (λ p. gives (action.UserAdd p))
+asked TokenAdd arguments body = read_then (two reads_ident reads_token arguments) (λ p. gives (action.TokenAdd p.0 p.1))
+asked OrgCreate arguments body = read_then (two reads_ident reads_ident arguments) (λ p. gives (action.OrgCreate p.0 p.1))
+asked OrgSet arguments body = read_then (three reads_ident reads_ident reads_role arguments) (λ p. gives (action.OrgSet p.0 p.1 p.2))
+asked OrgRemove arguments body = read_then (two reads_ident reads_ident arguments) (λ p. gives (action.OrgRemove p.0 p.1))
+asked TeamCreate arguments body = read_then (two reads_ident reads_ident arguments) (λ p. gives (action.TeamCreate p.0 p.1))
+asked TeamDestroy arguments body = read_then (two reads_ident reads_ident arguments) (λ p. gives (action.TeamDestroy p.0 p.1))
+asked TeamAdd arguments body = read_then (three reads_ident reads_ident reads_ident arguments) (λ p. gives (action.TeamAdd p.0 p.1 p.2))
+asked TeamRemove arguments body = read_then (three reads_ident reads_ident reads_ident arguments) (λ p. gives (action.TeamRemove p.0 p.1 p.2))
+asked Grant arguments body = read_then (four reads_ident reads_ident reads_name reads_level arguments) (λ p. gives (action.Grant p.0 p.1 p.2 p.3))
+asked Revoke arguments body = read_then (three reads_ident reads_ident reads_name arguments) (λ p. gives (action.Revoke p.0 p.1 p.2))
+asked SetAccess arguments body = read_then (two reads_name reads_status arguments) (λ p. gives (action.SetAccess p.0 p.1))
+asked OwnerAdd arguments body = read_then (two reads_name reads_ident arguments) (λ p. gives (action.OwnerAdd p.0 p.1))
+asked OwnerRemove arguments body = read_then (two reads_name reads_ident arguments) (λ p. gives (action.OwnerRemove p.0 p.1))
+asked Publish arguments body = read_then (reads_form body) (λ form. gives (action.Publish form))
+asked TagSet arguments body = read_then (three reads_name reads_tag reads_version arguments) (λ p. gives (action.TagSet p.0 p.1 p.2))
+asked TagRemove arguments body = read_then (two reads_name reads_tag arguments) (λ p. gives (action.TagRemove p.0 p.1))
+asked Deprecate arguments body = read_then (three reads_name reads_selector reads_message arguments) (λ p. gives (action.Deprecate p.0 p.1 p.2))
+asked Withdraw arguments body = read_then (two reads_name reads_version arguments) (λ p. gives (action.Withdraw p.0 p.1))
+asked Packument arguments body = read_then (one reads_name arguments) (λ p. gives (action.Packument p))
+asked VersionDoc arguments body = read_then (two reads_name reads_asked arguments) (λ p. gives (action.VersionDoc p.0 p.1))
+asked Archive arguments body = read_then (two reads_name reads_version arguments) (λ p. gives (action.Archive p.0 p.1))
+asked Tags arguments body = read_then (one reads_name arguments) (λ p. gives (action.Tags p))
+asked Members arguments body = read_then (one reads_ident arguments) (λ p. gives (action.Members p))
+asked Teams arguments body = read_then (one reads_ident arguments) (λ p. gives (action.Teams p))
+asked TeamMembers arguments body = read_then (two reads_ident reads_ident arguments) (λ p. gives (action.TeamMembers p.0 p.1))
+asked TeamPackages arguments body = read_then (two reads_ident reads_ident arguments) (λ p. gives (action.TeamPackages p.0 p.1))
 
 abbrev pub reads_verb : Option Verb → List Text → List ℕ → Reading Action
-reads_verb (Some verb) words body = asked verb words body
-reads_verb None words body = λ result. ⊥
+reads_verb (Some verb) arguments body = asked verb arguments body
+reads_verb None arguments body = λ result. ⊥
 
 abbrev pub reads_action : List Text → List ℕ → Reading Action
-reads_action words body = reads_verb (verb_of (word_at words 0)) words body
+reads_action arguments body = reads_verb (verb_of (argument_at arguments 0)) arguments body
 
 -- ---- the line
 
--- the user's name first, then the words from left to right
+-- the user's name first, then the arguments from left to right
 abbrev pub reads_line : Line → List ℕ → Reading (Credential × Action)
 reads_line line body = read_then (reads_who line.who) (λ who. read_then (reads_action line.what body) (λ what. gives (who, what)))

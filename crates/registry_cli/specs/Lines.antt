@@ -1,4 +1,4 @@
--- What a line of words means.
+-- What a command line means.
 use Rattle.std.specs.Prelude.{◌≡◌, ℕ, Bool, true, false, List, [], ◌∷◌, length, map, find, Option, None, Some, codes, option_and_then, option_map, unwrap_or, slice_get, is_some, ◌&&◌, if◌then◌else◌}
 use Rattle.std.specs.Str.{bytes_eq}
 use Rattle.std.specs.Str.Parse.{signed_digits_value}
@@ -13,7 +13,7 @@ use Rattle.registry_cli.specs.declared.meaning.Line.{Line}
 
 -- ---- of what was found of the options and of the subcommand
 
--- the value of the word that is called so, and the empty text where there is none
+-- the value of the argument with this name, and the empty text where there is none
 abbrev pub value_in : List Row → Text → Text
 value_in rows id = unwrap_or (first_of id rows) []
 
@@ -45,34 +45,34 @@ moment_in text = if accepts false moments text then moment_of (signed_digits_val
 abbrev pub at_in : List Row → Option ℕ
 at_in rows = option_and_then moment_in (first_of (codes "SECONDS") rows)
 
--- what the words of a subcommand are called, in their order
-abbrev pub words_of : Text → List Text
-words_of name = unwrap_or (option_map (λ s. map (λ w. w.id) s.1) (find (λ s. bytes_eq s.0 name) subcommands)) []
+-- what the arguments of a subcommand are called, in their order
+abbrev pub parameters_of : Text → List Text
+parameters_of name = unwrap_or (option_map (λ s. map (λ w. w.id) s.1) (find (λ s. bytes_eq s.0 name) subcommands)) []
 
 abbrev pub is_called : Text → Bool
 is_called name = is_some (find (λ s. bytes_eq s.0 name) subcommands)
 
--- the word behind so many, and the empty text where there is none
-abbrev pub word_at : List Text → ℕ → Text
-word_at what i = unwrap_or (slice_get what i) []
+-- the argument after so many, and the empty text where there is none
+abbrev pub argument_at : List Text → ℕ → Text
+argument_at what i = unwrap_or (slice_get what i) []
 
 -- the subcommand asks to serve, and so for no action
 abbrev pub asks_to_serve : List Text → Bool
-asks_to_serve what = bytes_eq (word_at what 0) (codes "serve")
+asks_to_serve what = bytes_eq (argument_at what 0) (codes "serve")
 
 -- the file that a publish names
 abbrev pub file_of : List Text → Option Text
-file_of what = if bytes_eq (word_at what 0) (codes "publish") then Some (word_at what 1) else None
+file_of what = if bytes_eq (argument_at what 0) (codes "publish") then Some (argument_at what 1) else None
 
--- the name of a subcommand, and as many words as it has
+-- the name of a subcommand, and as many arguments as it has
 abbrev pub IsWhole : List Text → Type 0
 IsWhole [] = ⊥
-IsWhole (name ∷ words) = (is_called name ≡ true) × (length words ≡ length (words_of name))
+IsWhole (name ∷ arguments) = (is_called name ≡ true) × (length arguments ≡ length (parameters_of name))
 
--- the subcommand's name and its words in their order, defaults filled in
+-- the subcommand's name and its arguments in their order, defaults filled in
 abbrev pub told : Option (Text × List Row) → List Text
 told None = []
-told (Some found) = found.0 ∷ map (value_in found.1) (words_of found.0)
+told (Some found) = found.0 ∷ map (value_in found.1) (parameters_of found.0)
 
 abbrev pub line_in : List Row → Option (Text × List Row) → Line
 line_in rows found = record {
@@ -82,10 +82,10 @@ line_in rows found = record {
   what = told found;
 }
 
--- ---- of the words
+-- ---- of the arguments
 
 abbrev pub has_both : List Text → Bool
-has_both words = are_both_in (matches_of registry words)
+has_both arguments = are_both_in (matches_of registry arguments)
 
 abbrev pub line_of : List Text → Line
-line_of words = line_in (matches_of registry words) (subcommand_of registry words)
+line_of arguments = line_in (matches_of registry arguments) (subcommand_of registry arguments)

@@ -1,4 +1,4 @@
--- What words are read as: what may be answered of a text.
+-- What arguments are read as: what may be answered of a text.
 use Rattle.std.specs.Prelude.{◌≡◌, ◌⊎◌, ℕ, true, false, List, Some, None, Result, Ok, Err}
 use Rattle.std.specs.Str.{bytes_eq}
 use Rattle.registry_names.specs.Texts.{Text}
@@ -20,14 +20,14 @@ use Rattle.registry_access.specs.declared.grant.Grant.{Grant}
 use Rattle.registry_publish.specs.Tokens.{digest_of}
 use Rattle.registry_rules.specs.declared.request.Asked.{Asked}
 use Rattle.registry_rules.specs.declared.request.Asked.TheVariants.{Exact, Latest}
-use Rattle.registry_cli.specs.Lines.{word_at}
+use Rattle.registry_cli.specs.Lines.{argument_at}
 use Rattle.registry_cli.specs.Spellings as spelled
 
 -- what may be answered where a value of this type is to be read
 abbrev pub Reading : Type 0 → Type 1
 Reading A = Result A Stop → Type 0
 
--- ---- one word
+-- ---- one argument
 
 abbrev pub reads_ident : Text → Reading Text
 reads_ident t (Ok name) = (name ≡ t) × (is_ident t ≡ true)
@@ -75,7 +75,7 @@ reads_asked t (Ok Latest) = bytes_eq t latest ≡ true
 reads_asked t (Ok (Exact v)) = (bytes_eq t latest ≡ false) × IsVersionOf t v
 reads_asked t (Err stop) = (bytes_eq t latest ≡ false) × IsMemoryOr BadVersion (¬ IsVersion t) stop
 
--- ---- words in their order
+-- ---- arguments in their order
 
 -- the value, and nothing else
 abbrev pub gives : {A : Type 0} → A → Reading A
@@ -86,18 +86,18 @@ abbrev pub read_then : {A B : Type 0} → Reading A → (A → Reading B) → Re
 read_then {A} first next (Ok b) = (a : A) × first (Ok a) × next a (Ok b)
 read_then {A} first next (Err stop) = first (Err stop) ⊎ ((a : A) × first (Ok a) × next a (Err stop))
 
--- the words behind a subcommand's name
+-- the arguments after a subcommand's name
 abbrev pub one : {A : Type 0} → (Text → Reading A) → List Text → Reading A
-one a words = a (word_at words 1)
+one a arguments = a (argument_at arguments 1)
 
 unfoldable pub two : {A B : Type 0} → (Text → Reading A) → (Text → Reading B) → List Text → Reading (A × B)
-two a b words = read_then (a (word_at words 1)) (λ x. read_then (b (word_at words 2)) (λ y. gives (x, y)))
+two a b arguments = read_then (a (argument_at arguments 1)) (λ x. read_then (b (argument_at arguments 2)) (λ y. gives (x, y)))
 
 unfoldable pub three : {A B C : Type 0} → (Text → Reading A) → (Text → Reading B) → (Text → Reading C) → List Text → Reading (A × B × C)
-three a b c words =
-    read_then (a (word_at words 1)) (λ x. read_then (b (word_at words 2)) (λ y. read_then (c (word_at words 3)) (λ z. gives (x, y, z))))
+three a b c arguments =
+    read_then (a (argument_at arguments 1)) (λ x. read_then (b (argument_at arguments 2)) (λ y. read_then (c (argument_at arguments 3)) (λ z. gives (x, y, z))))
 
 unfoldable pub four : {A B C D : Type 0} → (Text → Reading A) → (Text → Reading B) → (Text → Reading C) → (Text → Reading D) → List Text → Reading (A × B × C × D)
-four a b c d words =
-    read_then (a (word_at words 1)) (λ x. read_then (b (word_at words 2)) (λ y. read_then (c (word_at words 3)) (λ z.
-    read_then (d (word_at words 4)) (λ u. gives (x, y, z, u)))))
+four a b c d arguments =
+    read_then (a (argument_at arguments 1)) (λ x. read_then (b (argument_at arguments 2)) (λ y. read_then (c (argument_at arguments 3)) (λ z.
+    read_then (d (argument_at arguments 4)) (λ u. gives (x, y, z, u)))))

@@ -1,5 +1,5 @@
--- The words that the program takes: its options, and its subcommands with their words, a line for
--- each.
+-- The arguments that the program takes: its options, and its subcommands with their arguments, a
+-- line for each.
 use Rattle.std.specs.Prelude.{ℕ, pos, true, List, [], ◌∷◌, fold, Some, codes}
 use Rattle.clap.specs.Walk.{Rule, Text}
 use Rattle.clap.specs.Simple.{App, Shape, new_app, new_rule, on_top, with_rule, with_subcommand}
@@ -7,13 +7,13 @@ use Rattle.clap.specs.declared.builder.action.ArgAction.TheVariants.{SetTrue}
 use Rattle.clap.specs.declared.builder.value_parser.ValueParser.{ValueParser}
 use Rattle.clap.specs.declared.builder.value_parser.ValueParser.TheVariants.{Signed}
 
--- ---- what a word can be
+-- ---- what an argument can be
 
--- a word that has to be there
+-- an argument that has to be there
 abbrev pub required : Text → Rule
 required id = record (new_rule id) { required = true }
 
--- a word that may be left out, and is this text then
+-- an argument that may be left out, and is this text then
 abbrev pub optional : Text → Text → Rule
 optional id text = record (new_rule id) { defaults = text ∷ [] }
 
@@ -30,7 +30,7 @@ abbrev pub number : Text → Text → ValueParser → Rule
 number id name values = record (option id name) { parser = Some values }
 
 abbrev pub with_default : Text → Rule → Rule
-with_default text word = record word { defaults = text ∷ [] }
+with_default text rule = record rule { defaults = text ∷ [] }
 
 -- ---- the options before the subcommand
 
@@ -54,7 +54,7 @@ at_moment = number (codes "SECONDS") (codes "at") moments
 abbrev pub options : List Rule
 options = db ∷ as_user ∷ as_operator ∷ at_moment ∷ []
 
--- ---- the words of subcommands
+-- ---- the arguments of subcommands
 
 abbrev pub user : Rule
 user = required (codes "USER")
@@ -62,8 +62,8 @@ user = required (codes "USER")
 abbrev pub token : Rule
 token = required (codes "TOKEN")
 
-abbrev pub org : Rule
-org = required (codes "ORG")
+abbrev pub organisation : Rule
+organisation = required (codes "ORG")
 
 abbrev pub role : Rule
 role = optional (codes "ROLE") (codes "developer")
@@ -107,15 +107,15 @@ abbrev pub subcommands : List (Text × List Rule)
 subcommands =
     (codes "user-add", user ∷ [])
     ∷ (codes "token-add", user ∷ token ∷ [])
-    ∷ (codes "org-create", org ∷ user ∷ [])
-    ∷ (codes "org-set", org ∷ user ∷ role ∷ [])
-    ∷ (codes "org-rm", org ∷ user ∷ [])
-    ∷ (codes "team-create", org ∷ team ∷ [])
-    ∷ (codes "team-destroy", org ∷ team ∷ [])
-    ∷ (codes "team-add", org ∷ team ∷ user ∷ [])
-    ∷ (codes "team-rm", org ∷ team ∷ user ∷ [])
-    ∷ (codes "grant", org ∷ team ∷ name ∷ level ∷ [])
-    ∷ (codes "revoke", org ∷ team ∷ name ∷ [])
+    ∷ (codes "org-create", organisation ∷ user ∷ [])
+    ∷ (codes "org-set", organisation ∷ user ∷ role ∷ [])
+    ∷ (codes "org-rm", organisation ∷ user ∷ [])
+    ∷ (codes "team-create", organisation ∷ team ∷ [])
+    ∷ (codes "team-destroy", organisation ∷ team ∷ [])
+    ∷ (codes "team-add", organisation ∷ team ∷ user ∷ [])
+    ∷ (codes "team-rm", organisation ∷ team ∷ user ∷ [])
+    ∷ (codes "grant", organisation ∷ team ∷ name ∷ level ∷ [])
+    ∷ (codes "revoke", organisation ∷ team ∷ name ∷ [])
     ∷ (codes "access", name ∷ status ∷ [])
     ∷ (codes "owner-add", name ∷ user ∷ [])
     ∷ (codes "owner-rm", name ∷ user ∷ [])
@@ -128,17 +128,17 @@ subcommands =
     ∷ (codes "version-doc", name ∷ version ∷ [])
     ∷ (codes "archive", name ∷ version ∷ [])
     ∷ (codes "tags", name ∷ [])
-    ∷ (codes "members", org ∷ [])
-    ∷ (codes "teams", org ∷ [])
-    ∷ (codes "team-members", org ∷ team ∷ [])
-    ∷ (codes "team-packages", org ∷ team ∷ [])
+    ∷ (codes "members", organisation ∷ [])
+    ∷ (codes "teams", organisation ∷ [])
+    ∷ (codes "team-members", organisation ∷ team ∷ [])
+    ∷ (codes "team-packages", organisation ∷ team ∷ [])
     ∷ (codes "serve", port ∷ connections ∷ [])
     ∷ []
 
 -- ---- the command
 
 abbrev pub with_rules : App → List Rule → App
-with_rules a words = fold with_rule a words
+with_rules a rules = fold with_rule a rules
 
 abbrev pub subcommand : Text × List Rule → Shape
 subcommand s = (with_rules (new_app s.0) s.1).top
@@ -146,7 +146,7 @@ subcommand s = (with_rules (new_app s.0) s.1).top
 abbrev pub with_subcommands : App → List (Text × List Rule) → App
 with_subcommands a rows = fold (λ b s. with_subcommand b (subcommand s)) a rows
 
--- the program's name isn't among the words, and a subcommand has to be there
+-- the program's name isn't among the arguments, and a subcommand has to be there
 abbrev pub bare : App
 bare = on_top (λ s. record s { no_binary_name = true; subcommand_required = true; disable_help_subcommand = true }) (new_app (codes "registry"))
 

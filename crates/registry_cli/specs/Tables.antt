@@ -4,7 +4,7 @@ use Rattle.clap.specs.Walk.{Rule, Text}
 use Rattle.registry_cli.specs.Subcommands.{number, numbers, optional, required, with_default}
 use Rattle.registry_cli.specs.declared.subcommand.Need.{Need}
 use Rattle.registry_cli.specs.declared.subcommand.Need.TheVariants.{Required, Default, Number}
-use Rattle.registry_cli.specs.declared.subcommand.Word.{Word}
+use Rattle.registry_cli.specs.declared.subcommand.Parameter.{Parameter}
 use Rattle.registry_cli.specs.declared.subcommand.Subcommand.{Subcommand}
 
 abbrev pub rule : Text → Need → Rule
@@ -12,8 +12,8 @@ rule id Required = required id
 rule id (Default text) = optional id text.now
 rule id (Number name most text) = with_default text.now (number id name.now (numbers 1 most))
 
-abbrev pub rule_of_word : Word → Rule
-rule_of_word w = rule w.id.now w.need
+abbrev pub rule_of_parameter : Parameter → Rule
+rule_of_parameter w = rule w.id.now w.need
 
 abbrev pub row_of : Subcommand → Text × List Rule
-row_of s = (s.name.now, map rule_of_word s.words.now)
+row_of s = (s.name.now, map rule_of_parameter s.parameters.now)

@@ -2,10 +2,10 @@
 
 ghost use Rattle.std.specs.Prelude.{◌≡◌, [], is_some, false, true};
 ghost use Rattle.registry_cli.specs.Asked as spec;
-ghost use Rattle.registry_cli.specs.Lines.{IsWhole, asks_to_serve, word_at};
+ghost use Rattle.registry_cli.specs.Lines.{IsWhole, asks_to_serve, argument_at};
 ghost use Rattle.registry_cli.specs.declared.action.Verb.TheVariants as verbs;
 
-use crate::arguments::{four, one, three, two, word_at};
+use crate::argument_values::{argument_at, four, one, three, two};
 use crate::meaning::{Line, Who};
 use registry_names::{Ident, Stop, Text};
 use registry_publish::PublishForm;
@@ -69,12 +69,12 @@ fn credential(alloc: Global, who: &Who) -> Result<Credential, Stop>
     }
 }
 
-fn action(alloc: Global, words: &[Text], body: &[u8]) -> Result<Action, Stop>
-    requires { is_some (spec.verb_of (word_at words.now 0)) ≡ true }
-    ensures { spec.reads_action words.now body.now result }
+fn action(alloc: Global, arguments: &[Text], body: &[u8]) -> Result<Action, Stop>
+    requires { is_some (spec.verb_of (argument_at arguments.now 0)) ≡ true }
+    ensures { spec.reads_action arguments.now body.now result }
 {
-    match verb_of(word_at(words, 0)) {
-        Some(verb) => asked(alloc, verb, words, body),
+    match verb_of(argument_at(arguments, 0)) {
+        Some(verb) => asked(alloc, verb, arguments, body),
         None => unreachable!(),
     }
 }
@@ -114,68 +114,68 @@ fn verb_of(name: &str) -> Option<Verb>
     }
 }
 
-fn asked(alloc: Global, verb: Verb, words: &[Text], body: &[u8]) -> Result<Action, Stop>
-    ensures { spec.asked verb words.now body.now result }
+fn asked(alloc: Global, verb: Verb, arguments: &[Text], body: &[u8]) -> Result<Action, Stop>
+    ensures { spec.asked verb arguments.now body.now result }
 {
     match verb {
-        Verb::UserAdd => user_add(alloc, words),
-        Verb::TokenAdd => token_add(alloc, words),
-        Verb::OrgCreate => org_create(alloc, words),
-        Verb::OrgSet => org_set(alloc, words),
-        Verb::OrgRemove => org_remove(alloc, words),
-        Verb::TeamCreate => team_create(alloc, words),
-        Verb::TeamDestroy => team_destroy(alloc, words),
-        Verb::TeamAdd => team_add(alloc, words),
-        Verb::TeamRemove => team_remove(alloc, words),
-        Verb::Grant => grant(alloc, words),
-        Verb::Revoke => revoke(alloc, words),
-        Verb::SetAccess => set_access(alloc, words),
-        Verb::OwnerAdd => owner_add(alloc, words),
-        Verb::OwnerRemove => owner_remove(alloc, words),
+        Verb::UserAdd => user_add(alloc, arguments),
+        Verb::TokenAdd => token_add(alloc, arguments),
+        Verb::OrgCreate => org_create(alloc, arguments),
+        Verb::OrgSet => org_set(alloc, arguments),
+        Verb::OrgRemove => org_remove(alloc, arguments),
+        Verb::TeamCreate => team_create(alloc, arguments),
+        Verb::TeamDestroy => team_destroy(alloc, arguments),
+        Verb::TeamAdd => team_add(alloc, arguments),
+        Verb::TeamRemove => team_remove(alloc, arguments),
+        Verb::Grant => grant(alloc, arguments),
+        Verb::Revoke => revoke(alloc, arguments),
+        Verb::SetAccess => set_access(alloc, arguments),
+        Verb::OwnerAdd => owner_add(alloc, arguments),
+        Verb::OwnerRemove => owner_remove(alloc, arguments),
         Verb::Publish => publish(alloc, body),
-        Verb::TagSet => tag_set(alloc, words),
-        Verb::TagRemove => tag_remove(alloc, words),
-        Verb::Deprecate => deprecate(alloc, words),
-        Verb::Withdraw => withdraw(alloc, words),
-        Verb::Packument => packument(alloc, words),
-        Verb::VersionDoc => version_doc(alloc, words),
-        Verb::Archive => archive(alloc, words),
-        Verb::Tags => tags(alloc, words),
-        Verb::Members => members(alloc, words),
-        Verb::Teams => teams(alloc, words),
-        Verb::TeamMembers => team_members(alloc, words),
-        Verb::TeamPackages => team_packages(alloc, words),
+        Verb::TagSet => tag_set(alloc, arguments),
+        Verb::TagRemove => tag_remove(alloc, arguments),
+        Verb::Deprecate => deprecate(alloc, arguments),
+        Verb::Withdraw => withdraw(alloc, arguments),
+        Verb::Packument => packument(alloc, arguments),
+        Verb::VersionDoc => version_doc(alloc, arguments),
+        Verb::Archive => archive(alloc, arguments),
+        Verb::Tags => tags(alloc, arguments),
+        Verb::Members => members(alloc, arguments),
+        Verb::Teams => teams(alloc, arguments),
+        Verb::TeamMembers => team_members(alloc, arguments),
+        Verb::TeamPackages => team_packages(alloc, arguments),
     }
 }
 
-fn user_add(alloc: Global, words: &[Text]) -> Result<Action, Stop>
-    ensures { spec.asked verbs.UserAdd words.now [] result }
+fn user_add(alloc: Global, arguments: &[Text]) -> Result<Action, Stop>
+    ensures { spec.asked verbs.UserAdd arguments.now [] result }
 {
-    let user = one(alloc, words)?;
+    let user = one(alloc, arguments)?;
     Ok(Action::UserAdd { user })
 }
 
-fn token_add(alloc: Global, words: &[Text]) -> Result<Action, Stop>
-    ensures { spec.asked verbs.TokenAdd words.now [] result }
+fn token_add(alloc: Global, arguments: &[Text]) -> Result<Action, Stop>
+    ensures { spec.asked verbs.TokenAdd arguments.now [] result }
 {
-    let (user, digest) = two(alloc, words)?;
+    let (user, digest) = two(alloc, arguments)?;
     Ok(Action::TokenAdd { user, digest })
 }
 
-fn org_create(alloc: Global, words: &[Text]) -> Result<Action, Stop>
-    ensures { spec.asked verbs.OrgCreate words.now [] result }
+fn org_create(alloc: Global, arguments: &[Text]) -> Result<Action, Stop>
+    ensures { spec.asked verbs.OrgCreate arguments.now [] result }
 {
-    let (organisation, owner) = two(alloc, words)?;
+    let (organisation, owner) = two(alloc, arguments)?;
     Ok(Action::OrgCreate {
         organisation,
         owner,
     })
 }
 
-fn org_set(alloc: Global, words: &[Text]) -> Result<Action, Stop>
-    ensures { spec.asked verbs.OrgSet words.now [] result }
+fn org_set(alloc: Global, arguments: &[Text]) -> Result<Action, Stop>
+    ensures { spec.asked verbs.OrgSet arguments.now [] result }
 {
-    let (organisation, user, role) = three(alloc, words)?;
+    let (organisation, user, role) = three(alloc, arguments)?;
     Ok(Action::OrgSet {
         organisation,
         user,
@@ -183,31 +183,31 @@ fn org_set(alloc: Global, words: &[Text]) -> Result<Action, Stop>
     })
 }
 
-fn org_remove(alloc: Global, words: &[Text]) -> Result<Action, Stop>
-    ensures { spec.asked verbs.OrgRemove words.now [] result }
+fn org_remove(alloc: Global, arguments: &[Text]) -> Result<Action, Stop>
+    ensures { spec.asked verbs.OrgRemove arguments.now [] result }
 {
-    let (organisation, user) = two(alloc, words)?;
+    let (organisation, user) = two(alloc, arguments)?;
     Ok(Action::OrgRemove { organisation, user })
 }
 
-fn team_create(alloc: Global, words: &[Text]) -> Result<Action, Stop>
-    ensures { spec.asked verbs.TeamCreate words.now [] result }
+fn team_create(alloc: Global, arguments: &[Text]) -> Result<Action, Stop>
+    ensures { spec.asked verbs.TeamCreate arguments.now [] result }
 {
-    let (organisation, team) = two(alloc, words)?;
+    let (organisation, team) = two(alloc, arguments)?;
     Ok(Action::TeamCreate { organisation, team })
 }
 
-fn team_destroy(alloc: Global, words: &[Text]) -> Result<Action, Stop>
-    ensures { spec.asked verbs.TeamDestroy words.now [] result }
+fn team_destroy(alloc: Global, arguments: &[Text]) -> Result<Action, Stop>
+    ensures { spec.asked verbs.TeamDestroy arguments.now [] result }
 {
-    let (organisation, team) = two(alloc, words)?;
+    let (organisation, team) = two(alloc, arguments)?;
     Ok(Action::TeamDestroy { organisation, team })
 }
 
-fn team_add(alloc: Global, words: &[Text]) -> Result<Action, Stop>
-    ensures { spec.asked verbs.TeamAdd words.now [] result }
+fn team_add(alloc: Global, arguments: &[Text]) -> Result<Action, Stop>
+    ensures { spec.asked verbs.TeamAdd arguments.now [] result }
 {
-    let (organisation, team, user) = three(alloc, words)?;
+    let (organisation, team, user) = three(alloc, arguments)?;
     Ok(Action::TeamAdd {
         organisation,
         team,
@@ -215,10 +215,10 @@ fn team_add(alloc: Global, words: &[Text]) -> Result<Action, Stop>
     })
 }
 
-fn team_remove(alloc: Global, words: &[Text]) -> Result<Action, Stop>
-    ensures { spec.asked verbs.TeamRemove words.now [] result }
+fn team_remove(alloc: Global, arguments: &[Text]) -> Result<Action, Stop>
+    ensures { spec.asked verbs.TeamRemove arguments.now [] result }
 {
-    let (organisation, team, user) = three(alloc, words)?;
+    let (organisation, team, user) = three(alloc, arguments)?;
     Ok(Action::TeamRemove {
         organisation,
         team,
@@ -226,48 +226,48 @@ fn team_remove(alloc: Global, words: &[Text]) -> Result<Action, Stop>
     })
 }
 
-fn grant(alloc: Global, words: &[Text]) -> Result<Action, Stop>
-    ensures { spec.asked verbs.Grant words.now [] result }
+fn grant(alloc: Global, arguments: &[Text]) -> Result<Action, Stop>
+    ensures { spec.asked verbs.Grant arguments.now [] result }
 {
-    let (organisation, team, name, grant) = four(alloc, words)?;
+    let (organisation, team, package, grant) = four(alloc, arguments)?;
     Ok(Action::Grant {
         organisation,
         team,
-        name,
+        package,
         grant,
     })
 }
 
-fn revoke(alloc: Global, words: &[Text]) -> Result<Action, Stop>
-    ensures { spec.asked verbs.Revoke words.now [] result }
+fn revoke(alloc: Global, arguments: &[Text]) -> Result<Action, Stop>
+    ensures { spec.asked verbs.Revoke arguments.now [] result }
 {
-    let (organisation, team, name) = three(alloc, words)?;
+    let (organisation, team, package) = three(alloc, arguments)?;
     Ok(Action::Revoke {
         organisation,
         team,
-        name,
+        package,
     })
 }
 
-fn set_access(alloc: Global, words: &[Text]) -> Result<Action, Stop>
-    ensures { spec.asked verbs.SetAccess words.now [] result }
+fn set_access(alloc: Global, arguments: &[Text]) -> Result<Action, Stop>
+    ensures { spec.asked verbs.SetAccess arguments.now [] result }
 {
-    let (name, status) = two(alloc, words)?;
-    Ok(Action::SetAccess { name, status })
+    let (package, status) = two(alloc, arguments)?;
+    Ok(Action::SetAccess { package, status })
 }
 
-fn owner_add(alloc: Global, words: &[Text]) -> Result<Action, Stop>
-    ensures { spec.asked verbs.OwnerAdd words.now [] result }
+fn owner_add(alloc: Global, arguments: &[Text]) -> Result<Action, Stop>
+    ensures { spec.asked verbs.OwnerAdd arguments.now [] result }
 {
-    let (name, user) = two(alloc, words)?;
-    Ok(Action::OwnerAdd { name, user })
+    let (package, user) = two(alloc, arguments)?;
+    Ok(Action::OwnerAdd { package, user })
 }
 
-fn owner_remove(alloc: Global, words: &[Text]) -> Result<Action, Stop>
-    ensures { spec.asked verbs.OwnerRemove words.now [] result }
+fn owner_remove(alloc: Global, arguments: &[Text]) -> Result<Action, Stop>
+    ensures { spec.asked verbs.OwnerRemove arguments.now [] result }
 {
-    let (name, user) = two(alloc, words)?;
-    Ok(Action::OwnerRemove { name, user })
+    let (package, user) = two(alloc, arguments)?;
+    Ok(Action::OwnerRemove { package, user })
 }
 
 fn publish(alloc: Global, body: &[u8]) -> Result<Action, Stop>
@@ -277,90 +277,94 @@ fn publish(alloc: Global, body: &[u8]) -> Result<Action, Stop>
     Ok(Action::Publish { form })
 }
 
-fn tag_set(alloc: Global, words: &[Text]) -> Result<Action, Stop>
-    ensures { spec.asked verbs.TagSet words.now [] result }
+fn tag_set(alloc: Global, arguments: &[Text]) -> Result<Action, Stop>
+    ensures { spec.asked verbs.TagSet arguments.now [] result }
 {
-    let (name, tag, version) = three(alloc, words)?;
-    Ok(Action::TagSet { name, tag, version })
+    let (package, tag, version) = three(alloc, arguments)?;
+    Ok(Action::TagSet {
+        package,
+        tag,
+        version,
+    })
 }
 
-fn tag_remove(alloc: Global, words: &[Text]) -> Result<Action, Stop>
-    ensures { spec.asked verbs.TagRemove words.now [] result }
+fn tag_remove(alloc: Global, arguments: &[Text]) -> Result<Action, Stop>
+    ensures { spec.asked verbs.TagRemove arguments.now [] result }
 {
-    let (name, tag) = two(alloc, words)?;
-    Ok(Action::TagRemove { name, tag })
+    let (package, tag) = two(alloc, arguments)?;
+    Ok(Action::TagRemove { package, tag })
 }
 
-fn deprecate(alloc: Global, words: &[Text]) -> Result<Action, Stop>
-    ensures { spec.asked verbs.Deprecate words.now [] result }
+fn deprecate(alloc: Global, arguments: &[Text]) -> Result<Action, Stop>
+    ensures { spec.asked verbs.Deprecate arguments.now [] result }
 {
-    let (name, selector, message) = three(alloc, words)?;
+    let (package, selector, message) = three(alloc, arguments)?;
     Ok(Action::Deprecate {
-        name,
+        package,
         selector,
         message,
     })
 }
 
-fn withdraw(alloc: Global, words: &[Text]) -> Result<Action, Stop>
-    ensures { spec.asked verbs.Withdraw words.now [] result }
+fn withdraw(alloc: Global, arguments: &[Text]) -> Result<Action, Stop>
+    ensures { spec.asked verbs.Withdraw arguments.now [] result }
 {
-    let (name, version) = two(alloc, words)?;
-    Ok(Action::Withdraw { name, version })
+    let (package, version) = two(alloc, arguments)?;
+    Ok(Action::Withdraw { package, version })
 }
 
-fn packument(alloc: Global, words: &[Text]) -> Result<Action, Stop>
-    ensures { spec.asked verbs.Packument words.now [] result }
+fn packument(alloc: Global, arguments: &[Text]) -> Result<Action, Stop>
+    ensures { spec.asked verbs.Packument arguments.now [] result }
 {
-    let name = one(alloc, words)?;
-    Ok(Action::Packument { name })
+    let package = one(alloc, arguments)?;
+    Ok(Action::Packument { package })
 }
 
-fn version_doc(alloc: Global, words: &[Text]) -> Result<Action, Stop>
-    ensures { spec.asked verbs.VersionDoc words.now [] result }
+fn version_doc(alloc: Global, arguments: &[Text]) -> Result<Action, Stop>
+    ensures { spec.asked verbs.VersionDoc arguments.now [] result }
 {
-    let (name, version) = two(alloc, words)?;
-    Ok(Action::VersionDoc { name, version })
+    let (package, version) = two(alloc, arguments)?;
+    Ok(Action::VersionDoc { package, version })
 }
 
-fn archive(alloc: Global, words: &[Text]) -> Result<Action, Stop>
-    ensures { spec.asked verbs.Archive words.now [] result }
+fn archive(alloc: Global, arguments: &[Text]) -> Result<Action, Stop>
+    ensures { spec.asked verbs.Archive arguments.now [] result }
 {
-    let (name, version) = two(alloc, words)?;
-    Ok(Action::Archive { name, version })
+    let (package, version) = two(alloc, arguments)?;
+    Ok(Action::Archive { package, version })
 }
 
-fn tags(alloc: Global, words: &[Text]) -> Result<Action, Stop>
-    ensures { spec.asked verbs.Tags words.now [] result }
+fn tags(alloc: Global, arguments: &[Text]) -> Result<Action, Stop>
+    ensures { spec.asked verbs.Tags arguments.now [] result }
 {
-    let name = one(alloc, words)?;
-    Ok(Action::Tags { name })
+    let package = one(alloc, arguments)?;
+    Ok(Action::Tags { package })
 }
 
-fn members(alloc: Global, words: &[Text]) -> Result<Action, Stop>
-    ensures { spec.asked verbs.Members words.now [] result }
+fn members(alloc: Global, arguments: &[Text]) -> Result<Action, Stop>
+    ensures { spec.asked verbs.Members arguments.now [] result }
 {
-    let organisation = one(alloc, words)?;
+    let organisation = one(alloc, arguments)?;
     Ok(Action::Members { organisation })
 }
 
-fn teams(alloc: Global, words: &[Text]) -> Result<Action, Stop>
-    ensures { spec.asked verbs.Teams words.now [] result }
+fn teams(alloc: Global, arguments: &[Text]) -> Result<Action, Stop>
+    ensures { spec.asked verbs.Teams arguments.now [] result }
 {
-    let organisation = one(alloc, words)?;
+    let organisation = one(alloc, arguments)?;
     Ok(Action::Teams { organisation })
 }
 
-fn team_members(alloc: Global, words: &[Text]) -> Result<Action, Stop>
-    ensures { spec.asked verbs.TeamMembers words.now [] result }
+fn team_members(alloc: Global, arguments: &[Text]) -> Result<Action, Stop>
+    ensures { spec.asked verbs.TeamMembers arguments.now [] result }
 {
-    let (organisation, team) = two(alloc, words)?;
+    let (organisation, team) = two(alloc, arguments)?;
     Ok(Action::TeamMembers { organisation, team })
 }
 
-fn team_packages(alloc: Global, words: &[Text]) -> Result<Action, Stop>
-    ensures { spec.asked verbs.TeamPackages words.now [] result }
+fn team_packages(alloc: Global, arguments: &[Text]) -> Result<Action, Stop>
+    ensures { spec.asked verbs.TeamPackages arguments.now [] result }
 {
-    let (organisation, team) = two(alloc, words)?;
+    let (organisation, team) = two(alloc, arguments)?;
     Ok(Action::TeamPackages { organisation, team })
 }

@@ -6,9 +6,9 @@ ghost use Rattle.clap.specs.Walk.{rule_of};
 ghost use Rattle.clap.specs.declared.builder.command.Command.TheViews.{out-Command};
 ghost use Rattle.registry_cli.specs.Subcommands as spec;
 ghost use Rattle.registry_cli.specs.Subcommands.{bare, options, with_rules, with_subcommands};
-ghost use Rattle.registry_cli.specs.Tables.{row_of, rule_of_word};
+ghost use Rattle.registry_cli.specs.Tables.{row_of, rule_of_parameter};
 
-use crate::subcommand::{Need, Subcommand, Word, all};
+use crate::subcommand::{Need, Parameter, Subcommand, all};
 use clap::builder::ValueParser;
 use clap::{Arg, ArgAction, Command};
 use std::alloc::{AllocError, Global};
@@ -20,13 +20,13 @@ const ABOUT: &str = "A package registry for one house, in npm's manner";
 
 const EXAMPLE: &str = "Example: registry --db registry.db --operator user-add ann";
 
-// The argument that a word is.
-fn argument<'a>(alloc: Global, word: &Word) -> Arg<'a>
-    ensures rule { rule_of result ≡ rule_of_word word.now }
+// The argument that an argument is.
+fn argument<'a>(alloc: Global, parameter: &Parameter) -> Arg<'a>
+    ensures rule { rule_of result ≡ rule_of_parameter parameter.now }
     ensures local { result.global ≡ false }
 {
-    let argument = Arg::new(alloc, word.id).help(word.help);
-    match word.need {
+    let argument = Arg::new(alloc, parameter.id).help(parameter.help);
+    match parameter.need {
         Need::Required => argument.required(true),
         Need::Default(text) => argument.default_value(text),
         Need::Number {
@@ -50,19 +50,19 @@ fn with_argument<'a>(command: Command<'a>, argument: Arg<'a>) -> Result<Command<
     command.arg(argument)
 }
 
-fn with_words<'a>(
+fn with_parameters<'a>(
     alloc: Global,
     command: Command<'a>,
-    words: &[Word],
+    parameters: &[Parameter],
 ) -> Result<Command<'a>, AllocError>
     requires local { (out-Command command).has_globals ≡ false }
     ensures app { IfOk result (λ c. app_of c
-        ≡ with_rules (app_of command.entry) (map rule_of_word words.now)) }
+        ≡ with_rules (app_of command.entry) (map rule_of_parameter parameters.now)) }
     ensures local { IfOk result (λ c. (out-Command c).has_globals ≡ false) }
 {
     let mut command = command;
-    for word in words {
-        command = with_argument(command, argument(alloc, word))?;
+    for parameter in parameters {
+        command = with_argument(command, argument(alloc, parameter))?;
     }
     Ok(command)
 }
@@ -75,7 +75,7 @@ fn subcommand<'a>(alloc: Global, row: &Subcommand) -> Result<Command<'a>, AllocE
     let command = Command::new(alloc, row.name)
         .about(row.about)
         .after_help(row.example);
-    with_words(alloc, command, row.words)
+    with_parameters(alloc, command, row.parameters)
 }
 
 fn with_subcommand<'a>(

@@ -1,10 +1,10 @@
-//! What a line of words means.
+//! What a command line means.
 
 ghost use Rattle.std.specs.Prelude.{◌≡◌, option_map};
 ghost use Rattle.registry_cli.specs.Lines as spec;
 
-use crate::arguments::{is_same, word_at};
-use crate::words::Words;
+use crate::argument_values::{argument_at, is_same};
+use crate::arguments::Arguments;
 use registry_names::{Moment, Text};
 
 /// Who a line is asked by.
@@ -18,7 +18,7 @@ pub enum Who {
     Anonymous,
 }
 
-/// What a line of words means.
+/// What a command line means.
 #[derive(Debug, Drop)]
 pub struct Line {
     /// The path of the file that keeps the registry.
@@ -27,9 +27,9 @@ pub struct Line {
     pub who: Who,
     /// When it is asked. None where the machine's clock says so.
     pub at: Option<Moment>,
-    /// The subcommand's name and its words in their order, with what stands for those that were
+    /// The subcommand's name and its arguments in their order, with the defaults of those that were
     /// left out. Of `serve` these are the port and the number of connections.
-    pub what: Words,
+    pub what: Arguments,
 }
 
 impl Line {
@@ -37,7 +37,7 @@ impl Line {
     pub fn asks_to_serve(&self) -> bool
         ensures { result ≡ spec.asks_to_serve self.now.what }
     {
-        is_same(word_at(self.what.as_slice(), 0), "serve")
+        is_same(argument_at(self.what.as_slice(), 0), "serve")
     }
 
     /// The path of the file that the line names, of which an action is read. None for every other
@@ -45,9 +45,9 @@ impl Line {
     pub fn file(&self) -> Option<&str>
         ensures { option_map (λ path. path.now) result ≡ spec.file_of self.now.what }
     {
-        let words = self.what.as_slice();
-        if is_same(word_at(words, 0), "publish") {
-            Some(word_at(words, 1))
+        let arguments = self.what.as_slice();
+        if is_same(argument_at(arguments, 0), "publish") {
+            Some(argument_at(arguments, 1))
         } else {
             None
         }

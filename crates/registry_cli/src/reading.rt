@@ -1,4 +1,4 @@
-//! Reading words.
+//! Reading arguments.
 
 ghost use Rattle.std.specs.Prelude.{◌≡◌, [], ◌∷◌, true, false, map, option_and_then, option_map, IfErr, IfOk};
 ghost use Rattle.clap.specs.Faults.{fault_of};
@@ -11,29 +11,29 @@ ghost use Rattle.registry_cli.specs.Lines.{IsWhole, are_both, are_both_in, at_in
 ghost use Rattle.registry_cli.specs.Subcommands.{registry};
 ghost use Rattle.registry_cli.specs.Usages.{IsMemoryOrBoth, said_of_both};
 
-use crate::arguments::is_same;
+use crate::argument_values::is_same;
+use crate::arguments::Arguments;
 use crate::command::registry;
 use crate::meaning::{Line, Who};
-use crate::subcommand::{Word, called};
+use crate::subcommand::{Parameter, called};
 use crate::usage::Usage;
-use crate::words::Words;
 use clap::ArgMatches;
 use registry_names::{Moment, Text};
 use std::alloc::{AllocError, Global};
 
-/// What the words after the program's name mean.
+/// What the arguments after the program's name mean.
 ///
-/// `Memory` comes where no memory is left. Words that the program doesn't take, or that ask for
+/// `Memory` comes where no memory is left. Arguments that the program doesn't take, or that ask for
 /// help, are `Usage::Words` with what is to be said of them: the text of `clap`, which ends in a
 /// newline, or `--as excludes --operator` where they have both.
-pub fn line(alloc: Global, words: &[Text]) -> Result<Line, Usage>
-    ensures ok { IfOk result (λ l. (l ≡ line_of words.now) × (has_both words.now ≡ false)) }
+pub fn line(alloc: Global, arguments: &[Text]) -> Result<Line, Usage>
+    ensures ok { IfOk result (λ l. (l ≡ line_of arguments.now) × (has_both arguments.now ≡ false)) }
     ensures whole { IfOk result (λ l. IsWhole l.what) }
-    ensures faultless { IfOk result (λ _. fault_of registry words.now ≡ []) }
-    ensures err { IfErr result (λ u. takes registry words.now ≡ true
-        → IsMemoryOrBoth u (has_both words.now)) }
+    ensures faultless { IfOk result (λ _. fault_of registry arguments.now ≡ []) }
+    ensures err { IfErr result (λ u. takes registry arguments.now ≡ true
+        → IsMemoryOrBoth u (has_both arguments.now)) }
 {
-    let texts = texts(alloc, words)?;
+    let texts = texts(alloc, arguments)?;
     match registry(alloc)?.try_get_matches_from(texts.as_slice()) {
         Ok(matches) => line_in(alloc, &matches),
         Err(error) => Err(Usage::said(alloc, &error)),
@@ -41,12 +41,12 @@ pub fn line(alloc: Global, words: &[Text]) -> Result<Line, Usage>
 }
 
 // The texts as `clap` takes them.
-fn texts<'a>(alloc: Global, words: &'a [Text]) -> Result<Vec<&'a str>, AllocError>
-    ensures { IfOk result (λ t. map (λ s. s.now) t.items ≡ words.now) }
+fn texts<'a>(alloc: Global, arguments: &'a [Text]) -> Result<Vec<&'a str>, AllocError>
+    ensures { IfOk result (λ t. map (λ s. s.now) t.items ≡ arguments.now) }
 {
     let mut texts = Vec::new(alloc);
-    for word in words {
-        texts.push(word.as_str())?;
+    for argument in arguments {
+        texts.push(argument.as_str())?;
     }
     Ok(texts)
 }
@@ -62,11 +62,11 @@ fn line_in(alloc: Global, matches: &ArgMatches<'_>) -> Result<Line, Usage>
         db: Text::from_str(alloc, value(matches, "PATH"))?,
         who: caller(alloc, matches)?,
         at: at(matches),
-        what: Words::from(what(alloc, matches)?),
+        what: Arguments::from(what(alloc, matches)?),
     })
 }
 
-// The value of the word that is called so, if it is there.
+// The value of the argument with this name, if it is there.
 #[tactic(auto, using(crate::proofs::RowFacts::given_is))]
 fn given<'a>(matches: &ArgMatches<'a>, id: &str) -> Option<&'a str>
     ensures { option_map (λ s. s.now) result ≡ first_of id.now (rows_of (found_of matches.now)) }
@@ -74,7 +74,7 @@ fn given<'a>(matches: &ArgMatches<'a>, id: &str) -> Option<&'a str>
     matches.get_str(id)
 }
 
-// The value of the word that is called so, and the empty text where it was left out.
+// The value of the argument with this name, and the empty text where it was left out.
 #[tactic(auto, using(crate::proofs::RowFacts::value_is))]
 fn value<'a>(matches: &ArgMatches<'a>, id: &str) -> &'a str
     ensures { result.now ≡ value_in (rows_of (found_of matches.now)) id.now }
@@ -147,41 +147,41 @@ fn at(matches: &ArgMatches<'_>) -> Option<Moment>
     moment_of(given(matches, "SECONDS"))
 }
 
-// The words of the subcommand that is called so.
-fn words_of(name: &str) -> &'static [Word]
-    ensures { map (λ w. w.id.now) result.now ≡ spec.words_of name.now }
+// The arguments of the subcommand that is called so.
+fn parameters_of(name: &str) -> &'static [Parameter]
+    ensures { map (λ w. w.id.now) result.now ≡ spec.parameters_of name.now }
 {
     match called(name) {
-        Some(row) => row.words,
+        Some(row) => row.parameters,
         None => &[],
     }
 }
 
-// A subcommand's name, and the values of its words.
+// A subcommand's name, and the values of its arguments.
 fn named(
     alloc: Global,
     name: &str,
     matches: &ArgMatches<'_>,
-    words: &[Word],
+    parameters: &[Parameter],
 ) -> Result<Vec<Text>, AllocError>
     ensures { IfOk result (λ v. v.items
         ≡ name.now ∷ map (value_in (rows_of (found_of matches.now)))
-        (map (λ w. w.id.now) words.now)) }
+        (map (λ w. w.id.now) parameters.now)) }
 {
     let mut values = Vec::new(alloc);
     values.push(Text::from_str(alloc, name)?)?;
-    for word in words {
-        values.push(Text::from_str(alloc, value(matches, word.id))?)?;
+    for parameter in parameters {
+        values.push(Text::from_str(alloc, value(matches, parameter.id))?)?;
     }
     Ok(values)
 }
 
-// The subcommand's name and its words.
+// The subcommand's name and its arguments.
 fn what(alloc: Global, matches: &ArgMatches<'_>) -> Result<Vec<Text>, AllocError>
     ensures { IfOk result (λ v. v.items ≡ told (subcommand_rows_of matches.now)) }
 {
     match matches.subcommand() {
-        Some((name, found)) => named(alloc, name, found, words_of(name)),
+        Some((name, found)) => named(alloc, name, found, parameters_of(name)),
         None => Ok(Vec::new(alloc)),
     }
 }

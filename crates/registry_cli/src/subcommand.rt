@@ -1,11 +1,11 @@
-//! The subcommands, each with its words.
+//! The subcommands, each with its arguments.
 
 ghost use Rattle.std.specs.Prelude.{◌≡◌, find, map, option_map};
 ghost use Rattle.std.specs.Str.{bytes_eq};
 ghost use Rattle.registry_cli.specs.Subcommands.{subcommands};
 ghost use Rattle.registry_cli.specs.Tables.{row_of};
 
-/// Whether a word has to be there.
+/// Whether an argument has to be there.
 #[derive(Clone, Copy)]
 pub(crate) enum Need {
     /// It has to be there.
@@ -23,9 +23,9 @@ pub(crate) enum Need {
     },
 }
 
-/// A word of a subcommand.
+/// An argument of a subcommand.
 #[derive(Clone, Copy)]
-pub(crate) struct Word {
+pub(crate) struct Parameter {
     /// What it is called.
     pub(crate) id: &'static str,
     /// What is said of it in the subcommand's help.
@@ -37,101 +37,101 @@ pub(crate) struct Word {
 /// A subcommand.
 #[derive(Clone, Copy)]
 pub(crate) struct Subcommand {
-    /// The word that names it.
+    /// Its name.
     pub(crate) name: &'static str,
-    /// Its words, in their order.
-    pub(crate) words: &'static [Word],
+    /// Its arguments, in their order.
+    pub(crate) parameters: &'static [Parameter],
     /// What it does, in a line.
     pub(crate) about: &'static str,
     /// An example of how it is called.
     pub(crate) example: &'static str,
 }
 
-const USER: Word = Word {
+const USER: Parameter = Parameter {
     id: "USER",
     help: "The name of a user",
     need: Need::Required,
 };
 
-const TOKEN: Word = Word {
+const TOKEN: Parameter = Parameter {
     id: "TOKEN",
     help: "A token: 16 to 128 characters of A-Z a-z 0-9 - _ . ~ + / =",
     need: Need::Required,
 };
 
-const ORG: Word = Word {
+const ORGANISATION: Parameter = Parameter {
     id: "ORG",
     help: "The name of an organisation, without @",
     need: Need::Required,
 };
 
-const ROLE: Word = Word {
+const ROLE: Parameter = Parameter {
     id: "ROLE",
     help: "developer, admin or owner",
     need: Need::Default("developer"),
 };
 
-const TEAM: Word = Word {
+const TEAM: Parameter = Parameter {
     id: "TEAM",
     help: "The name of a team",
     need: Need::Required,
 };
 
-const PACKAGE: Word = Word {
+const PACKAGE: Parameter = Parameter {
     id: "PACKAGE",
     help: "The name of a package, with its scope",
     need: Need::Required,
 };
 
-const LEVEL: Word = Word {
+const LEVEL: Parameter = Parameter {
     id: "LEVEL",
     help: "read-only or read-write",
     need: Need::Required,
 };
 
-const STATUS: Word = Word {
+const STATUS: Parameter = Parameter {
     id: "STATUS",
     help: "public or restricted",
     need: Need::Required,
 };
 
-const FILE: Word = Word {
+const FILE: Parameter = Parameter {
     id: "FILE",
     help: "The file with the body that npm publish sends",
     need: Need::Required,
 };
 
-const TAG: Word = Word {
+const TAG: Parameter = Parameter {
     id: "TAG",
     help: "A dist-tag",
     need: Need::Required,
 };
 
-const VERSION: Word = Word {
+const VERSION: Parameter = Parameter {
     id: "VERSION",
     help: "A version, as 1.0.0",
     need: Need::Required,
 };
 
-const VERSION_OR_LATEST: Word = Word {
+const VERSION_OR_LATEST: Parameter = Parameter {
     id: "VERSION",
     help: "A version, as 1.0.0, or latest",
     need: Need::Required,
 };
 
-const SELECTOR: Word = Word {
+const SELECTOR: Parameter = Parameter {
     id: "SELECTOR",
     help: "Versions, as 1.x or \">=1.0.0 <2.0.0\"",
     need: Need::Required,
 };
 
-const MESSAGE: Word = Word {
+const MESSAGE: Parameter = Parameter {
     id: "MESSAGE",
     help: "At most 1,024 bytes; the empty text takes a deprecation back",
     need: Need::Required,
 };
 
-const PORT: Word = Word {
+const PORT: Parameter = Parameter {
     id: "PORT",
     help: "The port of 127.0.0.1, from 1 to 65535",
     need: Need::Number {
@@ -141,7 +141,7 @@ const PORT: Word = Word {
     },
 };
 
-const CONNECTIONS: Word = Word {
+const CONNECTIONS: Parameter = Parameter {
     id: "CONNECTIONS",
     help: "How many connections are served, from 1 to 1000000",
     need: Need::Number {
@@ -154,169 +154,169 @@ const CONNECTIONS: Word = Word {
 static SUBCOMMANDS: [Subcommand; 28] = [
     Subcommand {
         name: "user-add",
-        words: &[USER],
+        parameters: &[USER],
         about: "Add a user (the operator)",
         example: "Example: registry --operator user-add ann",
     },
     Subcommand {
         name: "token-add",
-        words: &[USER, TOKEN],
+        parameters: &[USER, TOKEN],
         about: "Add a token, by which npm shows that it is the user (the operator)",
         example: "Example: registry --operator token-add ann npm_ann_000000001",
     },
     Subcommand {
         name: "org-create",
-        words: &[ORG, USER],
+        parameters: &[ORGANISATION, USER],
         about: "Make an organisation with its first owner (the operator)",
         example: "Example: registry --operator org-create lab ann",
     },
     Subcommand {
         name: "org-set",
-        words: &[ORG, USER, ROLE],
+        parameters: &[ORGANISATION, USER, ROLE],
         about: "Give a user a role in an organisation (an owner)",
         example: "Example: registry --as ann org-set lab bob developer",
     },
     Subcommand {
         name: "org-rm",
-        words: &[ORG, USER],
+        parameters: &[ORGANISATION, USER],
         about: "Take a user out of an organisation and its teams (an owner)",
         example: "Example: registry --as ann org-rm lab bob",
     },
     Subcommand {
         name: "team-create",
-        words: &[ORG, TEAM],
+        parameters: &[ORGANISATION, TEAM],
         about: "Make a team (an owner or admin)",
         example: "Example: registry --as ann team-create lab ops",
     },
     Subcommand {
         name: "team-destroy",
-        words: &[ORG, TEAM],
+        parameters: &[ORGANISATION, TEAM],
         about: "Destroy a team, with what it was granted (an owner or admin)",
         example: "Example: registry --as ann team-destroy lab ops",
     },
     Subcommand {
         name: "team-add",
-        words: &[ORG, TEAM, USER],
+        parameters: &[ORGANISATION, TEAM, USER],
         about: "Put a member of the organisation into a team (an owner or admin)",
         example: "Example: registry --as ann team-add lab ops bob",
     },
     Subcommand {
         name: "team-rm",
-        words: &[ORG, TEAM, USER],
+        parameters: &[ORGANISATION, TEAM, USER],
         about: "Take a member out of a team (an owner or admin)",
         example: "Example: registry --as ann team-rm lab ops bob",
     },
     Subcommand {
         name: "grant",
-        words: &[ORG, TEAM, PACKAGE, LEVEL],
+        parameters: &[ORGANISATION, TEAM, PACKAGE, LEVEL],
         about: "Grant a team a package of the organisation's scope (an owner or admin)",
         example: "Example: registry --as ann grant lab ops @lab/kit read-write",
     },
     Subcommand {
         name: "revoke",
-        words: &[ORG, TEAM, PACKAGE],
+        parameters: &[ORGANISATION, TEAM, PACKAGE],
         about: "Take back what a team is granted on a package (an owner or admin)",
         example: "Example: registry --as ann revoke lab ops @lab/kit",
     },
     Subcommand {
         name: "access",
-        words: &[PACKAGE, STATUS],
+        parameters: &[PACKAGE, STATUS],
         about: "Make a package public or restricted (who may write it)",
         example: "Example: registry --as ann access @lab/kit public",
     },
     Subcommand {
         name: "owner-add",
-        words: &[PACKAGE, USER],
+        parameters: &[PACKAGE, USER],
         about: "Make a user a maintainer of a package (a maintainer)",
         example: "Example: registry --as bob owner-add tool eve",
     },
     Subcommand {
         name: "owner-rm",
-        words: &[PACKAGE, USER],
+        parameters: &[PACKAGE, USER],
         about: "Take a maintainer from a package (a maintainer)",
         example: "Example: registry --as bob owner-rm tool eve",
     },
     Subcommand {
         name: "publish",
-        words: &[FILE],
+        parameters: &[FILE],
         about: "Publish a version of a package (who may write it)",
         example: "Example: registry --as bob publish lab-kit-1.0.0.publish.json",
     },
     Subcommand {
         name: "tag-set",
-        words: &[PACKAGE, TAG, VERSION],
+        parameters: &[PACKAGE, TAG, VERSION],
         about: "Let a dist-tag name a version (who may write the package)",
         example: "Example: registry --as bob tag-set @lab/kit next 1.1.0",
     },
     Subcommand {
         name: "tag-rm",
-        words: &[PACKAGE, TAG],
+        parameters: &[PACKAGE, TAG],
         about: "Remove a dist-tag other than latest (who may write the package)",
         example: "Example: registry --as bob tag-rm @lab/kit next",
     },
     Subcommand {
         name: "deprecate",
-        words: &[PACKAGE, SELECTOR, MESSAGE],
+        parameters: &[PACKAGE, SELECTOR, MESSAGE],
         about: "Deprecate versions of a package with a message (who may write it)",
         example: "Example: registry --as bob deprecate @lab/kit 1.x \"use 2.x\"",
     },
     Subcommand {
         name: "withdraw",
-        words: &[PACKAGE, VERSION],
+        parameters: &[PACKAGE, VERSION],
         about: "Withdraw a version within 72 hours, for good (who may write the package)",
         example: "Example: registry --as bob withdraw @lab/kit 1.0.0",
     },
     Subcommand {
         name: "packument",
-        words: &[PACKAGE],
+        parameters: &[PACKAGE],
         about: "Print the packument of a package (who reads it)",
         example: "Example: registry --as bob packument @lab/kit",
     },
     Subcommand {
         name: "version-doc",
-        words: &[PACKAGE, VERSION_OR_LATEST],
+        parameters: &[PACKAGE, VERSION_OR_LATEST],
         about: "Print the document of a version (who reads the package)",
         example: "Example: registry --as bob version-doc @lab/kit latest",
     },
     Subcommand {
         name: "archive",
-        words: &[PACKAGE, VERSION],
+        parameters: &[PACKAGE, VERSION],
         about: "Print the archive of a version (who reads the package)",
         example: "Example: registry --as bob archive @lab/kit 1.0.0 > kit-1.0.0.tgz",
     },
     Subcommand {
         name: "tags",
-        words: &[PACKAGE],
+        parameters: &[PACKAGE],
         about: "Print the dist-tags of a package (who reads it)",
         example: "Example: registry --as bob tags @lab/kit",
     },
     Subcommand {
         name: "members",
-        words: &[ORG],
+        parameters: &[ORGANISATION],
         about: "Print the members of an organisation with their roles (a member)",
         example: "Example: registry --as bob members lab",
     },
     Subcommand {
         name: "teams",
-        words: &[ORG],
+        parameters: &[ORGANISATION],
         about: "Print the teams of an organisation (a member)",
         example: "Example: registry --as bob teams lab",
     },
     Subcommand {
         name: "team-members",
-        words: &[ORG, TEAM],
+        parameters: &[ORGANISATION, TEAM],
         about: "Print who is in a team (a member of the organisation)",
         example: "Example: registry --as bob team-members lab ops",
     },
     Subcommand {
         name: "team-packages",
-        words: &[ORG, TEAM],
+        parameters: &[ORGANISATION, TEAM],
         about: "Print what a team is granted (a member of the organisation)",
         example: "Example: registry --as bob team-packages lab ops",
     },
     Subcommand {
         name: "serve",
-        words: &[PORT, CONNECTIONS],
+        parameters: &[PORT, CONNECTIONS],
         about: "Serve npm over HTTP on 127.0.0.1: up to 512 connections at once, a request at a time",
         example: "Example: registry serve --port 8080",
     },

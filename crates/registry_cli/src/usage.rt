@@ -1,4 +1,4 @@
-//! Why words mean no line.
+//! Why arguments mean no line.
 
 ghost use Rattle.std.specs.Prelude.{◌≡◌, codes};
 ghost use Rattle.clap.specs.Values.{kind_of};
@@ -13,14 +13,14 @@ use std::alloc::{AllocError, AllocFailed, Global};
 /// Why a line means nothing.
 #[derive(Debug, Drop)]
 pub enum Usage {
-    /// The words are none that the program takes, or ask for help. What is to be printed.
+    /// The arguments are none that the program takes, or ask for help. What is to be printed.
     Words(Text),
     /// No memory was left.
     Memory,
 }
 
 impl Usage {
-    /// What `clap` says of the words.
+    /// What `clap` says of the arguments.
     pub(crate) fn said(alloc: Global, error: &Error) -> Usage
         ensures { kind_of error.now ≡ OutOfMemory → result ≡ usage.Memory }
     {

@@ -7,7 +7,7 @@ use Rattle.sqlite.specs.State.{State as Shown, HasCleanDisk, IsRolledBack, Keeps
 use Rattle.sqlite.specs.Steps.{FailsToCommit, IsEmpty}
 use Rattle.sqlite.specs.declared.error.Error.{Error}
 use Rattle.sqlite_trees.specs.declared.store.Store.{Ghosts}
-use Rattle.registry_rows.specs.Frames.{Commits}
+use Rattle.registry_rows.specs.Frames.{IsCommitted}
 use Rattle.registry_rows.specs.Ready.{IsReady, Leaves, Ready}
 use Rattle.registry_rows.specs.Rows.{HasRowids}
 use Rattle.registry_tables.specs.Contents.{Contents, contents}
@@ -41,7 +41,7 @@ commit_rests left mid new ended leaves shows = record {
 
 -- the same of what the commit answers
 pub commit_rests_on : {A E : Type 0} (result : Result A E) (left : Contents) (mid new : Shown) → new.in_transaction ≡ false
-    → (HasCleanDisk new → Leaves schema contents left mid) → (HasCleanDisk new → OnOk result (Commits mid new)) → OnOk result (Rests new)
+    → (HasCleanDisk new → Leaves schema contents left mid) → (HasCleanDisk new → OnOk result (IsCommitted mid new)) → OnOk result (Rests new)
 commit_rests_on (Ok done) left mid new ended leaves commits = commit_rests left mid new ended leaves (λ clean. (commits clean).1)
 commit_rests_on (Err e) left mid new ended leaves commits = tt
 

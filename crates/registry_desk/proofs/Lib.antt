@@ -4,6 +4,6 @@ mod LoadedFacts
 mod MakingFacts
 mod OpenedFacts
 mod SettlingFacts
-mod ShelfFacts
+mod CacheFacts
 pub mod AnswerFacts
 pub mod StoredFacts

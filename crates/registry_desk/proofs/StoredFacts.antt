@@ -10,14 +10,14 @@ use Rattle.registry_tables.specs.Contents.{Contents, contents}
 use Rattle.registry_tables.specs.Effects.{registry_in, stored}
 use Rattle.registry_tables.specs.Archives.{HoldsArchives}
 use Rattle.registry_tables.specs.Needs.{HoldsNeeds}
-use Rattle.registry_desk.specs.Promises.{Answered, HoldsSound, IsSure, Keeps, KeepsForm, KeepsSound, Moves, RanTo, Served, Stays, StaysRun, Stepped, Stored, SurvivesOne, SurvivesRun, WasOpen}
+use Rattle.registry_desk.specs.Promises.{Answered, HoldsSound, IsSure, Keeps, KeepsForm, KeepsSound, Moves, RanTo, Served, SurvivesCrash, RunSurvivesCrash, Stepped, Stored, SurvivesOne, SurvivesRun, WasOpen}
 use Rattle.registry_desk.specs.Resting.{SettlesOne, end_stored, ends_replied, next_stored, settled_by}
-use Rattle.registry_history.specs.Runs.{Outcome, Answers, IsAnswer, next}
+use Rattle.registry_history.specs.Runs.{Outcome, HaveOutcomes, IsAnswer, next}
 use Rattle.registry_history.proofs.RunFacts.{ran_none, ran_push}
 
 -- ---- one request more
 
-end_stored_push : (S : State) (c : Contents) (rs : List Request) (os : List Outcome) (r : Request) (o : Outcome) → Answers S rs os
+end_stored_push : (S : State) (c : Contents) (rs : List Request) (os : List Outcome) (r : Request) (o : Outcome) → HaveOutcomes S rs os
     → end_stored (rs ++ r ∷ []) (os ++ o ∷ []) c ≡ next_stored r o (end_stored rs os c)
 end_stored_push S c [] [] r o before = refl
 end_stored_push S c (q ∷ rs) (p ∷ os) r o before = end_stored_push (next S q p) (next_stored q p c) rs os r o before.1
@@ -25,7 +25,7 @@ end_stored_push S c [] (p ∷ os) r o before = absurd before
 end_stored_push S c (q ∷ rs) [] r o before = absurd before
 
 -- what an earlier request settles
-settled_before : (S : State) (c d : Contents) (rs : List Request) (os : List Outcome) (r : Request) (o : Outcome) → Answers S rs os
+settled_before : (S : State) (c d : Contents) (rs : List Request) (os : List Outcome) (r : Request) (o : Outcome) → HaveOutcomes S rs os
     → SettlesOne rs os c d → SettlesOne (rs ++ r ∷ []) (os ++ o ∷ []) c d
 settled_before S c d [] [] r o before settles = absurd settles
 settled_before S c d (q ∷ rs) (p ∷ os) r o before (inl here) = inl here
@@ -34,7 +34,7 @@ settled_before S c d [] (p ∷ os) r o before settles = absurd before
 settled_before S c d (q ∷ rs) [] r o before settles = absurd before
 
 -- what this one settles
-settled_now : (S : State) (c d : Contents) (rs : List Request) (os : List Outcome) (r : Request) (o : Outcome) → Answers S rs os
+settled_now : (S : State) (c d : Contents) (rs : List Request) (os : List Outcome) (r : Request) (o : Outcome) → HaveOutcomes S rs os
     → d ≡ settled_by r (end_stored rs os c) → SettlesOne (rs ++ r ∷ []) (os ++ o ∷ []) c d
 settled_now S c d [] [] r o before is = inl is
 settled_now S c d (q ∷ rs) (p ∷ os) r o before is = inr (settled_now (next S q p) (next_stored q p c) d rs os r o before.1 is)
@@ -68,7 +68,7 @@ pub record HasAnswered (old new : Shown) (r : Request) (o : Outcome) : Type 0 wh
   pub needs : Keeps old new HoldsNeeds
   pub archives : Keeps old new HoldsArchives
   pub survives : SurvivesOne old new r
-  pub stays : Stays new o
+  pub stays : SurvivesCrash new o
 
 pub record HasRun (old new : Shown) (rs : List Request) (os : List Outcome) : Type 0 where
   pub ran : RanTo old new rs os
@@ -78,7 +78,7 @@ pub record HasRun (old new : Shown) (rs : List Request) (os : List Outcome) : Ty
   pub needs : Keeps old new HoldsNeeds
   pub archives : Keeps old new HoldsArchives
   pub survives : SurvivesRun old new rs os
-  pub stays : StaysRun new os
+  pub stays : RunSurvivesCrash new os
 
 pub has_run_none : (s : Shown) → HasRun s s [] []
 has_run_none s = record {

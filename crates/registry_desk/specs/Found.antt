@@ -75,8 +75,8 @@ pub record IsGrantable (grantable : Grantable) (S : State) (o t p : Text) : Type
   pub is_published : grantable.is_published ≡ is_published S p
   pub stands : grantable.stands ≡ has_grant S o t p
 
--- the version lives or not, was withdrawn or not, its tag and `latest` stand or not, a version of
--- its package lives or none, and one was withdrawn last or none
+-- the version lives or not, was withdrawn or not, its tag and `latest` are there or not, a version
+-- of its package lives or none, and one was withdrawn last or none
 pub record AreTaken (taken : Taken) (S : State) (f : FormParts) : Type 0 where
   pub version_lives : taken.version_lives ≡ is_live S f.name (version_of f)
   pub version_spent : taken.version_spent ≡ is_spent S f.name (version_of f)

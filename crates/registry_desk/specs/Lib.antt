@@ -2,4 +2,4 @@ pub mod Found
 pub mod Opened
 pub mod Promises
 pub mod Resting
-pub mod Shelves
+pub mod Caches

@@ -27,7 +27,7 @@ HaveRowids s = AllByRecursion (λ t. HasRowids (s.now.trees t.tree)) s.now.schem
 abbrev pub IsJustOpened : Shown → Type 0
 IsJustOpened s = HasCleanDisk s → Opens s × IsLive s × HaveRowids s
 
--- the number of our schema stands there
+-- the number of our schema is there
 abbrev pub IsNumbered : Contents → Type 0
 IsNumbered c = at c.meta schema_key ≡ Some schema_number
 

@@ -23,14 +23,14 @@ abbrev pub IsSure : Shown → Type 0
 IsSure s = (db : Trees) → s.may_leave db → contents db ≡ stored s
 
 -- that is so after a reply
-abbrev pub Stays : Shown → Outcome → Type 0
-Stays new o = HasCleanDisk new → OnOk o (IsSure new)
+abbrev pub SurvivesCrash : Shown → Outcome → Type 0
+SurvivesCrash new o = HasCleanDisk new → OnOk o (IsSure new)
 
 -- that is so where the last outcome of a run is a reply
-abbrev pub StaysRun : Shown → List Outcome → Type 0
-StaysRun new os = HasCleanDisk new → IsTrue (ends_replied os) → IsSure new
+abbrev pub RunSurvivesCrash : Shown → List Outcome → Type 0
+RunSurvivesCrash new os = HasCleanDisk new → IsTrue (ends_replied os) → IsSure new
 
--- what stands refers to what is there, and the needs that are stored are those of live versions
+-- references hold, and the needs that are stored are those of live versions
 pub record HoldsSound (s : Shown) : Type 0 where
   pub refers : IsSound (registry_in s).access
   pub needs : HoldsNeeds (stored s)
@@ -40,7 +40,7 @@ module _ (old new : Shown) where
   abbrev pub WasOpen : Type 0
   WasOpen = HasCleanDisk new → IsTrue new.is_open → IsTrue old.is_open
 
-  -- what stands goes on to refer to what is there, and the needs that are stored go on to be those
+  -- references go on to hold, and the needs that are stored go on to be those
   -- of live versions
   abbrev pub KeepsSound : Type 0
   KeepsSound = HoldsSound old → HasCleanDisk new → IsTrue new.is_open → HoldsSound new

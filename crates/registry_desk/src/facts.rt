@@ -69,27 +69,33 @@ pub(crate) fn facts<S: Alter>(
         Action::Grant {
             organisation,
             team,
-            name,
+            package,
             ..
-        } => new_grant(alloc, tx, caller, organisation, team, name),
+        } => new_grant(alloc, tx, caller, organisation, team, package),
         Action::Revoke {
             organisation,
             team,
-            name,
-        } => old_grant(alloc, tx, caller, organisation, team, name),
-        Action::SetAccess { name, .. } => new_status(alloc, tx, caller, name),
-        Action::OwnerAdd { name, user } => new_maintainer(alloc, tx, caller, name, user),
-        Action::OwnerRemove { name, user } => old_maintainer(alloc, tx, caller, name, user),
+            package,
+        } => old_grant(alloc, tx, caller, organisation, team, package),
+        Action::SetAccess { package, .. } => new_status(alloc, tx, caller, package),
+        Action::OwnerAdd { package, user } => new_maintainer(alloc, tx, caller, package, user),
+        Action::OwnerRemove { package, user } => old_maintainer(alloc, tx, caller, package, user),
         Action::Publish { form } => new_version(alloc, tx, caller, form),
-        Action::TagSet { name, tag, version } => new_tag(alloc, tx, caller, name, tag, version),
-        Action::TagRemove { name, tag } => old_tag(alloc, tx, caller, name, tag),
-        Action::Withdraw { name, version } => old_version(alloc, tx, caller, name, version),
-        Action::Deprecate { name, .. } => live_versions(alloc, tx, caller, name),
-        Action::Packument { name } | Action::Tags { name } => {
-            seen_package(alloc, tx, caller, name)
+        Action::TagSet {
+            package,
+            tag,
+            version,
+        } => new_tag(alloc, tx, caller, package, tag, version),
+        Action::TagRemove { package, tag } => old_tag(alloc, tx, caller, package, tag),
+        Action::Withdraw { package, version } => old_version(alloc, tx, caller, package, version),
+        Action::Deprecate { package, .. } => live_versions(alloc, tx, caller, package),
+        Action::Packument { package } | Action::Tags { package } => {
+            seen_package(alloc, tx, caller, package)
         }
-        Action::VersionDoc { name, version } => seen_document(alloc, tx, caller, name, version),
-        Action::Archive { name, version } => seen_archive(alloc, tx, caller, name, version),
+        Action::VersionDoc { package, version } => seen_document(
+            alloc, tx, caller, package, version,
+        ),
+        Action::Archive { package, version } => seen_archive(alloc, tx, caller, package, version),
         Action::Members { organisation } | Action::Teams { organisation } => {
             seen_organisation(alloc, tx, caller, organisation)
         }

@@ -40,7 +40,7 @@ pub(crate) fn new_grant<S: Alter>(
     })
 }
 
-// How a team of an organisation stands to a package.
+// What a team of an organisation is to a package.
 #[derive(Drop)]
 struct Grantable {
     team_exists: bool,

@@ -1,6 +1,6 @@
 //! The registry itself: each request is one transaction, whose reply is made before its commit.
 //!
-//! A fault may come instead of any reply, and changes nothing. A request that is turned away
+//! A fault may come instead of any reply, and changes nothing. A request that is refused
 //! changes nothing either.
 //!
 //! The texts of packuments that were asked for are kept, of at most 64 MiB together, until a change
@@ -8,6 +8,7 @@
 #![tactic(auto)]
 
 mod answer;
+mod cache;
 mod facts;
 mod grants;
 mod maintainers;
@@ -19,7 +20,6 @@ mod registry;
 mod reply;
 mod rows;
 mod same;
-mod shelf;
 mod teams;
 mod withdrawals;
 

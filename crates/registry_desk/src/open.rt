@@ -15,12 +15,12 @@ ghost use Rattle.registry_desk.specs.Opened.{HoldsEach, HoldsFound, IsFreshIfEmp
 ghost use Rattle.registry_desk.specs.Promises.{IsSure};
 ghost use Rattle.registry_desk.specs.Resting.{Rests};
 
-use crate::registry::{Registry, TEXT_LIMIT, create_tables};
+use crate::registry::{CACHE_LIMIT, Registry, create_tables};
 use crate::same::is_same_schema;
+use registry_cache::TextCache;
 use registry_names::Fault;
 use registry_rows::{commit, fault_of};
 use registry_tables::opened;
-use registry_texts::Texts;
 use sqlite::{
     Alter, Connection, File, FileFrom, FileStore, Files, Leftover, Options, Start, Unknown,
 };
@@ -75,7 +75,7 @@ impl Registry<FileStore<File>> {
 }
 
 impl<S: Start> Registry<FileStore<FileFrom<S>>> {
-    /// The same, where `start` stands for what the files held, and for how a crash is read.
+    /// The same over a `start`, which represents what the files held and how a crash is read.
     pub fn open_from(
         rt: &HostRuntime,
         path: &str,
@@ -205,12 +205,12 @@ fn held<S: Alter>(alloc: Global, conn: Connection<S>) -> Result<Registry<S>, (Fa
         → IsLeftOf (state S.Store conn).now db)) }
 {
     let mut conn = conn;
-    let texts = match Texts::new(alloc, TEXT_LIMIT) {
-        Ok(texts) => texts,
+    let cache = match TextCache::new(alloc, CACHE_LIMIT) {
+        Ok(cache) => cache,
         Err(_) => return Err((Fault::Memory, conn)),
     };
     match settle(alloc, &mut conn) {
-        Ok(()) => Ok(Registry { conn, texts }),
+        Ok(()) => Ok(Registry { conn, cache }),
         Err(fault) => Err((fault, conn)),
     }
 }

@@ -65,7 +65,7 @@ pub(crate) fn new_version<S: Alter>(
     }))
 }
 
-// What stands already of what is to be published, and of its package.
+// What exists already of what is to be published, and of its package.
 #[derive(Drop)]
 struct Taken {
     version_lives: bool,
@@ -190,7 +190,7 @@ fn asked_lives<S: Alter>(
     }
 }
 
-// Whether the version that `latest` names lives. None does where the tag doesn't stand.
+// Whether the version that `latest` names lives. None does where the tag doesn't exist.
 fn latest_lives<S: Alter>(tx: &mut Transaction<'_, S>, name: &Name) -> Result<bool, Fault>
     requires in_form { InForm S.Store tx.old }
     ensures stays { Stays S.Store tx.old tx.new }

@@ -11,24 +11,24 @@ ghost use Rattle.registry_tables.specs.Effects.{registry_in, stored};
 ghost use Rattle.registry_tables.specs.Fresh.{fresh};
 ghost use Rattle.registry_tables.specs.Needs.{HoldsNeeds};
 ghost use Rattle.registry_history.specs.Headline.{Headline};
-ghost use Rattle.registry_desk.specs.Promises.{Answered, GrowsHistory, HasHeadline, Keeps, KeepsForm, KeepsSound, Moves, RanTo, Served, Stays, StaysRun, Stepped, Stored, SurvivesOne, SurvivesRun, WasOpen, WritesHistory};
+ghost use Rattle.registry_desk.specs.Promises.{Answered, GrowsHistory, HasHeadline, Keeps, KeepsForm, KeepsSound, Moves, RanTo, Served, SurvivesCrash, RunSurvivesCrash, Stepped, Stored, SurvivesOne, SurvivesRun, WasOpen, WritesHistory};
 ghost use Rattle.registry_desk.specs.Resting.{Rests};
-ghost use Rattle.registry_desk.specs.Shelves.{HasPackuments};
+ghost use Rattle.registry_desk.specs.Caches.{HasPackuments};
 
 use crate::answer::answered_inside;
-use crate::shelf::keep_reply;
+use crate::cache::keep_reply;
+use registry_cache::TextCache;
 use registry_names::Fault;
 use registry_rows::commit;
 use registry_rules::laws::requests_are_in_form;
 use registry_rules::{Reply, Request};
 use registry_tables::create;
-use registry_texts::Texts;
 use sqlite::{Alter, Connection, MemStore};
 use std::alloc::Global;
 use std::marker::Model;
 
 /// The most bytes that the texts of packuments have together which a registry keeps.
-pub(crate) const TEXT_LIMIT: usize = 64 << 20;
+pub(crate) const CACHE_LIMIT: usize = 64 << 20;
 
 /// A registry of packages, over any store that keeps its tables. Contracts see the connection.
 ///
@@ -39,19 +39,19 @@ pub(crate) const TEXT_LIMIT: usize = 64 << 20;
 /// packument of what is stored.
 pub struct Registry<S: Alter> {
     pub(crate) conn: Connection<S>,
-    pub(crate) texts: Texts,
+    pub(crate) cache: TextCache,
 }
 
 // Written out, so that to drop a registry is one call and not one for each part.
 impl<S: Alter + Drop> Drop for Registry<S> {
     fn drop(self) {
-        let Registry { conn: _, texts: _ } = self;
+        let Registry { conn: _, cache: _ } = self;
     }
 }
 
 impl<S: Alter> Model for Registry<S> {
     ghost use Rattle.sqlite.specs.Held.{Held, held_code, state};
-    ghost use Rattle.registry_desk.specs.Shelves.{IsShelved};
+    ghost use Rattle.registry_desk.specs.Caches.{IsCached};
 
     ghost Value = { Held S };
 
@@ -59,7 +59,7 @@ impl<S: Alter> Model for Registry<S> {
 
     ghost view = { λ r. r.conn };
 
-    ghost invariant = { λ r. IsShelved (state S.Store r.conn) r.texts };
+    ghost invariant = { λ r. IsCached (state S.Store r.conn) r.cache };
 }
 
 impl Registry<MemStore> {
@@ -75,8 +75,8 @@ impl Registry<MemStore> {
             return Err(Fault::Memory);
         };
         create_tables(&mut conn)?;
-        let texts = Texts::new(alloc, TEXT_LIMIT)?;
-        Ok(Registry { conn, texts })
+        let cache = TextCache::new(alloc, CACHE_LIMIT)?;
+        Ok(Registry { conn, cache })
     }
 
     /// Answers requests on a new registry in memory, in their order, and gives the registry that
@@ -100,10 +100,9 @@ impl<S: Alter> Registry<S> {
     /// has changed.
     ///
     /// What is said here holds as long as the disk returns what was written to it, which memory
-    /// always does; and of a registry where what stands refers to what is there, and the needs that
-    /// are stored are those of live versions, as in a new one: every request keeps that. A crash
-    /// leaves what it could have left before, or, once the commit was reached, what the request
-    /// makes; after a reply that alone.
+    /// always does; and of a registry where references hold, and the needs that are stored are
+    /// those of live versions, as in a new one: every request keeps that. A crash leaves what it
+    /// could have left before, or what the request makes; after a reply that alone.
     pub fn apply(&mut self, alloc: Global, request: &Request) -> Result<Reply, Fault>
         ensures answer { Answered (state S.Store self.old) (state S.Store self.new)
             request.now result }
@@ -121,10 +120,10 @@ impl<S: Alter> Registry<S> {
         ensures archives { Keeps (state S.Store self.old) (state S.Store self.new) HoldsArchives }
         ensures survives { SurvivesOne (state S.Store self.old) (state S.Store self.new)
             request.now }
-        ensures stays { Stays (state S.Store self.new) result }
+        ensures stays { SurvivesCrash (state S.Store self.new) result }
     {
         requests_are_in_form(request);
-        answered(alloc, &mut self.conn, &mut self.texts, request)
+        answered(alloc, &mut self.conn, &mut self.cache, request)
     }
 
     /// Answers requests in their order, as [`apply`](Registry::apply) does. Room for all outcomes
@@ -152,7 +151,7 @@ impl<S: Alter> Registry<S> {
         ensures survives { IfOk result (λ outcomes. SurvivesRun (state S.Store self.old)
             (state S.Store self.new) requests.now outcomes.items) }
         ensures stays { IfOk result (λ outcomes.
-            StaysRun (state S.Store self.new) outcomes.items) }
+            RunSurvivesCrash (state S.Store self.new) outcomes.items) }
         ensures not_run { OnErr result (self.new ≡ self.old) }
         ensures memory { IfErr result (λ fault. fault ≡ Fault.Memory) }
     {
@@ -167,13 +166,13 @@ impl<S: Alter> Registry<S> {
         Ok(outcomes)
     }
 
-    /// Gives the connection, which stands between requests. Over files, its `close` copies the log
+    /// Gives the connection, which is between requests. Over files, its `close` copies the log
     /// into the database file.
     pub fn release(self) -> Connection<S>
         ensures same { result ≡ self }
         ensures rests { Rests (state S.Store result) }
     {
-        let Registry { conn, texts: _ } = self;
+        let Registry { conn, cache: _ } = self;
         conn
     }
 }
@@ -199,27 +198,27 @@ pub(crate) fn create_tables<S: Alter>(conn: &mut Connection<S>) -> Result<(), Fa
 fn answered<S: Alter>(
     alloc: Global,
     conn: &mut Connection<S>,
-    texts: &mut Texts,
+    cache: &mut TextCache,
     request: &Request,
 ) -> Result<Reply, Fault>
     requires rests { Rests (state S.Store conn.old) }
-    requires right { HasPackuments (state S.Store conn.old) texts.old }
+    requires right { HasPackuments (state S.Store conn.old) cache.old }
     ensures rests { Rests (state S.Store conn.new) }
-    ensures right { HasPackuments (state S.Store conn.new) texts.new }
-    ensures limit { texts.new.limit ≡ texts.old.limit }
+    ensures right { HasPackuments (state S.Store conn.new) cache.new }
+    ensures limit { cache.new.limit ≡ cache.old.limit }
     ensures answer { Answered (state S.Store conn.old) (state S.Store conn.new)
         request.now result }
     ensures served { Served (state S.Store conn.old) (state S.Store conn.new) result }
     ensures opened { WasOpen (state S.Store conn.old) (state S.Store conn.new) }
     ensures step { Stepped (state S.Store conn.old) (state S.Store conn.new) request.now result }
     ensures survives { SurvivesOne (state S.Store conn.old) (state S.Store conn.new) request.now }
-    ensures stays { Stays (state S.Store conn.new) result }
+    ensures stays { SurvivesCrash (state S.Store conn.new) result }
 {
     let mut tx = conn.transaction();
-    let reply = answered_inside(alloc, &mut tx, texts, request)?;
+    let reply = answered_inside(alloc, &mut tx, cache, request)?;
     match commit(tx) {
         Ok(()) => {
-            keep_reply(texts, &request.what, &reply);
+            keep_reply(cache, &request.what, &reply);
             Ok(reply)
         }
         Err(fault) => Err(fault),

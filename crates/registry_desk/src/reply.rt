@@ -1,4 +1,4 @@
-//! The reply to a request that isn't turned away.
+//! The reply to a request that isn't refused.
 
 ghost use Rattle.std.specs.Prelude.{◌≡◌, ℕ, List as Sequence, Some, IfOk, filter, length, map};
 ghost use Rattle.registry_names.specs.Maps.{of, pairs_of, parts, seen};
@@ -9,7 +9,7 @@ ghost use Rattle.registry_access.specs.Positions.{level_in};
 ghost use Rattle.registry_access.specs.declared.caller.Caller.{Caller};
 ghost use Rattle.registry_access.specs.declared.grant.Grant.{Grant as Right};
 ghost use Rattle.registry_rules.specs.State.{State};
-ghost use Rattle.registry_rules.specs.Withdrawals as words;
+ghost use Rattle.registry_rules.specs.Withdrawals as definitions;
 ghost use Rattle.registry_rules.specs.Withdrawals.{selected};
 ghost use Rattle.registry_tables.specs.Spelled.{document, member_entry, row_entry, tag_entry};
 ghost use Rattle.registry_tables.specs.Teams.{granted_entry};
@@ -18,6 +18,7 @@ ghost use Rattle.registry_history.specs.Answers.{members_in, packument_in, tags_
 ghost use Rattle.registry_desk.specs.Found.{AreRowsOf};
 
 use crate::rows::Rows;
+use registry_cache::SharedText;
 use registry_names::{DistTag, Fault, Name, Text, Ver};
 use registry_packument::{
     Granted, List, Member, PackHead, VersionRow, VersionRows, list_text, packument_text,
@@ -26,7 +27,6 @@ use registry_packument::{
 use registry_ranges::Selector;
 use registry_rules::{Action, Reply};
 use registry_tables::DocumentRow;
-use registry_texts::SharedText;
 use std::alloc::Global;
 
 /// The reply to a caller's action, of the rows that answer it.
@@ -59,8 +59,8 @@ pub(crate) fn reply(alloc: Global, what: &Action, rows: Rows) -> Result<Reply, F
         (Action::Deprecate { selector, .. }, Rows::Live(live)) => {
             Ok(Reply::Count(count(selector, &live)))
         }
-        (Action::Packument { name }, Rows::Packument { versions, tags }) => {
-            doc(packument(alloc, name, versions, tags)?)
+        (Action::Packument { package }, Rows::Packument { versions, tags }) => {
+            doc(packument(alloc, package, versions, tags)?)
         }
         (Action::Packument { .. }, Rows::Known(text)) => Ok(Reply::Doc(text)),
         (Action::VersionDoc { .. }, Rows::Document(Some(row))) => { doc(document(alloc, &row)?) }
@@ -96,7 +96,7 @@ fn count(selector: &Selector, live: &[Ver]) -> u64
 }
 
 fn selects(selector: &Selector, version: &Ver) -> bool
-    ensures { result ≡ words.selects selector.now (text_of_version version.now) }
+    ensures { result ≡ definitions.selects selector.now (text_of_version version.now) }
 {
     version.text();
     selector.selects(version)

@@ -3,20 +3,21 @@
 ghost use Rattle.std.specs.Prelude.{◌≡◌, List, option_map, IfSome};
 ghost use Rattle.registry_access.specs.declared.caller.Caller.{Caller};
 ghost use Rattle.registry_history.specs.Answers.{asked_release};
-ghost use Rattle.registry_names.specs.Texts.{Text as Word};
+ghost use Rattle.registry_names.specs.Texts.{Text as SpecText};
 ghost use Rattle.registry_ranges.specs.Selectors.{Condition};
 ghost use Rattle.registry_rows.specs.Frames.{Stays};
 ghost use Rattle.registry_tables.specs.Contents.{registry_of};
 ghost use Rattle.registry_tables.specs.Effects.{InForm, Knows, Tells};
 ghost use Rattle.registry_tables.specs.Spelled.{document, document_entry};
 ghost use Rattle.registry_tables.specs.Teams.{AreTeamsSound};
-ghost use Rattle.registry_texts.specs.Stores.{kept};
+ghost use Rattle.registry_cache.specs.Caches.{kept};
 ghost use Rattle.registry_desk.specs.Found.{AreRowsOf};
-ghost use Rattle.registry_desk.specs.Shelves.{ArePackuments, IsSoundFor};
+ghost use Rattle.registry_desk.specs.Caches.{ArePackuments, IsSoundFor};
 ghost use Rattle.registry_rules.specs.declared.request.Action.TheVariants as asked;
 ghost use Rattle.registry_rules.specs.declared.request.Asked.TheVariants as which;
 
 use registry_access::Caller;
+use registry_cache::{SharedText, TextCache};
 use registry_names::{Blob, DistTag, Fault, Ident, LATEST, Name, Text, Ver};
 use registry_packument::{Granted, Member, VersionRow};
 use registry_rules::{Action, Asked};
@@ -24,7 +25,6 @@ use registry_tables::{
     DocumentRow, load_archive, load_document, load_live, load_members, load_tag, load_tags,
     load_team_packages, load_team_users, load_teams, load_versions,
 };
-use registry_texts::{SharedText, Texts};
 use sqlite::{Alter, Transaction};
 use std::alloc::Global;
 
@@ -62,13 +62,13 @@ pub(crate) enum Rows {
 pub(crate) fn rows_for<S: Alter>(
     alloc: Global,
     tx: &mut Transaction<'_, S>,
-    texts: &Texts,
+    cache: &TextCache,
     caller: &Caller,
     what: &Action,
 ) -> Result<Rows, Fault>
     requires in_form { InForm S.Store tx.old }
     ensures stays { Stays S.Store tx.old tx.new }
-    ensures knows { Knows S.Store tx.old tx.new result (λ rows c. IsSoundFor what.now c texts.now
+    ensures knows { Knows S.Store tx.old tx.new result (λ rows c. IsSoundFor what.now c cache.now
         → AreRowsOf rows (registry_of c) caller.now what.now) }
 {
     match what {
@@ -90,11 +90,11 @@ pub(crate) fn rows_for<S: Alter>(
         | Action::TagSet { .. }
         | Action::TagRemove { .. }
         | Action::Withdraw { .. } => Ok(Rows::Nothing),
-        Action::Deprecate { name, .. } => live_rows(alloc, tx, name),
-        Action::Packument { name } => packument_rows(alloc, tx, texts, name),
-        Action::VersionDoc { name, version } => document_row(tx, name, version),
-        Action::Archive { name, version } => archive_row(tx, name, version),
-        Action::Tags { name } => tag_rows(alloc, tx, name),
+        Action::Deprecate { package, .. } => live_rows(alloc, tx, package),
+        Action::Packument { package } => packument_rows(alloc, tx, cache, package),
+        Action::VersionDoc { package, version } => document_row(tx, package, version),
+        Action::Archive { package, version } => archive_row(tx, package, version),
+        Action::Tags { package } => tag_rows(alloc, tx, package),
         Action::Members { organisation } => member_rows(alloc, tx, organisation),
         Action::Teams { organisation } => team_rows(alloc, tx, organisation),
         Action::TeamMembers { organisation, team } => {
@@ -114,7 +114,7 @@ fn live_rows<S: Alter>(
     requires in_form { InForm S.Store tx.old }
     ensures stays { Stays S.Store tx.old tx.new }
     ensures tells { Tells S.Store tx.old tx.new result (λ rows c. (who : Caller)
-        (selector : List (List Condition)) (message : Word)
+        (selector : List (List Condition)) (message : SpecText)
         → AreRowsOf rows (registry_of c) who (asked.Deprecate name.now selector message)) }
 {
     Ok(Rows::Live(load_live(alloc, tx, name)?))
@@ -123,26 +123,26 @@ fn live_rows<S: Alter>(
 fn packument_rows<S: Alter>(
     alloc: Global,
     tx: &mut Transaction<'_, S>,
-    texts: &Texts,
+    cache: &TextCache,
     name: &Name,
 ) -> Result<Rows, Fault>
     requires in_form { InForm S.Store tx.old }
     ensures stays { Stays S.Store tx.old tx.new }
     ensures knows { Knows S.Store tx.old tx.new result (λ rows c. (who : Caller)
-        → ArePackuments c texts.now
+        → ArePackuments c cache.now
         → AreRowsOf rows (registry_of c) who (asked.Packument name.now)) }
 {
-    match known_text(texts, name) {
+    match cached_text(cache, name) {
         Some(text) => Ok(Rows::Known(text)),
         None => stored_rows(alloc, tx, name),
     }
 }
 
 // The text that is kept of a packument. None where it can't be shared.
-fn known_text(texts: &Texts, name: &Name) -> Option<SharedText>
-    ensures { IfSome result (λ text. kept texts.now name.now ≡ Some text) }
+fn cached_text(cache: &TextCache, name: &Name) -> Option<SharedText>
+    ensures { IfSome result (λ text. kept cache.now name.now ≡ Some text) }
 {
-    texts.peek(name.text())?.share().ok()
+    cache.peek(name.text())?.share().ok()
 }
 
 fn stored_rows<S: Alter>(
@@ -191,7 +191,7 @@ fn load_asked<S: Alter>(
     }
 }
 
-// The manifest and the message of the version that `latest` names, if it stands.
+// The manifest and the message of the version that `latest` names, if it exists.
 fn load_latest<S: Alter>(
     tx: &mut Transaction<'_, S>,
     name: &Name,

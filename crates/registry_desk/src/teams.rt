@@ -100,7 +100,7 @@ pub(crate) fn old_team_member<S: Alter>(
     })
 }
 
-// How a user stands to a team of an organisation.
+// What a user is to a team of an organisation.
 #[derive(Drop)]
 struct Place {
     team_exists: bool,

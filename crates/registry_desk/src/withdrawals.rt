@@ -1,7 +1,7 @@
 //! What decides a withdrawal and a deprecation.
 
 ghost use Rattle.std.specs.Prelude.{List};
-ghost use Rattle.registry_names.specs.Texts.{Text as Word};
+ghost use Rattle.registry_names.specs.Texts.{Text as SpecText};
 ghost use Rattle.registry_ranges.specs.Selectors.{Condition};
 ghost use Rattle.registry_rows.specs.Frames.{Stays};
 ghost use Rattle.registry_rules.specs.Facts.{AboutTells};
@@ -19,7 +19,7 @@ use registry_tables::{is_depended, load_live, load_published, load_standing, loa
 use sqlite::{Alter, Transaction};
 use std::alloc::Global;
 
-/// Of a version that is to be withdrawn. Who needs it is told by the needs that are stored.
+/// Of a version that is to be withdrawn. Who needs it is determined by the needs that are stored.
 pub(crate) fn old_version<S: Alter>(
     alloc: Global,
     tx: &mut Transaction<'_, S>,
@@ -85,7 +85,7 @@ pub(crate) fn live_versions<S: Alter>(
     requires in_form { InForm S.Store tx.old }
     ensures stays { Stays S.Store tx.old tx.new }
     ensures tells { Tells S.Store tx.old tx.new result (λ about c.
-        (selector : List (List Condition)) (message : Word) → AreTeamsSound c
+        (selector : List (List Condition)) (message : SpecText) → AreTeamsSound c
         → AboutTells about (registry_of c) caller.now
         (asked.Deprecate name.now selector message)) }
 {

@@ -23,7 +23,7 @@ use Rattle.registry_access.specs.declared.caller.Caller.{Caller}
 use Rattle.registry_access.specs.declared.caller.Caller.TheVariants.{Operator, User, Anonymous}
 use Rattle.registry_access.proofs.AgreementFacts.{position_alike}
 use Rattle.registry_publish.specs.Form.{FormParts}
-use Rattle.registry_rules.specs.Actions.{is_command, names, version_of}
+use Rattle.registry_rules.specs.Actions.{is_command, names_package, version_of}
 use Rattle.registry_rules.specs.Callers.{is_known}
 use Rattle.registry_rules.specs.Permissions.{permission}
 use Rattle.registry_rules.specs.Refusals.{grant_refusal, is_restricted, publish_refusal, refuse, refusal_by, state_refusal, tag_refusal, unless_allowed, unless_there, withdraw_refusal}
@@ -37,36 +37,36 @@ use Rattle.registry_rules.specs.declared.request.Asked.TheVariants.{Exact, Lates
 use Rattle.registry_rules.proofs.AllowedFacts.{policy_passed, state_passed}
 use Rattle.registry_hidden.specs.Concerns.{concerns, withdraws_another}
 use Rattle.registry_hidden.specs.Laws.{OthersAreAccepted}
-use Rattle.registry_hidden.specs.Without.{without}
+use Rattle.registry_hidden.specs.Without.{state_without}
 use Rattle.registry_hidden.proofs.KeepFacts.{at-kept}
 use Rattle.registry_hidden.proofs.NamedFacts.{other_pair, other_triple}
 use Rattle.registry_hidden.proofs.OtherFacts.{at_other, of_other, status_other}
 
 -- ---- the policy
 
-pub same_role : (A : Access) (p : Text) (who : Caller) (o : Text) → role_of (access.without A p) who o ≡ role_of A who o
+pub same_role : (A : Access) (p : Text) (who : Caller) (o : Text) → role_of (access.access_without A p) who o ≡ role_of A who o
 same_role A p Operator o = refl
 same_role A p (User u) o = refl
 same_role A p Anonymous o = refl
 
-pub same_in_team : (A : Access) (p : Text) (who : Caller) (o t : Text) → in_team (access.without A p) who o t ≡ in_team A who o t
+pub same_in_team : (A : Access) (p : Text) (who : Caller) (o t : Text) → in_team (access.access_without A p) who o t ≡ in_team A who o t
 same_in_team A p Operator o t = refl
 same_in_team A p (User u) o t = refl
 same_in_team A p Anonymous o t = refl
 
 module _ (A : Access) (p q : Text) (other : is q p ≡ false) where
-  same_maintainer : (who : Caller) → is_maintainer (access.without A p) who q ≡ is_maintainer A who q
+  same_maintainer : (who : Caller) → is_maintainer (access.access_without A p) who q ≡ is_maintainer A who q
   same_maintainer Operator = refl
   same_maintainer (User u) = ap is_some (at_other p q other A.maintainers u)
   same_maintainer Anonymous = refl
 
-  same_granted : (o t : Text) → at (access.without A p).grants (o, (t, q)) ≡ at A.grants (o, (t, q))
+  same_granted : (o t : Text) → at (access.access_without A p).grants (o, (t, q)) ≡ at A.grants (o, (t, q))
   same_granted o t = at-kept triple_key (other_triple p) A.grants (o, (t, q)) (ap not other)
 
-  same_grant : (who : Caller) (o t : Text) → team_grant (access.without A p) who o t q ≡ team_grant A who o t q
+  same_grant : (who : Caller) (o t : Text) → team_grant (access.access_without A p) who o t q ≡ team_grant A who o t q
   same_grant who o t = ap₂ (λ b g. if b then g else None) (same_in_team A p who o t) (same_granted o t)
 
-  same_package : (who : Caller) → SamePackage (access.without A p) A who q
+  same_package : (who : Caller) → SamePackage (access.access_without A p) A who q
   same_package who = record {
     scope = λ o e. record { organisation = refl; role = same_role A p who o };
     status = status_other p q other A.statuses;
@@ -74,10 +74,10 @@ module _ (A : Access) (p q : Text) (other : is q p ≡ false) where
     grants = same_grant who;
   }
 
-  pub position_other : (who : Caller) → position_in (access.without A p) who q ≡ position_in A who q
-  position_other who = position_alike (access.without A p) A who q (same_package who)
+  pub position_other : (who : Caller) → position_in (access.access_without A p) who q ≡ position_in A who q
+  position_other who = position_alike (access.access_without A p) A who q (same_package who)
 
-pub permission_other : (A : Access) (who : Caller) (what : Action) (p : Text) → concerns what p ≡ false → permission (access.without A p) who what ≡ permission A who what
+pub permission_other : (A : Access) (who : Caller) (what : Action) (p : Text) → concerns what p ≡ false → permission (access.access_without A p) who what ≡ permission A who what
 permission_other A who (OrgSet o u role) p other = ap (may_manage_members who (has_organisation A o)) (same_role A p who o)
 permission_other A who (OrgRemove o u) p other = ap (may_manage_members who (has_organisation A o)) (same_role A p who o)
 permission_other A who (TeamCreate o t) p other = ap (may_manage_teams who (has_organisation A o)) (same_role A p who o)
@@ -104,41 +104,41 @@ permission_other A who (TeamMembers o t) p other = ap (may_see_organisation who 
 permission_other A who (TeamPackages o t) p other = ap (may_see_organisation who (has_organisation A o)) (same_role A p who o)
 permission_other A who _ p other = refl
 
-pub same_known : (S : State) (p : Text) (who : Caller) → is_known (without S p) who ≡ is_known S who
+pub same_known : (S : State) (p : Text) (who : Caller) → is_known (state_without S p) who ≡ is_known S who
 same_known S p Operator = refl
 same_known S p (User u) = refl
 same_known S p Anonymous = refl
 
--- ---- what stands in the way
+-- ---- what conflicts with the state
 
 module _ (S : State) (p q : Text) (other : is q p ≡ false) where
-  same_live : (v : Text) → is_live (without S p) q v ≡ is_live S q v
+  same_live : (v : Text) → is_live (state_without S p) q v ≡ is_live S q v
   same_live v = ap is_some (at_other p q other S.live v)
 
-  same_has_live : has_live (without S p) q ≡ has_live S q
+  same_has_live : has_live (state_without S p) q ≡ has_live S q
   same_has_live = ap (λ (es : List (Text × Release)). not (is_empty es)) (of_other p q other S.live)
 
-  same_lives : (v : Option Text) → lives (without S p) q v ≡ lives S q v
+  same_lives : (v : Option Text) → lives (state_without S p) q v ≡ lives S q v
   same_lives None = refl
   same_lives (Some v) = same_live v
 
-  pub same_asked : (asked : Asked) → asked_version (without S p) q asked ≡ asked_version S q asked
+  pub same_asked : (asked : Asked) → asked_version (state_without S p) q asked ≡ asked_version S q asked
   same_asked (Exact v) = refl
   same_asked Latest = at_other p q other S.tags latest
 
-  same_waiting : (now : ℕ) → is_waiting (without S p) now q ≡ is_waiting S now q
+  same_waiting : (now : ℕ) → is_waiting (state_without S p) now q ≡ is_waiting S now q
   same_waiting now = ap₂ (λ (b : Bool) (es : List (Text × Withdrawal)). not b && is_less_than_a_day_ago now (last_of es)) same_has_live (of_other p q other S.spent)
 
-  same_published_at : (v : Text) → published_at (without S p) q v ≡ published_at S q v
+  same_published_at : (v : Text) → published_at (state_without S p) q v ≡ published_at S q v
   same_published_at v = ap (option_map (λ (r : Release). r.at)) (at_other p q other S.live v)
 
-  same_last : (u : Text) → refuse (not (has_maintainer (without S p) q u)) NotFound (refuse (not (has_other_maintainer (without S p) q u)) LastOwner None)
+  same_last : (u : Text) → refuse (not (has_maintainer (state_without S p) q u)) NotFound (refuse (not (has_other_maintainer (state_without S p) q u)) LastOwner None)
       ≡ refuse (not (has_maintainer S q u)) NotFound (refuse (not (has_other_maintainer S q u)) LastOwner None)
   same_last u =
       ap₂ (λ (o : Option (Unit {0})) (es : List (Text × Unit {0})). refuse (not (is_some o)) NotFound (refuse (not (list_any (λ (e : Text × Unit {0}). not (is e.0 u)) es)) LastOwner None))
       (at_other p q other S.access.maintainers u) (of_other p q other S.access.maintainers)
 
-same_publish_refusal : (S : State) (now : ℕ) (f : FormParts) (p : Text) → is f.name p ≡ false → publish_refusal (without S p) now f ≡ publish_refusal S now f
+same_publish_refusal : (S : State) (now : ℕ) (f : FormParts) (p : Text) → is f.name p ≡ false → publish_refusal (state_without S p) now f ≡ publish_refusal S now f
 same_publish_refusal S now f p other =
     let live = same_live S p f.name other (version_of f) in
     let spent = ap is_some (at_other p f.name other S.spent (version_of f)) in
@@ -146,7 +146,7 @@ same_publish_refusal S now f p other =
     λ i. refuse (live i) Published (refuse (spent i) Spent (refuse (is_restricted f.access && is_none (scope_of f.name)) AlwaysPublic (refuse (waiting i) Waiting None)))
 
 -- but of a withdrawal: a version may be needed by the package
-pub state_other : (S : State) (now : ℕ) (what : Action) (p : Text) → concerns what p ≡ false → withdraws_another what p ≡ false → state_refusal (without S p) now what ≡ state_refusal S now what
+pub state_other : (S : State) (now : ℕ) (what : Action) (p : Text) → concerns what p ≡ false → withdraws_another what p ≡ false → state_refusal (state_without S p) now what ≡ state_refusal S now what
 state_other S now (command.Grant o t q grant) p other apart = ap (λ s. grant_refusal (has_team S o t) (is_some s) o q) (status_other p q other S.access.statuses)
 state_other S now (Revoke o t q) p other apart = ap (λ g. unless_there (is_some g)) (same_granted S.access p q other o t)
 state_other S now (OwnerRemove q u) p other apart = same_last S p q other u
@@ -155,7 +155,7 @@ state_other S now (TagSet q t v) p other apart = ap unless_there (same_live S p 
 state_other S now (TagRemove q t) p other apart = ap (λ o. tag_refusal (is_some o) t) (at_other p q other S.tags t)
 state_other S now (Withdraw q v) p other apart = absurd (true≢false (sym (ap not other) ∙ apart))
 state_other S now (Packument q) p other apart = ap unless_there (same_has_live S p q other)
-state_other S now (VersionDoc q asked) p other apart = ap unless_there (ap (lives (without S p) q) (same_asked S p q other asked) ∙ same_lives S p q other (asked_version S q asked))
+state_other S now (VersionDoc q asked) p other apart = ap unless_there (ap (lives (state_without S p) q) (same_asked S p q other asked) ∙ same_lives S p q other (asked_version S q asked))
 state_other S now (Archive q v) p other apart = ap unless_there (same_live S p q other (text_of_version v))
 state_other S now (Tags q) p other apart = ap unless_there (same_has_live S p q other)
 state_other S now _ p other apart = refl
@@ -179,7 +179,7 @@ any_filtered : {X : Type 0} (test kept : X → Bool) (xs : List X) → list_any 
 any_filtered test kept [] h = h
 any_filtered test kept (x ∷ xs) h = any_one test x (filter kept xs) xs (kept x) (any_filtered test kept xs) h
 
-needed_more : (S : State) (p q : Text) (v : VersionParts) → is_depended (without S p) q v ≡ true → is_depended S q v ≡ true
+needed_more : (S : State) (p q : Text) (v : VersionParts) → is_depended (state_without S p) q v ≡ true → is_depended S q v ≡ true
 needed_more S p q v h =
     let needs = λ (e : Pair × Release). not (is e.0.0 q) && list_any (is_need_of q v) (needs_in e.1) in
     any_filtered needs (λ (e : Pair × Release). other_pair p e.0) (entries S.live) (sym (ap (list_any needs) (entries-keep pair_key S.live (other_pair p))) ∙ h)
@@ -196,29 +196,29 @@ withdrawn_more now (Some published) needed less more may = by_age (is_too_old no
 
 -- ---- both
 
--- what is neither refused by the policy nor by what stands
+-- what is neither refused by the policy nor by a conflict with the state
 none_of_both : (a b : Option Refusal) → a ≡ None → b ≡ None → option_or a b ≡ None
 none_of_both a b e f = ap (λ o. option_or o b) e ∙ f
 
-pub refusal_other : (S : State) (now : ℕ) (who : Caller) (what : Action) (p : Text) → concerns what p ≡ false → withdraws_another what p ≡ false → refusal_by (without S p) now who what ≡ refusal_by S now who what
+pub refusal_other : (S : State) (now : ℕ) (who : Caller) (what : Action) (p : Text) → concerns what p ≡ false → withdraws_another what p ≡ false → refusal_by (state_without S p) now who what ≡ refusal_by S now who what
 refusal_other S now who what p other apart = ap₂ (λ v o. option_or (unless_allowed v) o) (permission_other S.access who what p other) (state_other S now what p other apart)
 
 -- a command that doesn't name the package isn't about it
-pub unconcerned : (what : Action) (p : Text) → is_command what ≡ true → names what p ≡ false → concerns what p ≡ false
+pub unconcerned : (what : Action) (p : Text) → is_command what ≡ true → names_package what p ≡ false → concerns what p ≡ false
 unconcerned (Packument q) p command other = absurd (true≢false (sym command))
 unconcerned (VersionDoc q asked) p command other = absurd (true≢false (sym command))
 unconcerned (Archive q v) p command other = absurd (true≢false (sym command))
 unconcerned (Tags q) p command other = absurd (true≢false (sym command))
 unconcerned _ p command other = other
 
-withdrawal_accepted : (S : State) (now : ℕ) (who : Caller) (q : Text) (v : VersionParts) (p : Text) → is q p ≡ false → refusal_by S now who (Withdraw q v) ≡ None → refusal_by (without S p) now who (Withdraw q v) ≡ None
+withdrawal_accepted : (S : State) (now : ℕ) (who : Caller) (q : Text) (v : VersionParts) (p : Text) → is q p ≡ false → refusal_by S now who (Withdraw q v) ≡ None → refusal_by (state_without S p) now who (Withdraw q v) ≡ None
 withdrawal_accepted S now who q v p other may =
     none_of_both _ _
     (ap unless_allowed (permission_other S.access who (Withdraw q v) p other) ∙ policy_passed S now who (Withdraw q v) may)
-    (ap (λ o. withdraw_refusal now o (is_depended (without S p) q v)) (same_published_at S p q other (text_of_version v))
-    ∙ withdrawn_more now (published_at S q (text_of_version v)) (is_depended S q v) (is_depended (without S p) q v) (needed_more S p q v) (state_passed S now who (Withdraw q v) may))
+    (ap (λ o. withdraw_refusal now o (is_depended (state_without S p) q v)) (same_published_at S p q other (text_of_version v))
+    ∙ withdrawn_more now (published_at S q (text_of_version v)) (is_depended S q v) (is_depended (state_without S p) q v) (needed_more S p q v) (state_passed S now who (Withdraw q v) may))
 
-others_accepted : (S : State) (now : ℕ) (who : Caller) (what : Action) (p : Text) → concerns what p ≡ false → refusal_by S now who what ≡ None → refusal_by (without S p) now who what ≡ None
+others_accepted : (S : State) (now : ℕ) (who : Caller) (what : Action) (p : Text) → concerns what p ≡ false → refusal_by S now who what ≡ None → refusal_by (state_without S p) now who what ≡ None
 others_accepted S now who (Withdraw q v) p other may = withdrawal_accepted S now who q v p other may
 others_accepted S now who what p other may = refusal_other S now who what p other refl ∙ may
 

@@ -1,4 +1,4 @@
--- What concerns a package that a caller doesn't read is refused to him for the same reason on the
+-- What concerns a package that a caller doesn't read is refused to them for the same reason on the
 -- registry and on the registry without the package.
 use Rattle.std.proofs.Common.{◌≡◌, ℕ, Bool, true, false, not, ◌&&◌, ◌||◌, refl, sym, ap, ◌∙◌, true≢false, Some, None, Ok, Err, Option, is_some, if◌then◌else◌}
 use Rattle.std.specs.Option.{option_or}
@@ -30,8 +30,8 @@ use Rattle.registry_rules.specs.State.{State, has_grant, has_team, is_published}
 use Rattle.registry_rules.specs.declared.request.Action.{Action}
 use Rattle.registry_rules.specs.declared.request.Action.TheVariants as command
 use Rattle.registry_rules.specs.declared.request.Action.TheVariants.{Revoke, SetAccess, OwnerAdd, OwnerRemove, Publish, TagSet, TagRemove, Withdraw, Deprecate, Packument, VersionDoc, Archive, Tags}
-use Rattle.registry_hidden.specs.Concerns.{concerns, publishes_as_member}
-use Rattle.registry_hidden.specs.Without.{without}
+use Rattle.registry_hidden.specs.Concerns.{concerns, is_member_publish}
+use Rattle.registry_hidden.specs.Without.{state_without}
 use Rattle.registry_hidden.proofs.AcceptedFacts.{same_role}
 use Rattle.registry_hidden.proofs.KeepFacts.{at-unkept}
 use Rattle.registry_hidden.proofs.NamedFacts.{other_triple}
@@ -43,7 +43,7 @@ AreRefused S T now who what = (why : Refusal) × (refusal_by S now who what ≡ 
 refused_both : (S T : State) (now : ℕ) (who : Caller) (what : Action) (why : Refusal) → (refusal_by S now who what ≡ Some why) × (refusal_by T now who what ≡ Some why) → AreRefused S T now who what
 refused_both S T now who what why both = (why, both.0, both.1)
 
--- what the policy turns away is turned away, whatever stands
+-- what the policy refuses is refused, whatever the state is
 turned_first : (first rest : Option Refusal) (why : Refusal) → first ≡ Some why → option_or first rest ≡ Some why
 turned_first first rest why e = ap (λ o. option_or o rest) e
 
@@ -63,15 +63,15 @@ unread_turned who l next e = ap (λ x. unless_allowed (for_known who (where_foun
     by_caller (User u) = refl
     by_caller Anonymous = refl
 
-gone : (A : Access) (p : Text) → at (access.without A p).statuses p ≡ None
+gone : (A : Access) (p : Text) → at (access.access_without A p).statuses p ≡ None
 gone A p = at-erase_same text_key A.statuses p
 
-pub nothing_left : (A : Access) (who : Caller) (p : Text) → level_in (access.without A p) who p ≡ Nothing
-nothing_left A who p = ap (λ s. level_at (record (position_in (access.without A p) who p) { status = s })) (gone A p)
+pub nothing_left : (A : Access) (who : Caller) (p : Text) → level_in (access.access_without A p) who p ≡ Nothing
+nothing_left A who p = ap (λ s. level_at (record (position_in (access.access_without A p) who p) { status = s })) (gone A p)
 
 module _ (S : State) (now : ℕ) (who : Caller) (p : Text) (nothing : level_in S.access who p ≡ Nothing) where
   abbrev T : State
-  T = without S p
+  T = state_without S p
 
   level_here : (q : Text) → is q p ≡ true → level_in S.access who q ≡ Nothing
   level_here q here = ap (level_in S.access who) (same_true text_key q p here) ∙ nothing
@@ -156,7 +156,7 @@ ungranted team published o q apart = ap (λ b. refuse (not team || (b && not pub
     by_team false = refl
 
 module _ (S : State) (now : ℕ) (who : Caller) (p o : Text) (sound : IsSound S.access) (scoped : scope_of p ≡ Some o) (unmanaging : is_owner_or_admin (role_of S.access who o) ≡ false) where
-  -- an organisation of which he manages the teams is another
+  -- an organisation of which they manage the teams is another
   another : (r : Text) (rule : Rule) → may_manage_teams who (has_organisation S.access r) (role_of S.access who r) ≡ Ok rule → (b : Bool) → is o r ≡ b → b ≡ false
   another r rule e true same =
       absurd (true≢false (sym (managing who (has_organisation S.access r) (role_of S.access who r) rule e) ∙ ap (λ x. is_owner_or_admin (role_of S.access who x)) (sym (same_true text_key o r same)) ∙ unmanaging))
@@ -168,7 +168,7 @@ module _ (S : State) (now : ℕ) (who : Caller) (p o : Text) (sound : IsSound S.
   by_verdict : (r : Text) (a b : Option Refusal) (v : Verdict) → may_manage_teams who (has_organisation S.access r) (role_of S.access who r) ≡ v
       → ((rule : Rule) → v ≡ Ok rule → (why : Refusal) × (a ≡ Some why) × (b ≡ Some why))
       → (why : Refusal) × (option_or (unless_allowed (may_manage_teams who (has_organisation S.access r) (role_of S.access who r))) a ≡ Some why)
-      × (option_or (unless_allowed (may_manage_teams who (has_organisation S.access r) (role_of (without S p).access who r))) b ≡ Some why)
+      × (option_or (unless_allowed (may_manage_teams who (has_organisation S.access r) (role_of (state_without S p).access who r))) b ≡ Some why)
   by_verdict r a b (Err why) is later =
       (why, ap (λ v. option_or (unless_allowed v) a) is, ap (λ x. option_or (unless_allowed (may_manage_teams who (has_organisation S.access r) x)) b) (same_role S.access p who r) ∙ ap (λ v. option_or (unless_allowed v) b) is)
   by_verdict r a b (Ok rule) is later =
@@ -178,10 +178,10 @@ module _ (S : State) (now : ℕ) (who : Caller) (p o : Text) (sound : IsSound S.
         ap (λ x. option_or (unless_allowed (may_manage_teams who (has_organisation S.access r) x)) b) (same_role S.access p who r) ∙ ap (λ v. option_or (unless_allowed v) b) is ∙ more.2,
       )
 
-  grant_refused : (r t q : Text) (grant : Grant) → is q p ≡ true → AreRefused S (without S p) now who (command.Grant r t q grant)
+  grant_refused : (r t q : Text) (grant : Grant) → is q p ≡ true → AreRefused S (state_without S p) now who (command.Grant r t q grant)
   grant_refused r t q grant here = by_verdict r _ _ (may_manage_teams who (has_organisation S.access r) (role_of S.access who r)) refl (λ rule e.
       let apart = ap (is_scope r) (scope_here q here) ∙ another r rule e (is o r) refl in
-      (elsewhere (has_team S r t), ungranted (has_team S r t) (is_published S q) r q apart, ungranted (has_team S r t) (is_published (without S p) q) r q apart))
+      (elsewhere (has_team S r t), ungranted (has_team S r t) (is_published S q) r q apart, ungranted (has_team S r t) (is_published (state_without S p) q) r q apart))
 
   none_granted : (r t q : Text) → is o r ≡ false → is q p ≡ true → (b : Bool) → has_grant S r t q ≡ b → b ≡ false
   none_granted r t q apart here true e =
@@ -190,46 +190,46 @@ module _ (S : State) (now : ℕ) (who : Caller) (p o : Text) (sound : IsSound S.
       absurd (true≢false (sym (same_self text_key o) ∙ ap (is o) one ∙ apart))
   none_granted r t q apart here false e = refl
 
-  revoke_refused : (r t q : Text) → is q p ≡ true → AreRefused S (without S p) now who (Revoke r t q)
+  revoke_refused : (r t q : Text) → is q p ≡ true → AreRefused S (state_without S p) now who (Revoke r t q)
   revoke_refused r t q here = by_verdict r _ _ (may_manage_teams who (has_organisation S.access r) (role_of S.access who r)) refl (λ rule e. (
     NotFound,
     ap unless_there (none_granted r t q (another r rule e (is o r) refl) here (has_grant S r t q) refl),
     ap (λ (g : Option Grant). unless_there (is_some g)) (at-unkept triple_key (other_triple p) S.access.grants (r, (t, q)) (ap not here)),
   ))
 
-  publish_refused : (f : FormParts) → is f.name p ≡ true → publishes_as_member S who (Publish f) p ≡ false → AreRefused S (without S p) now who (Publish f)
+  publish_refused : (f : FormParts) → is f.name p ≡ true → is_member_publish S who (Publish f) p ≡ false → AreRefused S (state_without S p) now who (Publish f)
   publish_refused f here stranger =
       let none : role_of S.access who o ≡ None = roleless (role_of S.access who o) (sym (ap (λ b. b && is_some (scope_role S.access who (scope_of p))) here ∙ ap (λ s. is_some (scope_role S.access who s)) scoped) ∙ stranger) in
       let scope = scope_here f.name here in (
         unjoined who (has_organisation S.access o),
         turned_first _ (state_refusal S now (Publish f)) _ (unpublished S.access who f.name o scope none),
-        turned_first _ (state_refusal (without S p) now (Publish f)) _ (unpublished (without S p).access who f.name o scope (same_role S.access p who o ∙ none)),
+        turned_first _ (state_refusal (state_without S p) now (Publish f)) _ (unpublished (state_without S p).access who f.name o scope (same_role S.access p who o ∙ none)),
       )
 
-  pub concerned_refused : (what : Action) → concerns what p ≡ true → level_in S.access who p ≡ Nothing → publishes_as_member S who what p ≡ false → AreRefused S (without S p) now who what
+  pub concerned_refused : (what : Action) → concerns what p ≡ true → level_in S.access who p ≡ Nothing → is_member_publish S who what p ≡ false → AreRefused S (state_without S p) now who what
   concerned_refused (command.Grant r t q grant) here nothing stranger = grant_refused r t q grant here
   concerned_refused (Revoke r t q) here nothing stranger = revoke_refused r t q here
   concerned_refused (SetAccess q status) here nothing stranger =
-      refused_both S (without S p) now who (SetAccess q status) (unread who) (unwritten S now who p nothing q here (state_refusal S now (SetAccess q status)) (state_refusal (without S p) now (SetAccess q status)))
+      refused_both S (state_without S p) now who (SetAccess q status) (unread who) (unwritten S now who p nothing q here (state_refusal S now (SetAccess q status)) (state_refusal (state_without S p) now (SetAccess q status)))
   concerned_refused (OwnerAdd q u) here nothing stranger =
-      refused_both S (without S p) now who (OwnerAdd q u) (unread who) (unmanaged S now who p nothing q here (state_refusal S now (OwnerAdd q u)) (state_refusal (without S p) now (OwnerAdd q u)))
+      refused_both S (state_without S p) now who (OwnerAdd q u) (unread who) (unmanaged S now who p nothing q here (state_refusal S now (OwnerAdd q u)) (state_refusal (state_without S p) now (OwnerAdd q u)))
   concerned_refused (OwnerRemove q u) here nothing stranger =
-      refused_both S (without S p) now who (OwnerRemove q u) (unread who) (unmanaged S now who p nothing q here (state_refusal S now (OwnerRemove q u)) (state_refusal (without S p) now (OwnerRemove q u)))
+      refused_both S (state_without S p) now who (OwnerRemove q u) (unread who) (unmanaged S now who p nothing q here (state_refusal S now (OwnerRemove q u)) (state_refusal (state_without S p) now (OwnerRemove q u)))
   concerned_refused (Publish f) here nothing stranger = publish_refused f here stranger
   concerned_refused (TagSet q t v) here nothing stranger =
-      refused_both S (without S p) now who (TagSet q t v) (unread who) (unwritten S now who p nothing q here (state_refusal S now (TagSet q t v)) (state_refusal (without S p) now (TagSet q t v)))
+      refused_both S (state_without S p) now who (TagSet q t v) (unread who) (unwritten S now who p nothing q here (state_refusal S now (TagSet q t v)) (state_refusal (state_without S p) now (TagSet q t v)))
   concerned_refused (TagRemove q t) here nothing stranger =
-      refused_both S (without S p) now who (TagRemove q t) (unread who) (unwritten S now who p nothing q here (state_refusal S now (TagRemove q t)) (state_refusal (without S p) now (TagRemove q t)))
+      refused_both S (state_without S p) now who (TagRemove q t) (unread who) (unwritten S now who p nothing q here (state_refusal S now (TagRemove q t)) (state_refusal (state_without S p) now (TagRemove q t)))
   concerned_refused (Withdraw q v) here nothing stranger =
-      refused_both S (without S p) now who (Withdraw q v) (unread who) (unwritten S now who p nothing q here (state_refusal S now (Withdraw q v)) (state_refusal (without S p) now (Withdraw q v)))
+      refused_both S (state_without S p) now who (Withdraw q v) (unread who) (unwritten S now who p nothing q here (state_refusal S now (Withdraw q v)) (state_refusal (state_without S p) now (Withdraw q v)))
   concerned_refused (Deprecate q selector message) here nothing stranger =
-      refused_both S (without S p) now who (Deprecate q selector message) (unread who) (unwritten S now who p nothing q here (state_refusal S now (Deprecate q selector message)) (state_refusal (without S p) now (Deprecate q selector message)))
+      refused_both S (state_without S p) now who (Deprecate q selector message) (unread who) (unwritten S now who p nothing q here (state_refusal S now (Deprecate q selector message)) (state_refusal (state_without S p) now (Deprecate q selector message)))
   concerned_refused (Packument q) here nothing stranger =
-      refused_both S (without S p) now who (Packument q) NotFound (unshown S now who p nothing q here (state_refusal S now (Packument q)) (state_refusal (without S p) now (Packument q)))
+      refused_both S (state_without S p) now who (Packument q) NotFound (unshown S now who p nothing q here (state_refusal S now (Packument q)) (state_refusal (state_without S p) now (Packument q)))
   concerned_refused (VersionDoc q asked) here nothing stranger =
-      refused_both S (without S p) now who (VersionDoc q asked) NotFound (unshown S now who p nothing q here (state_refusal S now (VersionDoc q asked)) (state_refusal (without S p) now (VersionDoc q asked)))
+      refused_both S (state_without S p) now who (VersionDoc q asked) NotFound (unshown S now who p nothing q here (state_refusal S now (VersionDoc q asked)) (state_refusal (state_without S p) now (VersionDoc q asked)))
   concerned_refused (Archive q v) here nothing stranger =
-      refused_both S (without S p) now who (Archive q v) NotFound (unshown S now who p nothing q here (state_refusal S now (Archive q v)) (state_refusal (without S p) now (Archive q v)))
+      refused_both S (state_without S p) now who (Archive q v) NotFound (unshown S now who p nothing q here (state_refusal S now (Archive q v)) (state_refusal (state_without S p) now (Archive q v)))
   concerned_refused (Tags q) here nothing stranger =
-      refused_both S (without S p) now who (Tags q) NotFound (unshown S now who p nothing q here (state_refusal S now (Tags q)) (state_refusal (without S p) now (Tags q)))
+      refused_both S (state_without S p) now who (Tags q) NotFound (unshown S now who p nothing q here (state_refusal S now (Tags q)) (state_refusal (state_without S p) now (Tags q)))
   concerned_refused _ here nothing stranger = absurd (true≢false (sym here))

@@ -24,9 +24,9 @@ use Rattle.registry_rules.specs.declared.reply.Reply.TheVariants.{Count, Doc, By
 use Rattle.registry_rules.specs.declared.request.Action.{Action}
 use Rattle.registry_rules.specs.declared.request.Action.TheVariants.{Deprecate, Packument, VersionDoc, Archive, Tags, TeamPackages}
 use Rattle.registry_rules.specs.declared.request.Asked.{Asked}
-use Rattle.registry_history.specs.Answers.{asked_release, dist_tag, granted, reply, version_row}
+use Rattle.registry_history.specs.Answers.{asked_release, dist_tag, listed_grant, reply, version_row}
 use Rattle.registry_hidden.specs.Concerns.{concerns}
-use Rattle.registry_hidden.specs.Without.{without}
+use Rattle.registry_hidden.specs.Without.{state_without}
 use Rattle.registry_hidden.proofs.AcceptedFacts.{position_other, same_asked}
 use Rattle.registry_hidden.proofs.NamedFacts.{other_triple}
 use Rattle.registry_hidden.proofs.OtherFacts.{at_other, of_other}
@@ -35,13 +35,13 @@ use Rattle.registry_hidden.proofs.RefusedFacts.{nothing_left}
 -- ---- levels
 
 module _ (A : Access) (who : Caller) (p : Text) (nothing : level_in A who p ≡ Nothing) where
-  level_by_name : (q : Text) (b : Bool) → is q p ≡ b → level_in (access.without A p) who q ≡ level_in A who q
+  level_by_name : (q : Text) (b : Bool) → is q p ≡ b → level_in (access.access_without A p) who q ≡ level_in A who q
   level_by_name q true here =
       let same = same_true text_key q p here in
-      ap (level_in (access.without A p) who) same ∙ nothing_left A who p ∙ sym nothing ∙ ap (level_in A who) (sym same)
+      ap (level_in (access.access_without A p) who) same ∙ nothing_left A who p ∙ sym nothing ∙ ap (level_in A who) (sym same)
   level_by_name q false other = ap level_at (position_other A p q other who)
 
-  pub same_level : (q : Text) → level_in (access.without A p) who q ≡ level_in A who q
+  pub same_level : (q : Text) → level_in (access.access_without A p) who q ≡ level_in A who q
   same_level q = level_by_name q (is q p) refl
 
   unread : (q : Text) → is q p ≡ true → reads (level_in A who q) ≡ false
@@ -72,22 +72,22 @@ module _ (p t : Text) (with_it without_it : Text → Bool) (same : (q : Text) �
   all_shown (e ∷ es) = one_shown e (is e.0.1 p) (is e.0.0 t) (with_it e.0.1) (filter (λ (d : Pair × Grant). not (is d.0.1 p)) es) es refl refl (all_shown es) refl
 
 team_packages_alike : (A : Access) (who : Caller) (p o t : Text) → level_in A who p ≡ Nothing
-    → shown (λ q. reads (level_in (access.without A p) who q)) (parts (pairs_of (access.without A p).grants o) t) ≡ shown (λ q. reads (level_in A who q)) (parts (pairs_of A.grants o) t)
+    → shown (λ q. reads (level_in (access.access_without A p) who q)) (parts (pairs_of (access.access_without A p).grants o) t) ≡ shown (λ q. reads (level_in A who q)) (parts (pairs_of A.grants o) t)
 team_packages_alike A who p o t nothing =
-    ap (λ (es : List (Pair × Grant)). shown (λ q. reads (level_in (access.without A p) who q)) (parts es t)) (part-keep pair_key A.grants (other_triple p) o)
-    ∙ all_shown p t (λ q. reads (level_in A who q)) (λ q. reads (level_in (access.without A p) who q)) (λ q. ap reads (same_level A who p nothing q)) (unread A who p nothing) (pairs_of A.grants o)
+    ap (λ (es : List (Pair × Grant)). shown (λ q. reads (level_in (access.access_without A p) who q)) (parts es t)) (part-keep pair_key A.grants (other_triple p) o)
+    ∙ all_shown p t (λ q. reads (level_in A who q)) (λ q. reads (level_in (access.access_without A p) who q)) (λ q. ap reads (same_level A who p nothing q)) (unread A who p nothing) (pairs_of A.grants o)
 
 -- ---- each reply
 
 module _ (S : State) (p q : Text) (other : is q p ≡ false) where
-  named_release : (v : Option Text) → option_and_then (λ v. at (without S p).live (q, v)) v ≡ option_and_then (λ v. at S.live (q, v)) v
+  named_release : (v : Option Text) → option_and_then (λ v. at (state_without S p).live (q, v)) v ≡ option_and_then (λ v. at S.live (q, v)) v
   named_release None = refl
   named_release (Some v) = at_other p q other S.live v
 
-  same_release : (asked : Asked) → asked_release (without S p) q asked ≡ asked_release S q asked
-  same_release asked = ap (option_and_then (λ v. at (without S p).live (q, v))) (same_asked S p q other asked) ∙ named_release (asked_version S q asked)
+  same_release : (asked : Asked) → asked_release (state_without S p) q asked ≡ asked_release S q asked
+  same_release asked = ap (option_and_then (λ v. at (state_without S p).live (q, v))) (same_asked S p q other asked) ∙ named_release (asked_version S q asked)
 
-pub reply_other : (S : State) (who : Caller) (what : Action) (p : Text) → concerns what p ≡ false → level_in S.access who p ≡ Nothing → reply (without S p) who what ≡ reply S who what
+pub reply_other : (S : State) (who : Caller) (what : Action) (p : Text) → concerns what p ≡ false → level_in S.access who p ≡ Nothing → reply (state_without S p) who what ≡ reply S who what
 reply_other S who (Deprecate q selector message) p other nothing = ap (λ (es : List (Text × Release)). Count (length (selected (keys es) selector))) (of_other p q other S.live)
 reply_other S who (Packument q) p other nothing =
     ap₂ (λ (ts : List (Text × Text)) (vs : List (Text × Release)). Doc (unwrap_or (packument_of q (map dist_tag ts) (map version_row vs)) [])) (of_other p q other S.tags) (of_other p q other S.live)
@@ -95,5 +95,5 @@ reply_other S who (VersionDoc q asked) p other nothing =
     ap (λ o. Doc (unwrap_or (option_and_then (λ (r : Release). document_text r.manifest r.message) o) [])) (same_release S p q other asked)
 reply_other S who (Archive q v) p other nothing = ap (λ o. Bytes (unwrap_or (option_map (λ (r : Release). r.archive) o) [])) (at_other p q other S.live (text_of_version v))
 reply_other S who (Tags q) p other nothing = ap (λ (ts : List (Text × Text)). Doc (tags_text (map dist_tag ts))) (of_other p q other S.tags)
-reply_other S who (TeamPackages o t) p other nothing = ap (λ (es : List (Text × Grant)). Doc (grants_text (map granted es))) (team_packages_alike S.access who p o t nothing)
+reply_other S who (TeamPackages o t) p other nothing = ap (λ (es : List (Text × Grant)). Doc (grants_text (map listed_grant es))) (team_packages_alike S.access who p o t nothing)
 reply_other S who _ p other nothing = refl

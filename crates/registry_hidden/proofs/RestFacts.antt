@@ -16,10 +16,10 @@ use Rattle.registry_history.proofs.RunFacts.{history_says}
 use Rattle.registry_history.proofs.StatusFacts.{has_status}
 use Rattle.registry_history.proofs.TagFacts.{has_tags}
 use Rattle.registry_history.proofs.VersionFacts.{has_versions}
-use Rattle.registry_hidden.specs.Without.{apart, without}
+use Rattle.registry_hidden.specs.Without.{of_others, state_without}
 use Rattle.registry_hidden.proofs.NamedFacts.{other_pair, other_triple}
 
--- what stands refers to what is there, and what is held of a package is of one with a status
+-- references hold, and what is held of a package is of one with a status
 pub record Rests (S : State) : Type 0 where
   pub sound : IsSound S.access
   pub live : (p v : Text) → IsSome (at S.live (p, v)) → IsSome (at S.access.statuses p)
@@ -93,10 +93,10 @@ module _ (S : State) (p : Text) (rests : Rests S) (new : at S.access.statuses p 
   statusless : (q : Text) → other_pair p (q, q) ≡ false → IsSome (at S.access.statuses q) → ⊥
   statusless q e there = true≢false (sym there ∙ ap (λ r. is_some (at S.access.statuses r)) (same_true text_key q p (unpassed _ e)) ∙ ap is_some new)
 
-  of_new : {X : Type 0} (m : PairMap X) → ((q x : Text) → IsSome (at m (q, x)) → IsSome (at S.access.statuses q)) → apart m p ≡ m
+  of_new : {X : Type 0} (m : PairMap X) → ((q x : Text) → IsSome (at m (q, x)) → IsSome (at S.access.statuses q)) → of_others m p ≡ m
   of_new m refers = keep_all pair_key m (other_pair p) (λ k e. none_left (at m k) (λ there. statusless k.0 e (refers k.0 k.1 there)))
 
-  pub without_new : without S p ≡ S
+  pub without_new : state_without S p ≡ S
   without_new =
       let statuses = erase_none text_key S.access.statuses p new in
       let grants = keep_all triple_key S.access.grants (other_triple p) (λ k e. none_left (at S.access.grants k) (λ there. statusless k.1.1 e (rests.sound.grants k.0 k.1.0 k.1.1 there).status)) in

@@ -1,5 +1,5 @@
--- Two runs of one caller's requests, after histories that differ in what named a package that he
--- doesn't read.
+-- Two runs of one caller's requests, after histories that differ in what named a package that they
+-- don't read.
 use Rattle.std.proofs.Common.{◌≡◌, ◌⊎◌, inl, inr, Bool, true, false, ◌&&◌, if◌then◌else◌, refl, sym, ap, ◌∙◌, subst, Some, None, Ok, Err, List, [], ◌∷◌, is_some}
 use Rattle.registry_names.specs.Maps.{at}
 use Rattle.registry_names.specs.Names.{scope_of}
@@ -21,11 +21,11 @@ use Rattle.registry_rules.specs.declared.request.Credential.{Credential}
 use Rattle.registry_rules.specs.declared.request.Request.{Request}
 use Rattle.registry_history.specs.Answers.{answer}
 use Rattle.registry_history.specs.History.{Entry, Legal, after}
-use Rattle.registry_history.specs.Runs.{Outcome, Answers, enters, grown, next}
+use Rattle.registry_history.specs.Runs.{Outcome, HaveOutcomes, enters, grown, next}
 use Rattle.registry_history.proofs.RunFacts.{accepted, legal_grown}
 use Rattle.registry_hidden.specs.Concerns.{may_tell, withdraws_another}
 use Rattle.registry_hidden.specs.Runs.{DifferUnseen, AreAsked, AreAlike, RunsAreAlike}
-use Rattle.registry_hidden.specs.Without.{without}
+use Rattle.registry_hidden.specs.Without.{state_without}
 use Rattle.registry_hidden.proofs.AcceptedFacts.{same_role}
 use Rattle.registry_hidden.proofs.RestFacts.{histories_rest, without_new}
 use Rattle.registry_hidden.proofs.StandingFacts.{standing_kept}
@@ -34,7 +34,7 @@ use Rattle.registry_hidden.proofs.UntouchedFacts.{untouched_leave_the_rest}
 
 -- ---- two runs from one registry
 
-pub same_runs : (S : State) (rs : List Request) (os qs : List Outcome) → Answers S rs os → Answers S rs qs → AreAlike os qs
+pub same_runs : (S : State) (rs : List Request) (os qs : List Outcome) → HaveOutcomes S rs os → HaveOutcomes S rs qs → AreAlike os qs
 same_runs S [] [] [] a b = tt
 same_runs S [] [] (q ∷ qs) a b = absurd b
 same_runs S [] (o ∷ os) qs a b = absurd a
@@ -42,27 +42,27 @@ same_runs S (r ∷ rs) [] qs a b = absurd a
 same_runs S (r ∷ rs) (o ∷ os) [] a b = absurd b
 same_runs S (r ∷ rs) (Ok x ∷ os) (Ok y ∷ qs) a b =
     let same = a.0 ∙ sym b.0 in
-    (same, same_runs (next S r (Ok x)) rs os qs a.1 (subst (λ z. Answers (next S r (Ok z)) rs qs) (sym same) b.1))
+    (same, same_runs (next S r (Ok x)) rs os qs a.1 (subst (λ z. HaveOutcomes (next S r (Ok z)) rs qs) (sym same) b.1))
 same_runs S (r ∷ rs) (Ok x ∷ os) (Err f ∷ qs) a b = tt
 same_runs S (r ∷ rs) (Err f ∷ os) (q ∷ qs) a b = tt
 
 -- ---- the caller's standing, request by request
 
--- whether a reply may tell depends on the role in the scope alone
+-- whether a reply may show the package depends on the role in the scope alone
 tell_alike : (S T : State) (who : Caller) (what : Action) (p : Text) → scope_role S.access who (scope_of p) ≡ scope_role T.access who (scope_of p) → may_tell S who what p ≡ may_tell T who what p
 tell_alike S T who (Publish f) p same = ap (λ r. is f.name p && is_some r) same
 tell_alike S T who _ p same = refl
 
--- he has no level on the package, is neither an owner nor an admin of its scope, and has the role
--- there that he had at the start
+-- they have no level on the package, are neither an owner nor an admin of its scope, and have the
+-- role there that they had at the start
 record StandsApart (p o : Text) (who : Caller) (shown : Credential) (start S : State) : Type 0 where
   known : caller_of S shown ≡ Some who
   nothing : level_in S.access who p ≡ Nothing
   unmanaging : is_owner_or_admin (role_of S.access who o) ≡ false
   role : role_of S.access who o ≡ role_of start.access who o
 
--- two registries, as legal histories leave them, that differ in the package alone, and he stands so
--- in both
+-- two registries, as legal histories leave them, that differ in the package alone, and the caller
+-- is such in both
 record AreNear (p o : Text) (who : Caller) (shown : Credential) (start S T : State) : Type 0 where
   history : List Entry
   other_history : List Entry
@@ -70,7 +70,7 @@ record AreNear (p o : Text) (who : Caller) (shown : Credential) (start S T : Sta
   other_legal : Legal other_history
   left : S ≡ after history
   other_left : T ≡ after other_history
-  same : without S p ≡ without T p
+  same : state_without S p ≡ state_without T p
   stands : StandsApart p o who shown start S
   other_stands : StandsApart p o who shown start T
 
@@ -112,7 +112,7 @@ module _ (p o : Text) (scoped : scope_of p ≡ Some o) (who : Caller) (shown : C
   -- ---- two runs from registries that agree in all but the package
 
   -- the replies to one request are the same
-  one_reply : (g h : List Entry) → Legal g → Legal h → without (after g) p ≡ without (after h) p → Stands (after g) → Stands (after h) → (r : Request) → r.who ≡ shown → may_tell start who r.what p ≡ false
+  one_reply : (g h : List Entry) → Legal g → Legal h → state_without (after g) p ≡ state_without (after h) p → Stands (after g) → Stands (after h) → (r : Request) → r.who ≡ shown → may_tell start who r.what p ≡ false
       → answer (after g) r ≡ answer (after h) r
   one_reply g h legal legal' same stands stands' r his hides =
       unheard (after g) who p (histories_rest g legal) stands.nothing r (ap (caller_of (after g)) his ∙ stands.known) (hides_still (after g) r.what stands hides)
@@ -120,7 +120,7 @@ module _ (p o : Text) (scoped : scope_of p ≡ Some o) (who : Caller) (shown : C
       ∙ sym (unheard (after h) who p (histories_rest h legal') stands'.nothing r (ap (caller_of (after h)) his ∙ stands'.known) (hides_still (after h) r.what stands' hides))
 
   -- and what it leaves differs in the package alone
-  near_after : (g h : List Entry) → Legal g → Legal h → without (after g) p ≡ without (after h) p → Stands (after g) → Stands (after h) → (r : Request) → r.who ≡ shown → may_tell start who r.what p ≡ false
+  near_after : (g h : List Entry) → Legal g → Legal h → state_without (after g) p ≡ state_without (after h) p → Stands (after g) → Stands (after h) → (r : Request) → r.who ≡ shown → may_tell start who r.what p ≡ false
       → (a b : Reply) → a ≡ answer (after g) r → b ≡ answer (after h) r → (a ≡ b) × AreNear p o who shown start (next (after g) r (Ok a)) (next (after h) r (Ok b))
   near_after g h legal legal' same stands stands' r his hides a b answered answered' =
       let replies = answered ∙ one_reply g h legal legal' same stands stands' r his hides ∙ sym answered' in
@@ -146,11 +146,11 @@ module _ (p o : Text) (scoped : scope_of p ≡ Some o) (who : Caller) (shown : C
       subst (λ U. (a ≡ b) × AreNear p o who shown start (next U r (Ok a)) (next T r (Ok b))) (sym near.left)
       (subst (λ V. (a ≡ b) × AreNear p o who shown start (next (after near.history) r (Ok a)) (next V r (Ok b))) (sym near.other_left)
       (near_after near.history near.other_history near.legal near.other_legal
-      (ap (λ U. without U p) (sym near.left) ∙ near.same ∙ ap (λ U. without U p) near.other_left)
+      (ap (λ U. state_without U p) (sym near.left) ∙ near.same ∙ ap (λ U. state_without U p) near.other_left)
       (subst Stands near.left near.stands) (subst Stands near.other_left near.other_stands) r his hides a b
       (answered ∙ ap (λ U. answer U r) near.left) (answered' ∙ ap (λ U. answer U r) near.other_left)))
 
-  near_runs : (S T : State) → AreNear p o who shown start S T → (rs : List Request) (os qs : List Outcome) → AreAsked start who shown p rs → Answers S rs os → Answers T rs qs → AreAlike os qs
+  near_runs : (S T : State) → AreNear p o who shown start S T → (rs : List Request) (os qs : List Outcome) → AreAsked start who shown p rs → HaveOutcomes S rs os → HaveOutcomes T rs qs → AreAlike os qs
   near_runs S T near [] [] [] asked a b = tt
   near_runs S T near [] [] (q ∷ qs) asked a b = absurd b
   near_runs S T near [] (x ∷ os) qs asked a b = absurd a
@@ -165,7 +165,7 @@ module _ (p o : Text) (scoped : scope_of p ≡ Some o) (who : Caller) (shown : C
 -- ---- after histories that differ in what named the package
 
 module _ (g h : List Entry) (p : Text) (who : Caller) (shown : Credential) (differ : DifferUnseen g h p who shown) where
-  same_rest : without (after g) p ≡ without (after h) p
+  same_rest : state_without (after g) p ≡ state_without (after h) p
   same_rest = sym (untouched_leave_the_rest g p differ.legal).1 ∙ ap after differ.untouched ∙ (untouched_leave_the_rest h p differ.other_legal).1
 
   known_there : caller_of (after h) shown ≡ Some who
@@ -187,15 +187,15 @@ module _ (g h : List Entry) (p : Text) (who : Caller) (shown : Credential) (diff
     other_stands = record { known = known_there; nothing = differ.other_unread; unmanaging = ap is_owner_or_admin (roles_there o) ∙ unmanaging; role = roles_there o };
   }
 
-  -- in a registry the package was never published, or it has a scope in which he is neither an
+  -- in a registry the package was never published, or it has a scope in which they are neither an
   -- owner nor an admin
   abbrev Apart : State → Type 0
   Apart S = (at S.access.statuses p ≡ None) ⊎ ((o : Text) × (scope_of p ≡ Some o) × (is_owner_or_admin (role_of S.access who o) ≡ false))
 
-  alike_by : Apart (after g) → Apart (after h) → (rs : List Request) (os qs : List Outcome) → AreAsked (after g) who shown p rs → Answers (after g) rs os → Answers (after h) rs qs → AreAlike os qs
+  alike_by : Apart (after g) → Apart (after h) → (rs : List Request) (os qs : List Outcome) → AreAsked (after g) who shown p rs → HaveOutcomes (after g) rs os → HaveOutcomes (after h) rs qs → AreAlike os qs
   alike_by (inl new) (inl new') rs os qs asked a b =
       let one = sym (without_new (after g) p (histories_rest g differ.legal) new) ∙ same_rest ∙ without_new (after h) p (histories_rest h differ.other_legal) new' in
-      same_runs (after g) rs os qs a (subst (λ U. Answers U rs qs) (sym one) b)
+      same_runs (after g) rs os qs a (subst (λ U. HaveOutcomes U rs qs) (sym one) b)
   alike_by (inl new) (inr x) rs os qs asked a b =
       near_runs p x.0 x.1 who shown (after g) (after g) (after h) (near_start x.0 (ap is_owner_or_admin (sym (roles_there x.0)) ∙ x.2)) rs os qs asked a b
   alike_by (inr x) other rs os qs asked a b = near_runs p x.0 x.1 who shown (after g) (after g) (after h) (near_start x.0 x.2) rs os qs asked a b

@@ -1,5 +1,5 @@
 -- Who doesn't read a package, and is neither an owner nor an admin of its scope, gains nothing by
--- what he asks: neither a level on it nor a role in its scope.
+-- what they ask: neither a level on it nor a role in its scope.
 use Rattle.std.proofs.Common.{◌≡◌, ℕ, Bool, true, false, cond, not, ◌&&◌, ◌||◌, refl, sym, ap, ap₂, ◌∙◌, subst, true≢false, Some, None, Option, option_map, is_some, if◌then◌else◌}
 use Rattle.std.specs.Prelude.{IsSome}
 use Rattle.registry_names.specs.Keys.{Triple, triple_is}
@@ -21,7 +21,7 @@ use Rattle.registry_access.specs.declared.role.Role.{Role}
 use Rattle.registry_access.specs.declared.role.Role.TheVariants.{Owner, Admin, Developer}
 use Rattle.registry_access.proofs.GrantFacts.{granted_alike}
 use Rattle.registry_access.proofs.LevelFacts.{greatest_alike}
-use Rattle.registry_rules.specs.Actions.{ends_team, names}
+use Rattle.registry_rules.specs.Actions.{ends_team, names_package}
 use Rattle.registry_rules.specs.Callers.{caller_of}
 use Rattle.registry_rules.specs.Effects.{step_by}
 use Rattle.registry_rules.specs.Kept.{IsSound}
@@ -35,24 +35,24 @@ use Rattle.registry_rules.specs.declared.request.Credential.TheVariants as crede
 use Rattle.registry_rules.proofs.AllowedFacts.{policy_passed}
 use Rattle.registry_rules.proofs.LawFacts.{packages_stand_apart}
 use Rattle.registry_history.proofs.LeftFacts.{left_by, left_is, joined}
-use Rattle.registry_hidden.specs.Concerns.{concerns, publishes_as_member}
-use Rattle.registry_hidden.specs.Without.{without}
+use Rattle.registry_hidden.specs.Concerns.{concerns, is_member_publish}
+use Rattle.registry_hidden.specs.Without.{state_without}
 use Rattle.registry_hidden.proofs.RefusedFacts.{AreRefused, concerned_refused}
 
 -- ---- levels
 
--- the level depends on the status, on the role in the scope, on whether he is a maintainer, and on
--- what his teams are granted
+-- the level depends on the status, on the role in the scope, on whether they are a maintainer, and
+-- on what their teams are granted
 level_alike : (A B : Access) (who : Caller) (p : Text) → at A.statuses p ≡ at B.statuses p → scope_role A who (scope_of p) ≡ scope_role B who (scope_of p) → is_maintainer A who p ≡ is_maintainer B who p
     → ((o t : Text) → team_grant A who o t p ≡ team_grant B who o t p) → level_in A who p ≡ level_in B who p
 level_alike A B who p status role maintainer grants =
     let grant = greatest_alike (granted A who p) (granted B who p) (granted_alike A B who p grants) in
     λ i. level_by (status i) (is_owner_or_admin (role i) || maintainer i) (grant i)
 
--- ---- what a user's commands leave him in an organisation of which he is neither an owner nor an
--- admin
+-- ---- what a user's commands leave them in an organisation of which they are neither an owner nor
+-- an admin
 
--- his role and his teams there, and who is known
+-- their role and their teams there, and who is known
 record KeepsPlace (S T : State) (what : Action) (o u : Text) : Type 0 where
   role : at T.access.roles (o, u) ≡ at S.access.roles (o, u)
   teams : (t : Text) → at T.access.team_members (o, (t, u)) ≡ at S.access.team_members (o, (t, u))
@@ -79,7 +79,7 @@ joined_other m true q k differ = refl
 joined_other m false q k differ = at-put_other triple_key m q tt k differ
 
 module _ (S : State) (now : ℕ) (u o : Text) (unmanaging : is_owner_or_admin (at S.access.roles (o, u)) ≡ false) where
-  -- an organisation that he manages is another
+  -- an organisation that they manage is another
   another : (r : Text) → is_owner_or_admin (at S.access.roles (r, u)) ≡ true → (b : Bool) → is r o ≡ b → b ≡ false
   another r managing true same = absurd (true≢false (sym managing ∙ ap (λ x. is_owner_or_admin (at S.access.roles (x, u))) (same_true text_key r o same) ∙ unmanaging))
   another r managing false same = refl
@@ -164,15 +164,16 @@ module _ (S T : State) (who : Caller) (users : is_user who ≡ true → T.access
   stays_known (credential.Token digest) e = ap (λ m. option_map User (at m digest)) (tokens (stays_token digest (at S.access.tokens digest) refl e)) ∙ e
   stays_known credential.Anonymous e = e
 
--- ---- what he has after a command
+-- ---- what they have after a command
 
--- he is known as before, has no level on the package, and has the role in its scope that he had
+-- they are known as before, have no level on the package, and have the role in its scope that they
+-- had
 pub record KeepsStanding (S T : State) (p o : Text) (who : Caller) (shown : Credential) : Type 0 where
   pub known : caller_of T shown ≡ Some who
   pub nothing : level_in T.access who p ≡ Nothing
   pub role : role_of T.access who o ≡ role_of S.access who o
 
-unnamed : (what : Action) (p : Text) → concerns what p ≡ false → names what p ≡ false
+unnamed : (what : Action) (p : Text) → concerns what p ≡ false → names_package what p ≡ false
 unnamed (Packument q) p other = refl
 unnamed (VersionDoc q asked) p other = refl
 unnamed (Archive q v) p other = refl
@@ -237,12 +238,12 @@ module _ (S T : State) (p o : Text) (what : Action) (scoped : scope_of p ≡ Som
   }
 
 -- what isn't refused doesn't concern the package
-uncalled : (S : State) (now : ℕ) (who : Caller) (what : Action) (p : Text) → (concerns what p ≡ true → AreRefused S (without S p) now who what) → refusal_by S now who what ≡ None → (b : Bool) → concerns what p ≡ b → b ≡ false
+uncalled : (S : State) (now : ℕ) (who : Caller) (what : Action) (p : Text) → (concerns what p ≡ true → AreRefused S (state_without S p) now who what) → refusal_by S now who what ≡ None → (b : Bool) → concerns what p ≡ b → b ≡ false
 uncalled S now who what p refused may true here = let why = refused here in let both : None ≡ Some why.0 = sym may ∙ why.1 in absurd cc
 uncalled S now who what p refused may false here = refl
 
 pub standing_kept : (S : State) (now : ℕ) (who : Caller) (what : Action) (p o : Text) (shown : Credential) → IsSound S.access → scope_of p ≡ Some o → is_owner_or_admin (role_of S.access who o) ≡ false
-    → caller_of S shown ≡ Some who → level_in S.access who p ≡ Nothing → publishes_as_member S who what p ≡ false → refusal_by S now who what ≡ None → KeepsStanding S (step_by S now who what) p o who shown
+    → caller_of S shown ≡ Some who → level_in S.access who p ≡ Nothing → is_member_publish S who what p ≡ false → refusal_by S now who what ≡ None → KeepsStanding S (step_by S now who what) p o who shown
 standing_kept S now who what p o shown sound scoped unmanaging known nothing stranger may = by_caller who unmanaging known nothing may apart
   where
     other : concerns what p ≡ false

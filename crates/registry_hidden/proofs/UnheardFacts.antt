@@ -13,7 +13,7 @@ use Rattle.registry_access.specs.declared.caller.Caller.{Caller}
 use Rattle.registry_access.specs.declared.grant.Grant.{Grant}
 use Rattle.registry_access.specs.declared.levels.Level.TheVariants.{Nothing}
 use Rattle.registry_access.proofs.LevelFacts.{never_published}
-use Rattle.registry_rules.specs.Actions.{names}
+use Rattle.registry_rules.specs.Actions.{names_package}
 use Rattle.registry_rules.specs.Callers.{caller_of}
 use Rattle.registry_rules.specs.Effects.{effects_for, step, step_by}
 use Rattle.registry_rules.specs.Changes.{all_made}
@@ -29,7 +29,7 @@ use Rattle.registry_history.specs.History.{after}
 use Rattle.registry_history.specs.Runs.{enters, next}
 use Rattle.registry_hidden.specs.Concerns.{concerns, may_tell, withdraws_another}
 use Rattle.registry_hidden.specs.Laws.{RepliesAreAlike, RestsAreAlike}
-use Rattle.registry_hidden.specs.Without.{without}
+use Rattle.registry_hidden.specs.Without.{state_without}
 use Rattle.registry_hidden.proofs.AcceptedFacts.{refusal_other}
 use Rattle.registry_hidden.proofs.KeepFacts.{keep_twice, erase_twice}
 use Rattle.registry_hidden.proofs.NamedFacts.{named_leave_the_rest, other_pair, other_triple}
@@ -38,7 +38,7 @@ use Rattle.registry_hidden.proofs.RefusedFacts.{concerned_refused}
 use Rattle.registry_hidden.proofs.ReplyFacts.{reply_other}
 use Rattle.registry_hidden.proofs.RestFacts.{Rests, histories_rest, without_new}
 
-pub same_caller : (S : State) (p : Text) (shown : Credential) → caller_of (without S p) shown ≡ caller_of S shown
+pub same_caller : (S : State) (p : Text) (shown : Credential) → caller_of (state_without S p) shown ≡ caller_of S shown
 same_caller S p credential.Operator = refl
 same_caller S p (credential.User u) = refl
 same_caller S p (credential.Token digest) = refl
@@ -52,18 +52,18 @@ either_false false b e = (refl, e)
 
 module _ (S : State) (who : Caller) (p o : Text) (rests : Rests S) (scoped : scope_of p ≡ Some o) (unmanaging : is_owner_or_admin (role_of S.access who o) ≡ false) (nothing : level_in S.access who p ≡ Nothing) where
   by_concern : (now : ℕ) (what : Action) → may_tell S who what p ≡ false → (b : Bool) → concerns what p ≡ b
-      → unless_refused (refusal_by S now who what) (reply S who what) ≡ unless_refused (refusal_by (without S p) now who what) (reply (without S p) who what)
+      → unless_refused (refusal_by S now who what) (reply S who what) ≡ unless_refused (refusal_by (state_without S p) now who what) (reply (state_without S p) who what)
   by_concern now what hides true here =
       let refused = concerned_refused S now who p o rests.sound scoped unmanaging what here nothing (either_false (withdraws_another what p) _ hides).1 in
-      ap (λ x. unless_refused x (reply S who what)) refused.1 ∙ sym (ap (λ x. unless_refused x (reply (without S p) who what)) refused.2)
+      ap (λ x. unless_refused x (reply S who what)) refused.1 ∙ sym (ap (λ x. unless_refused x (reply (state_without S p) who what)) refused.2)
   by_concern now what hides false other =
       sym (ap₂ unless_refused (refusal_other S now who what p other (either_false (withdraws_another what p) _ hides).0) (reply_other S who what p other nothing))
 
   pub unheard_scoped : (now : ℕ) (what : Action) → may_tell S who what p ≡ false
-      → unless_refused (refusal_by S now who what) (reply S who what) ≡ unless_refused (refusal_by (without S p) now who what) (reply (without S p) who what)
+      → unless_refused (refusal_by S now who what) (reply S who what) ≡ unless_refused (refusal_by (state_without S p) now who what) (reply (state_without S p) who what)
   unheard_scoped now what hides = by_concern now what hides (concerns what p) refl
 
--- ---- where he doesn't read it
+-- ---- where they don't read it
 
 -- an owner or an admin of the scope writes what has a status
 pub unmanaged_by : (status : Option Status) (role maintains : Bool) (grant : Option Grant) → level_by status (role || maintains) grant ≡ Nothing → (status ≡ None) ⊎ (role ≡ false)
@@ -72,7 +72,7 @@ unmanaged_by (Some status) true maintains grant e = absurd cc
 unmanaged_by (Some status) false maintains grant e = inr refl
 
 module _ (S : State) (who : Caller) (p : Text) (rests : Rests S) (nothing : level_in S.access who p ≡ Nothing) where
-  -- the package was never published, or it has a scope in which he is neither owner nor admin
+  -- the package was never published, or it has a scope in which they are neither owner nor admin
   abbrev pub IsApart : Type 0
   IsApart = (at S.access.statuses p ≡ None) ⊎ ((o : Text) × (scope_of p ≡ Some o) × (is_owner_or_admin (role_of S.access who o) ≡ false))
 
@@ -88,22 +88,22 @@ module _ (S : State) (who : Caller) (p : Text) (rests : Rests S) (nothing : leve
   is_apart = by_scope (scope_of p) refl
 
   unheard_by : IsApart → (now : ℕ) (what : Action) → may_tell S who what p ≡ false
-      → unless_refused (refusal_by S now who what) (reply S who what) ≡ unless_refused (refusal_by (without S p) now who what) (reply (without S p) who what)
+      → unless_refused (refusal_by S now who what) (reply S who what) ≡ unless_refused (refusal_by (state_without S p) now who what) (reply (state_without S p) who what)
   unheard_by (inl new) now what hides = sym (ap (λ T. unless_refused (refusal_by T now who what) (reply T who what)) (without_new S p rests new))
   unheard_by (inr apart) now what hides = unheard_scoped S who p apart.0 rests apart.1 apart.2 nothing now what hides
 
   known_answer : (T : State) (r : Request) → caller_of T r.who ≡ Some who → answer T r ≡ unless_refused (refusal_by T r.at who r.what) (reply T who r.what)
   known_answer T r known = ap (λ o. unless_refused (refusal_for T r.at o r.what) (reply_to T o r.what)) known
 
-  pub unheard : (r : Request) → caller_of S r.who ≡ Some who → may_tell S who r.what p ≡ false → answer S r ≡ answer (without S p) r
-  unheard r known hides = known_answer S r known ∙ unheard_by is_apart r.at r.what hides ∙ sym (known_answer (without S p) r (same_caller S p r.who ∙ known))
+  pub unheard : (r : Request) → caller_of S r.who ≡ Some who → may_tell S who r.what p ≡ false → answer S r ≡ answer (state_without S p) r
+  unheard r known hides = known_answer S r known ∙ unheard_by is_apart r.at r.what hides ∙ sym (known_answer (state_without S p) r (same_caller S p r.who ∙ known))
 
 pub replies_are_alike : RepliesAreAlike
 replies_are_alike h p who r legal known nothing hides = unheard (after h) who p (histories_rest h legal) nothing r known hides
 
 -- ---- what is left
 
-pub without_twice : (S : State) (p : Text) → without (without S p) p ≡ without S p
+pub without_twice : (S : State) (p : Text) → state_without (state_without S p) p ≡ state_without S p
 without_twice S p =
     let statuses = erase_twice text_key S.access.statuses p in
     let grants = keep_twice triple_key (other_triple p) S.access.grants in
@@ -113,25 +113,25 @@ without_twice S p =
     let tags = keep_twice pair_key (other_pair p) S.tags in
     λ i. record S { access = record S.access { statuses = statuses i; grants = grants i; maintainers = maintainers i }; live = live i; spent = spent i; tags = tags i }
 
-module _ (S T : State) (p : Text) (same : without S p ≡ without T p) where
-  step_by_name : (now : ℕ) (who : Caller) (what : Action) (b : Bool) → names what p ≡ b → without (step_by S now who what) p ≡ without (step_by T now who what) p
+module _ (S T : State) (p : Text) (same : state_without S p ≡ state_without T p) where
+  step_by_name : (now : ℕ) (who : Caller) (what : Action) (b : Bool) → names_package what p ≡ b → state_without (step_by S now who what) p ≡ state_without (step_by T now who what) p
   step_by_name now who what true named = named_leave_the_rest S now who what p named ∙ same ∙ sym (named_leave_the_rest T now who what p named)
   step_by_name now who what false other = sym (others_make_the_same S now who what p other) ∙ ap (λ U. step_by U now who what) same ∙ others_make_the_same T now who what p other
 
-  steps_alike : (now : ℕ) (who : Caller) (what : Action) → without (step_by S now who what) p ≡ without (step_by T now who what) p
-  steps_alike now who what = step_by_name now who what (names what p) refl
+  steps_alike : (now : ℕ) (who : Caller) (what : Action) → state_without (step_by S now who what) p ≡ state_without (step_by T now who what) p
+  steps_alike now who what = step_by_name now who what (names_package what p) refl
 
   -- registries that agree in all but the package still do after a request that is answered alike
-  pub next_alike : (r : Request) (who : Caller) → caller_of S r.who ≡ Some who → caller_of T r.who ≡ Some who → (a b : Reply) → a ≡ b → without (next S r (Ok a)) p ≡ without (next T r (Ok b)) p
-  next_alike r who known known' a b e = ap (λ x. without (next S r (Ok x)) p) e ∙ by_entry (enters r (Ok b))
+  pub next_alike : (r : Request) (who : Caller) → caller_of S r.who ≡ Some who → caller_of T r.who ≡ Some who → (a b : Reply) → a ≡ b → state_without (next S r (Ok a)) p ≡ state_without (next T r (Ok b)) p
+  next_alike r who known known' a b e = ap (λ x. state_without (next S r (Ok x)) p) e ∙ by_entry (enters r (Ok b))
     where
       stepped : (U : State) → caller_of U r.who ≡ Some who → step U r ≡ step_by U r.at who r.what
       stepped U is = ap (λ o. all_made U (effects_for U r.at o r.what)) is
 
-      by_entry : (entered : Bool) → without (if entered then step S r else S) p ≡ without (if entered then step T r else T) p
-      by_entry true = ap (λ U. without U p) (stepped S known) ∙ steps_alike r.at who r.what ∙ sym (ap (λ U. without U p) (stepped T known'))
+      by_entry : (entered : Bool) → state_without (if entered then step S r else S) p ≡ state_without (if entered then step T r else T) p
+      by_entry true = ap (λ U. state_without U p) (stepped S known) ∙ steps_alike r.at who r.what ∙ sym (ap (λ U. state_without U p) (stepped T known'))
       by_entry false = same
 
 pub rests_are_alike : RestsAreAlike
 rests_are_alike h p who r legal known nothing hides =
-    next_alike (after h) (without (after h) p) p (sym (without_twice (after h) p)) r who known (same_caller (after h) p r.who ∙ known) _ _ (replies_are_alike h p who r legal known nothing hides)
+    next_alike (after h) (state_without (after h) p) p (sym (without_twice (after h) p)) r who known (same_caller (after h) p r.who ∙ known) _ _ (replies_are_alike h p who r legal known nothing hides)

@@ -6,7 +6,7 @@ use Rattle.registry_names.specs.Maps.{empty, erase, keep}
 use Rattle.registry_names.specs.Texts.{Text}
 use Rattle.registry_names.proofs.KeyFacts.{text_key, pair_key, triple_key}
 use Rattle.registry_names.proofs.MapFacts.{at-empty, at-erase, at-keep, same_map}
-use Rattle.registry_rules.specs.Actions.{names}
+use Rattle.registry_rules.specs.Actions.{names_package}
 use Rattle.registry_rules.specs.Callers.{is_known}
 use Rattle.registry_rules.specs.Effects.{step_by}
 use Rattle.registry_rules.specs.Refusals.{refusal_by}
@@ -14,7 +14,7 @@ use Rattle.registry_rules.specs.State.{nothing}
 use Rattle.registry_history.specs.History.{Entry, Legal, after}
 use Rattle.registry_hidden.specs.Histories.{untouched}
 use Rattle.registry_hidden.specs.Laws.{UntouchedLeaveTheRest}
-use Rattle.registry_hidden.specs.Without.{without}
+use Rattle.registry_hidden.specs.Without.{state_without}
 use Rattle.registry_hidden.proofs.AcceptedFacts.{others_are_accepted, same_known}
 use Rattle.registry_hidden.proofs.NamedFacts.{named_leave_the_rest, other_pair, other_triple}
 use Rattle.registry_hidden.proofs.OtherFacts.{others_make_the_same}
@@ -32,7 +32,7 @@ module _ {K X : Type 0} {cmp : K → K → Ordering} {same : K → K → Bool} (
   empty_erased : (q : K) → empty {X = X} {cmp = cmp} ≡ erase (empty {X = X} {cmp = cmp}) q
   empty_erased q = same_map key _ _ (λ k. at-empty key k ∙ no_value (same q k) ∙ sym (at-erase key empty q k ∙ ap (cond (same q k) None) (at-empty key k)))
 
-nothing_without : (p : Text) → nothing ≡ without nothing p
+nothing_without : (p : Text) → nothing ≡ state_without nothing p
 nothing_without p =
     let statuses = empty_erased text_key p in
     let grants = empty_kept triple_key (other_triple p) in
@@ -46,9 +46,9 @@ nothing_without p =
 
 -- the history is legal, and leaves this
 abbrev Leaves : List Entry → List Entry → Text → Type 0
-Leaves rest h p = Legal rest × (after rest ≡ without (after h) p)
+Leaves rest h p = Legal rest × (after rest ≡ state_without (after h) p)
 
-untouched_one : (e : Entry) (h : List Entry) (p : Text) → Legal (e ∷ h) → Leaves (untouched h p) h p → (b : Bool) → names e.what p ≡ b → Leaves (if b then untouched h p else e ∷ untouched h p) (e ∷ h) p
+untouched_one : (e : Entry) (h : List Entry) (p : Text) → Legal (e ∷ h) → Leaves (untouched h p) h p → (b : Bool) → names_package e.what p ≡ b → Leaves (if b then untouched h p else e ∷ untouched h p) (e ∷ h) p
 untouched_one e h p legal before true named = (before.0, before.1 ∙ sym (named_leave_the_rest (after h) e.at e.who e.what p named))
 untouched_one e h p legal before false other = (
   (
@@ -62,4 +62,4 @@ untouched_one e h p legal before false other = (
 
 pub untouched_leave_the_rest : UntouchedLeaveTheRest
 untouched_leave_the_rest [] p legal = (tt, nothing_without p)
-untouched_leave_the_rest (e ∷ h) p legal = untouched_one e h p legal (untouched_leave_the_rest h p legal.3) (names e.what p) refl
+untouched_leave_the_rest (e ∷ h) p legal = untouched_one e h p legal (untouched_leave_the_rest h p legal.3) (names_package e.what p) refl

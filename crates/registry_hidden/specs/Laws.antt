@@ -4,7 +4,7 @@ use Rattle.registry_names.specs.Texts.{Text}
 use Rattle.registry_access.specs.Positions.{level_in}
 use Rattle.registry_access.specs.declared.caller.Caller.{Caller}
 use Rattle.registry_access.specs.declared.levels.Level.TheVariants.{Nothing}
-use Rattle.registry_rules.specs.Actions.{is_command, names}
+use Rattle.registry_rules.specs.Actions.{is_command, names_package}
 use Rattle.registry_rules.specs.Callers.{caller_of}
 use Rattle.registry_rules.specs.Effects.{step_by}
 use Rattle.registry_rules.specs.Refusals.{refusal_by}
@@ -16,47 +16,47 @@ use Rattle.registry_history.specs.History.{Entry, Legal, after}
 use Rattle.registry_history.specs.Runs.{next}
 use Rattle.registry_hidden.specs.Concerns.{may_tell}
 use Rattle.registry_hidden.specs.Histories.{untouched}
-use Rattle.registry_hidden.specs.Without.{without}
+use Rattle.registry_hidden.specs.Without.{state_without}
 
 -- what a request leaves that is answered
-abbrev pub left : State → Request → State
-left S r = next S r (Ok (answer S r))
+abbrev pub left_by : State → Request → State
+left_by S r = next S r (Ok (answer S r))
 
 -- ---- one step
 
 -- a command that names the package leaves the registry without the package as it was
 abbrev pub NamedLeaveTheRest : Type 0
-NamedLeaveTheRest = (S : State) (now : ℕ) (who : Caller) (what : Action) (p : Text) → names what p ≡ true → without (step_by S now who what) p ≡ without S p
+NamedLeaveTheRest = (S : State) (now : ℕ) (who : Caller) (what : Action) (p : Text) → names_package what p ≡ true → state_without (step_by S now who what) p ≡ state_without S p
 
 -- any other makes of the registry without the package what it makes of the registry, without the
 -- package
 abbrev pub OthersMakeTheSame : Type 0
-OthersMakeTheSame = (S : State) (now : ℕ) (who : Caller) (what : Action) (p : Text) → names what p ≡ false → step_by (without S p) now who what ≡ without (step_by S now who what) p
+OthersMakeTheSame = (S : State) (now : ℕ) (who : Caller) (what : Action) (p : Text) → names_package what p ≡ false → step_by (state_without S p) now who what ≡ state_without (step_by S now who what) p
 
 -- and what is accepted of these on the registry is accepted on it without the package
 abbrev pub OthersAreAccepted : Type 0
-OthersAreAccepted = (S : State) (now : ℕ) (who : Caller) (what : Action) (p : Text) → is_command what ≡ true → names what p ≡ false
-    → refusal_by S now who what ≡ None → refusal_by (without S p) now who what ≡ None
+OthersAreAccepted = (S : State) (now : ℕ) (who : Caller) (what : Action) (p : Text) → is_command what ≡ true → names_package what p ≡ false
+    → refusal_by S now who what ≡ None → refusal_by (state_without S p) now who what ≡ None
 
 -- ---- a history
 
 -- the entries that don't name the package are a legal history, and what they leave is the registry
 -- without the package
 abbrev pub UntouchedLeaveTheRest : Type 0
-UntouchedLeaveTheRest = (h : List Entry) (p : Text) → Legal h → Legal (untouched h p) × (after (untouched h p) ≡ without (after h) p)
+UntouchedLeaveTheRest = (h : List Entry) (p : Text) → Legal h → Legal (untouched h p) × (after (untouched h p) ≡ state_without (after h) p)
 
 -- ---- one request of a caller who has no level on the package
 
--- But where it withdraws a version of another package, or he publishes the package as a member of
+-- But where it withdraws a version of another package, or they publish the package as a member of
 -- its scope, its reply is that of the registry without the package
 abbrev pub RepliesAreAlike : Type 0
 RepliesAreAlike = (h : List Entry) (p : Text) (who : Caller) (r : Request) → Legal h → caller_of (after h) r.who ≡ Some who
     → level_in (after h).access who p ≡ Nothing → may_tell (after h) who r.what p ≡ false
-    → answer (after h) r ≡ answer (without (after h) p) r
+    → answer (after h) r ≡ answer (state_without (after h) p) r
 
 -- and what the registry holds then agrees, in all but the package, with what the request makes of
 -- the registry without it
 abbrev pub RestsAreAlike : Type 0
 RestsAreAlike = (h : List Entry) (p : Text) (who : Caller) (r : Request) → Legal h → caller_of (after h) r.who ≡ Some who
     → level_in (after h).access who p ≡ Nothing → may_tell (after h) who r.what p ≡ false
-    → without (left (after h) r) p ≡ without (left (without (after h) p) r) p
+    → state_without (left_by (after h) r) p ≡ state_without (left_by (state_without (after h) p) r) p

@@ -9,7 +9,7 @@ use Rattle.registry_rules.specs.State.{State}
 use Rattle.registry_rules.specs.declared.request.Credential.{Credential}
 use Rattle.registry_rules.specs.declared.request.Request.{Request}
 use Rattle.registry_history.specs.History.{Entry, Legal, after}
-use Rattle.registry_history.specs.Runs.{Outcome, Answers}
+use Rattle.registry_history.specs.Runs.{Outcome, HaveOutcomes}
 use Rattle.registry_hidden.specs.Concerns.{may_tell}
 use Rattle.registry_hidden.specs.Histories.{untouched}
 
@@ -23,8 +23,8 @@ pub record DifferUnseen (g h : List Entry) (p : Text) (who : Caller) (shown : Cr
   pub unread : level_in (after g).access who p ≡ Nothing
   pub other_unread : level_in (after h).access who p ≡ Nothing
 
--- each request comes with this credential, and is none of the two whose reply may tell the caller
--- of the package, as he stands in S
+-- each request comes with this credential, and is none of the two whose reply may show the caller
+-- the package, by their rights in S
 abbrev pub AreAsked : State → Caller → Credential → Text → List Request → Type 0
 AreAsked S who shown p [] = Unit {0}
 AreAsked S who shown p (r ∷ rs) = (r.who ≡ shown) × (may_tell S who r.what p ≡ false) × AreAsked S who shown p rs
@@ -38,7 +38,7 @@ AreAlike (Ok a ∷ os) (Ok b ∷ qs) = (a ≡ b) × AreAlike os qs
 AreAlike (Ok a ∷ os) (Err f ∷ qs) = Unit {0}
 AreAlike (Err f ∷ os) (q ∷ qs) = Unit {0}
 
--- he can't tell them apart, whatever he asks
+-- they can't distinguish them, whatever they ask
 abbrev pub RunsAreAlike : Type 0
 RunsAreAlike = (g h : List Entry) (p : Text) (who : Caller) (shown : Credential) → DifferUnseen g h p who shown
-    → (rs : List Request) (os qs : List Outcome) → AreAsked (after g) who shown p rs → Answers (after g) rs os → Answers (after h) rs qs → AreAlike os qs
+    → (rs : List Request) (os qs : List Outcome) → AreAsked (after g) who shown p rs → HaveOutcomes (after g) rs os → HaveOutcomes (after h) rs qs → AreAlike os qs

@@ -20,14 +20,14 @@ use Rattle.registry_rules.specs.declared.request.Action.{Action}
 use Rattle.registry_rules.specs.declared.request.Action.TheVariants as command
 use Rattle.registry_rules.specs.declared.request.Action.TheVariants.{UserAdd, TokenAdd, OrgCreate, OrgSet, OrgRemove, TeamCreate, TeamDestroy, TeamAdd, TeamRemove, Revoke, OwnerAdd, OwnerRemove, Publish}
 use Rattle.registry_rules.proofs.PublishedFacts.{granted_first, grants_after, maintained_first, maintainers_after}
-use Rattle.registry_history.specs.AccessReadings.{HasAccess, adds_user, user_added, gives_token, token_user, creates, created, gives_role, removes, role, creates_team, destroys, team_stands, joins, leaves, in_team, is_of, gives_grant, ends_grant, granted, is_he, makes_maintainer, ends_maintainer, maintains}
+use Rattle.registry_history.specs.AccessReadings.{HasAccess, adds_user, user_added, gives_token, token_user, creates, created, gives_role, removes, role, creates_team, destroys, team_stands, joins, leaves, in_team, is_of, gives_grant, ends_grant, last_grant, is_he, makes_maintainer, ends_maintainer, maintains}
 use Rattle.registry_history.specs.History.{Entry, Legal, after}
-use Rattle.registry_history.specs.Readings.{or_before, unless_ended, is_published}
+use Rattle.registry_history.specs.Readings.{or_before, unless_ended, was_published}
 use Rattle.registry_history.proofs.LeftFacts.{joined, left_by, left_is}
 use Rattle.registry_history.proofs.StatusFacts.{has_status}
 use Rattle.registry_history.proofs.VersionFacts.{put_before, put_there, removed_after}
 
--- ---- whether something stands at a key; `b` says that the key is the one that is changed
+-- ---- whether something is at a key; `b` says that the key is the one that is changed
 
 erased_after : {X : Type 0} (b : Bool) (old : Option X) (said : Bool) → is_some old ≡ said → is_some (cond b None old) ≡ (not b && said)
 erased_after true old said same = refl
@@ -42,7 +42,7 @@ at-joined : {K : Type 0} {cmp : K → K → Ordering} {same : K → K → Bool} 
 at-joined key m true k q = refl
 at-joined key m false k q = at-put key m k tt q
 
--- what was there already stood at this key
+-- what was there already was at this key
 joined_after : (b there : Bool) (old : Option (Unit {0})) (said : Bool) → (b ≡ true → there ≡ is_some old) → is_some old ≡ said → is_some (cond there old (cond b (Some tt) old)) ≡ (b || said)
 joined_after true true old said stood same = sym (stood refl)
 joined_after true false old said stood same = refl
@@ -50,7 +50,7 @@ joined_after false true old said stood same = same
 joined_after false false old said stood same = same
 
 -- `here`, `first` and `he` say that it is of this organisation, of its first team, and of this
--- user; `member` that he had a role before
+-- user; `member` that they had a role before
 member_after : (here first he member : Bool) (before : Option Role) (old : Option (Unit {0})) (said : Bool) → (here ≡ true → he ≡ true → is_some before ≡ member) → is_some old ≡ said
     → is_some (cond member old (cond (here && (first && he)) (Some tt) old)) ≡ ((here && (first && he) && is_none before) || said)
 member_after true true true true None old said was same = absurd (true≢false (sym (was refl refl)))
@@ -133,7 +133,7 @@ maintained_published m who q p u None before said stood same = maintained_by_fir
 
 -- ---- each map, an entry later
 
-module _ (S : State) (now : ℕ) (who : Caller) (h : List Entry) (has : HasAccess h S.access) (published : (p : Text) → is_some (at S.access.statuses p) ≡ is_published h p) where
+module _ (S : State) (now : ℕ) (who : Caller) (h : List Entry) (has : HasAccess h S.access) (published : (p : Text) → is_some (at S.access.statuses p) ≡ was_published h p) where
   users_step : (what : Action) (u : Text) → is_some (at (left_by S now who what).access.users u) ≡ (adds_user what u || user_added h u)
   users_step (UserAdd v) u = ap is_some (at-put text_key S.access.users v tt u) ∙ put_there (is v u) tt _ _ (has.users u)
   users_step what u = has.users u
@@ -158,7 +158,7 @@ module _ (S : State) (now : ℕ) (who : Caller) (h : List Entry) (has : HasAcces
   teams_step (TeamDestroy q s) o t = ap is_some (at-erase pair_key S.access.teams (q, s) (o, t)) ∙ erased_after (is q o && is s t) _ _ (has.teams o t)
   teams_step what o t = has.teams o t
 
-  -- the role that he had before, told of the map and of the history
+  -- the role that they had before, said of the map and of the history
   had_role : (q v o u : Text) → is q o ≡ true → is v u ≡ true → is_some (role h o u) ≡ is_some (at S.access.roles (q, v))
   had_role q v o u here he = ap is_some (sym (has.roles o u)) ∙ ap (λ (k : Pair). is_some (at S.access.roles k)) (λ i. (sym (is_true q o here) i, sym (is_true v u he) i))
 
@@ -180,27 +180,27 @@ module _ (S : State) (now : ℕ) (who : Caller) (h : List Entry) (has : HasAcces
       ap is_some (at-erase triple_key S.access.team_members (q, (s, v)) (o, (t, u))) ∙ erased_after (is q o && (is s t && is v u)) _ _ (has.team_members o t u)
   members_step what o t u = has.team_members o t u
 
-  -- whether a package has a status, told of a publish's package, is whether this one was published
-  had_status : (q p : Text) → is q p ≡ true → is_some (at S.access.statuses q) ≡ is_published h p
+  -- whether a package has a status, said of a publish's package, is whether this one was published
+  had_status : (q p : Text) → is q p ≡ true → is_some (at S.access.statuses q) ≡ was_published h p
   had_status q p here = ap (λ r. is_some (at S.access.statuses r)) (is_true q p here) ∙ published p
 
   grants_step : (what : Action) (o t p : Text)
-      → at (left_by S now who what).access.grants (o, (t, p)) ≡ or_before (gives_grant what (is_published h p) o t p) (unless_ended (ends_grant what o t p) (granted h o t p))
+      → at (left_by S now who what).access.grants (o, (t, p)) ≡ or_before (gives_grant what (was_published h p) o t p) (unless_ended (ends_grant what o t p) (last_grant h o t p))
   grants_step (command.Grant q s r g) o t p = at-put triple_key S.access.grants (q, (s, r)) g (o, (t, p)) ∙ put_before (is q o && (is s t && is r p)) g _ _ (has.grants o t p)
   grants_step (Revoke q s r) o t p = at-erase triple_key S.access.grants (q, (s, r)) (o, (t, p)) ∙ removed_after (is q o && (is s t && is r p)) _ _ (has.grants o t p)
   grants_step (TeamDestroy q s) o t p =
       at-keep triple_key S.access.grants (λ k. not (is q k.0 && is s k.1.0)) (o, (t, p)) ∙ dropped_after (is q o && is s t) _ _ (has.grants o t p)
-  grants_step (Publish f) o t p = grants_published S.access.grants f.name o t p (at S.access.statuses f.name) (is_published h p) _ (had_status f.name p) (has.grants o t p)
+  grants_step (Publish f) o t p = grants_published S.access.grants f.name o t p (at S.access.statuses f.name) (was_published h p) _ (had_status f.name p) (has.grants o t p)
   grants_step what o t p = has.grants o t p
 
   maintainers_step : (what : Action) (p u : Text)
-      → is_some (at (left_by S now who what).access.maintainers (p, u)) ≡ (makes_maintainer who what (is_published h p) p u || (not (ends_maintainer what p u) && maintains h p u))
+      → is_some (at (left_by S now who what).access.maintainers (p, u)) ≡ (makes_maintainer who what (was_published h p) p u || (not (ends_maintainer what p u) && maintains h p u))
   maintainers_step (OwnerAdd q v) p u =
       ap is_some (at-joined pair_key S.access.maintainers (has_maintainer S q v) (q, v) (p, u))
       ∙ joined_after (is q p && is v u) (has_maintainer S q v) _ _ (λ e. ap (λ k. is_some (at S.access.maintainers k)) (same_true pair_key (q, v) (p, u) e)) (has.maintainers p u)
   maintainers_step (OwnerRemove q v) p u = ap is_some (at-erase pair_key S.access.maintainers (q, v) (p, u)) ∙ erased_after (is q p && is v u) _ _ (has.maintainers p u)
   maintainers_step (Publish f) p u =
-      maintained_published S.access.maintainers who f.name p u (at S.access.statuses f.name) (is_published h p) _ (had_status f.name p) (has.maintainers p u)
+      maintained_published S.access.maintainers who f.name p u (at S.access.statuses f.name) (was_published h p) _ (had_status f.name p) (has.maintainers p u)
   maintainers_step what p u = has.maintainers p u
 
 pub has_access : (h : List Entry) → Legal h → HasAccess h (after h).access

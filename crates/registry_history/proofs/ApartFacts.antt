@@ -1,4 +1,4 @@
--- A packument tells of its own package alone.
+-- A packument depends on its own package alone.
 use Rattle.std.proofs.Common.{◌≡◌, ℕ, Bool, true, false, cond, ◌&&◌, ◌||◌, [], ◌∷◌, map, is_some, Option, Some, None, option_map, unwrap_or, refl, ap, ap₂, ◌∙◌, true≢false}
 use Rattle.registry_names.specs.Keys.{pair_is}
 use Rattle.registry_names.specs.Texts.{Text, is}
@@ -8,9 +8,9 @@ use Rattle.registry_names.proofs.MapFacts.{at-revise}
 use Rattle.registry_names.proofs.PartFacts.{part-put, part-erase, same_part}
 use Rattle.registry_packument.specs.Packuments.{packument_of}
 use Rattle.registry_access.specs.declared.caller.Caller.{Caller}
-use Rattle.registry_rules.specs.Actions.{names, version_of}
+use Rattle.registry_rules.specs.Actions.{names_package, version_of}
 use Rattle.registry_rules.specs.Callers.{caller_of}
-use Rattle.registry_rules.specs.Changes.{Change, AddUser, AddToken, AddOrg, PutMember, DropMember, AddTeam, PutTeamMember, DropTeamMember, DropTeam, PutGrant, DropGrant, PutMaintainer, DropMaintainer, PutStatus, AddVersion, RetireVersion, PutDeprecation, PutTag, DropTag, made, all_made, release_of}
+use Rattle.registry_rules.specs.Changes.{Change, AddUser, AddToken, AddOrg, PutMember, DropMember, AddTeam, PutTeamMember, DropTeamMember, DropTeam, PutGrant, DropGrant, PutOwner, DropOwner, PutStatus, AddVersion, RetireVersion, PutDeprecation, PutTag, DropTag, made, all_made, release_of}
 use Rattle.registry_rules.specs.Effects.{effects_for, step}
 use Rattle.registry_rules.specs.Operations.{with_member, with_role, with_grant, regranted, with_status, restated, with_tag, moved}
 use Rattle.registry_rules.specs.State.{State, Release}
@@ -56,8 +56,8 @@ made_same S (PutGrant o t q grant stands) p e =
     let here : IsSame S (with_grant S o t q grant) p = record { live = refl; tags = refl } in
     either stands S (regranted S o t q grant) (with_grant S o t q grant) p (either (is_some (at S.access.grants (o, (t, q)))) S (with_grant S o t q grant) S p here (unchanged S p)) here
 made_same S (DropGrant o t q) p e = record { live = refl; tags = refl }
-made_same S (PutMaintainer q u) p e = record { live = refl; tags = refl }
-made_same S (DropMaintainer q u) p e = record { live = refl; tags = refl }
+made_same S (PutOwner q u) p e = record { live = refl; tags = refl }
+made_same S (DropOwner q u) p e = record { live = refl; tags = refl }
 made_same S (PutStatus q status stands) p e =
     let here : IsSame S (with_status S q status) p = record { live = refl; tags = refl } in
     either stands S (restated S q status) (with_status S q status) p (either (is_some (at S.access.statuses q)) S (with_status S q status) S p here (unchanged S p)) here
@@ -83,7 +83,7 @@ changes_of_others S (change ∷ changes) p e =
     let apart = neither (is_about change p) (are_about changes p) e in
     changes_of_others (made S change) changes p apart.1 ∙ same_packument S (made S change) p (made_same S change p apart.0)
 
-step_same : (S : State) (now : ℕ) (who : Option Caller) (what : Action) (p : Text) → names what p ≡ false → IsSame S (all_made S (effects_for S now who what)) p
+step_same : (S : State) (now : ℕ) (who : Option Caller) (what : Action) (p : Text) → names_package what p ≡ false → IsSame S (all_made S (effects_for S now who what)) p
 step_same S now None what p e = unchanged S p
 step_same S now (Some who) what p e =
     let apart = packages_stand_apart S now who what p e in

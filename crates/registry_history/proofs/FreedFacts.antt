@@ -16,7 +16,7 @@ use Rattle.registry_history.specs.Readings.{is_named, published, withdrawn, rema
 
 -- ---- the versions that remain
 
--- the others of a package's versions are those that stand when one is erased
+-- the others of a package's versions are those that are left when one is erased
 pub among_others : (m : PairMap Release) (p v u : Text) → among is (others (keys (of m p)) v) u ≡ is_some (at (erase m (p, v)) (p, u))
 among_others m p v u =
     among_passing (λ w. not (is w v)) (keys (of m p)) u

@@ -45,7 +45,7 @@ taken_is : (S : State) (now : ℕ) (p v : Text) (old : Option Release) → all_m
 taken_is S now p v None = refl
 taken_is S now p v (Some r) = withdrawn_is S now p v r.at (greatest (others (live_versions S p) v)) (tags_of S p v)
 
--- what an action leaves, whether what it puts stood before or not
+-- what an action leaves, whether what it puts was there before or not
 abbrev pub left_by : State → ℕ → Caller → Action → State
 left_by S now who (OrgSet o u role) = record S {
   access = record S.access {

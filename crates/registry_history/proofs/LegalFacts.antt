@@ -10,7 +10,7 @@ use Rattle.registry_rules.proofs.SoundSteps.{nothing_sound, step_sound}
 use Rattle.registry_history.specs.History.{Entry, Legal, after}
 use Rattle.registry_history.specs.Says.{AreAllowed}
 
--- what stands refers to what is there
+-- references hold
 pub histories_sound : (h : List Entry) → Legal h → IsSound (after h).access
 histories_sound [] legal = nothing_sound
 histories_sound (e ∷ h) legal = step_sound (after h) e.at e.who e.what legal.2 legal.1 (histories_sound h legal.3)

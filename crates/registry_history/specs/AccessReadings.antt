@@ -1,5 +1,5 @@
--- What a history says of who is there, in what, and of what he may do, by the last entry that
--- speaks of it, and a state of which it says so. No reading shares a word with what a step makes:
+-- What a history says of who is there, in what, and of what they may do, by the last entry that
+-- speaks of it, and a state of which it says so. No reading uses a definition of what a step makes:
 -- each is a recursion over the entries, and an entry that speaks of something else says nothing.
 use Rattle.std.specs.Prelude.{◌≡◌, Bool, false, not, ◌&&◌, ◌||◌, List, [], ◌∷◌, is_some, is_none, Option, Some, None, if◌then◌else◌}
 use Rattle.registry_names.specs.Texts.{Text, is}
@@ -17,7 +17,7 @@ use Rattle.registry_rules.specs.declared.request.Action.{Action}
 use Rattle.registry_rules.specs.declared.request.Action.TheVariants as command
 use Rattle.registry_rules.specs.declared.request.Action.TheVariants.{UserAdd, TokenAdd, OrgCreate, OrgSet, OrgRemove, TeamCreate, TeamDestroy, TeamAdd, TeamRemove, Revoke, OwnerAdd, OwnerRemove, Publish}
 use Rattle.registry_history.specs.History.{Entry}
-use Rattle.registry_history.specs.Readings.{or_before, unless_ended, is_published}
+use Rattle.registry_history.specs.Readings.{or_before, unless_ended, was_published}
 
 -- ---- users, tokens and organisations, which never go
 
@@ -64,7 +64,7 @@ abbrev pub removes : Action → Text → Text → Bool
 removes (OrgRemove q v) o u = is q o && is v u
 removes _ o u = false
 
--- a user has the role that he was given last, unless he was removed since
+-- a user has the role that they were given last, unless they were removed since
 abbrev pub role : List Entry → Text → Text → Option Role
 role [] o u = None
 role (e ∷ h) o u = or_before (gives_role e.what o u) (unless_ended (removes e.what o u) (role h o u))
@@ -82,7 +82,7 @@ abbrev pub destroys : Action → Text → Text → Bool
 destroys (TeamDestroy q s) o t = is q o && is s t
 destroys _ o t = false
 
--- a team stands that was created, unless it was destroyed since
+-- a team exists that was created, unless it was destroyed since
 abbrev pub team_stands : List Entry → Text → Text → Bool
 team_stands [] o t = false
 team_stands (e ∷ h) o t = creates_team e.what o t || (not (destroys e.what o t) && team_stands h o t)
@@ -103,7 +103,7 @@ leaves (OrgRemove q v) o t u = is q o && is v u
 leaves (TeamDestroy q s) o t u = is q o && is s t
 leaves _ o t u = false
 
--- a user is in a team whom a command brought into it, unless one took him out since
+-- a user is in a team whom a command brought into it, unless one took them out since
 abbrev pub in_team : List Entry → Text → Text → Text → Bool
 in_team [] o t u = false
 in_team (e ∷ h) o t u = joins e.what (role h o u) o t u || (not (leaves e.what o t u) && in_team h o t u)
@@ -130,9 +130,9 @@ ends_grant (TeamDestroy q s) o t p = is q o && is s t
 ends_grant _ o t p = false
 
 -- a team has on a package what it was granted last, unless that was ended since
-abbrev pub granted : List Entry → Text → Text → Text → Option Grant
-granted [] o t p = None
-granted (e ∷ h) o t p = or_before (gives_grant e.what (is_published h p) o t p) (unless_ended (ends_grant e.what o t p) (granted h o t p))
+abbrev pub last_grant : List Entry → Text → Text → Text → Option Grant
+last_grant [] o t p = None
+last_grant (e ∷ h) o t p = or_before (gives_grant e.what (was_published h p) o t p) (unless_ended (ends_grant e.what o t p) (last_grant h o t p))
 
 -- ---- maintainers
 
@@ -156,7 +156,7 @@ ends_maintainer _ p u = false
 -- a user is a maintainer whom a command made one, unless one ended that since
 abbrev pub maintains : List Entry → Text → Text → Bool
 maintains [] p u = false
-maintains (e ∷ h) p u = makes_maintainer e.who e.what (is_published h p) p u || (not (ends_maintainer e.what p u) && maintains h p u)
+maintains (e ∷ h) p u = makes_maintainer e.who e.what (was_published h p) p u || (not (ends_maintainer e.what p u) && maintains h p u)
 
 -- ---- a state of which the history speaks
 
@@ -169,5 +169,5 @@ pub record HasAccess (h : List Entry) (A : Access) : Type 0 where
   pub roles : (o u : Text) → at A.roles (o, u) ≡ role h o u
   pub teams : (o t : Text) → is_some (at A.teams (o, t)) ≡ team_stands h o t
   pub team_members : (o t u : Text) → is_some (at A.team_members (o, (t, u))) ≡ in_team h o t u
-  pub grants : (o t p : Text) → at A.grants (o, (t, p)) ≡ granted h o t p
+  pub grants : (o t p : Text) → at A.grants (o, (t, p)) ≡ last_grant h o t p
   pub maintainers : (p u : Text) → is_some (at A.maintainers (p, u)) ≡ maintains h p u

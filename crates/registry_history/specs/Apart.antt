@@ -2,8 +2,8 @@
 use Rattle.std.specs.Prelude.{◌≡◌, Bool, List, false}
 use Rattle.std.specs.List.{list_any}
 use Rattle.registry_names.specs.Texts.{Text, is}
-use Rattle.registry_rules.specs.Actions.{names}
-use Rattle.registry_rules.specs.Changes.{Change, AddUser, AddToken, AddOrg, PutMember, DropMember, AddTeam, PutTeamMember, DropTeamMember, DropTeam, PutGrant, DropGrant, PutMaintainer, DropMaintainer, PutStatus, AddVersion, RetireVersion, PutDeprecation, PutTag, DropTag, all_made}
+use Rattle.registry_rules.specs.Actions.{names_package}
+use Rattle.registry_rules.specs.Changes.{Change, AddUser, AddToken, AddOrg, PutMember, DropMember, AddTeam, PutTeamMember, DropTeamMember, DropTeam, PutGrant, DropGrant, PutOwner, DropOwner, PutStatus, AddVersion, RetireVersion, PutDeprecation, PutTag, DropTag, all_made}
 use Rattle.registry_rules.specs.Effects.{step}
 use Rattle.registry_rules.specs.State.{State}
 use Rattle.registry_rules.specs.declared.request.Request.{Request}
@@ -22,8 +22,8 @@ is_about (DropTeamMember o t u) p = false
 is_about (DropTeam o t) p = false
 is_about (PutGrant o t q grant stands) p = false
 is_about (DropGrant o t q) p = false
-is_about (PutMaintainer q u) p = false
-is_about (DropMaintainer q u) p = false
+is_about (PutOwner q u) p = false
+is_about (DropOwner q u) p = false
 is_about (PutStatus q status stands) p = false
 is_about (AddVersion f now) p = is f.name p
 is_about (RetireVersion q v published withdrawn) p = is q p
@@ -43,4 +43,4 @@ ChangesOfOthers = (S : State) (changes : List Change) (p : Text)
 -- a request that is no command about the package
 abbrev pub StepsOfOthers : Type 0
 StepsOfOthers = (S : State) (r : Request) (p : Text)
-    → names r.what p ≡ false → packument_in (step S r) p ≡ packument_in S p
+    → names_package r.what p ≡ false → packument_in (step S r) p ≡ packument_in S p

@@ -22,6 +22,6 @@ pub record Says (h : List Entry) (S : State) : Type 0 where
   pub tags : HasTags h S
   pub statuses : HasStatuses h S
   pub access : HasAccess h S.access
-  -- what stands refers to what is there
+  -- references hold
   pub sound : IsSound S.access
   pub allowed : AreAllowed h

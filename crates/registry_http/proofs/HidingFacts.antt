@@ -20,8 +20,8 @@ use Rattle.registry_rules.specs.declared.request.Action.{Action}
 use Rattle.registry_rules.specs.declared.request.Action.TheVariants.{UserAdd, TokenAdd, OrgCreate, OrgSet, OrgRemove, TeamCreate, TeamDestroy, TeamAdd, TeamRemove, Grant, Revoke, SetAccess, OwnerAdd, OwnerRemove, Publish, TagSet, TagRemove, Withdraw, Deprecate, Packument, VersionDoc, Archive, Tags, Members, Teams, TeamMembers, TeamPackages}
 use Rattle.registry_rules.specs.declared.request.Request.{Request}
 use Rattle.registry_history.specs.Answers.{answer, reply, reply_to, unless_refused}
-use Rattle.registry_talk.specs.Answers.{response_to}
-use Rattle.registry_http.specs.Hiding.{HiddenAreUnheardOf, IsHidden, IsQueryOf, IsUnheardOf}
+use Rattle.registry_service.specs.HttpAnswers.{response_to}
+use Rattle.registry_http.specs.Hiding.{HiddenAreUnheardOf, IsUnread, IsQueryOf, IsUnheardOf}
 
 unread : (b : Bool) (rest : Option Refusal) → b ≡ false → option_or (unless_allowed (where_found b (Ok A8))) rest ≡ Some NotFound
 unread true rest e = absurd (true≢false e)
@@ -56,13 +56,13 @@ refused-by S now who (Teams o) p is hidden = absurd is
 refused-by S now who (TeamMembers o t) p is hidden = absurd is
 refused-by S now who (TeamPackages o t) p is hidden = absurd is
 
-not-found : (S : State) (r : Request) (p : Text) → IsQueryOf p r.what → IsHidden S r.who p → answer S r ≡ Refused NotFound
+not-found : (S : State) (r : Request) (p : Text) → IsQueryOf p r.what → IsUnread S r.who p → answer S r ≡ Refused NotFound
 not-found S r p is (who, known, hidden) =
     ap (λ (o : Option Caller). unless_refused (refusal_for S r.at o r.what) (reply_to S o r.what)) known
     ∙ ap (λ (o : Option Refusal). unless_refused o (reply S who r.what)) (refused-by S r.at who r.what p is hidden)
 
 -- what was never published is read by nobody
-unheard-hidden : (S : State) (r : Request) (p : Text) → IsUnheardOf S r.who p → IsHidden S r.who p
+unheard-hidden : (S : State) (r : Request) (p : Text) → IsUnheardOf S r.who p → IsUnread S r.who p
 unheard-hidden S r p (who, known, new) =
     let stands = position_in S.access who p in
     (who, known, ap (λ (o : Option Status). reads (level_by o (is_owner_or_admin stands.role || stands.maintainer) stands.grant)) new)

@@ -10,11 +10,11 @@ use Rattle.registry_history.proofs.RunFacts.{headline_from, history_says, run_sa
 use Rattle.registry_desk.specs.Promises.{HoldsSound}
 use Rattle.registry_desk.proofs.StoredFacts.{HasAnswered, HasRun, has_run_more, has_run_none}
 use Rattle.registry_wire.specs.declared.wanted.Wanted.{Wanted}
-use Rattle.registry_talk.specs.Courses.{Follow}
-use Rattle.registry_talk.specs.Histories.{Entry, FollowAll}
-use Rattle.registry_talk.specs.Turns.{Cause, IsAnswered, IsTurnFor, Turn, bad_input, no_memory, request}
-use Rattle.registry_talk.specs.declared.turning.End.{End}
-use Rattle.registry_http.specs.Desks.{Applies, AskAll, IsOneRun, LogRuns, TurnsRun, applied}
+use Rattle.registry_service.specs.Courses.{Follow}
+use Rattle.registry_service.specs.Histories.{LogEntry, FollowAll}
+use Rattle.registry_service.specs.Turns.{Cause, IsAnswered, IsTurnFor, Turn, bad_input, no_memory, request}
+use Rattle.registry_service.specs.declared.turning.End.{End}
+use Rattle.registry_http.specs.Services.{Applies, AskAll, IsOneRun, LogRuns, TurnsRun, applied}
 
 answered-of : (old new : Shown) (r : Request) (o : Outcome) → Applies old new r o → HasAnswered old new r o
 answered-of old new r o a = record {
@@ -83,7 +83,7 @@ module _ {D : Type 0} (show : D → Shown) where
   follow-runs M N [] same = no-turns M N same
   follow-runs M N (t ∷ ts) follow = one-more M follow.0 N t.cause t.outcome t.ended _ ts (follow-runs M follow.0 ts follow.1) follow.2
 
-  log-runs : (M N : D) (log : List Entry) → FollowAll (applied show) M log N → RunsSo (show M) (show N) (map (λ e. e.turn) log)
+  log-runs : (M N : D) (log : List LogEntry) → FollowAll (applied show) M log N → RunsSo (show M) (show N) (map (λ e. e.turn) log)
   log-runs M N [] same = no-turns M N same
   log-runs M N (e ∷ log) follow = one-more M follow.0 N e.turn.cause e.turn.outcome e.turn.ended _ (map (λ e. e.turn) log) (log-runs M follow.0 log follow.1) follow.2
 

@@ -4,7 +4,7 @@ use Rattle.registry_rules.specs.declared.reply.Reply.{Reply}
 use Rattle.registry_history.specs.Runs.{Outcome}
 use Rattle.registry_hidden.specs.Runs.{AreAlike}
 use Rattle.registry_hidden.proofs.RunFacts.{runs_are_alike}
-use Rattle.registry_talk.specs.Answers.{response_to}
+use Rattle.registry_service.specs.HttpAnswers.{response_to}
 use Rattle.registry_http.specs.Unseen.{AreAnsweredAlike, RunsAreAnsweredAlike}
 
 answered-alike : (os qs : List Outcome) → AreAlike os qs → AreAnsweredAlike os qs

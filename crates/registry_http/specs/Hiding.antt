@@ -12,7 +12,7 @@ use Rattle.registry_rules.specs.declared.request.Action.TheVariants.{Packument, 
 use Rattle.registry_rules.specs.declared.request.Credential.{Credential}
 use Rattle.registry_rules.specs.declared.request.Request.{Request}
 use Rattle.registry_history.specs.Answers.{answer}
-use Rattle.registry_talk.specs.Answers.{response_to}
+use Rattle.registry_service.specs.HttpAnswers.{response_to}
 
 -- the query is about this package
 abbrev pub IsQueryOf : Text → Action → Type 0
@@ -22,16 +22,16 @@ IsQueryOf p (Archive q v) = q ≡ p
 IsQueryOf p (Tags q) = q ≡ p
 IsQueryOf p _ = ⊥
 
--- the credential is that of a caller, and he doesn't read the package
-abbrev pub IsHidden : State → Credential → Text → Type 0
-IsHidden S who p = (c : Caller) × (caller_of S who ≡ Some c) × (reads (level_in S.access c p) ≡ false)
+-- the credential is that of a caller, and they don't read the package
+abbrev pub IsUnread : State → Credential → Text → Type 0
+IsUnread S who p = (c : Caller) × (caller_of S who ≡ Some c) × (reads (level_in S.access c p) ≡ false)
 
 -- the credential is that of a caller, and the package was never published
 abbrev pub IsUnheardOf : State → Credential → Text → Type 0
 IsUnheardOf S who p = (c : Caller) × (caller_of S who ≡ Some c) × (at S.access.statuses p ≡ None)
 
--- Whatever query a caller makes on a package that he doesn't read, he gets the response, byte for
+-- Whatever query a caller makes on a package that they don't read, they get the response, byte for
 -- byte, of any query on one that was never published, in the same registry or another
 abbrev pub HiddenAreUnheardOf : Type 0
-HiddenAreUnheardOf = (S T : State) (r s : Request) (p q : Text) (closes : Bool) → IsQueryOf p r.what → IsQueryOf q s.what → IsHidden S r.who p → IsUnheardOf T s.who q
+HiddenAreUnheardOf = (S T : State) (r s : Request) (p q : Text) (closes : Bool) → IsQueryOf p r.what → IsQueryOf q s.what → IsUnread S r.who p → IsUnheardOf T s.who q
     → response_to (Ok (answer S r)) closes ≡ response_to (Ok (answer T s)) closes

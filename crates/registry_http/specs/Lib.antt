@@ -1,3 +1,3 @@
-pub mod Desks
+pub mod Services
 pub mod Hiding
 pub mod Unseen

@@ -1,11 +1,11 @@
-//! The registry over HTTP/1.1: the desk at which requests of HTTP are answered, each in one
+//! The registry over HTTP/1.1: the service that answers requests of HTTP, each in one
 //! transaction.
 //!
-//! A [`FrontDesk`] is served by `registry_talk::serve`, one connection after the other, or turn by
-//! turn, many connections at once. What its turns make of the registry is one run of it.
+//! A [`RegistryService`] is served by `registry_service::serve`, one connection after the other, or
+//! turn by turn, many connections at once. What its turns make of the registry is one run of it.
 #![tactic(auto)]
 
-mod front_desk;
 pub mod laws;
+mod service;
 
-pub use crate::front_desk::FrontDesk;
+pub use crate::service::RegistryService;

@@ -50,7 +50,7 @@ among-push (y ∷ ys) x v = ap (λ b. is y v || b) (among-push ys x v) ∙ swap_
     swap_or true false c = refl
     swap_or false b c = refl
 
--- ---- the greatest is the one that IsGreatest tells
+-- ---- the greatest is the one that IsGreatest says
 
 greatest_one : (v : Text) → IsGreatest v (v ∷ [])
 greatest_one v = record {

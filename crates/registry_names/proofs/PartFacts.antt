@@ -13,7 +13,7 @@ use Rattle.registry_names.proofs.KeyFacts.{first_key}
 use Rattle.registry_names.proofs.MapFacts.{at-put, at-erase, at-keep, at-revise, at-entries, first_at-kept, first_at-revised}
 use Rattle.registry_names.proofs.EntryFacts.{entries_rise, rises_kept, rises_mapped, rises_seen, first_at-seen, among_keys, same_rows, rows_found, IsFoundIn}
 
--- keys with one first text stand as their rests do
+-- keys with one first text are ordered as their rests are
 same_first : {R : Type 0} (cmp : R → R → Ordering) (p : Text) (a b : R) → by_first cmp (p, a) (p, b) ≡ cmp a b
 unfolding by_first
 same_first cmp p a b = ap (λ o. ordering_then o (cmp a b)) (tied_itself text_total p)

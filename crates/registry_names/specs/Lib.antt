@@ -1,5 +1,5 @@
 pub mod Bodies
-pub mod Ends
+pub mod ByteStreams
 pub mod Faults
 pub mod Greatest
 pub mod Idents

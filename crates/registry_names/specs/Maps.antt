@@ -6,7 +6,7 @@ use Rattle.std.specs.FinMap as fin
 use Rattle.registry_names.specs.Texts.{Text, text_cmp, is}
 use Rattle.registry_names.specs.Keys.{Pair, by_first, pair_cmp, triple_cmp}
 
--- a map to X, whose keys stand in the order `cmp`
+-- a map to X, whose keys are in the order `cmp`
 abbrev pub MapBy : {K : Type 0} → (K → K → Ordering) → Type 0 → Type 0
 MapBy cmp X = fin.FinMap cmp X
 
@@ -45,7 +45,7 @@ module _ {K X : Type 0} {cmp : K → K → Ordering} where
   unfoldable pub revise : MapBy cmp X → (K → X → X) → MapBy cmp X
   revise m f = fin.from_entries (map (λ e. (e.0, f e.0 e.1)) (fin.entries m))
 
--- the map that a list of rows gives, under keys that `cmp` orders. Where a key stands twice, its
+-- the map that a list of rows gives, under keys that `cmp` orders. Where a key occurs twice, its
 -- first row counts
 unfoldable pub rows : {K X : Type 0} (cmp : K → K → Ordering) → List (K × X) → MapBy cmp X
 rows cmp es = fin.from_entries es

@@ -34,7 +34,7 @@ IsNameOf t (Some s) p = (t ≡ 64 ∷ (s ++ 47 ∷ p)) × (is_ident s ≡ true) 
 abbrev pub IsName : List ℕ → Type 0
 IsName t = (s : Option (List ℕ)) × ((p : List ℕ) × IsNameOf t s p)
 
--- the scope of a name: what stands between an @ at its front and the first slash
+-- the scope of a name: what is between an @ at its prefix and the first slash
 abbrev pub scope_of : List ℕ → Option (List ℕ)
 scope_of [] = None
 scope_of (c ∷ rest) = if c == 64 then Some (before_first (λ d. d == 47) rest) else None

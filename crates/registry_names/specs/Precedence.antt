@@ -1,4 +1,4 @@
--- The precedence of texts, of which each two that differ stand one above the other.
+-- The precedence of texts: of each two that differ one is above the other.
 use Rattle.std.specs.Prelude.{◌≡◌, Option, Some, None, Result, Ok, Err}
 use Rattle.std.specs.Option.{option_cmp}
 use Rattle.std.specs.Ordering.{ordering_then}

@@ -14,6 +14,6 @@ is_tag_char c = is_alphanumeric c || list_any (λ m. m == c) (codes "-_.!~*'()")
 abbrev pub is_tag : List ℕ → Bool
 is_tag t = nat_le 1 (length t) && nat_le (length t) 214 && list_all is_tag_char t
 
--- the tag that stands while a version lives
+-- the tag that exists while a version lives
 abbrev pub latest : List ℕ
 latest = codes "latest"

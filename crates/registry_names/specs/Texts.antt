@@ -11,7 +11,7 @@ Text = List ℕ
 abbrev pub text_cmp : Text → Text → Ordering
 text_cmp = slice_cmp nat_cmp
 
--- whether two texts are one, as Rust's `==` answers. What is stored or commanded stands first, and
+-- whether two texts are one, as Rust's `==` answers. What is stored or commanded comes first, and
 -- what is asked second
 unfoldable pub is : Text → Text → Bool
 is a b = bytes_eq a b

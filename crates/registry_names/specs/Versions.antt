@@ -26,7 +26,7 @@ greatest_number = 9007199254740991
 abbrev pub longest_version : ℕ
 longest_version = 256
 
--- the numbers in decimal with dots between, and behind a hyphen the prerelease
+-- the numbers in decimal with dots between, and after a hyphen the prerelease
 abbrev pub text_of_version : VersionParts → List ℕ
 text_of_version v = parts_text (v.major, v.minor, v.patch, v.pre, [])
 

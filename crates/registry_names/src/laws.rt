@@ -1,5 +1,5 @@
-//! Laws of the words that contracts cite. Each function does nothing: what it ensures holds of
-//! the definitions themselves, and its proof is the law's.
+//! Laws of the definitions that contracts cite. Each function does nothing: what it ensures holds
+//! of the definitions themselves, and its proof is the law's.
 
 ghost use Rattle.std.specs.Cmp.{IsTotalOrder};
 ghost use Rattle.registry_names.specs.Texts.{text_cmp, is};
@@ -17,7 +17,7 @@ pub fn texts_are_keys()
     ensures three { IsKey triple_cmp triple_is }
 {}
 
-/// A map has at each key what its changes say, and is told by what it has.
+/// A map has at each key what its changes say, and is determined by what it has.
 pub fn maps_answer<K, X>()
     ensures empty { UnderKeys K (EmptyAnswers X) }
     ensures put { UnderKeys K (PutAnswers X) }

@@ -140,7 +140,7 @@ impl Name {
         }
     }
 
-    /// The part behind the scope, which is the whole name where there is no scope.
+    /// The part after the scope, which is the whole name where there is no scope.
     pub fn part(&self) -> &str
         ensures { (s : Option (List ℕ)) × IsNameOf self.now s result.now }
     {

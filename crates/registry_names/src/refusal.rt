@@ -7,7 +7,7 @@ ghost use Rattle.registry_names.specs.Refusals.{refusal_status, refusal_text};
 use std::error::Error;
 use std::fmt;
 
-/// A rule of access: who may do what. Its name is printed behind `Denied`.
+/// A rule of access: who may do what. Its name is printed after `Denied`.
 #[derive(Clone, Copy, Debug, PartialEq, Eq)]
 pub enum Rule {
     /// The operator manages users, tokens and organisations.
@@ -31,11 +31,11 @@ pub enum Rule {
     A9,
 }
 
-/// Why a request is turned away. Where several reasons hold, the first that is tested is answered.
+/// Why a request is refused. Where several reasons hold, the first that is tested is answered.
 ///
 /// A text that is out of form is refused where it is read, and each reader says in which order it
 /// tests. A request in form is refused by `NoCaller`, `NotFound` or `Denied`, or else by what the
-/// registry holds, and these reasons are tested in the order in which they stand here.
+/// registry holds, and these reasons are tested in the order in which they come here.
 #[derive(Clone, Copy, Debug, PartialEq, Eq)]
 pub enum Refusal {
     /// A text is no name of a package, a user, an organisation or a team.
@@ -56,7 +56,7 @@ pub enum Refusal {
     NoCaller,
     /// What is named isn't there, or the caller may not see it.
     NotFound,
-    /// The caller may see it, and the rule doesn't let him do it.
+    /// Access rule A1 to A9 doesn't let the caller do it.
     Denied(Rule),
     /// The version is published already.
     Published,
@@ -68,7 +68,7 @@ pub enum Refusal {
     Depended,
     /// `latest` can't be removed while a version lives.
     KeepsLatest,
-    /// A text selects no versions.
+    /// A text is no selector.
     BadSelector,
     /// The last owner of an organisation, or the last maintainer of a package, would go.
     LastOwner,
@@ -85,7 +85,7 @@ pub enum Refusal {
 }
 
 impl Refusal {
-    /// The name that is printed, as `BadName`; behind `Denied` the rule's, as `Denied A6`.
+    /// The name that is printed, as `BadName`; after `Denied` the rule's, as `Denied A6`.
     pub fn text(self) -> &'static str
         ensures { result.now ≡ refusal_text self }
     {

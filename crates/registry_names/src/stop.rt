@@ -55,7 +55,7 @@ impl Error for Fault {}
 /// Why a call answers nothing. It hands out nothing then.
 #[derive(Clone, Copy, Debug, PartialEq, Eq)]
 pub enum Stop {
-    /// The request is turned away.
+    /// The request is refused.
     Refused(Refusal),
     /// The machine failed.
     Fault(Fault),

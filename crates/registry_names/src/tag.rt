@@ -12,7 +12,7 @@ use crate::stop::Stop;
 use std::alloc::Global;
 use std::marker::Model;
 
-/// The tag that stands while a version lives.
+/// The tag that exists while a version lives.
 pub const LATEST: &str = "latest";
 
 const LONGEST: usize = 214;
@@ -35,8 +35,8 @@ fn is_tag(text: &str) -> bool
     1 <= text.len() && text.len() <= LONGEST && all_tag_bytes(text.as_bytes())
 }
 
-/// The text of a dist-tag: 1 to 214 characters of `A-Z a-z 0-9 - _ . ! ~ * ' ( )`, which stand
-/// for themselves in a URL. Contracts see its text.
+/// The text of a dist-tag: 1 to 214 characters of `A-Z a-z 0-9 - _ . ! ~ * ' ( )`, which mean
+/// themselves in a URL. Contracts see its text.
 ///
 /// That a tag is no range of versions is tested apart from its characters, and before them.
 #[derive(Debug, Drop)]

@@ -11,7 +11,7 @@ use Rattle.json.specs.Tree.{HasNumbers, MembersHaveNumbers}
 use Rattle.json.specs.Value.{value_view, members_view}
 use Rattle.json.specs.declared.value.Value.{Value, String, the_lemmas}
 use Rattle.registry_names.specs.Texts.{text_cmp}
-use Rattle.registry_packument.specs.Documents.{without, placed}
+use Rattle.registry_packument.specs.Documents.{members_without, placed}
 
 abbrev pub Entry : Type 0 → Type 0
 Entry A = Bor (List ℕ) × Value A
@@ -22,12 +22,12 @@ is_other k m = not (bytes_eq m.0.now k)
 abbrev pub is_later : {A : Type 0} → List ℕ → Entry A → Bool
 is_later k m = is_lt (text_cmp k m.0.now)
 
-pub members_view-filter : {A : Type 0} (k : List ℕ) (ms : List (Entry A)) → members_view (filter (is_other k) ms) ≡ without k (members_view ms)
+pub members_view-filter : {A : Type 0} (k : List ℕ) (ms : List (Entry A)) → members_view (filter (is_other k) ms) ≡ members_without k (members_view ms)
 members_view-filter k [] = refl
 members_view-filter k (m ∷ ms) =
     let rest = members_view-filter k ms in
     elim (bytes_eq m.0.now k)
-    as (λ b. members_view (cond (not b) (m ∷ filter (is_other k) ms) (filter (is_other k) ms)) ≡ cond b (without k (members_view ms)) (member m.0.now (value_view m.1) (without k (members_view ms)))) [
+    as (λ b. members_view (cond (not b) (m ∷ filter (is_other k) ms) (filter (is_other k) ms)) ≡ cond b (members_without k (members_view ms)) (member m.0.now (value_view m.1) (members_without k (members_view ms)))) [
       | true ↦ rest
       | false ↦ ap (member m.0.now (value_view m.1)) rest
     ]
@@ -56,10 +56,10 @@ numbers_if : (b : Bool) (ms ns : Members) → MembersHaveNumbers ms → MembersH
 numbers_if true ms ns h i = h
 numbers_if false ms ns h i = i
 
-pub MembersHaveNumbers-without : (k : List ℕ) (ms : Members) → MembersHaveNumbers ms → MembersHaveNumbers (without k ms)
+pub MembersHaveNumbers-without : (k : List ℕ) (ms : Members) → MembersHaveNumbers ms → MembersHaveNumbers (members_without k ms)
 MembersHaveNumbers-without k no_members h = tt
 MembersHaveNumbers-without k (member l j ms) h =
-    let rest = MembersHaveNumbers-without k ms h.1 in numbers_if (bytes_eq l k) _ (member l j (without k ms)) rest (h.0, rest)
+    let rest = MembersHaveNumbers-without k ms h.1 in numbers_if (bytes_eq l k) _ (member l j (members_without k ms)) rest (h.0, rest)
 
 pub MembersHaveNumbers-placed : (k : List ℕ) (i : Json) (ms : Members) → HasNumbers i → MembersHaveNumbers ms → MembersHaveNumbers (placed k i ms)
 MembersHaveNumbers-placed k i no_members n h = (n, tt)

@@ -1,4 +1,4 @@
--- What is read into an object, told by what is left behind its members.
+-- What is read into an object, determined by what is left after its members.
 use Rattle.std.proofs.Common.{◌≡◌, ◌≢◌, ℕ, Bool, true, false, ◌&&◌, List, [], ◌∷◌, Option, Some, None, option_map, option_and_then, is_some, is_none, unwrap_or, MatchOption, IfErr, ok_or, if◌then◌else◌, refl, ap, sym, ◌∙◌, arith}
 use Rattle.std.proofs.lemmas.Bool.{ne_eqb}
 use Rattle.std.proofs.lemmas.Option.{none-some}

@@ -83,7 +83,7 @@ pieces : (b0 b1 b2 b3 b4 b5 b6 b7 o i k t n l e : List ℕ) → b0 ≡ [] → b1
     → b7 ≡ b6 ++ e → b7 ≡ o ++ (i ++ ((k ++ t) ++ (n ++ (l ++ e))))
 pieces b0 b1 b2 b3 b4 b5 b6 b7 o i k t n l e e0 e1 e2 e3 e4 e5 e6 e7 = rw (e7, e6, e5, e4, e3, e2, e1, e0) (simp append_assoc)
 
--- the pieces in turn that stand before the versions, with the texts of the keys, the name and the
+-- the pieces in turn that come before the versions, with the texts of the keys, the name and the
 -- tags as variables
 pub assembled : (b0 b1 b2 b3 b4 b5 b6 b7 k1 k2 k3 k4 q t : List ℕ) → b0 ≡ [] → b1 ≡ b0 ++ 123 ∷ [] → b2 ≡ b1 ++ (k1 ++ 58 ∷ q)
     → b3 ≡ b2 ++ 44 ∷ (k2 ++ 58 ∷ []) → b4 ≡ b3 ++ t → b5 ≡ b4 ++ 44 ∷ (k3 ++ 58 ∷ q)
@@ -103,7 +103,7 @@ parted a b c key m =
     let d : key ++ 58 ∷ 123 ∷ m ≡ (key ++ 58 ∷ 123 ∷ []) ++ m = sym (append_assoc key (58 ∷ 123 ∷ []) m) in
     rw d (spread (123 ∷ []) a b c (44 ∷ (key ++ 58 ∷ 123 ∷ [])) m (125 ∷ []))
 
--- what stands before the versions, and these with the end
+-- what comes before the versions, and these with the end
 pub pack_pairs-parts : (head : PackHead) (ps : List Pair) → object_text (pack_pairs head.name head.tags.items ps) ≡ opening_text head ++ versions_text false ps
 pack_pairs-parts head ps =
     parted (member_text false (codes "_id", quoted head.name)) (member_text true (codes "dist-tags", object_text (map tag_pair head.tags.items)))

@@ -14,7 +14,7 @@ lost_if : {A : Type 0} (b : Bool) (x : A) → (if b then Some x else None) ≡ N
 lost_if true x e = absurd (cc)
 lost_if false x e = refl
 
--- what was read, where something is left behind it
+-- what was read, where something is left after it
 passed : {A : Type 0} (test : A → Bool) (o : Option (A × List Token)) (r : List Token) → behind test o ≡ Some r → (a : A) × (o ≡ Some (a, r)) × (test a ≡ true)
 passed test None r e = absurd (none-some r e)
 passed test (Some (a, s)) r e = let both = kept_if (test a) s r e in (a, ap (λ t. Some (a, t)) both.1, both.0)
@@ -78,7 +78,7 @@ module _ (p : Parse Json) where
   pub behind-members_end : (n : ℕ) (ts r : List Token) → length ts ≤ n → read_key ts ≡ Some (None, r) → behind members_are_held (members p n ts) ≡ Some r
   behind-members_end n ts r enough e = ap (behind members_are_held) (members_end p n ts r enough e)
 
--- what is left behind an array or an object is what is left behind what it holds
+-- what is left after an array or an object is what is left after what it holds
 pub behind-array : (o : Option (Items × List Token)) → behind is_held (parse_map Json.array o) ≡ behind items_are_held o
 behind-array None = refl
 behind-array (Some p) = refl

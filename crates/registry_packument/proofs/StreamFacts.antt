@@ -4,21 +4,21 @@ use Rattle.std.specs.Prelude.{IsSomeAnd, OnOk, Result, Ok, Err}
 use Rattle.std.proofs.lemmas.Option.{none-some}
 use Rattle.json.specs.Print.{quoted}
 use Rattle.serde_json.specs.Written.{comma_if}
-use Rattle.registry_names.specs.Ends.{Writes, WritesFront}
-use Rattle.registry_names.proofs.EndFacts.{Writes-nothing, Writes-append, WritesFront-append, WritesFront-longer, WritesFront-stopped}
+use Rattle.registry_names.specs.ByteStreams.{Writes, WritesPrefix}
+use Rattle.registry_names.proofs.ByteStreamFacts.{Writes-nothing, Writes-append, WritesPrefix-append, WritesPrefix-longer, WritesPrefix-stopped}
 use Rattle.registry_packument.specs.Documents.{document_text}
 use Rattle.registry_packument.specs.ObjectTexts.{Pair, member_text, members_text, object_text}
 use Rattle.registry_packument.specs.Packuments.{version_pair, version_pairs, pack_pairs, opening_text, versions_text, pack_text}
-use Rattle.registry_packument.specs.Streams.{row_front, versions_front, pack_front}
+use Rattle.registry_packument.specs.Streams.{row_prefix, versions_prefix, pack_prefix}
 use Rattle.registry_packument.specs.declared.head.PackHead.{PackHead}
 use Rattle.registry_packument.specs.declared.packument.VersionRow.{VersionRow}
 use Rattle.registry_packument.proofs.PackFacts.{pack_pairs-parts}
 
--- a front of a text was written, and the rest is left
-pub record HasLeft (old new : Option (List ℕ)) (silent : Bool) (text rest : List ℕ) : Type 0 where
+-- a prefix of a text was written, and the rest is left
+pub record HasLeft (old new : Option (List ℕ)) (unknown : Bool) (text rest : List ℕ) : Type 0 where
   pub done : List ℕ
   pub is : text ≡ done ++ rest
-  pub wrote : Writes old new silent done
+  pub wrote : Writes old new unknown done
 
 pub HasLeft-all : (a : Option (List ℕ)) (s : Bool) (text : List ℕ) → HasLeft a a s text text
 HasLeft-all a s text = record { done = []; is = refl; wrote = Writes-nothing a s }
@@ -26,25 +26,25 @@ HasLeft-all a s text = record { done = []; is = refl; wrote = Writes-nothing a s
 -- a piece is written
 pub HasLeft-piece : {a b c : Option (List ℕ)} {s t : Bool} {text rest : List ℕ} (piece more : List ℕ) → HasLeft a b s text rest → rest ≡ piece ++ more → Writes b c t piece
     → (s ≡ true → t ≡ true) → HasLeft a c t text more
-HasLeft-piece {a} {b} {c} {s} {t} {text} {rest} piece more front e wrote stays = record {
-  done = front.done ++ piece;
-  is = front.is ∙ ap (λ xs. front.done ++ xs) e ∙ sym (append_assoc front.done piece more);
-  wrote = Writes-append front.wrote wrote stays;
+HasLeft-piece {a} {b} {c} {s} {t} {text} {rest} piece more prefix e wrote stays = record {
+  done = prefix.done ++ piece;
+  is = prefix.is ∙ ap (λ xs. prefix.done ++ xs) e ∙ sym (append_assoc prefix.done piece more);
+  wrote = Writes-append prefix.wrote wrote stays;
 }
 
 -- the write of a piece fails
-pub HasLeft-failed : {a b c : Option (List ℕ)} {s t : Bool} {text rest : List ℕ} (piece more : List ℕ) → HasLeft a b s text rest → rest ≡ piece ++ more → WritesFront b c t piece
-    → (s ≡ true → t ≡ true) → WritesFront a c t text
-HasLeft-failed {a} {b} {c} {s} {t} {text} {rest} piece more front e failed stays =
-    rw (front.is, e, ← append_assoc front.done piece more) (WritesFront-longer more (WritesFront-append front.wrote failed stays))
+pub HasLeft-failed : {a b c : Option (List ℕ)} {s t : Bool} {text rest : List ℕ} (piece more : List ℕ) → HasLeft a b s text rest → rest ≡ piece ++ more → WritesPrefix b c t piece
+    → (s ≡ true → t ≡ true) → WritesPrefix a c t text
+HasLeft-failed {a} {b} {c} {s} {t} {text} {rest} piece more prefix e failed stays =
+    rw (prefix.is, e, ← append_assoc prefix.done piece more) (WritesPrefix-longer more (WritesPrefix-append prefix.wrote failed stays))
 
 -- nothing more is written
-pub HasLeft-stopped : {a b : Option (List ℕ)} {s : Bool} {text rest : List ℕ} → HasLeft a b s text rest → 0 < length rest → WritesFront a b s text
-HasLeft-stopped {a} {b} {s} {text} {rest} front more = rw front.is (WritesFront-stopped rest front.wrote more)
+pub HasLeft-stopped : {a b : Option (List ℕ)} {s : Bool} {text rest : List ℕ} → HasLeft a b s text rest → 0 < length rest → WritesPrefix a b s text
+HasLeft-stopped {a} {b} {s} {text} {rest} prefix more = rw prefix.is (WritesPrefix-stopped rest prefix.wrote more)
 
 -- nothing is left
 pub HasLeft-none : {a b : Option (List ℕ)} {s : Bool} {text : List ℕ} → HasLeft a b s text [] → Writes a b s text
-HasLeft-none {a} {b} {s} {text} front = rw (front.is, append-nil front.done) front.wrote
+HasLeft-none {a} {b} {s} {text} prefix = rw (prefix.is, append-nil prefix.done) prefix.wrote
 
 -- ---- the pieces
 
@@ -60,13 +60,13 @@ cut_at : (later : Bool) (key : List ℕ) (document : Option (List ℕ)) (rest : 
 cut_at later key None rest = sym (append-nil (member_text later (key, [])))
 cut_at later key (Some d) rest = member_text-append later key d rest
 
--- what stands behind a version: the others, or nothing where its document is missing
+-- what follows a version: the others, or nothing where its document is missing
 abbrev pub behind : VersionRow → List VersionRow → List ℕ
-behind row rows = unwrap_or (option_map (λ d. versions_front true rows) (document_text row.manifest row.message)) []
+behind row rows = unwrap_or (option_map (λ d. versions_prefix true rows) (document_text row.manifest row.message)) []
 
-pub versions_front-cut : (later : Bool) (row : VersionRow) (old rows : List VersionRow) → old ≡ row ∷ rows → versions_front later old ≡ row_front later row ++ behind row rows
-versions_front-cut later row old rows gives =
-    ap (versions_front later) gives ∙ cut_at later row.version (document_text row.manifest row.message) (versions_front true rows)
+pub versions_prefix-cut : (later : Bool) (row : VersionRow) (old rows : List VersionRow) → old ≡ row ∷ rows → versions_prefix later old ≡ row_prefix later row ++ behind row rows
+versions_prefix-cut later row old rows gives =
+    ap (versions_prefix later) gives ∙ cut_at later row.version (document_text row.manifest row.message) (versions_prefix true rows)
 
 next_at : (later : Bool) (key : List ℕ) (document : Option (List ℕ)) (rest : List ℕ) → is_some {T = Pair} (option_map (λ d. (key, d)) document) ≡ true
     → member_text later (key, unwrap_or (option_map (λ d. d ++ rest) document) []) ≡ member_text later (key, unwrap_or document []) ++ rest
@@ -74,14 +74,14 @@ next_at later key None rest h = absurd (true≢false (sym h))
 next_at later key (Some d) rest h = member_text-append later key d rest
 
 -- a version with a document, and then the others
-pub versions_front-next : (later : Bool) (row : VersionRow) (old rows : List VersionRow) → old ≡ row ∷ rows → is_some (version_pair row) ≡ true
-    → versions_front later old ≡ row_front later row ++ versions_front true rows
-versions_front-next later row old rows gives h =
-    ap (versions_front later) gives ∙ next_at later row.version (document_text row.manifest row.message) (versions_front true rows) h
+pub versions_prefix-next : (later : Bool) (row : VersionRow) (old rows : List VersionRow) → old ≡ row ∷ rows → is_some (version_pair row) ≡ true
+    → versions_prefix later old ≡ row_prefix later row ++ versions_prefix true rows
+versions_prefix-next later row old rows gives h =
+    ap (versions_prefix later) gives ∙ next_at later row.version (document_text row.manifest row.message) (versions_prefix true rows) h
 
-pub length-versions_front : (later : Bool) (rows : List VersionRow) → 0 < length (versions_front later rows)
-length-versions_front later [] = lit< tt
-length-versions_front later (row ∷ rows) = length-member_text later _
+pub length-versions_prefix : (later : Bool) (rows : List VersionRow) → 0 < length (versions_prefix later rows)
+length-versions_prefix later [] = lit< tt
+length-versions_prefix later (row ∷ rows) = length-member_text later _
 
 -- ---- whether each version has a document
 
@@ -103,42 +103,42 @@ is_some-next row old rows gives h = ap (λ rs. is_some (version_pairs rs)) gives
 
 -- ---- the whole
 
-end_at : (later : Bool) (key : List ℕ) (document : Option (List ℕ)) (left : Option (List Pair)) (front : List ℕ) (ps : List Pair)
-    → ((qs : List Pair) → left ≡ Some qs → front ≡ versions_text true qs)
+end_at : (later : Bool) (key : List ℕ) (document : Option (List ℕ)) (left : Option (List Pair)) (prefix : List ℕ) (ps : List Pair)
+    → ((qs : List Pair) → left ≡ Some qs → prefix ≡ versions_text true qs)
     → option_and_then (λ p. option_map (λ qs. p ∷ qs) left) (option_map (λ d. (key, d)) document) ≡ Some ps
-    → member_text later (key, unwrap_or (option_map (λ d. d ++ front) document) []) ≡ versions_text later ps
-end_at later key None left front ps more h = absurd (none-some ps h)
-end_at later key (Some d) None front ps more h = absurd (none-some ps h)
-end_at later key (Some d) (Some qs) front ps more h =
-    member_text-append later key d front ∙ ap (λ xs. member_text later (key, d) ++ xs) (more qs refl)
+    → member_text later (key, unwrap_or (option_map (λ d. d ++ prefix) document) []) ≡ versions_text later ps
+end_at later key None left prefix ps more h = absurd (none-some ps h)
+end_at later key (Some d) None prefix ps more h = absurd (none-some ps h)
+end_at later key (Some d) (Some qs) prefix ps more h =
+    member_text-append later key d prefix ∙ ap (λ xs. member_text later (key, d) ++ xs) (more qs refl)
     ∙ sym (append_assoc (member_text later (key, d)) (members_text true qs) (125 ∷ [])) ∙ ap (λ o. versions_text later (unwrap_or o [])) h
 
-pub versions_front-pairs : (rows : List VersionRow) (later : Bool) (ps : List Pair) → version_pairs rows ≡ Some ps → versions_front later rows ≡ versions_text later ps
-versions_front-pairs [] later ps h = ap (λ o. versions_text later (unwrap_or o [])) h
-versions_front-pairs (row ∷ rows) later ps h =
-    end_at later row.version (document_text row.manifest row.message) (version_pairs rows) (versions_front true rows) ps
-    (λ qs is. versions_front-pairs rows true qs is) h
+pub versions_prefix-pairs : (rows : List VersionRow) (later : Bool) (ps : List Pair) → version_pairs rows ≡ Some ps → versions_prefix later rows ≡ versions_text later ps
+versions_prefix-pairs [] later ps h = ap (λ o. versions_text later (unwrap_or o [])) h
+versions_prefix-pairs (row ∷ rows) later ps h =
+    end_at later row.version (document_text row.manifest row.message) (version_pairs rows) (versions_prefix true rows) ps
+    (λ qs is. versions_prefix-pairs rows true qs is) h
 
-parts_at : (head : PackHead) (pairs : Option (List Pair)) (front : List ℕ) → ((ps : List Pair) → pairs ≡ Some ps → front ≡ versions_text false ps)
-    → unwrap_or (option_map (λ ps. object_text (pack_pairs head.name head.tags.items ps)) pairs) (opening_text head ++ front) ≡ opening_text head ++ front
-parts_at head None front is = refl
-parts_at head (Some ps) front is = pack_pairs-parts head ps ∙ ap (λ xs. opening_text head ++ xs) (sym (is ps refl))
+parts_at : (head : PackHead) (pairs : Option (List Pair)) (prefix : List ℕ) → ((ps : List Pair) → pairs ≡ Some ps → prefix ≡ versions_text false ps)
+    → unwrap_or (option_map (λ ps. object_text (pack_pairs head.name head.tags.items ps)) pairs) (opening_text head ++ prefix) ≡ opening_text head ++ prefix
+parts_at head None prefix is = refl
+parts_at head (Some ps) prefix is = pack_pairs-parts head ps ∙ ap (λ xs. opening_text head ++ xs) (sym (is ps refl))
 
--- what stands before the versions, and these
-pub pack_front-parts : (head : PackHead) (rows : List VersionRow) → pack_front head rows ≡ opening_text head ++ versions_front false rows
-pack_front-parts head rows = parts_at head (version_pairs rows) (versions_front false rows) (λ ps is. versions_front-pairs rows false ps is)
+-- what comes before the versions, and these
+pub pack_prefix-parts : (head : PackHead) (rows : List VersionRow) → pack_prefix head rows ≡ opening_text head ++ versions_prefix false rows
+pack_prefix-parts head rows = parts_at head (version_pairs rows) (versions_prefix false rows) (λ ps is. versions_prefix-pairs rows false ps is)
 
-whole_at : {a b : Option (List ℕ)} {s : Bool} (head : PackHead) (pairs : Option (List Pair)) (front : List ℕ)
-    → ((ps : List Pair) → pairs ≡ Some ps → front ≡ versions_text false ps) → is_some pairs ≡ true → Writes a b s (opening_text head ++ front)
+whole_at : {a b : Option (List ℕ)} {s : Bool} (head : PackHead) (pairs : Option (List Pair)) (prefix : List ℕ)
+    → ((ps : List Pair) → pairs ≡ Some ps → prefix ≡ versions_text false ps) → is_some pairs ≡ true → Writes a b s (opening_text head ++ prefix)
     → IsSomeAnd (option_map (λ ps. object_text (pack_pairs head.name head.tags.items ps)) pairs) (λ text. Writes a b s text)
-whole_at head None front is some wrote = absurd (true≢false (sym some))
-whole_at head (Some ps) front is some wrote = rw (pack_pairs-parts head ps, ← is ps refl) wrote
+whole_at head None prefix is some wrote = absurd (true≢false (sym some))
+whole_at head (Some ps) prefix is some wrote = rw (pack_pairs-parts head ps, ← is ps refl) wrote
 
 -- a packument whose versions all have documents is written whole
 pub pack_text-written : {a b : Option (List ℕ)} {s : Bool} (head : PackHead) (rows : List VersionRow) → is_some (version_pairs rows) ≡ true
-    → Writes a b s (opening_text head ++ versions_front false rows) → IsSomeAnd (pack_text head rows) (λ text. Writes a b s text)
+    → Writes a b s (opening_text head ++ versions_prefix false rows) → IsSomeAnd (pack_text head rows) (λ text. Writes a b s text)
 pack_text-written head rows some wrote =
-    whole_at head (version_pairs rows) (versions_front false rows) (λ ps is. versions_front-pairs rows false ps is) some wrote
+    whole_at head (version_pairs rows) (versions_prefix false rows) (λ ps is. versions_prefix-pairs rows false ps is) some wrote
 
 -- ---- what results say
 

@@ -25,7 +25,7 @@ use Rattle.serde_json.proofs.Nesting.{depth-read}
 use Rattle.serde_json.proofs.Texts.{print-outline}
 use Rattle.registry_names.specs.Texts.{Text, text_cmp}
 use Rattle.registry_names.proofs.TextFacts.{text_total, text_exact}
-use Rattle.registry_packument.specs.Documents.{manifest_members, members_in, written_members, without, placed, documented, document_text, document_members, IsCompact}
+use Rattle.registry_packument.specs.Documents.{manifest_members, members_in, written_members, members_without, placed, documented, document_text, document_members, IsCompact}
 use Rattle.registry_packument.proofs.ManifestFacts.{document_is, first_is}
 use Rattle.registry_packument.proofs.SourceFacts.{below_all-trans}
 
@@ -171,7 +171,7 @@ mutual
   members_depth-outline no_members = refl
   members_depth-outline (member k d ms) = ap₂ max (depth-outline d) (members_depth-outline ms)
 
--- ---- the members that are read stand in order, each key once
+-- ---- the members that are read are in order, each key once
 
 abbrev entries : Members → List (Text × Data)
 entries no_members = []
@@ -223,7 +223,7 @@ less Less e = refl
 less Equal e = absurd (true≢false (sym e))
 less Greater e = absurd (true≢false (sym e))
 
-without-above : (k : Text) (ms : Members) → above k ms → without k (members_outline ms) ≡ members_outline ms
+without-above : (k : Text) (ms : Members) → above k ms → members_without k (members_outline ms) ≡ members_outline ms
 without-above k no_members h = refl
 without-above k (member l d ms) h =
     let parts = and_parts (is_lt (text_cmp k l)) (fin.below_all text_cmp k (entries ms)) h in
@@ -233,16 +233,16 @@ placed-above : (k : Text) (i : json.Json) (ms : Members) → above k ms → plac
 placed-above k i no_members h = refl
 placed-above k i (member l d ms) h = rw ((and_parts (is_lt (text_cmp k l)) (fin.below_all text_cmp k (entries ms)) h).0) refl
 
-placed-put : (k : Text) (d : Data) (ms : Members) → IsSorted ms → placed k (outline d) (without k (members_outline ms)) ≡ members_outline (put k d ms)
+placed-put : (k : Text) (d : Data) (ms : Members) → IsSorted ms → placed k (outline d) (members_without k (members_outline ms)) ≡ members_outline (put k d ms)
 placed-put k d no_members h = refl
 placed-put k d (member l e ms) h =
     let parts = and_parts (fin.below_all text_cmp l (entries ms)) (fin.is_sorted text_cmp (entries ms)) h in
     elim (text_cmp k l)
-    as (λ o. text_cmp k l ≡ o → placed k (outline d) (without k (members_outline (member l e ms))) ≡ members_outline (match_ordering o (member k d (member l e ms)) (member l d ms) (member l e (put k d ms)))) [
+    as (λ o. text_cmp k l ≡ o → placed k (outline d) (members_without k (members_outline (member l e ms))) ≡ members_outline (match_ordering o (member k d (member l e ms)) (member l d ms) (member l e (put k d ms)))) [
       | Less ↦ λ c.
           rw (bytes_eq-is l k Less c, c) (ap (λ js. json.member k (outline d) (json.member l (outline e) js)) (without-above k ms (below_all-trans k l (entries ms) c parts.0)))
       | Equal ↦ λ c.
-          let same = ap (λ m. placed m (outline d) (without m (members_outline ms))) (text_exact k l c) in
+          let same = ap (λ m. placed m (outline d) (members_without m (members_outline ms))) (text_exact k l c) in
           rw (bytes_eq-is l k Equal c) (same ∙ ap (placed l (outline d)) (without-above l ms parts.0) ∙ placed-above l (outline d) ms parts.0)
       | Greater ↦ λ c. rw (bytes_eq-is l k Greater c, c) (ap (json.member l (outline e)) (placed-put k d ms parts.1))
     ] refl
@@ -267,7 +267,7 @@ text_is manifest (c ∷ message) ms h =
     let key = codes "deprecated" in
     let is = document-compact manifest ms h in
     let written : written_members manifest ≡ members_outline ms = ap (λ o. unwrap_or (option_and_then members_in o) json.no_members) is.0 in
-    ap (λ js. print (json_tokens (json.object (placed key (json.string (c ∷ message)) (without key js))))) written
+    ap (λ js. print (json_tokens (json.object (placed key (json.string (c ∷ message)) (members_without key js))))) written
     ∙ ap (λ js. print (json_tokens (json.object js))) (placed-put key (string (c ∷ message)) ms is.1) ∙ print-outline (object (put key (string (c ∷ message)) ms))
 
 pub document_text-compact : (manifest message : List ℕ) (ms : Members) → IsCompact ms manifest → document_text manifest message ≡ Some (compact_text (object (document_members ms message)))

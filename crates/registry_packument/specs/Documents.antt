@@ -31,9 +31,9 @@ abbrev pub written_members : List ℕ → Members
 written_members text = unwrap_or (option_and_then members_in (document text)) no_members
 
 -- the members but those under this key
-abbrev pub without : List ℕ → Members → Members
-without k no_members = no_members
-without k (member l j ms) = if bytes_eq l k then without k ms else member l j (without k ms)
+abbrev pub members_without : List ℕ → Members → Members
+members_without k no_members = no_members
+members_without k (member l j ms) = if bytes_eq l k then members_without k ms else member l j (members_without k ms)
 
 -- the members, with this one before the first whose key is greater
 abbrev pub placed : List ℕ → Json → Members → Members
@@ -41,10 +41,10 @@ placed k i no_members = member k i no_members
 placed k i (member l j ms) = if is_lt (text_cmp k l) then member k i (member l j ms) else member l j (placed k i ms)
 
 -- the manifest without spaces, with the message under `deprecated`, in its place by key and instead
--- of what stood under it
+-- of what was under it
 abbrev pub deprecated_text : List ℕ → List ℕ → List ℕ
 deprecated_text manifest message =
-    let key = codes "deprecated" in print (json_tokens (object (placed key (string message) (without key (written_members manifest)))))
+    let key = codes "deprecated" in print (json_tokens (object (placed key (string message) (members_without key (written_members manifest)))))
 
 -- The text of a manifest and a message, of which the empty one says that nothing is deprecated.
 abbrev pub documented : List ℕ → List ℕ → List ℕ

@@ -26,7 +26,7 @@ grant_text ReadWrite = codes "read-write"
 abbrev pub tag_texts : DistTag → List ℕ × List ℕ
 tag_texts r = (r.tag, r.version)
 
--- a user, and what he is
+-- a user, and what they are
 abbrev pub member_texts : Member → List ℕ × List ℕ
 member_texts r = (r.user, role_text r.role)
 
@@ -45,7 +45,7 @@ list_value (Grants rows) = object (text_members grant_texts rows.items)
 abbrev pub tags_text : List DistTag → List ℕ
 tags_text rows = compact_text (object (text_members tag_texts rows))
 
--- the text of members, each with his role
+-- the text of members, each with their role
 abbrev pub members_text : List Member → List ℕ
 members_text rows = compact_text (object (text_members member_texts rows))
 

@@ -47,7 +47,7 @@ pack_len head versions = option_and_then (λ text. if nat_lt (length text) (2 ^ 
 
 -- ---- the same in parts, as they are written one after the other
 
--- all that stands before the first version
+-- all that comes before the first version
 abbrev pub opening_text : PackHead → List ℕ
 opening_text head =
     123 ∷ (member_text false (codes "_id", quoted head.name)

@@ -1,4 +1,4 @@
--- What is left of the tokens of a text behind a value whose numbers `serde_json` holds.
+-- What is left of the tokens of a text after a value whose numbers `serde_json` holds.
 use Rattle.std.specs.Prelude.{ℕ, Bool, true, ◌&&◌, List, [], ◌∷◌, length, is_some, if◌then◌else◌, Option, Some, None, option_and_then}
 use Rattle.json.specs.Json.{Json, null, boolean, number, string, array, object, Items, no_items, item, Members, no_members, member, items, members, value}
 use Rattle.json.specs.Token.{Token}
@@ -22,19 +22,19 @@ abbrev mutual
   members_are_held no_members = true
   members_are_held (member k j ms) = is_held j && members_are_held ms
 
--- what is left behind what was read, where it passes the test
+-- what is left after what was read, where it passes the test
 abbrev pub behind : {A : Type 0} → (A → Bool) → Option (A × List Token) → Option (List Token)
 behind test read = option_and_then (λ p. if test p.0 then Some p.1 else None) read
 
--- behind a value that nests so deep at most
+-- after a value that nests so deep at most
 abbrev pub behind_value : ℕ → List Token → Option (List Token)
 behind_value depth ts = behind is_held (value depth ts)
 
--- behind the items of an array and its bracket
+-- after the items of an array and its bracket
 abbrev pub behind_items : ℕ → List Token → Option (List Token)
 behind_items depth ts = behind items_are_held (items (value depth) (length ts) ts)
 
--- behind the members of an object and its brace
+-- after the members of an object and its brace
 abbrev pub behind_members : ℕ → List Token → Option (List Token)
 behind_members depth ts = behind members_are_held (members (value depth) (length ts) ts)
 

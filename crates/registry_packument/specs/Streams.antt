@@ -1,6 +1,6 @@
 -- Packuments as they go out version by version.
 use Rattle.std.specs.Prelude.{ℕ, Bool, true, false, List, [], ◌∷◌, ◌++◌, Result, Ok, Err, Option, option_map, unwrap_or, codes, ⊤}
-use Rattle.registry_names.specs.Ends.{raised}
+use Rattle.registry_names.specs.ByteStreams.{raised}
 use Rattle.registry_names.specs.Faults.{fault_text}
 use Rattle.registry_names.specs.declared.stop.Fault.{Fault}
 use Rattle.registry_packument.specs.Documents.{document_text}
@@ -13,31 +13,31 @@ use Rattle.registry_packument.specs.declared.stream.PackFault.{PackFault}
 use Rattle.registry_packument.specs.declared.stream.PackFault.TheVariants.{Write, Source}
 
 -- a version's member, without the document where it is missing
-abbrev pub row_front : Bool → VersionRow → List ℕ
-row_front later r = member_text later (r.version, unwrap_or (document_text r.manifest r.message) [])
+abbrev pub row_prefix : Bool → VersionRow → List ℕ
+row_prefix later r = member_text later (r.version, unwrap_or (document_text r.manifest r.message) [])
 
--- the versions that are left and the end, or what of these stands before the first document that is
+-- the versions that are left and the end, or what of these comes before the first document that is
 -- missing
-abbrev pub versions_front : Bool → List VersionRow → List ℕ
-versions_front later [] = 125 ∷ 125 ∷ []
-versions_front later (r ∷ rs) =
-    member_text later (r.version, unwrap_or (option_map (λ document. document ++ versions_front true rs) (document_text r.manifest r.message)) [])
+abbrev pub versions_prefix : Bool → List VersionRow → List ℕ
+versions_prefix later [] = 125 ∷ 125 ∷ []
+versions_prefix later (r ∷ rs) =
+    member_text later (r.version, unwrap_or (option_map (λ document. document ++ versions_prefix true rs) (document_text r.manifest r.message)) [])
 
--- the packument, or what of it stands before the first document that is missing
-abbrev pub pack_front : PackHead → List VersionRow → List ℕ
-pack_front head versions = unwrap_or (pack_text head versions) (opening_text head ++ versions_front false versions)
+-- the packument, or what of it comes before the first document that is missing
+abbrev pub pack_prefix : PackHead → List VersionRow → List ℕ
+pack_prefix head versions = unwrap_or (pack_text head versions) (opening_text head ++ versions_prefix false versions)
 
 -- what is printed of a fault
 abbrev pub pack_fault_text : PackFault → List ℕ
 pack_fault_text Write = codes "Write"
 pack_fault_text (Source fault) = fault_text fault
 
--- the fault is of the end that is written to, or of the source and the value that its rows give
+-- the fault is of the stream that is written to, or of the source and the value that its rows give
 abbrev pub IsPackFault : {A : Type 0} → Option Fault → Option A → PackFault → Type 0
 IsPackFault stopped value Write = ⊤
 IsPackFault stopped value (Source fault) = IsFaultFrom stopped value fault
 
--- the end's count of failures: a failed write raises it
+-- the stream's count of failures: a failed write raises it
 abbrev pub failures_after : {A : Type 0} → Result A PackFault → ℕ → ℕ
 failures_after (Ok x) n = n
 failures_after (Err Write) n = raised n

@@ -3,7 +3,7 @@ use Rattle.std.specs.Prelude.{◌≡◌, ◌++◌, ℕ, List, Option, Some, None
 use Rattle.registry_names.specs.declared.stop.Fault.{Fault}
 use Rattle.registry_names.specs.declared.stop.Fault.TheVariants.{Memory, Database}
 
--- there is a value, and its text stands behind what was written before
+-- there is a value, and its text follows what was written before
 abbrev pub Adds : {A : Type 0} → (A → List ℕ) → Option A → List ℕ → List ℕ → Type 0
 Adds {A} text value old new = (a : A) × ((value ≡ Some a) × (new ≡ old ++ text a))
 

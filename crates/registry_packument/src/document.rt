@@ -7,7 +7,7 @@ ghost use Rattle.json.specs.Print.{print};
 ghost use Rattle.json.specs.Tree.{json_tokens, HasNumbers, MembersHaveNumbers};
 ghost use Rattle.json.specs.Value.{value_view, members_view};
 ghost use Rattle.registry_names.specs.Texts.{text_cmp};
-ghost use Rattle.registry_packument.specs.Documents.{manifest_members, members_in, written_members, without, placed, deprecated_text, document_text};
+ghost use Rattle.registry_packument.specs.Documents.{manifest_members, members_in, written_members, members_without, placed, deprecated_text, document_text};
 ghost use Rattle.registry_packument.specs.Writing.{Adds, IsFaultOf};
 
 use crate::manifest::is_manifest;
@@ -69,21 +69,21 @@ fn is_below(text: &str, other: &str) -> bool
     text < other
 }
 
-// How many members stand before the first whose key is greater, if there is one.
+// How many members come before the first whose key is greater, if there is one.
 fn place_before_greater(members: &[Member<'_>], key: &str) -> Option<usize>
     ensures { result ≡ position (λ member. is_lt (text_cmp key.now member.0.now)) members.now }
 {
     members.iter().position(|member| is_below(key, member.0))
 }
 
-// Puts a text in its place by key, instead of what stood under it.
+// Puts a text in its place by key, instead of what was under it.
 fn put_text<'a>(
     members: &mut Vec<Member<'a>>,
     key: &'a str,
     text: &'a str,
 ) -> Result<(), AllocError>
     ensures { OnOk result (members_view members.new.items
-        ≡ placed key.now (string text.now) (without key.now (members_view members.old.items))) }
+        ≡ placed key.now (string text.now) (members_without key.now (members_view members.old.items))) }
 {
     members.retain(|member| !is_same(member.0, key));
     let place = place_before_greater(members, key).unwrap_or(members.len());
@@ -111,7 +111,7 @@ fn deprecated(alloc: Global, manifest: &str, message: &str) -> Result<String, Fa
     Ok(text_of(alloc, &Value::Object(members))?)
 }
 
-/// The document, written behind what the text has already.
+/// The document, written after what the text has already.
 pub(crate) fn push_document(
     alloc: Global,
     out: &mut String,
@@ -134,7 +134,7 @@ pub(crate) fn push_document(
 
 /// The document of a version: the manifest itself where the message is empty; else the manifest as
 /// it is written, without spaces, with the member `deprecated`, whose value is the message, in its
-/// place by key and instead of what stood under it.
+/// place by key and instead of what was under it.
 ///
 /// A manifest is the compact JSON of an object, and so is its document then. Of any other text that
 /// `serde_json` reads into an object the members and the numbers stay as they are written.

@@ -1,4 +1,4 @@
-//! Pieces of compact JSON, written behind what a text has already.
+//! Pieces of compact JSON, written after what a text has already.
 
 ghost use Rattle.std.specs.Prelude.{◌≡◌, ◌++◌, ◌∷◌, [], List, ℕ, string_bytes, OnOk};
 ghost use Rattle.json.specs.Print.{quoted};

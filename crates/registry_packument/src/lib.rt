@@ -9,7 +9,7 @@
 //!
 //! The versions of a packument come from a source, which gives them one after the other, and no
 //! more than one of them is held. Its text is made whole, or is written version by version, or its
-//! bytes are counted. A fault leaves a front of what is written, and nothing else.
+//! bytes are counted. A fault leaves a prefix of what is written, and nothing else.
 #![tactic(auto)]
 
 mod document;

@@ -14,7 +14,7 @@ use std::alloc::Global;
 pub struct Member {
     /// The user's name.
     pub user: Text,
-    /// What he is in it.
+    /// What they are in it.
     pub role: Role,
 }
 
@@ -27,7 +27,7 @@ pub struct Granted {
     pub grant: Grant,
 }
 
-/// A list that the registry answers with. Its rows stand in byte order of their first text, each
+/// A list that the registry answers with. Its rows are in byte order of their first text, each
 /// text once.
 #[derive(Drop)]
 pub enum List {

@@ -36,7 +36,7 @@ impl Drop for VersionRow {
 /// What ends a packument: the brace of its versions, and its own.
 pub(crate) const CLOSING: &str = "}}";
 
-/// All of a packument that stands before its first version.
+/// All of a packument that comes before its first version.
 pub(crate) fn opening(alloc: Global, head: &PackHead) -> Result<String, AllocError>
     ensures { IfOk result (λ text. string_bytes text ≡ opening_text head.now) }
 {
@@ -75,7 +75,7 @@ pub(crate) fn push_version(
 /// The versions are the rows that the source gives, and the tags are written as they come, in byte
 /// order, each once. A version's document is that of [`version_text`](crate::version_text).
 /// `Database` comes where a manifest is none (see there), and else the source's own fault, or
-/// `Memory` where no memory is left. The source has given all its rows, or those up to the fault.
+/// `Memory` where no memory is left. Where it succeeds, the source has given all its rows.
 pub fn packument_text<S: VersionSource>(
     alloc: Global,
     head: &PackHead,

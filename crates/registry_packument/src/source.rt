@@ -30,7 +30,7 @@ pub trait VersionSource {
         ensures stops { IfErr result (λ fault. stopped self.new ≡ Some fault) }
         ensures again { IfSome (stopped self.old) (λ fault. result ≡ Err fault) };
 
-    // The rows stand in byte order of their versions, each once.
+    // The rows are in byte order of their versions, each once.
     ghost ordered: { (source : Self) → IsInOrder (rows source) };
 }
 
@@ -42,7 +42,7 @@ pub struct VersionRows {
 }
 
 impl VersionRows {
-    /// None exactly where the rows don't stand in byte order of their versions, each once.
+    /// None exactly where the rows aren't in byte order of their versions, each once.
     pub fn new(rows: Vec<VersionRow>) -> Option<VersionRows>
         ensures { MatchOption result (¬ IsInOrder rows.items)
             (λ source. ⟦<VersionRows as VersionSource>⟧.rows source ≡ rows.items) }
@@ -57,7 +57,7 @@ impl VersionRows {
     }
 }
 
-// Whether the rows stand in byte order of their versions, each once.
+// Whether the rows are in byte order of their versions, each once.
 fn is_in_order(rows: &[VersionRow]) -> bool
     ensures { IsTrue result ↔ IsInOrder rows.now }
 {

@@ -1,11 +1,11 @@
 //! Packuments version by version, in memory that doesn't grow with the versions.
 
 ghost use Rattle.std.specs.Prelude.{◌≡◌, ◌≢◌, ◌+◌, ◌≤◌, ◌<◌, ◌^◌, ◌⊎◌, true, false, [], Some, None, length, string_bytes, OnOk, OnErr, IfOk, IfErr, IsErr, IsSome, IsSomeAnd};
-ghost use Rattle.registry_names.specs.Ends.{Writes, WritesFront, full_count};
+ghost use Rattle.registry_names.specs.ByteStreams.{Writes, WritesPrefix, full_count};
 ghost use Rattle.registry_packument.specs.ObjectTexts.{Pair, member_text};
 ghost use Rattle.registry_packument.specs.Packuments.{version_pair, version_pairs, opening_text, pack_text, pack_len};
 ghost use Rattle.registry_packument.specs.Sources.{IsFaultFrom};
-ghost use Rattle.registry_packument.specs.Streams.{row_front, versions_front, pack_front, IsPackFault, failures_after, pack_fault_text};
+ghost use Rattle.registry_packument.specs.Streams.{row_prefix, versions_prefix, pack_prefix, IsPackFault, failures_after, pack_fault_text};
 ghost use Rattle.registry_packument.specs.Writing.{Adds, IsFaultOf};
 ghost use Rattle.registry_names.specs.declared.stop.Fault.TheVariants.{Memory};
 ghost use Rattle.registry_packument.specs.declared.stream.PackFault.TheVariants.{Write, Source};
@@ -85,7 +85,7 @@ fn counted(count: u64, text: &str) -> Result<u64, Fault>
     count.checked_add(text.len() as u64).ok_or(Fault::Database)
 }
 
-// How many bytes stand before the first version.
+// How many bytes come before the first version.
 fn opening_len(alloc: Global, head: &PackHead) -> Result<u64, Fault>
     ensures ok { IfOk result (λ len. len ≡ length (opening_text head.now)) }
     ensures err { IfErr result (λ fault. fault ≡ Fault.Memory) }
@@ -109,7 +109,7 @@ fn counted_row(alloc: Global, count: u64, later: bool, row: &VersionRow) -> Resu
 ///
 /// `Database` comes where a manifest is none (see [`version_text`](crate::version_text)), and where
 /// the number isn't below 2^64; else the source's own fault, or `Memory` where no memory is left.
-/// The source has given all its rows, or those up to the fault.
+/// Where it succeeds, the source has given all its rows.
 pub fn packument_len<S: VersionSource>(
     alloc: Global,
     head: &PackHead,
@@ -137,15 +137,15 @@ fn write_version<W: ByteOut>(
     writer: &mut W,
 ) -> Result<(), PackFault>
     ensures ok { OnOk result (Writes (W.bytes writer.old) (W.bytes writer.new)
-        (W.is_silent writer.new) (row_front later row.now)) }
+        (W.is_unknown writer.new) (row_prefix later row.now)) }
     ensures whole { OnOk result (IsSome (version_pair row.now)) }
-    ensures err { OnErr result (WritesFront (W.bytes writer.old) (W.bytes writer.new)
-        (W.is_silent writer.new) (row_front later row.now)) }
+    ensures err { OnErr result (WritesPrefix (W.bytes writer.old) (W.bytes writer.new)
+        (W.is_unknown writer.new) (row_prefix later row.now)) }
     ensures fault { IfErr result (IsPackFault None (version_pair row.now)) }
 
     ensures counted { W.failures writer.new ≡ failures_after result (W.failures writer.old) }
-    ensures told { result ≢ Err Write → W.is_silent writer.new ≡ W.is_silent writer.old }
-    ensures silent { W.is_silent writer.old ≡ true → W.is_silent writer.new ≡ true }
+    ensures told { result ≢ Err Write → W.is_unknown writer.new ≡ W.is_unknown writer.old }
+    ensures unknown { W.is_unknown writer.old ≡ true → W.is_unknown writer.new ≡ true }
 {
     write_whole(writer, version_member(alloc, later, row)?.as_bytes())?;
     Ok(())
@@ -158,17 +158,17 @@ fn write_versions<W: ByteOut, S: VersionSource>(
     writer: &mut W,
 ) -> Result<(), PackFault>
     ensures ok { OnOk result (Writes (W.bytes writer.old) (W.bytes writer.new)
-        (W.is_silent writer.new) (versions_front false (S.rows source.old))) }
+        (W.is_unknown writer.new) (versions_prefix false (S.rows source.old))) }
     ensures whole { OnOk result (IsSome (version_pairs (S.rows source.old))) }
-    ensures err { OnErr result (WritesFront (W.bytes writer.old) (W.bytes writer.new)
-        (W.is_silent writer.new) (versions_front false (S.rows source.old))) }
+    ensures err { OnErr result (WritesPrefix (W.bytes writer.old) (W.bytes writer.new)
+        (W.is_unknown writer.new) (versions_prefix false (S.rows source.old))) }
     ensures fault { IfErr result (IsPackFault (S.stopped source.new)
         (version_pairs (S.rows source.old))) }
     ensures taken { OnOk result (S.rows source.new ≡ []) }
 
     ensures counted { W.failures writer.new ≡ failures_after result (W.failures writer.old) }
-    ensures told { result ≢ Err Write → W.is_silent writer.new ≡ W.is_silent writer.old }
-    ensures silent { W.is_silent writer.old ≡ true → W.is_silent writer.new ≡ true }
+    ensures told { result ≢ Err Write → W.is_unknown writer.new ≡ W.is_unknown writer.old }
+    ensures unknown { W.is_unknown writer.old ≡ true → W.is_unknown writer.new ≡ true }
 {
     let mut later = false;
     'versions: while let Some(row) = source.next(alloc)? {
@@ -184,7 +184,7 @@ fn write_versions<W: ByteOut, S: VersionSource>(
 ///
 /// `Write` comes only where a write failed. `Source` has the source's own fault, or `Database`
 /// where a manifest is none (see [`version_text`](crate::version_text)), or `Memory` where no
-/// memory is left. After a fault a front of the packument was written, and not all of it; it ends
+/// memory is left. After a fault a prefix of the packument was written, and not all of it; it ends
 /// before the document that is missing, if one is. No more than one row is held at a time.
 pub fn write_packument<W: ByteOut, S: VersionSource>(
     alloc: Global,
@@ -193,18 +193,18 @@ pub fn write_packument<W: ByteOut, S: VersionSource>(
     writer: &mut W,
 ) -> Result<(), PackFault>
     ensures ok { OnOk result (IsSomeAnd (pack_text head.now (S.rows source.old)) (λ text.
-        Writes (W.bytes writer.old) (W.bytes writer.new) (W.is_silent writer.new) text)) }
-    ensures err { OnErr result (WritesFront (W.bytes writer.old) (W.bytes writer.new)
-        (W.is_silent writer.new) (pack_front head.now (S.rows source.old))) }
+        Writes (W.bytes writer.old) (W.bytes writer.new) (W.is_unknown writer.new) text)) }
+    ensures err { OnErr result (WritesPrefix (W.bytes writer.old) (W.bytes writer.new)
+        (W.is_unknown writer.new) (pack_prefix head.now (S.rows source.old))) }
     ensures fault { IfErr result (IsPackFault (S.stopped source.new)
         (pack_text head.now (S.rows source.old))) }
     ensures taken { OnOk result (S.rows source.new ≡ []) }
 
-    // Only a failed write is counted, and only it makes the end silent, for good.
+    // Only a failed write is counted, and only it makes the bytes unknown, for good.
     ensures counted { W.failures writer.new ≡ failures_after result (W.failures writer.old) }
     ensures full { W.failures writer.old ≡ full_count → IsErr result }
-    ensures told { result ≢ Err Write → W.is_silent writer.new ≡ W.is_silent writer.old }
-    ensures silent { W.is_silent writer.old ≡ true → W.is_silent writer.new ≡ true }
+    ensures told { result ≢ Err Write → W.is_unknown writer.new ≡ W.is_unknown writer.old }
+    ensures unknown { W.is_unknown writer.old ≡ true → W.is_unknown writer.new ≡ true }
 {
     write_whole(writer, opening(alloc, head)?.as_bytes())?;
     write_versions(alloc, source, writer)

@@ -1,4 +1,4 @@
--- Why a step of reading stops, and why what stands on it does.
+-- Why a step of reading stops, and why what rests on it does.
 use Rattle.std.proofs.Common.{◌≡◌, ◌⊎◌, inl, inr, refl, ap}
 use Rattle.registry_names.specs.declared.refusal.Refusal.TheVariants.{BadBody}
 use Rattle.registry_names.specs.declared.stop.Stop.{Stop}

@@ -1,4 +1,4 @@
--- What the parts of a body that were read stand for.
+-- What the parts of a body that were read mean.
 use Rattle.std.specs.Prelude.{option_map}
 use Rattle.serde_json.specs.View.{view}
 use Rattle.registry_publish.specs.Body.{BodyParts}

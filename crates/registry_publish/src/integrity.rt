@@ -13,7 +13,7 @@ use sha2::{Digest, Sha512};
 use std::alloc::Global;
 
 /// The integrity of these bytes, as [Subresource Integrity](https://www.w3.org/TR/SRI/) writes
-/// it: `sha512-`, and behind it the padded base64 (RFC 4648) of the bytes' SHA-512 (FIPS 180-4).
+/// it: `sha512-`, and after it the padded base64 (RFC 4648) of the bytes' SHA-512 (FIPS 180-4).
 ///
 /// `Memory` comes where no memory is left, and no other fault comes.
 pub fn integrity_of(alloc: Global, bytes: &[u8]) -> Result<Text, Fault>

@@ -10,7 +10,7 @@ use Rattle.std.specs.Prelude.{◌⊎◌, ◌↔◌, ◌&&◌, ◌||◌, codes, A
 use Rattle.semver.proofs.Segments.{and-left, and-right}
 use Rattle.registry_names.specs.Versions.{VersionParts}
 use Rattle.registry_ranges.specs.declared.relation.Relation.{Relation}
-use Rattle.registry_ranges.specs.declared.relation.Relation.TheVariants as is
+use Rattle.registry_ranges.specs.declared.relation.Relation.TheVariants as relation
 use Rattle.registry_ranges.specs.declared.simple.Operator.{Operator}
 use Rattle.registry_ranges.specs.declared.simple.Operator.TheVariants as op
 use Rattle.registry_ranges.specs.Comparators.{Comparator, comparator, lower, same, high_end, comparators_of_simple, comparators_of_part, comparators_of_range, comparators_of_others, comparators_of, holds, is_near, range_allows, set_allows, Allows}
@@ -199,11 +199,11 @@ module _ (v : VersionParts) (f : IsInForm v) (r : IsRelease v) where
   part-agrees nothing c e = bare-agrees any c e
   part-agrees (hyphen l h) c e = cc e
   part-agrees (simple op.Bare p) c e = bare-agrees p c e
-  part-agrees (simple op.Less p) c e = comparison-agrees op.Less is.Less p c (λ m n k pre. refl) e
-  part-agrees (simple op.Greater p) c e = comparison-agrees op.Greater is.Greater p c (λ m n k pre. refl) e
-  part-agrees (simple op.LessEq p) c e = comparison-agrees op.LessEq is.LessEq p c (λ m n k pre. refl) e
-  part-agrees (simple op.GreaterEq p) c e = comparison-agrees op.GreaterEq is.GreaterEq p c (λ m n k pre. refl) e
-  part-agrees (simple op.Equal p) c e = comparison-agrees op.Equal is.Equal p c (λ m n k pre. refl) e
+  part-agrees (simple op.Less p) c e = comparison-agrees op.Less relation.Less p c (λ m n k pre. refl) e
+  part-agrees (simple op.Greater p) c e = comparison-agrees op.Greater relation.Greater p c (λ m n k pre. refl) e
+  part-agrees (simple op.LessEq p) c e = comparison-agrees op.LessEq relation.LessEq p c (λ m n k pre. refl) e
+  part-agrees (simple op.GreaterEq p) c e = comparison-agrees op.GreaterEq relation.GreaterEq p c (λ m n k pre. refl) e
+  part-agrees (simple op.Equal p) c e = comparison-agrees op.Equal relation.Equal p c (λ m n k pre. refl) e
   part-agrees (simple op.Tilde p) c e = cc e
   part-agrees (simple op.TildeGreater p) c e = cc e
   part-agrees (simple op.Caret p) c e = cc e

@@ -10,7 +10,7 @@ use Rattle.std.specs.Ordering.{is_eq, is_lt, is_le, is_gt, is_ge, ordering_then}
 use Rattle.semver.proofs.Segments.{and-left, and-right}
 use Rattle.registry_names.specs.Versions.{VersionParts, precedence}
 use Rattle.registry_ranges.specs.declared.relation.Relation.{Relation}
-use Rattle.registry_ranges.specs.declared.relation.Relation.TheVariants as is
+use Rattle.registry_ranges.specs.declared.relation.Relation.TheVariants as relation
 use Rattle.registry_ranges.specs.declared.simple.Operator.{Operator}
 use Rattle.registry_ranges.specs.declared.simple.Operator.TheVariants.{Bare, Less as LessSign, Greater as GreaterSign, LessEq, GreaterEq, Equal as EqualSign, Tilde, TildeGreater, Caret}
 use Rattle.registry_ranges.specs.Comparators.{Comparator, comparator, below, lower, same, tilde, caret_end, caret, greater, less, at_most, high_end, comparators_of_simple, comparators_of_part, comparators_of, holds, is_near, range_allows, set_allows}
@@ -149,15 +149,15 @@ module _ (v : VersionParts) (f : IsInForm v) where
 
   -- three numbers give one comparator with their prerelease, and after it only far ones
   first-full : (o : Operator) (a b c : ℕ) (pre : List ℕ) → (r : Relation) × (rest : List Comparator) × AreFar v rest × (comparators_of_simple o (full a b c pre) ≡ comparator r a b c pre ∷ rest)
-  first-full Bare a b c pre = (is.Equal, [], tt, refl)
-  first-full EqualSign a b c pre = (is.Equal, [], tt, refl)
-  first-full Tilde a b c pre = (is.GreaterEq, below a (b + 1) 0 ∷ [], (far-below v a (b + 1) 0 f, tt), refl)
-  first-full TildeGreater a b c pre = (is.GreaterEq, below a (b + 1) 0 ∷ [], (far-below v a (b + 1) 0 f, tt), refl)
-  first-full Caret a b c pre = (is.GreaterEq, caret_end a b (below 0 0 (c + 1)) ∷ [], (far-caret_end a b (below 0 0 (c + 1)) (far-below v 0 0 (c + 1) f), tt), refl)
-  first-full LessSign a b c pre = (is.Less, [], tt, refl)
-  first-full GreaterSign a b c pre = (is.Greater, [], tt, refl)
-  first-full LessEq a b c pre = (is.LessEq, [], tt, refl)
-  first-full GreaterEq a b c pre = (is.GreaterEq, [], tt, refl)
+  first-full Bare a b c pre = (relation.Equal, [], tt, refl)
+  first-full EqualSign a b c pre = (relation.Equal, [], tt, refl)
+  first-full Tilde a b c pre = (relation.GreaterEq, below a (b + 1) 0 ∷ [], (far-below v a (b + 1) 0 f, tt), refl)
+  first-full TildeGreater a b c pre = (relation.GreaterEq, below a (b + 1) 0 ∷ [], (far-below v a (b + 1) 0 f, tt), refl)
+  first-full Caret a b c pre = (relation.GreaterEq, caret_end a b (below 0 0 (c + 1)) ∷ [], (far-caret_end a b (below 0 0 (c + 1)) (far-below v 0 0 (c + 1) f), tt), refl)
+  first-full LessSign a b c pre = (relation.Less, [], tt, refl)
+  first-full GreaterSign a b c pre = (relation.Greater, [], tt, refl)
+  first-full LessEq a b c pre = (relation.LessEq, [], tt, refl)
+  first-full GreaterEq a b c pre = (relation.GreaterEq, [], tt, refl)
 
   short-near : (o : Operator) (p : Prefix) {G : Type 0} → IsShort p → list_all (holds v) (comparators_of_simple o p) ≡ true → list_any (is_near v) (comparators_of_simple o p) ≡ true → G
   short-near o p s e n = let none = none-near v (comparators_of_simple o p) (far-simple o p s) e in cc
@@ -183,13 +183,13 @@ module _ (v : VersionParts) (f : IsInForm v) where
   low-named any n = cc n
   low-named (major a) n = cc n
   low-named (minor a b) n = cc n
-  low-named (full a b c pre) n = near-named v is.GreaterEq a b c pre n
+  low-named (full a b c pre) n = near-named v relation.GreaterEq a b c pre n
 
   pub low-near : (p : Prefix) → NamesPrerelease v p → is_near v (lower p) ≡ true
   low-near any n = absurd n
   low-near (major a) n = absurd n
   low-near (minor a b) n = absurd n
-  low-near (full a b c pre) n = named-near v is.GreaterEq a b c pre n
+  low-near (full a b c pre) n = named-near v relation.GreaterEq a b c pre n
 
   pub high-named : (p : Prefix) → list_all (holds v) (high_end p) ≡ true → list_any (is_near v) (high_end p) ≡ true → NamesPrerelease v p
   high-named any e n = cc n
@@ -208,7 +208,7 @@ module _ (v : VersionParts) (f : IsInForm v) where
   holds-below : (a b c : ℕ) → holds v (below a b c) ≡ is_lt (ordering_then (ordering_then (nat_cmp v.major a) (nat_cmp v.minor b)) (nat_cmp v.patch c))
   holds-below a b c = sym (numbers-decide v a b c f)
 
-  from-release : (r : IsRelease v) (a b c : ℕ) → holds v (comparator is.GreaterEq a b c []) ≡ is_ge (ordering_then (nat_cmp v.major a) (ordering_then (nat_cmp v.minor b) (nat_cmp v.patch c)))
+  from-release : (r : IsRelease v) (a b c : ℕ) → holds v (comparator relation.GreaterEq a b c []) ≡ is_ge (ordering_then (nat_cmp v.major a) (ordering_then (nat_cmp v.minor b) (nat_cmp v.patch c)))
   from-release r a b c = ap is_ge (release-cmp v a b c r)
 
   short-release : (p : Prefix) → IsShort p → IsOpenTo v p → IsRelease v

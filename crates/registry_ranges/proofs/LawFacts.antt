@@ -10,7 +10,7 @@ use Rattle.semver.specs.Order.{pre_cmp}
 use Rattle.semver.proofs.Segments.{and-left, and-right}
 use Rattle.registry_names.proofs.PrecedenceFacts.{precedence_exact, precedence_total}
 use Rattle.registry_names.specs.Versions.{VersionParts, precedence}
-use Rattle.registry_ranges.specs.declared.relation.Relation.TheVariants as is
+use Rattle.registry_ranges.specs.declared.relation.Relation.TheVariants as relation
 use Rattle.registry_ranges.specs.declared.simple.Operator.{Operator}
 use Rattle.registry_ranges.specs.declared.simple.Operator.TheVariants as op
 use Rattle.registry_ranges.specs.Comparators.{Comparator, lower, at_most, high_end, tilde, caret, comparators_of_simple, comparators_of_part, comparators_of_range, comparators_of_others, comparators_of, holds, is_near, range_allows, set_allows, Allows}
@@ -40,7 +40,7 @@ part-allows text p v value =
     let w = value-allows text (p ∷ [], []) v value in
     (λ a. sym (part-of p v) ∙ w.0 a, λ e. w.1 (part-of p v ∙ e))
 
--- ---- a partial version behind an operator
+-- ---- a partial version after an operator
 
 -- what holds and is open is allowed, and nothing else
 simple-allowed : (o : Operator) (p : Prefix) (v : VersionParts) → IsInForm v
@@ -210,7 +210,7 @@ own-allowed a b c pre = near-or-release pre refl
     near-or-release : (rest : List ℕ) → pre ≡ rest → range_allows it (comparators_of_simple op.Bare (full a b c pre)) ≡ true
     near-or-release [] e = release-allowed it (comparators_of_simple op.Bare (full a b c pre)) holds-own e
     near-or-release (x ∷ rest) e =
-        near-allowed it (comparators_of_simple op.Bare (full a b c pre)) holds-own (or_left _ _ (named-near it is.Equal a b c pre (λ n. cc (e, n), refl, refl, refl)))
+        near-allowed it (comparators_of_simple op.Bare (full a b c pre)) holds-own (or_left _ _ (named-near it relation.Equal a b c pre (λ n. cc (e, n), refl, refl, refl)))
 
 pub itself : AllowsItself
 itself text a b c pre v s =

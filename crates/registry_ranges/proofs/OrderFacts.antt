@@ -87,7 +87,7 @@ below-differ x y z a b c h = grind (arith, nat_tests)
 pub same-numbers : (x y z a b c : ℕ) → ((a == x) && (b == y) && (c == z)) ≡ true → (a ≡ x) × (b ≡ y) × (c ≡ z)
 same-numbers x y z a b c h = grind (arith, nat_tests)
 
--- numbers that aren't all zero are above zeros, whatever comes behind
+-- numbers that aren't all zero are above zeros, whatever follows
 pub above-zeros : (x y z : ℕ) (r : Ordering) → is_ge (ordering_then (nat_cmp x 0) (ordering_then (nat_cmp y 0) (ordering_then (nat_cmp z 0) Less))) ≡ true
     → is_ge (ordering_then (nat_cmp x 0) (ordering_then (nat_cmp y 0) (ordering_then (nat_cmp z 0) r))) ≡ true
 above-zeros x y z r h = grind (arith, nat_tests)

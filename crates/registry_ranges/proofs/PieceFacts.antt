@@ -1,4 +1,4 @@
--- Lists that stand one after another in one list, as the pieces between their ends.
+-- Lists that follow one another in one list, as the pieces between their ends.
 use Rattle.std.proofs.Common.{◌≡◌, ◌≤◌, ◌<◌, ◌+◌, ◌-◌, ℕ, List, [], ◌∷◌, ◌++◌, Bool, true, false, length, drop, refl, ap, arith}
 use Rattle.std.proofs.lemmas.List.{drop-append-le, drop-map, drop_more, length-drop, length-map, take-append-le, take-map, take_all}
 use Rattle.std.specs.List.{list_any}
@@ -61,7 +61,7 @@ piece-view f from to xs = rw (drop-map f from xs, take-map f (to - from) (drop f
 
 pub ruleset view_facts = (length-map, piece-view)
 
--- the next piece passes the test, or those behind it decide
+-- the next piece passes the test, or those after it decide
 pub some-next : {X : Type 0} (test : List X → Bool) (start i : ℕ) (ends : List ℕ) (xs : List X) → i < length ends → test (slice_range xs start (slice_index ends i)) ≡ true
     → list_any test (pieces start (drop i ends) xs) ≡ true
 some-next test start i ends xs h hit = rw (next-pieces start i ends xs h, hit) refl

@@ -25,7 +25,7 @@ pub ruleset tests_of_views = (list_all-map, list_any-map)
 
 -- ---- the comparators read so far, and those of what is left
 
--- all comparators, where these ranges and the front of another were kept before
+-- all comparators, where these ranges and the prefix of another were kept before
 abbrev pub kept : List (List Comparator) → List Comparator → Option Ranges → Option (List (List Comparator))
 kept done range None = None
 kept done range (Some r) = Some (done ++ (range ++ comparators_of_range r.0) ∷ comparators_of_others r.1)

@@ -21,7 +21,7 @@ use Rattle.registry_ranges.proofs.ReadingFacts.{reading-sound, reading-step, rea
 abbrev Ask : Type 0
 Ask = Option (List (List Condition))
 
--- the conditions of a range whose front was kept before, and those of the others
+-- the conditions of a range whose first ones were kept before, and those of the others
 abbrev kept_others : List (List Condition) → List Condition → Ask → Ask
 kept_others done range None = None
 kept_others done range (Some others) = Some (done ++ range ∷ others)
@@ -30,7 +30,7 @@ abbrev kept_range : List (List Condition) → List Condition → Option (List Co
 kept_range done range None others = None
 kept_range done range (Some rest) others = kept_others done (range ++ rest) others
 
--- all conditions, where these ranges and the front of another were kept before
+-- all conditions, where these ranges and the prefix of another were kept before
 abbrev pub kept : List (List Condition) → List Condition → Option Ranges → Option (List (List Condition))
 kept done range None = None
 kept done range (Some r) = kept_range done range (conditions_of_range r.0) (conditions_of_others r.1)

@@ -99,7 +99,7 @@ partial-start (two a b) rest v =
 partial-start (three a b c pre build) rest v =
     rw append_assoc (starts-append is_partial_start (print_component a) (46 ∷ ((print_component b ++ 46 ∷ (print_component c ++ (marked 45 pre ++ marked 43 build))) ++ rest)) (component-start a v.0))
 
--- a byte that stands behind an operator: a space, a v, or the first of a partial version
+-- a byte that follows an operator: a space, a v, or the first of a partial version
 abbrev pub is_behind : ℕ → Bool
 is_behind b = is_partial_start b || b == 118 || b == 32
 
@@ -149,7 +149,7 @@ strip-v false p rest i = no-v (print_partial p ++ rest) (partial-start p rest i)
 
 -- ---- operators
 
--- what stands behind an operator doesn't lengthen it
+-- what follows an operator doesn't lengthen it
 no-equals : (b : ℕ) → is_behind b ≡ true → (b == 61) ≡ false
 no-equals b h = grind (arith, nat_tests)
 
@@ -238,7 +238,7 @@ operator-sound (b ∷ xs) = elim (cases_Bool (b == 60)) [
 
 -- ---- simples
 
--- the spaces behind an operator
+-- the spaces after an operator
 gap-sound : (o : Operator) (xs : List ℕ) → (n : ℕ) × (o ≡ Bare → n ≡ 0) × (xs ≡ spaces n ++ after_operator (o, xs))
 gap-sound Bare xs = (0, λ _. refl, refl)
 gap-sound Less xs = let s = strip-split xs in (s.0, λ e. cc e, s.1)

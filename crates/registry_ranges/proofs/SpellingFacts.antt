@@ -106,7 +106,7 @@ spaces-append m n xs = rw (← replicate-append-replicate {A = ℕ} m n 32) (app
 spaced-more : (s : Spaced) (n : ℕ) → print_spaced s ++ spaces n ≡ print_spaced (record s { after = s.after + n })
 spaced-more s n = rw (← replicate-append-replicate {A = ℕ} s.after n 32) (simp append_assoc)
 
--- ranges whose last one has more spaces behind it
+-- ranges whose last one has more spaces after it
 with_spaces : Spaced → List Spaced → ℕ → Spaced × List Spaced
 with_spaces s [] n = (record s { after = s.after + n }, [])
 with_spaces s (x ∷ xs) n = (s, (with_spaces x xs n).0 ∷ (with_spaces x xs n).1)

@@ -8,7 +8,7 @@ use Rattle.registry_names.specs.Versions.{VersionParts, precedence}
 use Rattle.registry_ranges.specs.declared.simple.Operator.{Operator}
 use Rattle.registry_ranges.specs.declared.simple.Operator.TheVariants.{Bare, Less, Greater, LessEq, GreaterEq, Equal, Tilde, TildeGreater, Caret}
 use Rattle.registry_ranges.specs.declared.relation.Relation.{Relation}
-use Rattle.registry_ranges.specs.declared.relation.Relation.TheVariants as is
+use Rattle.registry_ranges.specs.declared.relation.Relation.TheVariants as relation
 use Rattle.registry_ranges.specs.Values.{Part, simple, hyphen, nothing, Ranges, IsRangeOf}
 use Rattle.registry_ranges.specs.Prefixes.{Prefix, any, major, minor, full}
 
@@ -22,23 +22,23 @@ comparator r a b c pre = record { relation = r; bound = record { major = a; mino
 
 -- `<a.b.c-0`: below each version with these numbers, prereleases included
 abbrev pub below : ℕ → ℕ → ℕ → Comparator
-below a b c = comparator is.Less a b c (48 ∷ [])
+below a b c = comparator relation.Less a b c (48 ∷ [])
 
 -- at least the prefix, with zeros for what is missing
 abbrev pub lower : Prefix → Comparator
-lower any = comparator is.GreaterEq 0 0 0 []
-lower (major a) = comparator is.GreaterEq a 0 0 []
-lower (minor a b) = comparator is.GreaterEq a b 0 []
-lower (full a b c pre) = comparator is.GreaterEq a b c pre
+lower any = comparator relation.GreaterEq 0 0 0 []
+lower (major a) = comparator relation.GreaterEq a 0 0 []
+lower (minor a b) = comparator relation.GreaterEq a b 0 []
+lower (full a b c pre) = comparator relation.GreaterEq a b c pre
 
--- a prefix alone or behind `=`
+-- a prefix alone or after `=`
 abbrev pub same : Prefix → List Comparator
 same any = lower any ∷ []
 same (major a) = lower (major a) ∷ below (a + 1) 0 0 ∷ []
 same (minor a b) = lower (minor a b) ∷ below a (b + 1) 0 ∷ []
-same (full a b c pre) = comparator is.Equal a b c pre ∷ []
+same (full a b c pre) = comparator relation.Equal a b c pre ∷ []
 
--- a prefix behind `~` or `~>`
+-- a prefix after `~` or `~>`
 abbrev pub tilde : Prefix → List Comparator
 tilde any = lower any ∷ []
 tilde (major a) = lower (major a) ∷ below (a + 1) 0 0 ∷ []
@@ -51,33 +51,33 @@ caret_end (suc a) b last = below (suc a + 1) 0 0
 caret_end zero (suc b) last = below 0 (suc b + 1) 0
 caret_end zero zero last = last
 
--- a prefix behind `^`
+-- a prefix after `^`
 abbrev pub caret : Prefix → List Comparator
 caret any = lower any ∷ []
 caret (major a) = lower (major a) ∷ below (a + 1) 0 0 ∷ []
 caret (minor a b) = lower (minor a b) ∷ caret_end a b (below 0 1 0) ∷ []
 caret (full a b c pre) = lower (full a b c pre) ∷ caret_end a b (below 0 0 (c + 1)) ∷ []
 
--- a prefix behind `>`
+-- a prefix after `>`
 abbrev pub greater : Prefix → Comparator
 greater any = below 0 0 0
-greater (major a) = comparator is.GreaterEq (a + 1) 0 0 []
-greater (minor a b) = comparator is.GreaterEq a (b + 1) 0 []
-greater (full a b c pre) = comparator is.Greater a b c pre
+greater (major a) = comparator relation.GreaterEq (a + 1) 0 0 []
+greater (minor a b) = comparator relation.GreaterEq a (b + 1) 0 []
+greater (full a b c pre) = comparator relation.Greater a b c pre
 
--- a prefix behind `<`
+-- a prefix after `<`
 abbrev pub less : Prefix → Comparator
 less any = below 0 0 0
 less (major a) = below a 0 0
 less (minor a b) = below a b 0
-less (full a b c pre) = comparator is.Less a b c pre
+less (full a b c pre) = comparator relation.Less a b c pre
 
--- a prefix behind `<=`
+-- a prefix after `<=`
 abbrev pub at_most : Prefix → Comparator
 at_most any = lower any
 at_most (major a) = below (a + 1) 0 0
 at_most (minor a b) = below a (b + 1) 0
-at_most (full a b c pre) = comparator is.LessEq a b c pre
+at_most (full a b c pre) = comparator relation.LessEq a b c pre
 
 -- the high end of a hyphen range, which a wildcard leaves open
 abbrev pub high_end : Prefix → List Comparator
@@ -114,11 +114,11 @@ abbrev pub comparators_of : Ranges → List (List Comparator)
 comparators_of r = comparators_of_range r.0 ∷ comparators_of_others r.1
 
 abbrev pub meets : Relation → Ordering → Bool
-meets is.Less o = is_lt o
-meets is.LessEq o = is_le o
-meets is.Greater o = is_gt o
-meets is.GreaterEq o = is_ge o
-meets is.Equal o = is_eq o
+meets relation.Less o = is_lt o
+meets relation.LessEq o = is_le o
+meets relation.Greater o = is_gt o
+meets relation.GreaterEq o = is_ge o
+meets relation.Equal o = is_eq o
 
 -- a comparator holds of a version by precedence
 abbrev pub holds : VersionParts → Comparator → Bool

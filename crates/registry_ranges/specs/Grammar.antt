@@ -40,7 +40,7 @@ IsPartial (one a) = IsComponent a
 IsPartial (two a b) = IsComponent a × IsComponent b
 IsPartial (three a b c pre build) = IsComponent a × IsComponent b × IsComponent c × (is_pre_release pre ≡ true) × (is_build build ≡ true)
 
--- one v may stand before a partial
+-- one v may come before a partial
 abbrev pub print_v : Bool → List ℕ
 print_v true = 118 ∷ []
 print_v false = []

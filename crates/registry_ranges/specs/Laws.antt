@@ -37,7 +37,7 @@ three_numbers v = v.major ∷ v.minor ∷ v.patch ∷ []
 
 -- ---- partial versions
 
--- the text is a partial version, behind one v or none, which says this up to its first wildcard
+-- the text is a partial version, after one v or none, which says this up to its first wildcard
 abbrev pub Says : List ℕ → Prefix → Type 0
 Says text prefix = (v : Bool) × (p : Partial) × IsPartial p × (text ≡ print_v v ++ print_partial p) × (prefix ≡ prefix_of p)
 
@@ -86,7 +86,7 @@ OfTwo law = (low : List ℕ) (l : Prefix) (high : List ℕ) (h : Prefix) (v : Ve
 abbrev pub AllowTheSame : List ℕ → List ℕ → Type 0
 AllowTheSame x y = (v : VersionParts) → IsInForm v → Allows x v ↔ Allows y v
 
--- ---- a partial version behind an operator
+-- ---- a partial version after an operator
 
 -- a version is allowed by how it compares
 abbrev pub AllowsCompared : List ℕ → (Ordering → Bool) → List ℕ → Prefix → VersionParts → Type 0

@@ -39,7 +39,7 @@ IsPrefix (major a) = a ≤ greatest_number
 IsPrefix (minor a b) = (a ≤ greatest_number) × (b ≤ greatest_number)
 IsPrefix (full a b c pre) = (a ≤ greatest_number) × (b ≤ greatest_number) × (c ≤ greatest_number) × (is_pre_release pre ≡ true)
 
--- the program's value, with the text behind the reference
+-- the program's value, with the text of the reference
 abbrev pub prefix_view : Code.Prefix.Prefix → Prefix
 prefix_view code.Any = any
 prefix_view (code.Major a) = major a

@@ -17,7 +17,7 @@ abbrev pub last_end : ℕ → List ℕ → ℕ
 last_end start [] = start
 last_end start (end ∷ ends) = last_end end ends
 
--- the places stand in order in a list of this length
+-- the places are in order in a list of this length
 abbrev pub AreEnds : ℕ → List ℕ → ℕ → Type 0
 AreEnds start [] len = start ≤ len
 AreEnds start (end ∷ ends) len = (start ≤ end) × AreEnds end ends len
@@ -35,7 +35,7 @@ ranges_in ends cs = pieces 0 ends (comparators_view cs)
 abbrev pub ranges_view : Vec ℕ Global → Vec Code.Comparator.Comparator Global → List (List Comparator)
 ranges_view ends cs = ranges_in ends.items cs.items
 
--- comparators are kept behind the others
+-- comparators are kept after the others
 abbrev pub Adds : Vec Code.Comparator.Comparator Global → Vec Code.Comparator.Comparator Global → List Comparator → Type 0
 Adds old new more = comparators_view new.items ≡ comparators_view old.items ++ more
 
@@ -43,6 +43,6 @@ Adds old new more = comparators_view new.items ≡ comparators_view old.items ++
 abbrev pub AddsPart : Vec Code.Comparator.Comparator Global → Vec Code.Comparator.Comparator Global → Part → Type 0
 AddsPart old new part = Adds old new (comparators_of_part part)
 
--- a range ends behind all comparators
+-- a range ends after all comparators
 abbrev pub AddsEnd : Vec ℕ Global → Vec ℕ Global → Vec Code.Comparator.Comparator Global → Type 0
 AddsEnd old new cs = new.items ≡ old.items ++ count_of cs.items ∷ []

@@ -54,7 +54,7 @@ component_at (b ∷ rest) = if is_wildcard b then Some (Wildcard b, rest) else a
 abbrev pub is_run_byte : ℕ → Bool
 is_run_byte b = is_identifier_byte b || b == 46
 
--- the bytes of parts with dots between them that stand at the front, and the text after them
+-- the bytes of parts with dots between them that are at the front, and the text after them
 abbrev pub run_of : List ℕ → List ℕ
 run_of xs = take_while is_run_byte xs
 
@@ -62,7 +62,7 @@ run_of xs = take_while is_run_byte xs
 abbrev pub chosen : (List ℕ → Bool) → List ℕ → List ℕ → Read (List ℕ)
 chosen test run rest = if nat_lt 0 (length run) && test run then Some (run, rest) else None
 
--- such a text behind its mark, or nothing
+-- such a text after its mark, or nothing
 unfoldable pub marked_at : ℕ → (List ℕ → Bool) → List ℕ → Read (List ℕ)
 marked_at mark test [] = Some ([], [])
 marked_at mark test (b ∷ rest) = if b == mark then chosen test (run_of rest) (drop (length (run_of rest)) rest) else Some ([], b ∷ rest)
@@ -91,7 +91,7 @@ after_first a (d ∷ rest) = if d == 46 then (component_at rest >>= λ b. after_
 unfoldable pub partial_at : List ℕ → Read Partial
 partial_at xs = component_at xs >>= λ a. after_first a.0 a.1
 
--- what a function read, with the text behind the reference
+-- what a function read, with the text of the reference
 abbrev pub read_view : {A : Type 0} → Option (A × Bor (List ℕ)) → Read A
 read_view None = None
 read_view (Some p) = Some (p.0, p.1.now)
@@ -100,7 +100,7 @@ abbrev pub pair_view : Option (Bor (List ℕ) × Bor (List ℕ)) → Read (List 
 pair_view None = None
 pair_view (Some p) = Some (p.0.now, p.1.now)
 
--- a partial, with the texts behind the references
+-- a partial, with the texts of the references
 abbrev pub partial_view : CodePartial.Partial.Partial → Partial
 partial_view (code.One a) = one a
 partial_view (code.Two a b) = two a b

@@ -49,7 +49,7 @@ meets_kept v c = meets_condition v (condition_view c)
 abbrev pub meets_all_kept : VersionParts → Vec Code.Condition.Condition Global → Bool
 meets_all_kept v range = list_all (meets_condition v) (conditions_view range)
 
--- a condition is kept behind the others
+-- a condition is kept after the others
 abbrev pub AddsCondition : Vec Code.Condition.Condition Global → Vec Code.Condition.Condition Global → Condition → Type 0
 AddsCondition old new more = conditions_view new ≡ conditions_view old ++ more ∷ []
 

@@ -6,7 +6,7 @@ use Rattle.registry_names.specs.Versions.{VersionParts}
 use Rattle.registry_ranges.specs.declared.simple.Operator.{Operator}
 use Rattle.registry_ranges.specs.declared.simple.Operator.TheVariants.{Bare, Less, Greater, LessEq, GreaterEq, Equal, Tilde, TildeGreater, Caret}
 use Rattle.registry_ranges.specs.declared.relation.Relation.{Relation}
-use Rattle.registry_ranges.specs.declared.relation.Relation.TheVariants as is
+use Rattle.registry_ranges.specs.declared.relation.Relation.TheVariants as relation
 use Rattle.registry_ranges.specs.Comparators.{Comparator, comparator, holds}
 use Rattle.registry_ranges.specs.Values.{Part, simple, hyphen, nothing, Ranges, IsRangeOf}
 use Rattle.registry_ranges.specs.Prefixes.{Prefix, any, major, minor, full}
@@ -25,9 +25,9 @@ abbrev pub agreement : Prefix → Condition
 agreement any = all
 agreement (major a) = has_major a
 agreement (minor a b) = has_minor a b
-agreement (full a b c pre) = compared (comparator is.Equal a b c pre)
+agreement (full a b c pre) = compared (comparator relation.Equal a b c pre)
 
--- a relation stands before three numbers alone
+-- a relation comes before three numbers alone
 abbrev pub comparison : Relation → Prefix → Option Condition
 comparison r (full a b c pre) = Some (compared (comparator r a b c pre))
 comparison r any = None
@@ -36,11 +36,11 @@ comparison r (minor a b) = None
 
 abbrev pub condition_of_simple : Operator → Prefix → Option Condition
 condition_of_simple Bare p = Some (agreement p)
-condition_of_simple Less p = comparison is.Less p
-condition_of_simple Greater p = comparison is.Greater p
-condition_of_simple LessEq p = comparison is.LessEq p
-condition_of_simple GreaterEq p = comparison is.GreaterEq p
-condition_of_simple Equal p = comparison is.Equal p
+condition_of_simple Less p = comparison relation.Less p
+condition_of_simple Greater p = comparison relation.Greater p
+condition_of_simple LessEq p = comparison relation.LessEq p
+condition_of_simple GreaterEq p = comparison relation.GreaterEq p
+condition_of_simple Equal p = comparison relation.Equal p
 condition_of_simple Tilde p = None
 condition_of_simple TildeGreater p = None
 condition_of_simple Caret p = None

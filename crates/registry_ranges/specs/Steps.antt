@@ -12,7 +12,7 @@ use Rattle.registry_ranges.specs.Values.{Part, simple, hyphen, nothing, Ranges}
 use Rattle.registry_ranges.specs.Prefixes.{Prefix, prefix_of, prefix_view}
 use Rattle.registry_ranges.specs.Reading.{◌>>=◌, partial_at, simple_at, strip_spaces, strip_v}
 
--- what is read next, where the reader stands after it, and the text after it
+-- what is read next, where the reader is after it, and the text after it
 pub data Step : Type 0 where
   part : Part → Place → List ℕ → Step
   or : List ℕ → Step
@@ -49,7 +49,7 @@ behind_spaces (a ∷ rest) = if a == 45 then high_at rest else None
 unfoldable pub hyphen_at : List ℕ → Option (List ℕ)
 hyphen_at xs = if length (strip_spaces xs) == length xs then None else behind_spaces (strip_spaces xs)
 
--- a part, where the reader stands after it, and the text after it
+-- a part, where the reader is after it, and the text after it
 abbrev pub PartRead : Type 0
 PartRead = Option (Part × Place × List ℕ)
 
@@ -76,11 +76,11 @@ abbrev pub step_of : PartRead → Step
 step_of None = wrong
 step_of (Some p) = part p.0 p.1 p.2
 
--- behind the spaces before a range
+-- after the spaces before a range
 unfoldable pub before_at : List ℕ → Step
 before_at xs = if is_range_end xs then part nothing Closed xs else step_of (first_at xs)
 
--- behind the spaces after a simple, of which there may be none
+-- after the spaces after a simple, of which there may be none
 unfoldable pub open_at : Bool → List ℕ → Step
 open_at no_space xs = if no_space || is_range_end xs then end_at xs else step_of (more_at xs)
 
@@ -122,7 +122,7 @@ steps place xs = 2 * length xs + place_steps place
 unfoldable pub reading : Place → List ℕ → Option Ranges
 reading place xs = reading_within (suc (steps place xs)) place xs
 
--- the program's values, with the texts behind the references
+-- the program's values, with the texts of the references
 
 abbrev pub part_view : Code.Part.Part → Part
 part_view (code_part.Simple s) = simple s.operator (prefix_view s.prefix)

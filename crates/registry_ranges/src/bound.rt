@@ -1,4 +1,4 @@
-//! The comparators that each form of a range stands for, with no memory taken.
+//! The comparators that each form of a range means, with no memory taken.
 
 ghost use Rattle.std.specs.Prelude.{◌≡◌, ◌<◌, ◌-◌, ◌^◌, []};
 ghost use Rattle.registry_ranges.specs.Bounds.{bound_view, bounds_view, second_view, IsPart};
@@ -71,7 +71,7 @@ fn lower(prefix: Prefix<'_>) -> Bound<'_>
     }
 }
 
-// A prefix alone or behind `=`.
+// A prefix alone or after `=`.
 fn same(prefix: Prefix<'_>) -> Bounds<'_>
     requires { IsPrefix (prefix_view prefix) }
     ensures { bounds_view result ≡ spec.same (prefix_view prefix.entry) }
@@ -95,7 +95,7 @@ fn same(prefix: Prefix<'_>) -> Bounds<'_>
     }
 }
 
-// A prefix behind `~` or `~>`.
+// A prefix after `~` or `~>`.
 fn tilde(prefix: Prefix<'_>) -> Bounds<'_>
     requires { IsPrefix (prefix_view prefix) }
     ensures { bounds_view result ≡ spec.tilde (prefix_view prefix.entry) }
@@ -124,7 +124,7 @@ fn caret_end<'a>(major: u64, minor: u64, last: Bound<'a>) -> Bound<'a>
     }
 }
 
-// A prefix behind `^`.
+// A prefix after `^`.
 fn caret(prefix: Prefix<'_>) -> Bounds<'_>
     requires { IsPrefix (prefix_view prefix) }
     ensures { bounds_view result ≡ spec.caret (prefix_view prefix.entry) }
@@ -140,7 +140,7 @@ fn caret(prefix: Prefix<'_>) -> Bounds<'_>
     (lower(prefix), end)
 }
 
-// A prefix behind `>`.
+// A prefix after `>`.
 fn greater(prefix: Prefix<'_>) -> Bound<'_>
     requires { IsPrefix (prefix_view prefix) }
     ensures { bound_view result ≡ spec.greater (prefix_view prefix.entry) }
@@ -161,7 +161,7 @@ fn greater(prefix: Prefix<'_>) -> Bound<'_>
     }
 }
 
-// A prefix behind `<`.
+// A prefix after `<`.
 fn less(prefix: Prefix<'_>) -> Bound<'_>
     ensures { bound_view result ≡ spec.less (prefix_view prefix.entry) }
 {
@@ -181,7 +181,7 @@ fn less(prefix: Prefix<'_>) -> Bound<'_>
     }
 }
 
-// A prefix behind `<=`.
+// A prefix after `<=`.
 fn at_most(prefix: Prefix<'_>) -> Bound<'_>
     requires { IsPrefix (prefix_view prefix) }
     ensures { bound_view result ≡ spec.at_most (prefix_view prefix.entry) }
@@ -213,7 +213,7 @@ fn high_end(prefix: Prefix<'_>) -> Option<Bound<'_>>
     }
 }
 
-// A prefix behind an operator.
+// A prefix after an operator.
 fn simple_bounds(operator: Operator, prefix: Prefix<'_>) -> Bounds<'_>
     requires { IsPrefix (prefix_view prefix) }
     ensures { bounds_view result ≡ spec.comparators_of_simple operator (prefix_view prefix.entry) }

@@ -61,7 +61,7 @@ fn agreement(prefix: Prefix<'_>) -> Question<'_>
     }
 }
 
-// A relation, which stands before three numbers alone.
+// A relation, which comes before three numbers alone.
 fn comparison(relation: Relation, prefix: Prefix<'_>) -> Option<Question<'_>>
     ensures { asked_view result ≡ spec.comparison relation (prefix_view prefix.entry) }
 {

@@ -8,7 +8,7 @@ ghost use Rattle.registry_ranges.specs.Laws.{IsOpenAbove, IsOpenBelow, IsBetween
 ghost use Rattle.registry_ranges.specs.Laws.{BarsAreUnions, EndsAreSpaced, OfSpaced, ReleasesMeet, PrereleasesMeet, PrereleasesAreNamed, SelectorsAgree};
 ghost use Rattle.registry_ranges.specs.Texts.{TextsAreRead};
 
-/// A partial version, alone or behind an operator, allows a version by how the version compares
+/// A partial version, alone or after an operator, allows a version by how the version compares
 /// with the numbers that it says; of prereleases those alone that it names.
 pub fn operators_compare()
     ensures alone { OfPartials (AllowsCompared [] is_eq) }

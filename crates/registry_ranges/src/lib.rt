@@ -2,9 +2,9 @@
 //! deprecation is about, after the grammar and the tables of
 //! [node-semver](https://github.com/npm/node-semver).
 //!
-//! A text is a range exactly where the grammar has it, and a range allows exactly the versions
-//! that the tables say. Reading is one scan, in time linear in the text, with no recursion; asking
-//! takes no memory.
+//! A text is a range exactly where the grammar has it, and a range allows exactly the versions that
+//! the tables say. A range is read in one scan, a selector and a tag in two, in time linear in the
+//! text, with no recursion; asking takes no memory.
 #![tactic(auto)]
 
 mod bound;

@@ -7,7 +7,7 @@ ghost use Rattle.registry_ranges.specs.Reading.{partial_read};
 use crate::component::{Component, component_at};
 use crate::qualifier::{build_at, pre_at};
 
-/// A partial version: one to three components, and behind three of them a prerelease and build
+/// A partial version: one to three components, and after three of them a prerelease and build
 /// metadata, each the empty text where it is left out.
 #[derive(Clone, Copy)]
 pub enum Partial<'a> {

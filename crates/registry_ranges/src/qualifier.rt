@@ -1,4 +1,4 @@
-//! Prereleases and build metadata at the front of a text, behind their marks.
+//! Prereleases and build metadata at the front of a text, after their marks.
 
 ghost use Rattle.std.specs.Prelude.{◌≡◌, ◌<◌, length, take_while};
 ghost use Rattle.std.specs.List.{list_all};
@@ -73,7 +73,7 @@ fn is_build(run: &[u8]) -> bool
     all_build_parts(run)
 }
 
-// How many bytes of parts with dots between them stand at the front.
+// How many bytes of parts with dots between them are at the front.
 fn run_len(bytes: &[u8]) -> usize
     ensures { result ≡ length (take_while spec.is_run_byte bytes.now) }
 {
@@ -83,7 +83,7 @@ fn run_len(bytes: &[u8]) -> usize
         .count()
 }
 
-/// The prerelease behind a `-` at the front, or the empty text where no `-` stands there, and
+/// The prerelease after a `-` at the front, or the empty text where there is no `-`, and
 /// what follows it.
 #[tactic(auto, unfolding(crate::specs::Reading::marked_at))]
 pub fn pre_at(bytes: &[u8]) -> Option<(&[u8], &[u8])>
@@ -103,7 +103,7 @@ pub fn pre_at(bytes: &[u8]) -> Option<(&[u8], &[u8])>
     Some((run, rest))
 }
 
-/// The build metadata behind a `+` at the front, or the empty text where no `+` stands there, and
+/// The build metadata after a `+` at the front, or the empty text where there is no `+`, and
 /// what follows it.
 #[tactic(auto, unfolding(crate::specs::Reading::marked_at))]
 pub fn build_at(bytes: &[u8]) -> Option<(&[u8], &[u8])>

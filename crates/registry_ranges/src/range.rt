@@ -79,7 +79,7 @@ fn push_part(alloc: Global, comparators: &mut Vec<Comparator>, part: Part<'_>) -
     push_all(alloc, comparators, bounds)
 }
 
-// A range ends behind all comparators that are kept.
+// A range ends after all comparators that are kept.
 #[tactic(auto, using(crate::proofs::PieceFacts::view_facts))]
 fn push_end(ends: &mut Vec<usize>, comparators: &Vec<Comparator>) -> Result<(), Fault>
     ensures ok { OnOk result (AddsEnd ends.old ends.new comparators.now) }

@@ -9,12 +9,12 @@ use crate::partial::partial_at;
 use crate::prefix::Prefix;
 use crate::simple::{Operator, Simple, simple_at, skip_spaces, skip_v};
 
-/// Where a reader stands in a range.
+/// Where a reader is in a range.
 #[derive(Clone, Copy, PartialEq, Eq)]
 pub enum Place {
     /// Before it.
     Before,
-    /// Behind a simple, where more may follow.
+    /// After a simple, where more may follow.
     Open,
     /// Where nothing more may follow.
     Closed,
@@ -34,11 +34,11 @@ pub enum Part<'a> {
 /// What is read next.
 #[derive(Clone, Copy)]
 pub enum Step<'a> {
-    /// A part of the range, and where the reader stands behind it.
+    /// A part of the range, and where the reader is after it.
     Part(Part<'a>, Reader<'a>),
     /// `||`, and the text of the next range and all that follows it.
     Or(&'a [u8]),
-    /// The end of the text behind a whole range.
+    /// The end of the text after a whole range.
     End,
     /// What no range set goes on with.
     Wrong,
@@ -70,7 +70,7 @@ fn end_at(bytes: &[u8]) -> Step<'_>
     }
 }
 
-// What follows a hyphen with spaces on either side, where one stands at the front.
+// What follows a hyphen with spaces on either side, if there is one at the front.
 #[tactic(auto, unfolding(crate::specs::Steps::hyphen_at))]
 fn hyphen_at(bytes: &[u8]) -> Option<&[u8]>
     ensures { hyphen_view result ≡ spec.hyphen_at bytes.now }
@@ -85,7 +85,7 @@ fn hyphen_at(bytes: &[u8]) -> Option<&[u8]>
     }
 }
 
-// The high end of a hyphen range, behind its hyphen.
+// The high end of a hyphen range, after its hyphen.
 fn hyphen_to<'a>(low: Prefix<'a>, bytes: &'a [u8]) -> Step<'a>
     ensures { step_view result ≡ spec.step_of (spec.hyphen_to (prefix_view low.entry) bytes.now) }
 {
@@ -138,7 +138,7 @@ fn more_at(bytes: &[u8]) -> Step<'_>
     )
 }
 
-// What stands behind the spaces before a range.
+// What follows the spaces before a range.
 #[tactic(auto, unfolding(crate::specs::Steps::before_at))]
 fn before_at(bytes: &[u8]) -> Step<'_>
     ensures { step_view result ≡ spec.before_at bytes.now }
@@ -155,7 +155,7 @@ fn before_at(bytes: &[u8]) -> Step<'_>
     first_at(bytes)
 }
 
-// What stands behind the spaces after a simple, of which there may be none.
+// What follows the spaces after a simple, of which there may be none.
 #[tactic(auto, unfolding(crate::specs::Steps::open_at))]
 fn open_at(no_space: bool, bytes: &[u8]) -> Step<'_>
     ensures { step_view result ≡ spec.open_at no_space bytes.now }

@@ -5,7 +5,7 @@ ghost use Rattle.registry_ranges.specs.Comparators.{meets};
 
 use std::cmp::Ordering;
 
-/// How a version stands to a bound, by precedence.
+/// How a version compares with a bound, by precedence.
 #[derive(Clone, Copy, Debug, PartialEq, Eq)]
 pub enum Relation {
     /// `<`

@@ -1,4 +1,4 @@
-//! Simples: a partial version behind an operator, or alone.
+//! Simples: a partial version after an operator, or alone.
 
 ghost use Rattle.std.specs.Prelude.{◌≡◌, length, take_while};
 ghost use Rattle.registry_ranges.specs.Reading as spec;
@@ -7,7 +7,7 @@ ghost use Rattle.registry_ranges.specs.Reading.{operator_view, simple_read};
 use crate::partial::partial_at;
 use crate::prefix::Prefix;
 
-/// What stands before a partial version.
+/// What comes before a partial version.
 #[derive(Clone, Copy, PartialEq, Eq)]
 pub enum Operator {
     /// Nothing.
@@ -30,7 +30,7 @@ pub enum Operator {
     Caret,
 }
 
-/// What a partial version says, and what stands before it.
+/// What a partial version says, and what comes before it.
 #[derive(Clone, Copy)]
 pub struct Simple<'a> {
     pub operator: Operator,
@@ -69,7 +69,7 @@ pub fn skip_spaces(bytes: &[u8]) -> &[u8]
     rest
 }
 
-/// What follows a `v` at the front, where one stands there.
+/// What follows a `v` at the front, where there is one.
 #[tactic(auto, unfolding(crate::specs::Reading::strip_v))]
 pub fn skip_v(bytes: &[u8]) -> &[u8]
     ensures { result.now ≡ spec.strip_v bytes.now }

@@ -68,7 +68,7 @@ escape-of_slash b c = and-false (b == 37 && is_digit c 16)
 escape-of_percent : (b c : ℕ) → is_escape b c 37 ≡ false
 escape-of_percent b c = and-false (b == 37 && is_digit c 16)
 
--- an escape of a slash, whatever stands before it, is decoded as the slash is
+-- an escape of a slash, whatever comes before it, is decoded as the slash is
 decode-behind : (s t : Text) (f : ℕ) → percent_decode (37 ∷ 50 ∷ f ∷ t) ≡ percent_decode (47 ∷ t) → percent_decode (s ++ 37 ∷ 50 ∷ f ∷ t) ≡ percent_decode (s ++ 47 ∷ t)
 decode-behind [] t f e = e
 decode-behind (b ∷ []) t f e = decode-one_escape b 50 f t ∙ ap (λ (l : Text). b ∷ l) e ∙ sym (decode-one_slash b t)
@@ -134,7 +134,7 @@ before-alike : (v w : Text) (o : Option Values) → percent_decode v ≡ percent
 before-alike v w None e = tt
 before-alike v w (Some vs) e = (e, refl, refl)
 
--- two first segments, the first of which is a scope with its part behind it
+-- two first segments, the first of which is a scope with its part after it
 record Alike (s t x : Text) : Type 0 where
   pub scope : is_scope s ≡ true
   pub no_dash : is_dash s ≡ false

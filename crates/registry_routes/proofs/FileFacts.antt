@@ -1,6 +1,6 @@
 -- The name of a file shows one version.
 use Rattle.std.proofs.Common.{◌≡◌, ◌≢◌, ℕ, ◌++◌, [], ◌∷◌, length, Some, None, Option, Bool, true, false, refl, sym, ap, ◌∙◌, inl, inr, subst, arith, append_assoc, length-append}
-use Rattle.std.specs.Prelude.{◌&&◌, codes, MatchOption}
+use Rattle.std.specs.Prelude.{◌&&◌, codes, MatchOption, IsUtf8}
 use Rattle.std.specs.Borrow.{Bor}
 use Rattle.registry_names.proofs.NameFacts.{scope_of-name}
 use Rattle.registry_names.specs.Names.{IsNameOf, is_scoped_part, is_scoped_start}
@@ -45,7 +45,7 @@ shows-version None file front rest rest2 is hyphen none = λ v e.
     none v (cc both)
 shows-version (Some v) file front rest rest2 is hyphen some = is ∙ ap (λ (r : Text). front ++ r) (hyphen ∙ ap (λ (r : Text). 45 ∷ r) some)
 
--- ---- fronts
+-- ---- prefixes
 
 first-of_four : (a b c d : Bool) → (((a && b) && c) && d) ≡ true → a ≡ true
 first-of_four true b c d h = refl
@@ -104,7 +104,7 @@ no-text : (name file part : Text) (s : Option Text) → IsNameOf name s part →
 no-text name file part s h one two f v (inl a) e = one v (rw a at e)
 no-text name file part s h one two f v (inr b) e = two v (rw (one-part name b.0 s f part b.1 h) at e)
 
--- neither of the two fronts stands in the file's name, or the part does
+-- neither of the two prefixes is in the file's name, or the part is
 pub parts-tried : (o : Option (Bor Text)) (name file part : Text) (s : Option Text) → IsNameOf name s part → ((v : Text) → file ≢ file_text name v)
     → MatchOption o ((v : Text) → file ≢ file_text part v) (λ v. file ≡ file_text part v.now)
     → MatchOption o ((f v : Text) → IsNameOrPart name f → file ≢ file_text f v) (λ v. IsVersionText name file v.now)
@@ -117,7 +117,7 @@ no-version name file text a none v p =
     none (v, rw same p.is_version)
 
 -- the text for the version is none
-pub stops-file : (name file text written : Text) (x : Refusal) → file ≡ text_of written → IsVersionText name file text → IsMemoryOr BadVersion (¬ (IsVersion text)) (Refused x)
+pub stops-file : (name file text written : Text) (x : Refusal) → file ≡ text_of written → IsUtf8 file → IsVersionText name file text → IsMemoryOr BadVersion (¬ (IsVersion text)) (Refused x)
     → StopsValue written NotFound (IsNoFileOf name) (Refused NotFound)
-stops-file name file text written x is shown (inl m) = cc m
-stops-file name file text written x is shown (inr r) = inr (refl, subst (IsNoFileOf name) is (no-version name file text shown r.1))
+stops-file name file text written x is utf8 shown (inl m) = cc m
+stops-file name file text written x is utf8 shown (inr r) = inr (refl, subst IsUtf8 is utf8, subst (IsNoFileOf name) is (no-version name file text shown r.1))

@@ -74,7 +74,7 @@ some-kept : (p : Piece) (v : Text) (o : Option Values) → IsSome (option_map (w
 some-kept p v None e = e
 some-kept p v (Some vs) e = refl
 
--- segments that are made of a piece and others: what stands for the piece, and the others
+-- segments that are made of a piece and others: what takes the place of the piece, and the others
 record Made (p : Piece) (ps : List Piece) (ss : List Text) : Type 0 where
   pub v : Text
   pub rest : List Text

@@ -1,4 +1,5 @@
 pub mod AuthorizationFacts
+pub mod DeprecationFacts
 pub mod EscapeFacts
 pub mod FileFacts
 pub mod LawFacts

@@ -1,4 +1,4 @@
--- Two segments at the front of a path.
+-- Two segments at the prefix of a path.
 use Rattle.std.proofs.Common.{◌≡◌, ℕ, ◌+◌, ◌-◌, ◌==◌, ◌++◌, List, [], ◌∷◌, length, Some, None, Option, refl, sym, ap, ◌∙◌, inl, inr, arith, append_assoc, length-append}
 use Rattle.std.specs.Prelude.{drop, take, take_while, option_map, option_and_then}
 use Rattle.std.proofs.Math.Seq.{take-append_seam, drop-append_seam, take-length}
@@ -35,7 +35,7 @@ segment-whole (b ∷ text) s rest e = elim (cases_Bool (b == 47)) [
       cc none
 ]
 
--- the two segments with the slash between them are the front of what stands behind the first slash
+-- the two segments with the slash between them are the prefix of what follows the first slash
 pub pair-front : (b : ℕ) (text s t rest rest2 : List ℕ) (n : ℕ) → segment_at (b ∷ text) ≡ Some (s, rest) → segment_at rest ≡ Some (t, rest2)
     → n ≡ length s + 1 + length t → (take n text ≡ joined s t) × (drop n text ≡ rest2)
 pair-front b text s t rest rest2 n e f len =
@@ -49,7 +49,7 @@ pair-front b text s t rest rest2 n e f len =
 tail-whole : (b : ℕ) (text : List ℕ) → take (length (b ∷ text) - 1) text ≡ text
 tail-whole b text = let same : length (b ∷ text) - 1 ≡ length text = omega arith in rw same (take-length text)
 
--- what stands behind the first byte of a path
+-- what follows the first byte of a path
 abbrev pub tail : List ℕ → List ℕ
 tail path = take (length path - 1) (drop 1 path)
 

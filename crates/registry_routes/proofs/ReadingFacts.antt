@@ -18,7 +18,7 @@ chained : {A B C : Type 0} (f : A → Option B) (g : B → Option C) (o : Option
 chained f g None = refl
 chained f g (Some a) = refl
 
--- what stands for a piece, with the segments of what follows it
+-- what takes the place of a piece, with the segments of what follows it
 abbrev with_rest : Text × Text → Option (Text × List Text)
 with_rest v = option_map (λ (ss : List Text). (v.0, ss)) (segments_of v.1)
 
@@ -40,7 +40,7 @@ value-read : (s rest : Text) (o : Option (List Text)) → segments_of rest ≡ o
 value-read s rest None e = rw e refl
 value-read s rest (Some ss) e = rw e refl
 
--- two segments, behind which nothing or some are
+-- two segments, which nothing or some follow
 both-files : (s t rest : Text) (o : Option (List Text)) → segments_of rest ≡ o
     → option_and_then (piece_of file) (option_map (λ (ss : List Text). s ∷ ss) (option_map (λ (ss : List Text). t ∷ ss) o)) ≡ with_rest (joined s t, rest)
 both-files s t rest None e = rw e refl

@@ -7,7 +7,7 @@ use Rattle.std.proofs.lemmas.List.Sums.{take_while-cons}
 use Rattle.registry_routes.specs.Paths.{is_slash, has_bytes, segments_of}
 use Rattle.registry_routes.specs.Readings.{is_within, segment_len, some_segment, segment_at}
 
--- the parts behind a first one, of which this follows
+-- the parts after a first one, of which this follows
 abbrev pub parts_after : List ℕ → List (List ℕ)
 parts_after [] = []
 parts_after (b ∷ rest) = slice_split is_slash rest

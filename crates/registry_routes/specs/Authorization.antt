@@ -8,7 +8,7 @@ abbrev pub behind_spaces : Text → Text
 behind_spaces [] = []
 behind_spaces (b ∷ bs) = if b == 32 then behind_spaces bs else b ∷ bs
 
--- the value is the scheme `Bearer`, its letters in either case, a space, and behind all spaces
+-- the value is the scheme `Bearer`, its letters in either case, a space, and after all spaces
 -- there the token, which is UTF-8
 pub record IsBearer (value token : Text) : Type 0 where
   pub scheme : Text
@@ -22,7 +22,7 @@ pub record IsBearer (value token : Text) : Type 0 where
 abbrev pub IsNoBearer : Text → Type 0
 IsNoBearer value = (token : Text) → ¬ (IsBearer value token)
 
--- what stands behind the space at the front, for a private clause
+-- what follows the space at the front, for a private clause
 abbrev pub after_space : Text → Option Text
 after_space [] = None
 after_space (b ∷ bs) = if b == 32 then Some bs else None

@@ -84,4 +84,4 @@ IsNoDeprecation body = (selector message : Text) → ¬ (IsDeprecationBody body 
 
 abbrev pub StopsDeprecation : Text → Stop → Type 0
 StopsDeprecation body stop = IsMemoryOr BadBody (IsNoDeprecation body) stop
-    ⊎ ((stop ≡ Refused BadSelector) × ((selector message : Text) → IsDeprecationBody body selector message → ¬ (IsSelector selector)))
+    ⊎ ((stop ≡ Refused BadSelector) × (selector message : Text) × IsDeprecationBody body selector message × ¬ (IsSelector selector))

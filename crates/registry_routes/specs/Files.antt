@@ -4,11 +4,11 @@ use Rattle.registry_names.specs.Names.{IsNameOf}
 use Rattle.registry_names.specs.Texts.{Text}
 use Rattle.registry_names.specs.Versions.{VersionParts, IsVersionOf}
 
--- the file's name, but for the version in it, is a text, a hyphen and `.tgz`
+-- the file's name, except the version in it, is a text, a hyphen and `.tgz`
 abbrev pub file_text : Text → Text → Text
 file_text front version = front ++ 45 ∷ (version ++ codes ".tgz")
 
--- a text is the package's name, or the part of it behind the scope
+-- a text is the package's name, or the part of it after the scope
 abbrev pub IsNameOrPart : Text → Text → Type 0
 IsNameOrPart name front = (front ≡ name) ⊎ ((s : Option Text) × IsNameOf name s front)
 
@@ -25,6 +25,6 @@ pub record IsFileOf (name : Text) (version : VersionParts) (file : Text) : Type 
 abbrev pub IsNoFileOf : Text → Text → Type 0
 IsNoFileOf name file = (v : VersionParts) → ¬ (IsFileOf name v file)
 
--- the text stands for the version in the file's name
+-- the text is the version in the file's name
 abbrev pub IsVersionText : Text → Text → Text → Type 0
 IsVersionText name file version = (front : Text) × IsNameOrPart name front × (file ≡ file_text front version)

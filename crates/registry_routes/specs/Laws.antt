@@ -46,7 +46,7 @@ DashIsNoName = (m : Method) (target first : Text) (others : List Text) (r : Rout
 abbrev pub IsEscapedSlash : Text → Type 0
 IsEscapedSlash e = (e ≡ codes "%2f") ⊎ (e ≡ codes "%2F")
 
--- the first values stand for the same text, and the others are the same
+-- the first values mean the same text, and the others are the same
 abbrev pub NamesAlike : Values → Values → Type 0
 NamesAlike v w = (percent_decode v.first ≡ percent_decode w.first) × (v.second ≡ w.second) × (v.third ≡ w.third)
 

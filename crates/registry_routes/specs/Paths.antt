@@ -14,19 +14,19 @@ abbrev pub has_bytes : Text → Bool
 has_bytes [] = false
 has_bytes (b ∷ bs) = true
 
--- what stands behind the slash at the front, where nothing stands before it and no segment is empty
+-- what follows the slash at the front, where nothing comes before it and no segment is empty
 abbrev pub behind_slash : List Text → Option (List Text)
 behind_slash [] = None
 behind_slash ([] ∷ segments) = if list_all has_bytes segments then Some segments else None
 behind_slash ((b ∷ bs) ∷ segments) = None
 
--- the segments of a path: each stands behind a slash, and none is empty. None for another text
+-- the segments of a path: each follows a slash, and none is empty. None for another text
 unfoldable pub segments_of : Text → Option (List Text)
 segments_of path = behind_slash (slice_split is_slash path)
 
 -- ---- scopes
 
--- the bytes begin with `%2f` or `%2F`, which stands for a slash
+-- the bytes begin with `%2f` or `%2F`, which means a slash
 abbrev pub is_escaped_slash : Text → Bool
 is_escaped_slash (a ∷ b ∷ c ∷ rest) = a == 37 && b == 50 && (c == 102 || c == 70)
 is_escaped_slash _ = false
@@ -35,7 +35,7 @@ abbrev pub has_escaped_slash : Text → Bool
 has_escaped_slash [] = false
 has_escaped_slash (b ∷ bs) = is_escaped_slash (b ∷ bs) || has_escaped_slash bs
 
--- the bytes begin with `@`, or with `%40`, which stands for it
+-- the bytes begin with `@`, or with `%40`, which means it
 abbrev pub begins_with_at : Text → Bool
 begins_with_at [] = false
 begins_with_at (a ∷ []) = a == 64

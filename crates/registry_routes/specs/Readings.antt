@@ -55,7 +55,7 @@ abbrev pub some_segment : Text → Text → Option (Text × Text)
 some_segment [] rest = None
 some_segment (b ∷ bs) rest = Some (b ∷ bs, rest)
 
--- the segment behind the slash at the front, and what follows it
+-- the segment after the slash at the front, and what follows it
 abbrev pub segment_at : Text → Option (Text × Text)
 segment_at [] = None
 segment_at (b ∷ text) = if is_slash b then some_segment (take_while is_within text) (drop (segment_len text) text) else None

@@ -28,22 +28,22 @@ pub record Route : Type 0 where
 
 -- ---- a piece
 
--- two segments as they stand in a path, with the slash between them
+-- two segments as they are in a path, with the slash between them
 abbrev pub joined : Text → Text → Text
 joined s t = s ++ 47 ∷ t
 
--- the name that begins with this segment, and the segments behind it: a scope takes the next one
+-- the name that begins with this segment, and the segments after it: a scope takes the next one
 -- with it, where there is one
 abbrev pub name_from : Text → List Text → Text × List Text
 name_from s [] = (s, [])
 name_from s (t ∷ ss) = if is_scope s then (joined s t, ss) else (s, t ∷ ss)
 
--- the file that begins with this segment, and the segments behind it
+-- the file that begins with this segment, and the segments after it
 abbrev pub file_from : Text → List Text → Text × List Text
 file_from s [] = (s, [])
 file_from s (t ∷ ss) = (joined s t, ss)
 
--- what stands for the piece at the front of the segments, and the segments behind it
+-- what takes the place of the piece at the prefix of the segments, and the segments after it
 abbrev pub piece_of : Piece → List Text → Option (Text × List Text)
 piece_of p [] = None
 piece_of (literal t) (s ∷ ss) = if bytes_eq s t then Some (s, ss) else None
@@ -53,7 +53,7 @@ piece_of file (s ∷ ss) = Some (file_from s ss)
 
 -- ---- a row
 
--- the values, with what stands for a piece in front, where it is none of the route's own
+-- the values, with what takes the place of a piece in front, where it is none of the route's own
 abbrev pub with_piece : Piece → Text → Values → Values
 with_piece (literal t) v vs = vs
 with_piece name v vs = before v vs

@@ -18,10 +18,10 @@ text_of written = percent_decode written
 abbrev pub StopsDecoding : Text → Stop → Type 0
 StopsDecoding written stop = (stop ≡ Faulted Memory) ⊎ ((stop ≡ Refused BadName) × ¬ (IsUtf8 (text_of written)))
 
--- the same, or the text is refused so, of which this holds
+-- the same, or the text is UTF-8 and refused so, and this holds of it
 abbrev pub StopsValue : Text → Refusal → (Text → Type 0) → Stop → Type 0
-StopsValue written refusal P stop = StopsDecoding written stop ⊎ ((stop ≡ Refused refusal) × P (text_of written))
+StopsValue written refusal P stop = StopsDecoding written stop ⊎ ((stop ≡ Refused refusal) × IsUtf8 (text_of written) × P (text_of written))
 
 -- a tag may be refused in two ways
 abbrev pub StopsTag : Text → Stop → Type 0
-StopsTag written stop = StopsValue written RangeTag IsRangeText stop ⊎ ((stop ≡ Refused BadTag) × IsNeither (text_of written))
+StopsTag written stop = StopsValue written RangeTag IsRangeText stop ⊎ ((stop ≡ Refused BadTag) × IsUtf8 (text_of written) × IsNeither (text_of written))

@@ -13,7 +13,7 @@ fn is_scheme(text: &[u8]) -> bool
     text.eq_ignore_ascii_case(b"bearer")
 }
 
-// What stands behind the space at the front.
+// What follows the space at the front.
 fn after_space(text: &[u8]) -> Option<&[u8]>
     ensures { option_map (λ rest. rest.now) result ≡ spec.after_space text.now }
 {
@@ -23,7 +23,7 @@ fn after_space(text: &[u8]) -> Option<&[u8]>
     }
 }
 
-// What stands behind the spaces at the front.
+// What follows the spaces at the front.
 fn behind_spaces(mut text: &[u8]) -> &[u8]
     ensures { result.now ≡ spec.behind_spaces text.entry.now }
 {
@@ -39,7 +39,7 @@ fn behind_spaces(mut text: &[u8]) -> &[u8]
 /// `Bearer`, its letters in either case, one space or more, and the token. None exactly for another
 /// value. It takes no memory.
 ///
-/// What is behind the spaces is any text in UTF-8, which may be no token in form.
+/// What follows the spaces is any text in UTF-8, which may be no token in form.
 pub fn bearer_token(value: &[u8]) -> Option<&str>
     ensures { MatchOption result (IsNoBearer value.now) (λ token. IsBearer value.now token.now) }
 {

@@ -12,7 +12,7 @@ use std::alloc::Global;
 
 const NOT_FOUND: Stop = Stop::Refused(Refusal::NotFound);
 
-// What stands behind this front of a text.
+// What follows this prefix of a text.
 fn behind<'a>(text: &'a str, front: &str) -> Option<&'a str>
     ensures { MatchOption result ((rest : Text) → text.entry.now ≢ front.now ++ rest)
         (λ rest. text.entry.now ≡ front.now ++ rest.now) }
@@ -20,7 +20,7 @@ fn behind<'a>(text: &'a str, front: &str) -> Option<&'a str>
     text.strip_prefix(front)
 }
 
-// What stands before this end of a text.
+// What comes before this suffix of a text.
 fn ahead<'a>(text: &'a str, end: &str) -> Option<&'a str>
     ensures { MatchOption result ((rest : Text) → text.entry.now ≢ rest ++ end.now)
         (λ rest. text.entry.now ≡ rest.now ++ end.now) }
@@ -28,7 +28,7 @@ fn ahead<'a>(text: &'a str, end: &str) -> Option<&'a str>
     text.strip_suffix(end)
 }
 
-// What stands for the version in a file's name of this front.
+// What takes the place of the version in a file's name with this prefix.
 fn version_behind<'a>(front: &str, file: &'a str) -> Option<&'a str>
     ensures { MatchOption result ((v : Text) → file.entry.now ≢ file_text front.now v)
         (λ v. file.entry.now ≡ file_text front.now v.now) }
@@ -38,8 +38,8 @@ fn version_behind<'a>(front: &str, file: &'a str) -> Option<&'a str>
     ahead(rest, ".tgz")
 }
 
-// What stands for the version in the name of a package's file. A name with a scope begins with an
-// at sign, and no part does.
+// What takes the place of the version in the name of a package's file. A name with a scope begins
+// with an at sign, and no part does.
 fn version_text<'a>(name: &Name, file: &'a str) -> Option<&'a str>
     ensures { MatchOption result
         ((f v : Text) → IsNameOrPart name.now f → file.entry.now ≢ file_text f v)
@@ -51,7 +51,7 @@ fn version_text<'a>(name: &Name, file: &'a str) -> Option<&'a str>
     }
 }
 
-/// The version whose archive has this file name: the package's name or its part behind the scope, a
+/// The version whose archive has this file name: the package's name or its part after the scope, a
 /// hyphen, the version and `.tgz`. `written` is one segment of a path, or two with the slash
 /// between them.
 ///

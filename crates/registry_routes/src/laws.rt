@@ -1,4 +1,4 @@
-//! Laws of the routes, in the words of who reads an API page. Each stands as the contract of a
+//! Laws of the routes, in the words of who reads an API page. Each is the contract of a
 //! function that does nothing.
 
 ghost use Rattle.registry_routes.specs.Laws.{DashIsNoName, EscapesAreSlashes, OneRowTakes, QueriesChangeNothing};

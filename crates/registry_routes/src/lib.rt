@@ -1,7 +1,7 @@
 //! What a request's method, target, body and authorization mean: which route they take, and the
 //! values in them.
 //!
-//! The routes are one table, which stands in `specs/Table` as an API page has it. A route is found
+//! The routes are one table, which is in `specs/Table` as an API page has it. A route is found
 //! exactly where the table has one, and takes no memory. The values of a path are decoded after
 //! routing. What builds a request of these is above: it reads the values of the path from left to
 //! right, then the body, and then the authorization.

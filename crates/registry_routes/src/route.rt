@@ -70,7 +70,7 @@ fn file(path: &[u8]) -> Option<(&[u8], &[u8])>
     }
 }
 
-// What stands for the piece at the front of a path, and what follows it.
+// What takes the place of the piece at the prefix of a path, and what follows it.
 fn piece_at<'a>(piece: Piece, path: &'a [u8]) -> Option<(&'a [u8], &'a [u8])>
     ensures { split_view result ≡ spec.piece_at (piece_view piece) path.entry.now }
 {

@@ -41,7 +41,7 @@ use Rattle.registry_rows.proofs.TypeFacts.{bytes_test, bytes_same, number_test, 
 use Rattle.registry_rows.proofs.TextKeyFacts.{HasTexts, texts_key, row_parts, has_texts, tests_key, keys_agree, orders_keys, and_true, then_equal}
 use Rattle.registry_rows.proofs.OneRowFacts.{table_rowids, row_types, one_by_primary}
 
--- the rows of the table are told apart, found and put in order by their keys
+-- the rows of the table are distinguished, found and put in order by their keys
 pub record IsKeyed (k : KeyKind) (schema : Schema) (table : Table) : Type 1 where
   pub key : IsKey k.cmp k.same
   pub rowids : (s : State) → IsReady schema s → HasRowids (s.now.trees table.tree)
@@ -191,7 +191,7 @@ module _ (table : List Row) (ids : HasRowids table) where
   numbers_sorted params a b ha hb =
       then_equal _ ∙ subst₂ (λ v w. value_cmp v w ≡ int_cmp (numbers.of_row a) (numbers.of_row b)) (sym (number_of a ha)) (sym (number_of b hb)) (value_cmp-Int (numbers.of_row a) (numbers.of_row b))
 
--- the columns behind the id, as the row has them behind its first
+-- the columns after the id, as the row has them after its first
 id_equal : (columns cs : List Column) (id : List ℕ) (r : Row) (at : ℕ) (q : Value) → columns ≡ id_column id ∷ cs → AreOf cs (drop 2 r) → takes columns at q ≡ true
     → is_true (binary (Compare Eq Binary) (column (drop 1 r) at) q) ≡ equals q (column (drop 1 r) at)
 id_equal columns cs id r at q shape h t = go at (rw shape at t)

@@ -1,5 +1,5 @@
--- Keys of texts in SQL: WHERE tests them, ORDER BY compares them, and a unique index tells them
--- apart.
+-- Keys of texts in SQL: WHERE tests them, ORDER BY compares them, and a unique index distinguishes
+-- them.
 use Rattle.std.proofs.Common.{◌≡◌, ℕ, zero, suc, List, [], ◌∷◌, ◌++◌, map, Bool, true, false, ◌&&◌, refl, sym, ap, ap₂, subst₂, ◌∙◌, true≢false, Ordering, Less, Equal, Greater, drop, IsTrue}
 use Rattle.std.specs.Ordering.{ordering_then}
 use Rattle.std.proofs.lemmas.Bool.{and_parts, and_from}

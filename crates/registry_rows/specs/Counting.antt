@@ -45,7 +45,7 @@ pub record IsCounted {C : Type 0} (schema : Schema) (contents : Trees → C) (ta
 abbrev pub next_in : {X : Type 0} → (Row → X) → Table → ℕ → Trees → ℤ
 next_in value table counters db = next_number (count_in table.name (db counters)) (map_by numbers value (db table.tree))
 
--- the values stand under the next number, which is counted, and answered as the last rowid
+-- the values are under the next number, which is counted, and answered as the last rowid
 pub record TakesNext {C X : Type 0} (schema : Schema) (contents : Trees → C) (table : Table) (value : Row → X) (change : C → NumberMap X → C) (counters : ℕ) (count : C → ℤ → C) (values : Row) (old new : State) : Type 0 where
   pub leaves : Leaves schema contents
       (count (change (contents old.now.trees) (put (map_by numbers value (old.now.trees table.tree)) (next_in value table counters old.now.trees) (value (Null ∷ values)))) (next_in value table counters old.now.trees)) new

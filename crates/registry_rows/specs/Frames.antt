@@ -25,8 +25,8 @@ abbrev pub Wrote : List ℕ → Row → State → State → Type 0
 Wrote sql params old new = (n : ℕ) × Executed sql params old new (Ok n)
 
 -- what the transaction had is committed, and it has ended
-abbrev pub Commits : State → State → Type 0
-Commits old new = IsTrue old.in_transaction × Shows old new old.now old.now false × KeepsCounts old new × (new.marks ≡ [])
+abbrev pub IsCommitted : State → State → Type 0
+IsCommitted old new = IsTrue old.in_transaction × Shows old new old.now old.now false × KeepsCounts old new × (new.marks ≡ [])
 
 -- it could not be committed, which this fault answers
 abbrev pub CommitFails : State → State → Fault → Type 0

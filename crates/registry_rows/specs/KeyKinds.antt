@@ -15,7 +15,7 @@ use Rattle.registry_rows.specs.TextKeys.{Texts, texts_cmp, texts_are, texts_row}
 use Rattle.registry_rows.specs.Rows.{key_of}
 use Rattle.registry_rows.specs.Statements.{by_texts, in_order}
 
--- what the keys are, how they stand in order and are told apart, where a row has its own, and what
+-- what the keys are, how they are ordered and are distinguished, where a row has its own, and what
 -- SQL says of them
 pub record KeyKind : Type 1 where
   pub Key : Type 0

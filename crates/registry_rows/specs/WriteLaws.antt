@@ -1,4 +1,4 @@
--- What the rows of a table tell, and laws of INSERT, DELETE and UPDATE by key.
+-- What the rows of a table say, and laws of INSERT, DELETE and UPDATE by key.
 use Rattle.std.specs.Prelude.{◌≡◌, ◌↔◌, ℕ, true, List, [], ◌∷◌, ◌++◌, drop, Option, None, Some, if◌then◌else◌}
 use Rattle.sqlite.specs.declared.types.Value.TheVariants.{Null}
 use Rattle.sqlite_value.specs.Order.{Row}

@@ -5,7 +5,7 @@ ghost use Rattle.sqlite.specs.Held.{state};
 ghost use Rattle.sqlite.specs.State.{HasCleanDisk, Survives};
 ghost use Rattle.sqlite.specs.Values.{bound};
 ghost use Rattle.registry_rows.specs.Faults.{as_fault};
-ghost use Rattle.registry_rows.specs.Frames.{CommitFails, Commits, Stays, Wrote};
+ghost use Rattle.registry_rows.specs.Frames.{CommitFails, IsCommitted, Stays, Wrote};
 ghost use Rattle.registry_rows.specs.Ready.{Queried};
 
 use registry_names::Fault;
@@ -60,7 +60,7 @@ pub fn read<S: Alter>(
 pub fn commit<S: Alter>(tx: Transaction<'_, S>) -> Result<(), Fault>
     ensures ended { tx.exit.0.now.in_transaction ≡ false }
     ensures ok { HasCleanDisk (state S.Store tx.exit.0.now) → OnOk result
-        (Commits (state S.Store tx.entry.conn.now) (state S.Store tx.exit.0.now)) }
+        (IsCommitted (state S.Store tx.entry.conn.now) (state S.Store tx.exit.0.now)) }
     ensures err { HasCleanDisk (state S.Store tx.exit.0.now) → IfErr result
         (CommitFails (state S.Store tx.entry.conn.now) (state S.Store tx.exit.0.now)) }
     ensures survives { Survives (state S.Store tx.entry.conn.now) (state S.Store tx.exit.0.now)

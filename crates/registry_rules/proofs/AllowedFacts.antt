@@ -99,7 +99,7 @@ pub user_there : (there taken : Bool) → refuse (not there) NotFound (unless_ne
 user_there true b h = refl
 user_there false b h = cc
 
--- what isn't refused passes the test, and the tests behind it
+-- what isn't refused passes the test, and the tests after it
 pub passed : (b : Bool) (r : Refusal) (rest : Option Refusal) → refuse b r rest ≡ None → (b ≡ false) × (rest ≡ None)
 passed true r rest h = cc
 passed false r rest h = (refl, h)
@@ -108,7 +108,7 @@ pub not_false : (b : Bool) → not b ≡ false → b ≡ true
 not_false true h = refl
 not_false false h = cc
 
--- for whom the policy has a rule where something is found, for him it is there
+-- for whom the policy has a rule where something is found, for them it is there
 pub found_there : (who : Caller) (there : Bool) (rest : Verdict) → unless_allowed (for_known who (where_found there rest)) ≡ None → there ≡ true
 found_there who true rest h = refl
 found_there Operator false rest h = cc
@@ -164,7 +164,7 @@ pub status_allowed : (p : Text) (status : Status) → (is_restricted (Some statu
 status_allowed p Restricted may unscoped e = true≢false (sym (ap is_none unscoped) ∙ may)
 status_allowed p Public may unscoped e = cc
 
--- what neither of two reasons turns away isn't turned away by one
+-- what neither of two reasons refuses isn't refused by one
 pub first_passed : (a b : Option Refusal) → option_or a b ≡ None → a ≡ None
 first_passed None b h = refl
 first_passed (Some r) b h = cc
@@ -173,7 +173,7 @@ pub second_passed : (a b : Option Refusal) → option_or a b ≡ None → b ≡ 
 second_passed None b h = h
 second_passed (Some r) b h = cc
 
--- an action that nothing turns away is let by the policy, and nothing stands in its way
+-- an action that nothing refuses is allowed by the policy, and nothing conflicts with it
 pub policy_passed : (S : State) (now : ℕ) (who : Caller) (what : Action) → refusal_by S now who what ≡ None → unless_allowed (permission S.access who what) ≡ None
 policy_passed S now who what = first_passed (unless_allowed (permission S.access who what)) (state_refusal S now what)
 

@@ -23,12 +23,12 @@ module _ (S : State) (now : ℕ) (what : Action) where
   changes_as_known None changes may e = cc
   changes_as_known (Some who) changes may e = e who refl
 
--- a request that may be asked isn't turned away
+-- a request that may be asked isn't refused
 pub not_refused : (r : Option Refusal) → is_ok (permitted r) ≡ true → r ≡ None
 not_refused None h = refl
 not_refused (Some r) h = absurd (true≢false (sym h))
 
--- a request is turned away by the reason that there is
+-- a request is refused by the reason that there is
 pub refused_both : {X : Type 0} (o : Option Refusal) (given : Refusal) → permitted o ≡ Err given → (r : Refusal)
     → (o ≡ Some r → ◌≡◌ {A = Result X Stop} (Err (Refused given)) (Err (Refused r))) × (◌≡◌ {A = Result X Stop} (Err (Refused given)) (Err (Refused r)) → o ≡ Some r)
 refused_both None given e r = (λ h. cc, λ h. cc)

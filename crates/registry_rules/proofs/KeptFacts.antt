@@ -125,7 +125,7 @@ module _ (S : State) (who : Caller) (p v t : Text) (release : Release) (status :
   latest_stays true q h = h
   latest_stays false q h = still_there pair_key S.tags (p, latest) v (q, latest) h
 
-  -- `latest` stands then: it stood, or it is the tag of the publish, or it is put
+  -- `latest` exists then: it existed, or it is the tag of the publish, or it is put
   latest_here : (stood named : Bool) → stands S p latest ≡ stood → is t latest ≡ named → IsSome (at (put (latest_put S.tags p v (stood || named)) (p, t) v) (p, latest))
   latest_here true named e f = still_there pair_key S.tags (p, t) v (p, latest) e
   latest_here false true e f = subst (λ u. IsSome (at (put S.tags (p, t) v) (p, u))) (same_true text_key t latest f) (put_there pair_key S.tags (p, t) v)
@@ -163,7 +163,7 @@ publish_kept S who f now form moment may sound kept =
 
 -- ---- a tag
 
--- while the same versions live, a tag may stand as before
+-- while the same versions live, a tag may be as before
 still_tag : (S T : State) → T.live ≡ S.live → (p t v : Text) → IsTagOf S p t v → IsTagOf T p t v
 still_tag S T e p t v tag = record { name = tag.name; tag = tag.tag; live = ap (λ live. is_some (at live (p, v))) e ∙ tag.live }
 
@@ -201,7 +201,7 @@ tag_removed_kept S p t other kept = record {
   sound = kept.sound;
 }
 
--- ---- who is there, and what he may do
+-- ---- who is there, and what they may do
 
 -- where no package loses its status
 access_kept : (S : State) (A : Access) → ((p : Text) → IsSome (at S.access.statuses p) → IsSome (at A.statuses p)) → IsSpelled A → IsSound A → IsKept S → IsKept (record S { access = A })

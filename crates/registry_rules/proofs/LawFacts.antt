@@ -27,7 +27,7 @@ use Rattle.registry_publish.specs.Form.{FormParts}
 use Rattle.registry_rules.specs.Actions.{version_of, ends_team}
 use Rattle.registry_rules.specs.Changes.{all_made, release_of}
 use Rattle.registry_rules.specs.Effects.{deprecation, first_status, joining, membership, maintaining, new_status}
-use Rattle.registry_rules.specs.Laws.{SpendsVersion, FreesTags, WithdrawalsSpend, WithdrawalsFreeTags, Deprecates, DeprecationsMark, GivesFirstRight, IsGrantChange, IsMaintainerChange, SetsAccess, GrantsAreGiven, GrantsAreRevoked, StatusesAreSet, MaintainersAreAdded, MaintainersAreRemoved, PublishesGiveFirstRights, SetsRole, OrganisationsAreCreated, RolesAreSet, MembersAreRemoved, UsersAreAdded, TokensAreAdded, AddsVersion, SetsTags, SetsStatus, IsTagChange, IsApart, DestroysTeam, IsTeamMemberChange, TeamsAreCreated, NewTeamsAreEmpty, TeamsAreDestroyed, TeamMembersAreAdded, TeamMembersAreRemoved, PublishesAddVersions, PublishesSetTags, PublishesSetStatuses, SetTagsName, RemovedTagsAreGone, QueriesChangeNothing, PackagesStandApart}
+use Rattle.registry_rules.specs.Laws.{SpendsVersion, FreesTags, WithdrawalsSpend, WithdrawalsFreeTags, Deprecates, DeprecationsMark, GivesFirstRight, IsGrantChange, IsOwnerChange, SetsAccess, GrantsAreGiven, GrantsAreRevoked, StatusesAreSet, MaintainersAreAdded, MaintainersAreRemoved, PublishesGiveFirstRights, SetsRole, OrganisationsAreCreated, RolesAreSet, MembersAreRemoved, UsersAreAdded, TokensAreAdded, AddsVersion, SetsTags, SetsStatus, IsTagChange, IsApart, DestroysTeam, IsTeamMemberChange, TeamsAreCreated, NewTeamsAreEmpty, TeamsAreDestroyed, TeamMembersAreAdded, TeamMembersAreRemoved, PublishesAddVersions, PublishesSetTags, PublishesSetStatuses, SetTagsName, RemovedTagsAreGone, QueriesChangeNothing, PackagesStandApart}
 use Rattle.registry_rules.specs.Operations.{without_team, with_grant, with_status, with_tag, without_tag}
 use Rattle.registry_rules.specs.State.{State, Release, developers, is_in_team, has_grant, is_published, has_maintainer, stands}
 use Rattle.registry_rules.specs.declared.request.Action.{Action}
@@ -200,7 +200,7 @@ access_set S p status = record {
 pub statuses_are_set : StatusesAreSet
 statuses_are_set S now who p status = subst (λ T. SetsAccess S T p status) (sym (status_put S p status (is_published S p) (λ there. there))) (access_set S p status)
 
-maintainer_added : (S : State) (p u : Text) (already : Bool) → has_maintainer S p u ≡ already → let T = all_made S (maintaining p u already) in IsSome (at T.access.maintainers (p, u)) × IsMaintainerChange S T p u
+maintainer_added : (S : State) (p u : Text) (already : Bool) → has_maintainer S p u ≡ already → let T = all_made S (maintaining p u already) in IsSome (at T.access.maintainers (p, u)) × IsOwnerChange S T p u
 maintainer_added S p u true e = (e, record { maintainers = λ k differ. refl; rest = refl })
 maintainer_added S p u false e = (
   put_there pair_key S.access.maintainers (p, u) tt,

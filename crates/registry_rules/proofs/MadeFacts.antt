@@ -1,4 +1,4 @@
--- What a change makes that is told truly whether its entry stands: it puts the entry.
+-- What a change makes that is right about whether its entry is there: it puts the entry.
 use Rattle.std.proofs.Common.{◌≡◌, Bool, true, false, [], ◌∷◌, ◌++◌, ◌||◌, is_some, refl, sym, true≢false, if◌then◌else◌}
 use Rattle.std.specs.Prelude.{IsSome}
 use Rattle.registry_names.specs.Maps.{PairMap, at, put}

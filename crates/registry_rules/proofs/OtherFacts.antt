@@ -35,7 +35,7 @@ module _ {X : Type 0} (test : Text × X → Bool) (w : Text) (x : X) (passed : t
   found_or e es true s h more = let same : e.1 ≡ x = cc in ap (λ b. b || list_any test es) (ap test (λ i. (same_true text_key e.0 w s i, same i)) ∙ passed)
   found_or e es false s h more = ap (λ b. test e || b) (more h) ∙ or_true (test e)
 
-  -- what stands first at a key, and passes, is found
+  -- what comes first at a key, and passes, is found
   found_passes : (es : List (Text × X)) → first_at is es w ≡ Some x → list_any test es ≡ true
   found_passes [] h = cc
   found_passes (e ∷ es) h = found_or e es (is e.0 w) refl h (found_passes es)

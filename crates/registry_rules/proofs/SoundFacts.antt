@@ -1,4 +1,4 @@
--- A change of who is there, and of what he may do, leaves what stands referring to what is there.
+-- A change of who is there, and of what they may do, keeps references intact.
 -- Nothing is asked of how names are spelled.
 use Rattle.std.proofs.Common.{◌≡◌, ◌≢◌, Bool, true, false, cond, not, ◌&&◌, Option, Some, None, is_some, refl, sym, ap, ◌∙◌, subst, true≢false}
 use Rattle.std.proofs.lemmas.Bool.{and_right}
@@ -65,7 +65,7 @@ token_added A digest u there sound = record {
 abbrev pub HasOwner : PairMap Role → Text → Type 0
 HasOwner roles o = (w : Text) × (at roles (o, w) ≡ Some Owner)
 
--- where one member alone changes his role, and the organisation keeps an owner
+-- where one member alone changes their role, and the organisation keeps an owner
 owners_left : (A : Access) (roles : PairMap Role) (o u : Text) → ((k : Pair) → pair_is (o, u) k ≡ false → at roles k ≡ at A.roles k) → (at A.roles (o, u) ≡ Some Owner → HasOwner roles o) → IsSound A
     → (p : Text) → IsSome (at A.organisations p) → HasOwner roles p
 owners_left A roles o u same here sound p h = by_test (sound.owners p h).0 (sound.owners p h).1 (pair_is (o, u) (p, (sound.owners p h).0)) refl
@@ -317,9 +317,9 @@ status_put A p status published may sound = record {
     still : (q : Text) → IsSome (at A.statuses q) → IsSome (at (put A.statuses p status) q)
     still q h = still_there text_key A.statuses p status q h
 
-pub maintainer_put : (A : Access) (p u : Text) → IsSome (at A.statuses p) → IsSome (at A.users u) → IsSound A
+pub owner_put : (A : Access) (p u : Text) → IsSome (at A.statuses p) → IsSome (at A.users u) → IsSound A
     → IsSound (record A { maintainers = put A.maintainers (p, u) tt })
-maintainer_put A p u published there sound = record {
+owner_put A p u published there sound = record {
   tokens = sound.tokens;
   roles = sound.roles;
   owners = sound.owners;
@@ -336,9 +336,9 @@ abbrev pub HasMaintainer : PairMap (Unit {0}) → Text → Type 0
 HasMaintainer m p = (u : Text) × IsSome (at m (p, u))
 
 -- a maintainer goes, where another is left
-pub maintainer_dropped : (A : Access) (p u : Text) → HasMaintainer (erase A.maintainers (p, u)) p → IsSound A
+pub owner_dropped : (A : Access) (p u : Text) → HasMaintainer (erase A.maintainers (p, u)) p → IsSound A
     → IsSound (record A { maintainers = erase A.maintainers (p, u) })
-maintainer_dropped A p u left sound = record {
+owner_dropped A p u left sound = record {
   tokens = sound.tokens;
   roles = sound.roles;
   owners = sound.owners;

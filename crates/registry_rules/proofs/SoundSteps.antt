@@ -1,4 +1,4 @@
--- What stands refers to what is there, from nothing on, through each action that nothing refuses.
+-- References hold, from nothing on, through each action that nothing refuses.
 -- Nothing is asked of how names are spelled.
 use Rattle.std.proofs.Common.{◌≡◌, ℕ, Bool, true, false, not, ◌&&◌, is_none, is_some, Option, Some, None, refl, sym, ap, ◌∙◌, subst, true≢false}
 use Rattle.std.proofs.lemmas.Bool.{and_parts, and_right}
@@ -129,14 +129,14 @@ status_sound S who p status policy may sound =
 
 owning_sound : (S : State) (p u : Text) (already : Bool) → IsSome (at S.access.statuses p) → IsSome (at S.access.users u) → IsSound S.access → IsSound (all_made S (maintaining p u already)).access
 owning_sound S p u true was there sound = sound
-owning_sound S p u false was there sound = change.maintainer_put S.access p u was there sound
+owning_sound S p u false was there sound = change.owner_put S.access p u was there sound
 
 disowned_sound : (S : State) (p u : Text) → refuse (not (has_maintainer S p u)) NotFound (refuse (not (has_other_maintainer S p u)) LastOwner None) ≡ None → IsSound S.access → IsSound (without_maintainer S p u).access
 disowned_sound S p u may sound =
     let owner = passed (not (has_maintainer S p u)) NotFound _ may in
     let more = passed (not (has_other_maintainer S p u)) LastOwner None owner.1 in
     let other = other_maintainer S p u (not_false _ more.0) in
-    change.maintainer_dropped S.access p u (other.0, ap is_some (at-erase_other pair_key S.access.maintainers (p, u) (p, other.0) (and_right (is p p) (is u other.0) other.1)) ∙ other.2) sound
+    change.owner_dropped S.access p u (other.0, ap is_some (at-erase_other pair_key S.access.maintainers (p, u) (p, other.0) (and_right (is p p) (is u other.0) other.1)) ∙ other.2) sound
 
 -- ---- a publish
 

@@ -18,7 +18,7 @@ use Rattle.registry_rules.proofs.OtherFacts.{any_of, of_any}
 
 -- ---- the tags
 
--- a tag that stands names the version
+-- a tag that exists names the version
 abbrev moved_to : PairMap Text → Text → Text → Text → PairMap Text
 moved_to m p t w = cond (is_some (at m (p, t))) (put m (p, t) w) m
 

@@ -23,7 +23,7 @@ use Rattle.registry_rules.specs.State.{State, Release, Withdrawal, is_live}
 use Rattle.registry_rules.specs.Withdrawals.{live_versions, others, tags_of}
 use Rattle.registry_rules.proofs.WithdrawnFacts.{among_passing, among_where_names, at-freed, at-marked, freed_latest, freed_names, freed_tags, freed_value, marked_all, marked_value, names_where_among, withdrawal_of, withdrawn_is}
 
--- what is erased stood before, and what didn't stand doesn't then
+-- what is erased was there before, and what didn't exist doesn't then
 stood_before : {X : Type 0} (b : Bool) (old : Option X) → IsSome (cond b None old) → IsSome old
 stood_before true old h = absurd (true≢false (sym h))
 stood_before false old h = h

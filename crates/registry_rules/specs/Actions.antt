@@ -35,18 +35,18 @@ abbrev pub version_of : FormParts → Text
 version_of f = text_of_version f.version
 
 -- whether it is a command about this package
-abbrev pub names : Action → Text → Bool
-names (Grant o t q grant) p = is q p
-names (Revoke o t q) p = is q p
-names (SetAccess q status) p = is q p
-names (OwnerAdd q u) p = is q p
-names (OwnerRemove q u) p = is q p
-names (Publish f) p = is f.name p
-names (TagSet q t v) p = is q p
-names (TagRemove q t) p = is q p
-names (Withdraw q v) p = is q p
-names (Deprecate q selector message) p = is q p
-names _ p = false
+abbrev pub names_package : Action → Text → Bool
+names_package (Grant o t q grant) p = is q p
+names_package (Revoke o t q) p = is q p
+names_package (SetAccess q status) p = is q p
+names_package (OwnerAdd q u) p = is q p
+names_package (OwnerRemove q u) p = is q p
+names_package (Publish f) p = is f.name p
+names_package (TagSet q t v) p = is q p
+names_package (TagRemove q t) p = is q p
+names_package (Withdraw q v) p = is q p
+names_package (Deprecate q selector message) p = is q p
+names_package _ p = false
 
 -- whether it is the command that ends this team
 abbrev pub ends_team : Action → Text → Text → Bool

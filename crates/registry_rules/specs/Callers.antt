@@ -15,7 +15,7 @@ caller_of S (User u) = if has_user S u then Some (caller.User u) else None
 caller_of S (Token digest) = option_map caller.User (at S.access.tokens digest)
 caller_of S Anonymous = Some caller.Anonymous
 
--- he is nobody that the registry would have to hold, or it holds him
+-- they are nobody that the registry would have to hold, or it holds them
 abbrev pub is_known : State → Caller → Bool
 is_known S caller.Operator = true
 is_known S (caller.User u) = has_user S u

@@ -18,7 +18,7 @@ pub data Change : Type 0 where
   -- the digest of a token, and its user
   AddToken : (digest user : Text) → Change
   AddOrg : (organisation : Text) → Change
-  -- an organisation, a user, his role in it, and whether he is a member already
+  -- an organisation, a user, their role in it, and whether they are a member already
   PutMember : (organisation user : Text) (role : Role) (stands : Bool) → Change
   DropMember : (organisation user : Text) → Change
   AddTeam : (organisation team : Text) → Change
@@ -30,8 +30,8 @@ pub data Change : Type 0 where
   PutGrant : (organisation team name : Text) (grant : Grant) (stands : Bool) → Change
   DropGrant : (organisation team name : Text) → Change
   -- a package, and its maintainer
-  PutMaintainer : (name user : Text) → Change
-  DropMaintainer : (name user : Text) → Change
+  PutOwner : (name user : Text) → Change
+  DropOwner : (name user : Text) → Change
   -- a package, its status, and whether it has one already
   PutStatus : (name : Text) (status : Status) (stands : Bool) → Change
   -- the form that is published, and when, in seconds
@@ -40,7 +40,7 @@ pub data Change : Type 0 where
   RetireVersion : (name version : Text) (published withdrawn : ℕ) → Change
   -- a version, and the message of its deprecation
   PutDeprecation : (name version message : Text) → Change
-  -- a package, a tag, the version that it is to name, and whether the tag stands already
+  -- a package, a tag, the version that it is to name, and whether the tag exists already
   PutTag : (name tag version : Text) (stands : Bool) → Change
   DropTag : (name tag : Text) → Change
 
@@ -48,7 +48,7 @@ pub data Change : Type 0 where
 abbrev pub release_of : FormParts → ℕ → Release
 release_of f now = record { at = now; manifest = f.manifest; archive = f.archive; message = [] }
 
--- A change of what stands already changes nothing where it doesn't stand
+-- A change of what exists already changes nothing where it doesn't exist
 abbrev pub made : State → Change → State
 made S (AddUser u) = with_user S u
 made S (AddToken digest u) = with_token S digest u
@@ -61,8 +61,8 @@ made S (DropTeamMember o t u) = without_team_member S o t u
 made S (DropTeam o t) = without_team S o t
 made S (PutGrant o t p grant stands) = if stands then regranted S o t p grant else with_grant S o t p grant
 made S (DropGrant o t p) = without_grant S o t p
-made S (PutMaintainer p u) = with_maintainer S p u
-made S (DropMaintainer p u) = without_maintainer S p u
+made S (PutOwner p u) = with_maintainer S p u
+made S (DropOwner p u) = without_maintainer S p u
 made S (PutStatus p status stands) = if stands then restated S p status else with_status S p status
 made S (AddVersion f now) = with_version S f.name (version_of f) (release_of f now)
 made S (RetireVersion p v published withdrawn) = retired S p v published withdrawn
@@ -88,8 +88,8 @@ change_of (change.DropTeamMember o t u) = DropTeamMember o.now t.now u.now
 change_of (change.DropTeam o t) = DropTeam o.now t.now
 change_of (change.PutGrant o t p grant stands) = PutGrant o.now t.now p.now grant stands
 change_of (change.DropGrant o t p) = DropGrant o.now t.now p.now
-change_of (change.PutMaintainer p u) = PutMaintainer p.now u.now
-change_of (change.DropMaintainer p u) = DropMaintainer p.now u.now
+change_of (change.PutOwner p u) = PutOwner p.now u.now
+change_of (change.DropOwner p u) = DropOwner p.now u.now
 change_of (change.PutStatus p status stands) = PutStatus p.now status stands
 change_of (change.AddVersion f now) = AddVersion f.now now.now
 change_of (change.RetireVersion p v published withdrawn) = RetireVersion p.now (text_of_version v.now) published.now withdrawn.now

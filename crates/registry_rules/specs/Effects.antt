@@ -18,7 +18,7 @@ use Rattle.registry_access.specs.declared.role.Role.TheVariants.{Owner}
 use Rattle.registry_publish.specs.Form.{FormParts}
 use Rattle.registry_rules.specs.Actions.{version_of}
 use Rattle.registry_rules.specs.Callers.{caller_of}
-use Rattle.registry_rules.specs.Changes.{Change, AddUser, AddToken, AddOrg, PutMember, DropMember, AddTeam, PutTeamMember, DropTeamMember, DropTeam, PutGrant, DropGrant, PutMaintainer, DropMaintainer, PutStatus, AddVersion, RetireVersion, PutDeprecation, PutTag, DropTag, all_made}
+use Rattle.registry_rules.specs.Changes.{Change, AddUser, AddToken, AddOrg, PutMember, DropMember, AddTeam, PutTeamMember, DropTeamMember, DropTeam, PutGrant, DropGrant, PutOwner, DropOwner, PutStatus, AddVersion, RetireVersion, PutDeprecation, PutTag, DropTag, all_made}
 use Rattle.registry_rules.specs.State.{State, developers, is_in_team, has_grant, is_published, has_maintainer, stands}
 use Rattle.registry_rules.specs.Withdrawals.{live_versions, others, published_at, selected, tags_of}
 use Rattle.registry_rules.specs.declared.request.Action.{Action}
@@ -64,7 +64,7 @@ put_status p (Some status) old = PutStatus p status (is_some old) ∷ []
 -- publisher maintains it
 abbrev pub right_to : Caller → Text → Option Text → Option Change
 right_to who p (Some o) = Some (PutGrant o developers p ReadWrite false)
-right_to (User u) p None = Some (PutMaintainer p u)
+right_to (User u) p None = Some (PutOwner p u)
 right_to Operator p None = None
 right_to Anonymous p None = None
 
@@ -73,7 +73,7 @@ abbrev pub first_right : Caller → Text → Option Status → Option Change
 first_right who p (Some old) = None
 first_right who p None = right_to who p (scope_of p)
 
--- The form's tag names the version, and so does `latest` where none stands
+-- The form's tag names the version, and so does `latest` where there is none
 abbrev pub put_tags : State → Text → Text → Text → List Change
 put_tags S p t v = (if stands S p latest || is t latest then [] else PutTag p latest v false ∷ []) ++ PutTag p t v (stands S p t) ∷ []
 
@@ -105,7 +105,7 @@ deprecation p message vs = map (λ v. PutDeprecation p v message) vs
 
 -- who is a maintainer already stays one
 abbrev pub maintaining : Text → Text → Bool → List Change
-maintaining p u already = if already then [] else PutMaintainer p u ∷ []
+maintaining p u already = if already then [] else PutOwner p u ∷ []
 
 -- ---- all commands
 
@@ -123,7 +123,7 @@ effects S now who (Grant o t p grant) = PutGrant o t p grant (has_grant S o t p)
 effects S now who (Revoke o t p) = DropGrant o t p ∷ []
 effects S now who (SetAccess p status) = PutStatus p status (is_published S p) ∷ []
 effects S now who (OwnerAdd p u) = maintaining p u (has_maintainer S p u)
-effects S now who (OwnerRemove p u) = DropMaintainer p u ∷ []
+effects S now who (OwnerRemove p u) = DropOwner p u ∷ []
 effects S now who (Publish f) = publication S now who f
 effects S now who (TagSet p t v) = PutTag p t (text_of_version v) (stands S p t) ∷ []
 effects S now who (TagRemove p t) = DropTag p t ∷ []

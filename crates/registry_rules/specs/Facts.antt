@@ -88,7 +88,7 @@ pub record AreWithdrawFacts (standing : Standing) (since : Option ℕ) (needed :
   pub tags : named ≡ tags_of S p (text_of_version v)
   pub live : map text_of_version living ≡ live_versions S p
 
--- What is told of a caller's action is so. What is told of another kind of action tells nothing
+-- What is said of a caller's action is so. What is said of another kind of action means nothing
 -- of a state
 abbrev pub AboutTells : About → State → Caller → Action → Type 0
 AboutTells (about.UserAdd exists) S who (UserAdd u) = exists ≡ has_user S u
@@ -121,7 +121,7 @@ AboutTells (about.Team rows exists) S who (TeamPackages o t) = SayOf rows S who 
 AboutTells _ S who _ = ⊥
 
 -- The facts are what the registry holds for the request. Of an action of nobody nothing has to be
--- told
+-- said
 pub record FactsTell (facts : Facts) (S : State) (r : Request) : Type 0 where
   pub caller : facts.caller ≡ caller_of S r.who
   pub about : (who : Caller) → facts.caller ≡ Some who → AboutTells facts.about S who r.what

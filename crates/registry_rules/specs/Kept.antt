@@ -18,7 +18,7 @@ use Rattle.registry_rules.specs.State.{State, Release, Withdrawal, developers, i
 
 -- ---- packages
 
--- the release may stand under this package and version
+-- the release may be under this package and version
 pub record IsReleaseOf (p v : Text) (release : Release) : Type 0 where
   pub name : IsName p
   pub version : VersionParts
@@ -27,7 +27,7 @@ pub record IsReleaseOf (p v : Text) (release : Release) : Type 0 where
   pub at : release.at ≤ last_second
   pub message : IsTrue (is_message release.message)
 
--- The withdrawal may stand under this package and version, which was published and doesn't live
+-- The withdrawal may be under this package and version, which was published and doesn't live
 pub record IsWithdrawalOf (S : State) (p v : Text) (withdrawal : Withdrawal) : Type 0 where
   pub name : IsName p
   pub version : IsVersion v
@@ -36,13 +36,13 @@ pub record IsWithdrawalOf (S : State) (p v : Text) (withdrawal : Withdrawal) : T
   pub status : IsSome (at S.access.statuses p)
   pub gone : is_live S p v ≡ false
 
--- the tag may stand under this package, and names this version, which lives
+-- the tag may be under this package, and names this version, which lives
 pub record IsTagOf (S : State) (p t v : Text) : Type 0 where
   pub name : IsName p
   pub tag : IsTrue (is_tag t)
   pub live : IsTrue (is_live S p v)
 
--- ---- who is there, and what he may do
+-- ---- who is there, and what they may do
 
 -- each name is in form, and a digest has 32 bytes
 pub record IsSpelled (A : Access) : Type 0 where
@@ -58,11 +58,11 @@ pub record IsGrant (A : Access) (o t p : Text) : Type 0 where
   pub status : IsSome (at A.statuses p)
   pub scope : scope_of p ≡ Some o
 
--- what stands refers to what is there, and what each organisation and each package needs is there
+-- references hold, and what each organisation and each package needs is there
 pub record IsSound (A : Access) : Type 0 where
   -- a token is a user's
   pub tokens : (digest u : Text) → at A.tokens digest ≡ Some u → IsSome (at A.users u)
-  -- a member is a user, and his organisation is there
+  -- a member is a user, and their organisation is there
   pub roles : (o u : Text) → IsSome (at A.roles (o, u)) → IsSome (at A.organisations o) × IsSome (at A.users u)
   -- an organisation has an owner, and its first team
   pub owners : (o : Text) → IsSome (at A.organisations o) → (u : Text) × (at A.roles (o, u) ≡ Some Owner)
@@ -71,7 +71,7 @@ pub record IsSound (A : Access) : Type 0 where
   -- who is in a team is a member of its organisation
   pub team_members : (o t u : Text) → IsSome (at A.team_members (o, (t, u))) → IsSome (at A.teams (o, t)) × IsSome (at A.roles (o, u))
   pub grants : (o t p : Text) → IsSome (at A.grants (o, (t, p))) → IsGrant A o t p
-  -- a maintainer is a user, and his package was published
+  -- a maintainer is a user, and their package was published
   pub maintainers : (p u : Text) → IsSome (at A.maintainers (p, u)) → IsSome (at A.statuses p) × IsSome (at A.users u)
   -- a package without a scope is public, and has a maintainer
   pub unscoped : UnscopedArePublic A

@@ -1,4 +1,4 @@
--- What commands make of what the registry holds, told of each map apart.
+-- What commands make of what the registry holds, said of each map apart.
 use Rattle.std.specs.Prelude.{◌≡◌, ◌≢◌, ◌↔◌, ℕ, List, true, false, [], Some, None, IsSome, if◌then◌else◌}
 use Rattle.registry_names.specs.Keys.{Pair, Triple}
 use Rattle.registry_names.specs.Maps.{at}
@@ -16,7 +16,7 @@ use Rattle.registry_access.specs.declared.grant.Grant.TheVariants.{ReadWrite}
 use Rattle.registry_access.specs.declared.role.Role.{Role}
 use Rattle.registry_access.specs.declared.role.Role.TheVariants.{Owner}
 use Rattle.registry_publish.specs.Form.{FormParts}
-use Rattle.registry_rules.specs.Actions.{is_command, version_of, names, ends_team}
+use Rattle.registry_rules.specs.Actions.{is_command, version_of, names_package, ends_team}
 use Rattle.registry_rules.specs.Effects.{step_by}
 use Rattle.registry_rules.specs.Kept.{IsSound}
 use Rattle.registry_rules.specs.State.{State, Release, developers, has_other_owner, has_other_maintainer}
@@ -47,7 +47,7 @@ TokensAreAdded = (S : State) (now : ℕ) (who : Caller) (u digest : Text) → Ad
 
 -- ---- organisations
 
--- the organisation is there, with an owner and its first team, in which he is; nothing else has
+-- the organisation is there, with an owner and its first team, in which they are; nothing else has
 -- changed
 pub record CreatesOrganisation (S T : State) (o u : Text) : Type 0 where
   pub organisation : IsSome (at T.access.organisations o)
@@ -67,7 +67,7 @@ pub record CreatesOrganisation (S T : State) (o u : Text) : Type 0 where
     };
   }
 
--- the user has this role. Who had none joins the first team, and who had one stays where he is
+-- the user has this role. Who had none joins the first team, and who had one stays where they are
 pub record SetsRole (S T : State) (o u : Text) (new : Role) : Type 0 where
   pub role : at T.access.roles (o, u) ≡ Some new
   pub roles : (k : Pair) → k ≢ (o, u) → at T.access.roles k ≡ at S.access.roles k
@@ -76,7 +76,7 @@ pub record SetsRole (S T : State) (o u : Text) (new : Role) : Type 0 where
   pub team_members : (k : Triple) → k ≢ (o, (developers, u)) → at T.access.team_members k ≡ at S.access.team_members k
   pub rest : T ≡ record S { access = record S.access { roles = T.access.roles; team_members = T.access.team_members } }
 
--- the user is no member, and in no team of the organisation; every other member stays, in all his
+-- the user is no member, and in no team of the organisation; every other member stays, in all their
 -- teams
 pub record RemovesMember (S T : State) (o u : Text) : Type 0 where
   pub role : at T.access.roles (o, u) ≡ None
@@ -151,7 +151,7 @@ pub record IsGrantChange (S T : State) (o t p : Text) : Type 0 where
   pub rest : T ≡ record S { access = record S.access { grants = T.access.grants } }
 
 -- maintainers alone have changed, and of them this one of this package
-pub record IsMaintainerChange (S T : State) (p u : Text) : Type 0 where
+pub record IsOwnerChange (S T : State) (p u : Text) : Type 0 where
   pub maintainers : (k : Pair) → k ≢ (p, u) → at T.access.maintainers k ≡ at S.access.maintainers k
   pub rest : T ≡ record S { access = record S.access { maintainers = T.access.maintainers } }
 
@@ -174,11 +174,11 @@ StatusesAreSet = (S : State) (now : ℕ) (who : Caller) (p : Text) (status : Sta
 
 abbrev pub MaintainersAreAdded : Type 0
 MaintainersAreAdded = (S : State) (now : ℕ) (who : Caller) (p u : Text) → let T = step_by S now who (OwnerAdd p u) in
-    IsSome (at T.access.maintainers (p, u)) × IsMaintainerChange S T p u
+    IsSome (at T.access.maintainers (p, u)) × IsOwnerChange S T p u
 
 abbrev pub MaintainersAreRemoved : Type 0
 MaintainersAreRemoved = (S : State) (now : ℕ) (who : Caller) (p u : Text) → let T = step_by S now who (OwnerRemove p u) in
-    (at T.access.maintainers (p, u) ≡ None) × IsMaintainerChange S T p u
+    (at T.access.maintainers (p, u) ≡ None) × IsOwnerChange S T p u
 
 -- another maintainer is another user who is a maintainer
 abbrev pub OtherMaintainersAreMaintainers : Type 0
@@ -192,7 +192,7 @@ pub record AddsVersion (S T : State) (now : ℕ) (f : FormParts) : Type 0 where
   pub versions : (k : Pair) → k ≢ (f.name, version_of f) → at T.live k ≡ at S.live k
   pub spent : T.spent ≡ S.spent
 
--- its tag names the version, and so does `latest` where none stood; no other tag changes
+-- its tag names the version, and so does `latest` where there was none; no other tag changes
 pub record SetsTags (S T : State) (f : FormParts) : Type 0 where
   pub tag : at T.tags (f.name, f.tag) ≡ Some (version_of f)
   pub first_latest : at S.tags (f.name, latest) ≡ None → at T.tags (f.name, latest) ≡ Some (version_of f)
@@ -306,4 +306,4 @@ pub record IsApart (S T : State) (what : Action) (p : Text) : Type 0 where
 
 -- an action changes nothing of a package that it doesn't name
 abbrev pub PackagesStandApart : Type 0
-PackagesStandApart = (S : State) (now : ℕ) (who : Caller) (what : Action) (p : Text) → names what p ≡ false → IsApart S (step_by S now who what) what p
+PackagesStandApart = (S : State) (now : ℕ) (who : Caller) (what : Action) (p : Text) → names_package what p ≡ false → IsApart S (step_by S now who what) what p

@@ -106,7 +106,7 @@ with_message S p v message = record S { live = revise S.live (λ k (r : Release)
 abbrev pub with_tag : State → Text → Text → Text → State
 with_tag S p t v = record S { tags = put S.tags (p, t) v }
 
--- a tag that stands names the version
+-- a tag that exists names the version
 abbrev pub moved : State → Text → Text → Text → State
 moved S p t v = if is_some (at S.tags (p, t)) then with_tag S p t v else S
 

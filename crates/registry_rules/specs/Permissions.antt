@@ -1,5 +1,5 @@
--- What the policy says to a caller who asks for an action: the rule that allows it, or why he is
--- turned away. One equation an action
+-- What the policy says to a caller who asks for an action: the rule that allows it, or why they are
+-- refused. One equation an action
 use Rattle.std.specs.Prelude.{is_some}
 use Rattle.registry_names.specs.Names.{scope_of}
 use Rattle.registry_access.specs.Access.{Access}

@@ -1,4 +1,4 @@
--- Why a request is turned away, on what the registry holds: the first reason that holds, if one
+-- Why a request is refused, on what the registry holds: the first reason that holds, if one
 -- does.
 use Rattle.std.specs.Prelude.{ℕ, Bool, true, false, not, ◌&&◌, ◌||◌, is_none, Option, Some, None, Result, Ok, Err, if◌then◌else◌}
 use Rattle.std.specs.Option.{option_or}
@@ -46,7 +46,7 @@ abbrev pub unless_allowed : Verdict → Option Refusal
 unless_allowed (Ok rule) = None
 unless_allowed (Err r) = Some r
 
--- ---- what stands in the way of an action
+-- ---- what conflicts with an action
 
 -- A live version is never published again, and neither is one that was withdrawn; a package without
 -- a scope is never restricted; and one of which all versions were withdrawn waits a day
@@ -72,7 +72,7 @@ is_scope o None = false
 is_scope o (Some s) = is s o
 
 -- A team is granted something on a package of its organisation's scope that was published. Of a
--- package of another scope it isn't told whether it was
+-- package of another scope it isn't said whether it was
 abbrev pub grant_refusal : Bool → Bool → Text → Text → Option Refusal
 grant_refusal team published o p = refuse (not team || (is_scope o (scope_of p) && not published)) NotFound (refuse (not (is_scope o (scope_of p))) OtherScope None)
 
@@ -111,12 +111,11 @@ state_refusal S now (TeamPackages o t) = unless_there (has_team S o t)
 
 -- ---- requests
 
--- why an action of this caller is turned away: by the policy first, and then by what stands in its
--- way
+-- why an action of this caller is refused: by the policy first, and then by what conflicts with it
 abbrev pub refusal_by : State → ℕ → Caller → Action → Option Refusal
 refusal_by S now who what = option_or (unless_allowed (permission S.access who what)) (state_refusal S now what)
 
--- one of nobody is turned away first of all
+-- one of nobody is refused first of all
 abbrev pub refusal_for : State → ℕ → Option Caller → Action → Option Refusal
 refusal_for S now None what = Some NoCaller
 refusal_for S now (Some who) what = refusal_by S now who what

@@ -87,7 +87,7 @@ has_other_maintainer S p u = list_any (λ (e : Text × Unit {0}). not (is e.0 u)
 abbrev pub has_other_owner : State → Text → Text → Bool
 has_other_owner S o u = list_any (λ (e : Text × Role). not (is e.0 u) && is_owner (Some e.1)) (of S.access.roles o)
 
--- he is the one owner of the organisation
+-- they are the one owner of the organisation
 abbrev pub is_last_owner : State → Text → Text → Bool
 is_last_owner S o u = is_owner (at S.access.roles (o, u)) && not (has_other_owner S o u)
 
@@ -107,11 +107,11 @@ is_spent S p v = is_some (at S.spent (p, v))
 abbrev pub has_live : State → Text → Bool
 has_live S p = not (is_empty (of S.live p))
 
--- the tag stands
+-- the tag exists
 abbrev pub stands : State → Text → Text → Bool
 stands S p t = is_some (at S.tags (p, t))
 
--- the version that is asked for: this one, or the one that `latest` names, if it stands
+-- the version that is asked for: this one, or the one that `latest` names, if it exists
 abbrev pub asked_version : State → Text → Asked → Option Text
 asked_version S p (Exact v) = Some (text_of_version v)
 asked_version S p Latest = at S.tags (p, latest)

@@ -70,7 +70,7 @@ published_at S p v = option_map (λ (r : Release). r.at) (at S.live (p, v))
 abbrev pub live_versions : State → Text → List Text
 live_versions S p = keys (of S.live p)
 
--- the text of a version behind a reference
+-- the text of the version that a reference points to
 abbrev pub text_seen : Bor VersionParts → Text
 text_seen v = text_of_version v.now
 
@@ -78,7 +78,7 @@ text_seen v = text_of_version v.now
 abbrev pub others : List Text → Text → List Text
 others vs v = filter (λ w. not (is w v)) vs
 
--- the one with precedence of both, but for a text that is left out
+-- the one with precedence of both, except a text that is left out
 abbrev pub better : Option Text → Text → Text → Option Text
 better best other without = if is other without then best else Some (greater other best)
 
@@ -88,7 +88,7 @@ tags_of S p v = keys (filter (λ (e : Text × Text). is e.1 v) (of S.tags p))
 
 -- ---- what a deprecation is about
 
--- the conditions select the version, which is told by its text
+-- the conditions select the version, which is determined by its text
 abbrev pub selects : List (List Condition) → Text → Bool
 selects conditions v = unwrap_or (option_map (λ parts. set_selects parts conditions) (version_in v)) false
 

@@ -34,9 +34,9 @@ pub enum Change<'a> {
         organisation: &'a str,
         /// The user.
         user: &'a Ident,
-        /// What he is in it.
+        /// What they are in it.
         role: Role,
-        /// Whether he is a member already, in another role or in this one.
+        /// Whether they are a member already, in another role or in this one.
         stands: bool,
     },
     /// The user is no member of the organisation, and in none of its teams.
@@ -101,14 +101,14 @@ pub enum Change<'a> {
         package: &'a Name,
     },
     /// The user is a maintainer of the package.
-    PutMaintainer {
+    PutOwner {
         /// The package.
         package: &'a Name,
         /// The user.
         user: &'a Ident,
     },
     /// The user is no maintainer of the package.
-    DropMaintainer {
+    DropOwner {
         /// The package.
         package: &'a Name,
         /// The user.
@@ -158,7 +158,7 @@ pub enum Change<'a> {
         tag: &'a str,
         /// The version that it is to name.
         version: &'a Ver,
-        /// Whether the tag stands already, and names another version or this one.
+        /// Whether the tag exists already, and names another version or this one.
         stands: bool,
     },
     /// The tag is gone.

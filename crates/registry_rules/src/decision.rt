@@ -25,9 +25,9 @@ use registry_access::Caller;
 use registry_names::{Fault, Moment, Refusal, Rule, Stop};
 use std::alloc::{AllocError, Global};
 
-/// Whether a request may be asked, or why it is turned away. It takes no memory.
+/// Whether a request may be asked, or why it is refused. It takes no memory.
 ///
-/// Facts that are told of another kind of action than the request's stand for no registry.
+/// Facts that are said of another kind of action than the request's agree with no registry.
 pub fn may_ask(facts: &Facts, request: &Request) -> Result<(), Refusal>
     ensures { (S : State) → FactsTell facts.now S request.now
         → result ≡ permitted (refusal S request.now) }
@@ -38,10 +38,10 @@ pub fn may_ask(facts: &Facts, request: &Request) -> Result<(), Refusal>
     }
 }
 
-/// What a request changes, which is nothing for a query; or why it is turned away, as [`may_ask`]
+/// What a request changes, which is nothing for a query; or why it is refused, as [`may_ask`]
 /// says.
 ///
-/// `Memory` comes where no memory is left for the changes of a request that isn't turned away, and
+/// `Memory` comes where no memory is left for the changes of a request that isn't refused, and
 /// no other fault comes.
 pub fn decide<'a>(
     alloc: Global,
@@ -73,7 +73,7 @@ fn permitted(refusal: Option<Refusal>) -> Result<(), Refusal>
     }
 }
 
-// Why this caller's action is turned away, if it is.
+// Why this caller's action is refused, if it is.
 fn refusal_by(caller: &Caller, about: &About, action: &Action, now: &Moment) -> Option<Refusal>
     ensures { (S : State) → AboutTells about.now S caller.now action.now
         → result ≡ spec.refusal_by S now.now caller.now action.now }
@@ -157,13 +157,13 @@ fn state_refusal(about: &About, action: &Action, now: &Moment) -> Option<Refusal
             },
             Action::Grant {
                 organisation,
-                name,
+                package,
                 ..
             },
-        ) => grant_refusal(*team_exists, *is_published, organisation, name),
+        ) => grant_refusal(*team_exists, *is_published, organisation, package),
         (About::Revoke { stands, .. }, Action::Revoke { .. }) => unless_there(*stands),
-        (About::SetAccess { .. }, Action::SetAccess { name, status }) => {
-            status_refusal(Some(*status), name)
+        (About::SetAccess { .. }, Action::SetAccess { package, status }) => {
+            status_refusal(Some(*status), package)
         }
         (About::OwnerAdd { user_exists, .. }, Action::OwnerAdd { .. }) => {
             unless_there(*user_exists)
@@ -206,7 +206,7 @@ fn unless_there(found: bool) -> Option<Refusal>
     if found { None } else { Some(Refusal::NotFound) }
 }
 
-// What a request that isn't turned away changes. One of nobody is turned away.
+// What a request that isn't refused changes. One of nobody is refused.
 fn changes_for<'a>(
     alloc: Global,
     caller: &'a Option<Caller>,
@@ -225,7 +225,7 @@ fn changes_for<'a>(
     }
 }
 
-// What a request that isn't turned away changes.
+// What a request that isn't refused changes.
 fn changes<'a>(
     alloc: Global,
     caller: &'a Caller,
@@ -302,14 +302,14 @@ fn changes<'a>(
             Action::Grant {
                 organisation,
                 team,
-                name,
+                package,
                 grant,
             },
         ) => {
             let change = Change::PutGrant {
                 organisation: organisation.text(),
                 team: team.text(),
-                package: name,
+                package,
                 grant: *grant,
                 stands: *stands,
             };
@@ -320,7 +320,7 @@ fn changes<'a>(
             Action::Revoke {
                 organisation,
                 team,
-                name,
+                package,
             },
         ) => {
             let (organisation, team) = (organisation.text(), team.text());
@@ -328,44 +328,46 @@ fn changes<'a>(
                 Change::DropGrant {
                     organisation,
                     team,
-                    package: name
+                    package
                 },
             ]?)
         }
-        (About::SetAccess { standing }, Action::SetAccess { name, status }) => {
+        (About::SetAccess { standing }, Action::SetAccess { package, status }) => {
             let change = Change::PutStatus {
-                package: name,
+                package,
                 status: *status,
                 stands: standing.status.is_some(),
             };
             Ok(vec![in alloc; change]?)
         }
-        (About::OwnerAdd { is_maintainer, .. }, Action::OwnerAdd { name, user }) => {
-            maintaining(alloc, name, user, *is_maintainer)
+        (About::OwnerAdd { is_maintainer, .. }, Action::OwnerAdd { package, user }) => {
+            maintaining(alloc, package, user, *is_maintainer)
         }
-        (About::OwnerRemove { .. }, Action::OwnerRemove { name, user }) => {
-            Ok(vec![in alloc;
-                Change::DropMaintainer {
-                    package: name,
-                    user
-                },
-            ]?)
+        (About::OwnerRemove { .. }, Action::OwnerRemove { package, user }) => {
+            Ok(vec![in alloc; Change::DropOwner { package, user }]?)
         }
         (About::Publish(facts), Action::Publish { form }) => {
             publish_changes(alloc, caller, facts, form, &request.at)
         }
-        (About::TagSet { tag_stands, .. }, Action::TagSet { name, tag, version }) => {
+        (
+            About::TagSet { tag_stands, .. },
+            Action::TagSet {
+                package,
+                tag,
+                version,
+            },
+        ) => {
             let change = Change::PutTag {
-                package: name,
+                package,
                 tag: tag.text(),
                 version,
                 stands: *tag_stands,
             };
             Ok(vec![in alloc; change]?)
         }
-        (About::TagRemove { .. }, Action::TagRemove { name, tag }) => {
+        (About::TagRemove { .. }, Action::TagRemove { package, tag }) => {
             let change = Change::DropTag {
-                package: name,
+                package,
                 tag: tag.text(),
             };
             Ok(vec![in alloc; change]?)
@@ -377,16 +379,16 @@ fn changes<'a>(
                 live,
                 ..
             },
-            Action::Withdraw { name, version },
-        ) => { withdrawal(alloc, name, version, published, live, tags, &request.at) }
+            Action::Withdraw { package, version },
+        ) => { withdrawal(alloc, package, version, published, live, tags, &request.at) }
         (
             About::Deprecate { live, .. },
             Action::Deprecate {
-                name,
+                package,
                 selector,
                 message,
             },
-        ) => { deprecation(alloc, name, live, selector, message) }
+        ) => { deprecation(alloc, package, live, selector, message) }
         _ => Ok(Vec::new(alloc)),
     }
 }

@@ -3,11 +3,11 @@
 use registry_access::{AccessRows, Caller, Role, Standing};
 use registry_names::{Moment, Text, Ver};
 
-/// What the registry holds of a request: who asks, and what stands of what he asks.
+/// What the registry holds of a request: who asks, and what exists of what they ask for.
 pub struct Facts {
     /// Who asks. None where the credential names nobody.
     pub caller: Option<Caller>,
-    /// What stands of it.
+    /// What exists of it.
     pub about: About,
 }
 
@@ -21,14 +21,14 @@ impl Drop for Facts {
     }
 }
 
-/// What the registry holds of what an action is about: of each kind of action what decides it, and
-/// no more. Rows and standings are what the policy asks for: rows of the organisation, and of the
-/// caller's membership in it; the standing of the caller to the package.
+/// What the registry holds of what an action is about: of each kind of action what decides it and
+/// what its changes need. Rows and standings are what the policy asks for: rows of the
+/// organisation, and of the caller's membership in it; the standing of the caller to the package.
 #[derive(Drop)]
 pub enum About {
     /// Of a user who is to be added.
     UserAdd {
-        /// Whether he is there already.
+        /// Whether they are there already.
         exists: bool,
     },
     /// Of a token that is to be added.
@@ -51,7 +51,7 @@ pub enum About {
         rows: AccessRows,
         /// Whether the user is there.
         user_exists: bool,
-        /// What he is in the organisation, if he is a member of it.
+        /// What they are in the organisation, if they are a member of it.
         role: Option<Role>,
         /// Whether another member of it is an owner.
         other_owner: bool,
@@ -60,7 +60,7 @@ pub enum About {
     OrgRemove {
         /// The organisation, and the caller in it.
         rows: AccessRows,
-        /// What the user is in it, if he is a member of it.
+        /// What the user is in it, if they are a member of it.
         role: Option<Role>,
         /// Whether another member of it is an owner.
         other_owner: bool,
@@ -87,7 +87,7 @@ pub enum About {
         team_exists: bool,
         /// Whether the user is a member of the organisation.
         is_member: bool,
-        /// Whether he is in the team already.
+        /// Whether they are in the team already.
         is_in_team: bool,
     },
     /// Of a member who is to leave a team.
@@ -128,7 +128,7 @@ pub enum About {
         standing: Standing,
         /// Whether the user is there.
         user_exists: bool,
-        /// Whether he is a maintainer already.
+        /// Whether they are a maintainer already.
         is_maintainer: bool,
     },
     /// Of a maintainer who is to be none.
@@ -162,14 +162,14 @@ pub enum About {
         standing: Standing,
         /// Whether the version lives.
         version_lives: bool,
-        /// Whether the tag stands.
+        /// Whether the tag exists.
         tag_stands: bool,
     },
     /// Of a tag that is to go.
     TagRemove {
         /// The caller and the package.
         standing: Standing,
-        /// Whether the tag stands.
+        /// Whether the tag exists.
         tag_stands: bool,
     },
     /// Of a version that is to be withdrawn.
@@ -217,9 +217,9 @@ pub struct PublishFacts {
     pub version_lives: bool,
     /// Whether the version was withdrawn.
     pub version_spent: bool,
-    /// Whether the tag stands under which it is published.
+    /// Whether the tag under which it is published exists.
     pub tag_stands: bool,
-    /// Whether the tag `latest` stands.
+    /// Whether the tag `latest` exists.
     pub latest_stands: bool,
     /// Whether a version of the package lives.
     pub lives: bool,

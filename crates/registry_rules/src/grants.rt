@@ -33,7 +33,7 @@ fn is_scope(organisation: &Ident, name: &Name) -> bool
 
 /// Why a team isn't granted anything on a package, if it isn't: the team isn't there, or the
 /// package is of its scope and was never published; or it is of another scope, of which nothing
-/// more is told.
+/// more is said.
 pub(crate) fn grant_refusal(
     team_exists: bool,
     is_published: bool,
@@ -70,7 +70,7 @@ pub(crate) fn status_refusal(status: Option<Status>, name: &Name) -> Option<Refu
     None
 }
 
-/// Why a maintainer can't go, if he can't: he is none, or the last one.
+/// Why a maintainer can't go, if they can't: they are none, or the last one.
 pub(crate) fn owner_remove_refusal(is_maintainer: bool, other_maintainer: bool) -> Option<Refusal>
     ensures { result ≡ spec.refuse (not is_maintainer) refusal.NotFound
         (spec.refuse (not other_maintainer) refusal.LastOwner None) }
@@ -84,7 +84,7 @@ pub(crate) fn owner_remove_refusal(is_maintainer: bool, other_maintainer: bool) 
     None
 }
 
-/// The user is a maintainer. Where he is already, nothing changes.
+/// The user is a maintainer. Where they are already, nothing changes.
 pub(crate) fn maintaining<'a>(
     alloc: Global,
     name: &'a Name,
@@ -98,7 +98,7 @@ pub(crate) fn maintaining<'a>(
         return Ok(Vec::new(alloc));
     }
     Ok(vec![in alloc;
-        Change::PutMaintainer {
+        Change::PutOwner {
             package: name,
             user
         },
@@ -125,7 +125,7 @@ pub(crate) fn first_right<'a>(
             grant: Grant::ReadWrite,
             stands: false,
         }),
-        (None, Caller::User(user)) => Some(Change::PutMaintainer {
+        (None, Caller::User(user)) => Some(Change::PutOwner {
             package: name,
             user,
         }),

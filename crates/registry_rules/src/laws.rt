@@ -1,5 +1,5 @@
-//! Laws of the words that contracts cite. Each function does nothing: what it ensures holds of
-//! the definitions themselves, or of every value of a type.
+//! Laws of the definitions that contracts cite. Each function does nothing: what it ensures holds
+//! of the definitions themselves, or of every value of a type.
 
 ghost use Rattle.std.specs.Prelude.{◌≡◌, None};
 ghost use Rattle.registry_rules.specs.Kept.{IsKept};
@@ -13,14 +13,14 @@ ghost use Rattle.registry_rules.specs.declared.request.Request.{Request};
 use crate::request::{Action, Asked, Request};
 use registry_publish::PublishForm;
 
-/// A user who is added is there, and a token that is added is his. Nothing else changes.
+/// A user who is added is there, and a token that is added is theirs. Nothing else changes.
 pub fn users_and_tokens_are_added()
     ensures users { UsersAreAdded }
     ensures tokens { TokensAreAdded }
 {}
 
-/// An organisation that is created has an owner and the team `developers` with him in it. A user
-/// who is given a role has it, and joins that team where he had none. A member who is removed has
+/// An organisation that is created has an owner and the team `developers` with them in it. A user
+/// who is given a role has it, and joins that team where they had none. A member who is removed has
 /// no role, and is in no team of the organisation. Nothing else changes.
 pub fn members_come_and_go()
     ensures created { OrganisationsAreCreated }
@@ -45,9 +45,9 @@ pub fn other_owners_are_owners()
 {}
 
 /// A publish makes its version live, with its manifest, its archive and its moment; its tag names
-/// the version, and so does `latest` where none stood; and its package has a status. The first team
-/// of a new package's scope reads and writes it, and without a scope its publisher maintains it. No
-/// other version, tag, status, grant or maintainer changes, and nothing else.
+/// the version, and so does `latest` where there was none; and its package has a status. The first
+/// team of a new package's scope reads and writes it, and without a scope its publisher maintains
+/// it. No other version, tag, status, grant or maintainer changes, and nothing else.
 pub fn publishes_add_versions()
     ensures versions { PublishesAddVersions }
     ensures tags { PublishesSetTags }
@@ -98,8 +98,8 @@ pub fn packages_stand_apart()
     ensures packages { PackagesStandApart }
 {}
 
-/// What the registry holds is kept in form: nothing is, and each request in form that isn't turned
-/// away keeps it so.
+/// What the registry holds is kept in form: nothing is, and each request in form that isn't refused
+/// keeps it so.
 pub fn requests_keep_the_form()
     ensures nothing { IsKept nothing }
     ensures step { (S : State) (r : Request) → IsInForm r → refusal S r ≡ None
@@ -168,50 +168,60 @@ fn action_is_in_form(what: &Action)
         Action::Grant {
             organisation,
             team,
-            name,
+            package,
             ..
         }
         | Action::Revoke {
             organisation,
             team,
-            name,
+            package,
         } => {
             organisation.text();
             team.text();
-            name.text();
+            package.text();
         }
-        Action::OwnerAdd { name, user } | Action::OwnerRemove { name, user } => {
-            name.text();
+        Action::OwnerAdd { package, user } | Action::OwnerRemove { package, user } => {
+            package.text();
             user.text();
         }
         Action::Publish { form } => parts_are_in_form(form),
-        Action::TagSet { name, tag, version } => {
-            name.text();
+        Action::TagSet {
+            package,
+            tag,
+            version,
+        } => {
+            package.text();
             tag.text();
             version.text();
         }
-        Action::TagRemove { name, tag } => {
-            name.text();
+        Action::TagRemove { package, tag } => {
+            package.text();
             tag.text();
         }
-        Action::Withdraw { name, version } => {
-            name.text();
+        Action::Withdraw { package, version } => {
+            package.text();
             version.text();
         }
-        Action::Deprecate { name, message, .. } => {
-            name.text();
+        Action::Deprecate {
+            package,
+            message,
+            ..
+        } => {
+            package.text();
             message.text();
         }
-        Action::VersionDoc { name, version } => {
-            name.text();
+        Action::VersionDoc { package, version } => {
+            package.text();
             asked_is_in_form(version);
         }
-        Action::Archive { name, version } => {
-            name.text();
+        Action::Archive { package, version } => {
+            package.text();
             version.text();
         }
-        Action::SetAccess { name, .. } | Action::Packument { name } | Action::Tags { name } => {
-            name.text();
+        Action::SetAccess { package, .. }
+        | Action::Packument { package }
+        | Action::Tags { package } => {
+            package.text();
         }
     }
 }

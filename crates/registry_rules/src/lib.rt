@@ -1,7 +1,7 @@
 //! The rules of the registry, apart from where its packages are kept: what can be asked, what is
 //! answered, and the decision on a request from the facts that it rests on.
 //!
-//! A decision changes nothing itself. [`may_ask`] answers whether a request is turned away, and
+//! A decision changes nothing itself. [`may_ask`] answers whether a request is refused, and
 //! [`decide`] what one that isn't changes: a list of changes, each of which says all that it does,
 //! and which is empty for a query.
 #![tactic(auto)]

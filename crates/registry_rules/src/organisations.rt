@@ -22,8 +22,8 @@ fn is_owner(role: Option<Role>) -> bool
     matches!(role, Some(Role::Owner))
 }
 
-/// Why a role can't be given, if it can't: there is no such user, or it isn't an owner's and he is
-/// the last one.
+/// Why a role can't be given, if it can't: there is no such user, or it isn't an owner's and they
+/// are the last one.
 pub(crate) fn org_set_refusal(
     user_exists: bool,
     old: Option<Role>,
@@ -43,7 +43,7 @@ pub(crate) fn org_set_refusal(
     None
 }
 
-/// Why a member can't leave, if he can't: he is none, or he is the last owner.
+/// Why a member can't leave, if they can't: they are none, or they are the last owner.
 pub(crate) fn org_remove_refusal(role: Option<Role>, other_owner: bool) -> Option<Refusal>
     ensures { result ≡ spec.refuse (is_none role) refusal.NotFound
         (spec.refuse (levels.is_owner role && not other_owner) refusal.LastOwner None) }

@@ -18,7 +18,7 @@ use crate::request::Action;
 use registry_access::{AccessRows, Ask, Caller, Standing, allowed, allowed_by, may_operate};
 use registry_names::{Ident, Name, Refusal, Rule};
 
-/// The rule that allows a caller what he asks for, or why the policy turns him away.
+/// The rule that allows a caller what they ask for, or why the policy refuses it.
 pub(crate) fn permission(caller: &Caller, about: &About, action: &Action) -> Result<Rule, Refusal>
     ensures { (S : State) → AboutTells about.now S caller.now action.now
         → result ≡ spec.permission S.access caller.now action.now }
@@ -63,41 +63,41 @@ pub(crate) fn permission(caller: &Caller, about: &About, action: &Action) -> Res
         (About::Team { rows, .. }, Action::TeamPackages { organisation, .. }) => {
             may_see_organisation(rows, caller, organisation)
         }
-        (About::SetAccess { standing }, Action::SetAccess { name, .. }) => {
-            may_write(standing, caller, name)
+        (About::SetAccess { standing }, Action::SetAccess { package, .. }) => {
+            may_write(standing, caller, package)
         }
-        (About::OwnerAdd { standing, .. }, Action::OwnerAdd { name, .. }) => {
-            may_manage_maintainers(standing, caller, name)
+        (About::OwnerAdd { standing, .. }, Action::OwnerAdd { package, .. }) => {
+            may_manage_maintainers(standing, caller, package)
         }
-        (About::OwnerRemove { standing, .. }, Action::OwnerRemove { name, .. }) => {
-            may_manage_maintainers(standing, caller, name)
+        (About::OwnerRemove { standing, .. }, Action::OwnerRemove { package, .. }) => {
+            may_manage_maintainers(standing, caller, package)
         }
         (About::Publish(facts), Action::Publish { form }) => {
             may_publish(&facts.standing, caller, form.name())
         }
-        (About::TagSet { standing, .. }, Action::TagSet { name, .. }) => {
-            may_write(standing, caller, name)
+        (About::TagSet { standing, .. }, Action::TagSet { package, .. }) => {
+            may_write(standing, caller, package)
         }
-        (About::TagRemove { standing, .. }, Action::TagRemove { name, .. }) => {
-            may_write(standing, caller, name)
+        (About::TagRemove { standing, .. }, Action::TagRemove { package, .. }) => {
+            may_write(standing, caller, package)
         }
-        (About::Withdraw { standing, .. }, Action::Withdraw { name, .. }) => {
-            may_write(standing, caller, name)
+        (About::Withdraw { standing, .. }, Action::Withdraw { package, .. }) => {
+            may_write(standing, caller, package)
         }
-        (About::Deprecate { standing, .. }, Action::Deprecate { name, .. }) => {
-            may_write(standing, caller, name)
+        (About::Deprecate { standing, .. }, Action::Deprecate { package, .. }) => {
+            may_write(standing, caller, package)
         }
-        (About::Version { standing, .. }, Action::VersionDoc { name, .. }) => {
-            may_read(standing, caller, name)
+        (About::Version { standing, .. }, Action::VersionDoc { package, .. }) => {
+            may_read(standing, caller, package)
         }
-        (About::Version { standing, .. }, Action::Archive { name, .. }) => {
-            may_read(standing, caller, name)
+        (About::Version { standing, .. }, Action::Archive { package, .. }) => {
+            may_read(standing, caller, package)
         }
-        (About::Package { standing, .. }, Action::Packument { name }) => {
-            may_read(standing, caller, name)
+        (About::Package { standing, .. }, Action::Packument { package }) => {
+            may_read(standing, caller, package)
         }
-        (About::Package { standing, .. }, Action::Tags { name }) => {
-            may_read(standing, caller, name)
+        (About::Package { standing, .. }, Action::Tags { package }) => {
+            may_read(standing, caller, package)
         }
         _ => Err(Refusal::NotFound),
     }

@@ -8,7 +8,7 @@ ghost use Rattle.registry_rules.specs.Effects.{publication};
 ghost use Rattle.registry_rules.specs.Facts.{ArePublishFacts};
 ghost use Rattle.registry_rules.specs.Refusals as spec;
 ghost use Rattle.registry_rules.specs.State.{State};
-ghost use Rattle.registry_rules.specs.Withdrawals as words;
+ghost use Rattle.registry_rules.specs.Withdrawals as definitions;
 ghost use Rattle.registry_publish.specs.Form.{FormParts};
 ghost use Rattle.registry_access.specs.declared.caller.Caller.{Caller};
 
@@ -22,7 +22,7 @@ use registry_names::{LATEST, Moment, Name, Refusal, Status};
 use registry_publish::PublishForm;
 use std::alloc::{AllocError, Global};
 
-/// Why the publish is turned away, if it is: a live version is never published again, and neither
+/// Why the publish is refused, if it is: a live version is never published again, and neither
 /// is one that was withdrawn; a package without a scope is never restricted; and one of which all
 /// versions were withdrawn waits a day.
 pub(crate) fn publish_refusal(
@@ -51,13 +51,13 @@ pub(crate) fn publish_refusal(
 // Whether no version of the package lives, and its last withdrawal was less than a day ago.
 fn is_waiting(facts: &PublishFacts, now: &Moment) -> bool
     ensures { (S : State) (who : Caller) (form : FormParts) → ArePublishFacts facts.now S who form
-        → result ≡ words.is_waiting S now.now form.name }
+        → result ≡ definitions.is_waiting S now.now form.name }
 {
     !facts.lives && is_less_than_a_day_ago(now, facts.last_withdrawal)
 }
 
-/// What a publish that isn't turned away changes. Its tag names the version, and so does `latest`
-/// where none stands.
+/// What a publish that isn't refused changes. Its tag names the version, and so does `latest`
+/// where there is none.
 pub(crate) fn publish_changes<'a>(
     alloc: Global,
     caller: &'a Caller,

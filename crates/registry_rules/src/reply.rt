@@ -1,7 +1,7 @@
 //! What the registry answers.
 
+use registry_cache::SharedText;
 use registry_names::{Blob, Refusal};
-use registry_texts::SharedText;
 
 /// The answer to a request.
 #[derive(Debug, PartialEq, Eq, Drop)]
@@ -16,6 +16,6 @@ pub enum Reply {
     Doc(SharedText),
     /// The bytes of an archive.
     Bytes(Blob),
-    /// The request is turned away, and nothing has changed.
+    /// The request is refused, and nothing has changed.
     Refused(Refusal),
 }

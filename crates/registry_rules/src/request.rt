@@ -9,9 +9,9 @@ use registry_ranges::Selector;
 pub struct Request {
     /// When it is asked.
     pub at: Moment,
-    /// What the caller shows of himself.
+    /// What the caller shows of themselves.
     pub who: Credential,
-    /// What he asks.
+    /// What they ask.
     pub what: Action,
 }
 
@@ -26,12 +26,12 @@ impl Drop for Request {
     }
 }
 
-/// What a caller shows of himself.
+/// What a caller shows of themselves.
 #[derive(Debug, Drop)]
 pub enum Credential {
-    /// That he runs the registry.
+    /// That they run the registry.
     Operator,
-    /// That he is this user.
+    /// That they are this user.
     User(Ident),
     /// The token of a user, of which nothing is kept but its digest.
     Token(TokenDigest),
@@ -61,14 +61,14 @@ pub enum Action {
         /// The owner's name.
         owner: Ident,
     },
-    /// An owner's command to give a user a role in an organisation, whether he is a member already
-    /// or becomes one.
+    /// An owner's command to give a user a role in an organisation, whether they are a member
+    /// already or become one.
     OrgSet {
         /// The organisation's name.
         organisation: Ident,
         /// The user's name.
         user: Ident,
-        /// What he is to be in it.
+        /// What they are to be in it.
         role: Role,
     },
     /// An owner's command to remove a member from an organisation and from its teams.
@@ -94,7 +94,7 @@ pub enum Action {
         team: Ident,
     },
     /// An owner's or admin's command to put a member of an organisation into one of its teams,
-    /// whether he is in it already or not.
+    /// whether they are in it already or not.
     TeamAdd {
         /// The organisation's name.
         organisation: Ident,
@@ -120,7 +120,7 @@ pub enum Action {
         /// The team's name.
         team: Ident,
         /// The package's name.
-        name: Name,
+        package: Name,
         /// What the team is granted.
         grant: Grant,
     },
@@ -131,28 +131,28 @@ pub enum Action {
         /// The team's name.
         team: Ident,
         /// The package's name.
-        name: Name,
+        package: Name,
     },
     /// The command to say who may read a package. One without a scope is public.
     SetAccess {
         /// The package's name.
-        name: Name,
+        package: Name,
         /// Who is to read it.
         status: Status,
     },
-    /// A maintainer's command to make a user a maintainer of a package, whether he is one already
-    /// or not.
+    /// A maintainer's command to make a user a maintainer of a package, whether they are one
+    /// already or not.
     OwnerAdd {
         /// The package's name.
-        name: Name,
+        package: Name,
         /// The user's name.
         user: Ident,
     },
-    /// A maintainer's command to let another, or himself, be a maintainer no more. The last one
+    /// A maintainer's command to let another, or themselves, be a maintainer no more. The last one
     /// stays.
     OwnerRemove {
         /// The package's name.
-        name: Name,
+        package: Name,
         /// The maintainer's name.
         user: Ident,
     },
@@ -164,7 +164,7 @@ pub enum Action {
     /// The command to let a tag name a live version, whether it names another or isn't there yet.
     TagSet {
         /// The package's name.
-        name: Name,
+        package: Name,
         /// The tag, which may be `latest`.
         tag: TagText,
         /// The version that it is to name.
@@ -173,7 +173,7 @@ pub enum Action {
     /// The command to remove a tag other than `latest`.
     TagRemove {
         /// The package's name.
-        name: Name,
+        package: Name,
         /// The tag.
         tag: TagText,
     },
@@ -182,7 +182,7 @@ pub enum Action {
     /// version.
     Withdraw {
         /// The package's name.
-        name: Name,
+        package: Name,
         /// The version that is to go.
         version: Ver,
     },
@@ -190,38 +190,39 @@ pub enum Action {
     /// by the empty message to take that back. Versions that are published later aren't touched.
     Deprecate {
         /// The package's name.
-        name: Name,
+        package: Name,
         /// Which versions it is about.
         selector: Selector,
         /// What is to be said of them.
         message: Message,
     },
     /// The query for the packument of a package: its tags, and its live versions with their
-    /// manifests.
+    /// documents.
     Packument {
         /// The package's name.
-        name: Name,
+        package: Name,
     },
-    /// The query for the document of a live version, which is its manifest.
+    /// The query for the document of a live version: its manifest, with `deprecated` in it if it is
+    /// deprecated.
     VersionDoc {
         /// The package's name.
-        name: Name,
+        package: Name,
         /// The version.
         version: Asked,
     },
     /// The query for the archive of a live version.
     Archive {
         /// The package's name.
-        name: Name,
+        package: Name,
         /// The version.
         version: Ver,
     },
     /// The query for the tags of a package, each with the version that it names.
     Tags {
         /// The package's name.
-        name: Name,
+        package: Name,
     },
-    /// A member's query for the members of an organisation, each with his role.
+    /// A member's query for the members of an organisation, each with their role.
     Members {
         /// The organisation's name.
         organisation: Ident,
@@ -238,8 +239,8 @@ pub enum Action {
         /// The team's name.
         team: Ident,
     },
-    /// A member's query for the packages that a team is granted something on, of those that he
-    /// reads.
+    /// A member's query for the packages that a team is granted something on, of those that they
+    /// read.
     TeamPackages {
         /// The organisation's name.
         organisation: Ident,
@@ -288,43 +289,52 @@ impl Drop for Action {
             Action::Grant {
                 organisation: _,
                 team: _,
-                name: _,
+                package: _,
                 grant: _,
             } => {}
             Action::Revoke {
                 organisation: _,
                 team: _,
-                name: _,
+                package: _,
             } => {}
-            Action::SetAccess { name: _, status: _ } => {}
-            Action::OwnerAdd { name: _, user: _ } => {}
-            Action::OwnerRemove { name: _, user: _ } => {}
+            Action::SetAccess {
+                package: _,
+                status: _,
+            } => {}
+            Action::OwnerAdd {
+                package: _,
+                user: _,
+            } => {}
+            Action::OwnerRemove {
+                package: _,
+                user: _,
+            } => {}
             Action::Publish { form: _ } => {}
             Action::TagSet {
-                name: _,
+                package: _,
                 tag: _,
                 version: _,
             } => {}
-            Action::TagRemove { name: _, tag: _ } => {}
+            Action::TagRemove { package: _, tag: _ } => {}
             Action::Withdraw {
-                name: _,
+                package: _,
                 version: _,
             } => {}
             Action::Deprecate {
-                name: _,
+                package: _,
                 selector: _,
                 message: _,
             } => {}
-            Action::Packument { name: _ } => {}
+            Action::Packument { package: _ } => {}
             Action::VersionDoc {
-                name: _,
+                package: _,
                 version: _,
             } => {}
             Action::Archive {
-                name: _,
+                package: _,
                 version: _,
             } => {}
-            Action::Tags { name: _ } => {}
+            Action::Tags { package: _ } => {}
             Action::Members { organisation: _ } => {}
             Action::Teams { organisation: _ } => {}
             Action::TeamMembers {

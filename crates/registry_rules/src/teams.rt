@@ -35,7 +35,7 @@ pub(crate) fn team_destroy_refusal(exists: bool, team: &Ident) -> Option<Refusal
     None
 }
 
-/// A member is in the team. Where he is already, nothing changes.
+/// A member is in the team. Where they are already, nothing changes.
 pub(crate) fn team_joined<'a>(
     alloc: Global,
     organisation: &'a Ident,

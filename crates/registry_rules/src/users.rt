@@ -13,7 +13,7 @@ pub(crate) fn unless_new(exists: bool) -> Option<Refusal>
     if exists { Some(Refusal::Exists) } else { None }
 }
 
-/// What is a user's is added where he is there and it isn't.
+/// What is a user's is added where the user is there and it isn't.
 pub(crate) fn added_to_refusal(user_exists: bool, exists: bool) -> Option<Refusal>
     ensures { result ≡ spec.refuse (not user_exists) refusal.NotFound (spec.unless_new exists) }
 {

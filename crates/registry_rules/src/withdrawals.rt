@@ -10,7 +10,7 @@ ghost use Rattle.registry_names.specs.Versions.{text_of_version};
 ghost use Rattle.registry_rules.specs.Changes.{change_of};
 ghost use Rattle.registry_rules.specs.Effects as effects;
 ghost use Rattle.registry_rules.specs.Refusals as spec;
-ghost use Rattle.registry_rules.specs.Withdrawals as words;
+ghost use Rattle.registry_rules.specs.Withdrawals as definitions;
 
 use crate::change::{Change, Changes};
 use registry_names::{LATEST, Message, Moment, Name, Refusal, Text, Ver};
@@ -25,7 +25,7 @@ const LONGEST_WAIT: i64 = 86_400;
 
 /// Whether the moment of a last withdrawal was less than a day ago, or is still to come.
 pub(crate) fn is_less_than_a_day_ago(now: &Moment, last: Option<Moment>) -> bool
-    ensures { result ≡ words.is_less_than_a_day_ago now.now last }
+    ensures { result ≡ definitions.is_less_than_a_day_ago now.now last }
 {
     match last {
         Some(last) => now.seconds() < last.seconds() + LONGEST_WAIT,
@@ -35,7 +35,7 @@ pub(crate) fn is_less_than_a_day_ago(now: &Moment, last: Option<Moment>) -> bool
 
 // Whether a version was published too long ago. After a clock that went back its age is 0.
 fn is_too_old(now: &Moment, published: Moment) -> bool
-    ensures { result ≡ words.is_too_old now.now published }
+    ensures { result ≡ definitions.is_too_old now.now published }
 {
     published.seconds() + OLDEST <= now.seconds()
 }
@@ -57,9 +57,9 @@ pub(crate) fn withdraw_refusal(
     }
 }
 
-/// What a withdrawal that isn't turned away changes: no tag names the version any more, of which
+/// What a withdrawal that isn't refused changes: no tag names the version any more, of which
 /// `latest` names the greatest other live version instead, where there is one; and then the version
-/// goes. One that doesn't live is turned away.
+/// goes. One that doesn't live is refused.
 pub(crate) fn withdrawal<'a>(
     alloc: Global,
     name: &'a Name,
@@ -94,7 +94,7 @@ fn all_freed<'a>(
     tags: &'a [Text],
 ) -> Result<Changes<'a>, AllocError>
     ensures { IfOk result (λ changes. map change_of changes.items
-        ≡ map (effects.freed name.now (option_map words.text_seen other.entry)) tags.now) }
+        ≡ map (effects.freed name.now (option_map definitions.text_seen other.entry)) tags.now) }
 {
     let mut changes = Vec::new(alloc);
     for tag in tags {
@@ -105,8 +105,8 @@ fn all_freed<'a>(
 
 // The greatest of the live versions but this one, if there is another.
 fn greatest_other<'a>(live: &'a [Ver], version: &Ver) -> Option<&'a Ver>
-    ensures { option_map words.text_seen result ≡ greatest.greatest
-        (words.others (map text_of_version live.now) (text_of_version version.now)) }
+    ensures { option_map definitions.text_seen result ≡ greatest.greatest
+        (definitions.others (map text_of_version live.now) (text_of_version version.now)) }
 {
     let mut best = None;
     for other in live {
@@ -115,10 +115,10 @@ fn greatest_other<'a>(live: &'a [Ver], version: &Ver) -> Option<&'a Ver>
     best
 }
 
-// The greater of both, but for the version that is left out.
+// The greater of both, except the version that is left out.
 fn better<'a>(best: Option<&'a Ver>, other: &'a Ver, without: &Ver) -> Option<&'a Ver>
-    ensures { option_map words.text_seen result ≡ words.better
-        (option_map words.text_seen best.entry) (text_of_version other.now)
+    ensures { option_map definitions.text_seen result ≡ definitions.better
+        (option_map definitions.text_seen best.entry) (text_of_version other.now)
         (text_of_version without.now) }
 {
     if is_same(other, without) {
@@ -146,8 +146,8 @@ fn is_below(one: &Ver, other: &Ver) -> bool
 
 // The one of both with precedence.
 fn greater<'a>(version: &'a Ver, best: Option<&'a Ver>) -> &'a Ver
-    ensures { words.text_seen result
-        ≡ greatest.greater (text_of_version version.now) (option_map words.text_seen best.entry) }
+    ensures { definitions.text_seen result
+        ≡ greatest.greater (text_of_version version.now) (option_map definitions.text_seen best.entry) }
 {
     match best {
         Some(best) if is_below(version, best) => best,
@@ -166,7 +166,7 @@ fn is_latest(tag: &Text) -> bool
 // else it goes.
 fn freed<'a>(name: &'a Name, other: Option<&'a Ver>, tag: &'a Text) -> Change<'a>
     ensures { change_of result
-        ≡ effects.freed name.now (option_map words.text_seen other.entry) tag.now }
+        ≡ effects.freed name.now (option_map definitions.text_seen other.entry) tag.now }
 {
     let text = tag.as_str();
     match other {
@@ -193,7 +193,7 @@ pub(crate) fn deprecation<'a>(
 ) -> Result<Changes<'a>, AllocError>
     ensures { IfOk result (λ changes. map change_of changes.items
         ≡ effects.deprecation name.now message.now
-        (words.selected (map text_of_version live.now) selector.now)) }
+        (definitions.selected (map text_of_version live.now) selector.now)) }
 {
     let mut changes = Vec::new(alloc);
     for version in live {
@@ -212,7 +212,7 @@ fn push_message<'a>(
 ) -> Result<(), AllocError>
     ensures { OnOk result (map change_of changes.new.items ≡ map change_of changes.old.items
         ++ effects.deprecation name.now message.now
-        (words.selected (text_of_version version.now ∷ []) selector.now)) }
+        (definitions.selected (text_of_version version.now ∷ []) selector.now)) }
 {
     if selects(selector, version) {
         changes.push(Change::PutDeprecation {
@@ -225,7 +225,7 @@ fn push_message<'a>(
 }
 
 fn selects(selector: &Selector, version: &Ver) -> bool
-    ensures { result ≡ words.selects selector.now (text_of_version version.now) }
+    ensures { result ≡ definitions.selects selector.now (text_of_version version.now) }
 {
     version.text();
     selector.selects(version)

@@ -1,2 +1,2 @@
-mod LineFacts
+mod StateFacts
 mod WorldFacts

@@ -1,14 +1,14 @@
--- What the calls of a line make of all connections.
+-- What the calls of one connection make of all of them.
 use Rattle.std.proofs.Common.{◌≡◌, ◌==◌, ◌<◌, ◌-◌, ◌+◌, ◌++◌, ◌∷◌, ◌∙◌, ℕ, Bool, true, false, List, None, cond, length, take, drop, refl, sym, ap, subst, arith, append_assoc, append-nil, is_some}
 use Rattle.std.proofs.lemmas.Bool.Decides.{nat_tests}
 use Rattle.std.proofs.lemmas.List.{take-append-drop}
 use Rattle.registry_wire.specs.Reading.{TakenOf}
-use Rattle.registry_talk.specs.Courses.{count_of, taken_for}
-use Rattle.registry_talk.specs.Histories.{Line, Reached, World, at_end, comes, is_last, on_line, sends, shuts, turned_on, turns, turns_of, with_bytes, with_sent, with_turn}
-use Rattle.registry_talk.specs.Turns.{Answers, Cause, IsTurn, IsTurnFor, Turn, bad_input, is_request, no_memory, request, response_of}
-use Rattle.registry_talk.proofs.CourseFacts.{bytes-same, on-not_last, on-request}
-use Rattle.registry_server.specs.Lines.{Pending, holding, sending}
-use Rattle.registry_server.specs.Worlds.{Begins, Comes, LeadsTo, MayHave, Sends, Shuts, LineShows, TakesTurns}
+use Rattle.registry_service.specs.Courses.{count_of, taken_for}
+use Rattle.registry_service.specs.Histories.{Transcript, Reached, World, at_end, comes, is_last, on_connection, sends, shuts, turned_on, turns, turns_of, with_bytes, with_sent, with_turn}
+use Rattle.registry_service.specs.Turns.{Answering, Cause, IsTurn, IsTurnFor, Turn, bad_input, is_request, no_memory, request, response_of}
+use Rattle.registry_service.proofs.CourseFacts.{bytes-same, on-not_last, on-request}
+use Rattle.registry_server.specs.ConnectionStates.{Pending, holding, sending}
+use Rattle.registry_server.specs.Worlds.{Begins, Comes, LeadsTo, MayHave, Sends, Shuts, StateShows, TakesTurns}
 
 -- ---- one connection of a world
 
@@ -23,18 +23,18 @@ pick-second : {A : Type 0} (b : Bool) (x y : A) → b ≡ false → cond b x y �
 pick-second false x y is = refl
 pick-second true x y is = cc
 
--- a line that shows this connection stands for it
-stands-with : {D : Type 0} (w : World D) (k : ℕ) (over : Bool) (p : Pending) (l : Line) (ts : List Turn) → w.lines k ≡ l → turns_of k w.log ≡ ts
-    → l.rest ≡ p.held → l.shut ≡ over → l.out ≡ l.sent ++ p.unsent → (p.ends ≡ None → MayHave ts p.left) → LineShows w k over p
-stands-with w k over p l ts line turned held shut unsent may = record {
-  held = ap (λ (m : Line). m.rest) line ∙ held;
-  shut = ap (λ (m : Line). m.shut) line ∙ shut;
-  unsent = ap (λ (m : Line). m.out) line ∙ unsent ∙ ap (λ (m : Line). m.sent ++ p.unsent) (sym line);
+-- a state that shows this connection represents it
+stands-with : {D : Type 0} (w : World D) (k : ℕ) (over : Bool) (p : Pending) (l : Transcript) (ts : List Turn) → w.transcripts k ≡ l → turns_of k w.log ≡ ts
+    → l.rest ≡ p.held → l.shut ≡ over → l.out ≡ l.sent ++ p.outgoing → (p.ends ≡ None → MayHave ts p.left) → StateShows w k over p
+stands-with w k over p l ts transcript turned held shut outgoing may = record {
+  held = ap (λ (m : Transcript). m.rest) transcript ∙ held;
+  shut = ap (λ (m : Transcript). m.shut) transcript ∙ shut;
+  outgoing = ap (λ (m : Transcript). m.out) transcript ∙ outgoing ∙ ap (λ (m : Transcript). m.sent ++ p.outgoing) (sym transcript);
   may_have = λ going. subst (λ (us : List Turn). MayHave us p.left) (sym turned) (may going);
 }
 
-stands-still : {D : Type 0} (w v : World D) (j : ℕ) (o : Bool) (q : Pending) → v.lines j ≡ w.lines j → turns_of j v.log ≡ turns_of j w.log → LineShows w j o q → LineShows v j o q
-stands-still w v j o q line turned s = stands-with v j o q (w.lines j) (turns_of j w.log) line turned s.held s.shut s.unsent s.may_have
+stands-still : {D : Type 0} (w v : World D) (j : ℕ) (o : Bool) (q : Pending) → v.transcripts j ≡ w.transcripts j → turns_of j v.log ≡ turns_of j w.log → StateShows w j o q → StateShows v j o q
+stands-still w v j o q transcript turned s = stands-with v j o q (w.transcripts j) (turns_of j w.log) transcript turned s.held s.shut s.outgoing s.may_have
 
 same-last : (n left : ℕ) → n + left ≡ 1000 → (left == 1) ≡ (n + 1 == 1000)
 same-last n left all = grind (arith, nat_tests, all)
@@ -56,70 +56,70 @@ may-more ts t left left2 may going is less =
       all = omega (arith, may.all, may.some, less);
     }
 
-module _ {D : Type 0} (answers : Answers D) where
+module _ {D : Type 0} (answers : Answering D) where
   -- a change of one connection alone
-  leads-on : (M : D) (w : World D) (k : ℕ) (over : Bool) (q : Pending) (change : Line → Line) → Reached answers M (on_line w k change)
-      → (change (w.lines k)).rest ≡ q.held → (change (w.lines k)).shut ≡ over → (change (w.lines k)).out ≡ (change (w.lines k)).sent ++ q.unsent
-      → (q.ends ≡ None → MayHave (turns_of k w.log) q.left) → LeadsTo answers M w k over q w.desk
-  leads-on M w k over q change reached held shut unsent may = record {
-    world = on_line w k change;
+  leads-on : (M : D) (w : World D) (k : ℕ) (over : Bool) (q : Pending) (change : Transcript → Transcript) → Reached answers M (on_connection w k change)
+      → (change (w.transcripts k)).rest ≡ q.held → (change (w.transcripts k)).shut ≡ over → (change (w.transcripts k)).out ≡ (change (w.transcripts k)).sent ++ q.outgoing
+      → (q.ends ≡ None → MayHave (turns_of k w.log) q.left) → LeadsTo answers M w k over q w.service
+  leads-on M w k over q change reached held shut outgoing may = record {
+    world = on_connection w k change;
     reached = reached;
-    desk = refl;
-    stands = stands-with (on_line w k change) k over q (change (w.lines k)) (turns_of k w.log)
-        (pick-first (k == k) (change (w.lines k)) (w.lines k) (at-same k)) refl held shut unsent may;
-    others = λ j o x e s. stands-still w (on_line w k change) j o x (pick-second (j == k) (change (w.lines j)) (w.lines j) e) refl s;
+    service = refl;
+    stands = stands-with (on_connection w k change) k over q (change (w.transcripts k)) (turns_of k w.log)
+        (pick-first (k == k) (change (w.transcripts k)) (w.transcripts k) (at-same k)) refl held shut outgoing may;
+    others = λ j o x e s. stands-still w (on_connection w k change) j o x (pick-second (j == k) (change (w.transcripts j)) (w.transcripts j) e) refl s;
   }
 
-  pub line-begins : Begins answers
-  line-begins M k = record {
+  pub state-begins : Begins answers
+  state-begins M k = record {
     held = refl;
     shut = refl;
-    unsent = refl;
+    outgoing = refl;
     may_have = λ going. record { go_on = tt; some = omega arith; all = refl };
   }
 
-  pub line-comes : Comes answers
-  line-comes M w k p bytes r s = leads-on M w k false (holding p (p.held ++ bytes)) (with_bytes bytes) (comes w r k bytes s.shut)
-      (ap (λ (l : List ℕ). l ++ bytes) s.held) s.shut s.unsent s.may_have
+  pub state-comes : Comes answers
+  state-comes M w k p bytes r s = leads-on M w k false (holding p (p.held ++ bytes)) (with_bytes bytes) (comes w r k bytes s.shut)
+      (ap (λ (l : List ℕ). l ++ bytes) s.held) s.shut s.outgoing s.may_have
 
-  pub line-shuts : Shuts answers
-  line-shuts M w k over p r s = leads-on M w k true p at_end (shuts w r k) s.held refl s.unsent s.may_have
+  pub state-shuts : Shuts answers
+  state-shuts M w k over p r s = leads-on M w k true p at_end (shuts w r k) s.held refl s.outgoing s.may_have
 
-  pub line-sends : Sends answers
-  line-sends M w k over p count r s =
-      let l = w.lines k in
-      let split : l.out ≡ (l.sent ++ take count p.unsent) ++ drop count p.unsent =
-      s.unsent ∙ ap (λ (u : List ℕ). l.sent ++ u) (sym (take-append-drop count p.unsent)) ∙ sym (append_assoc l.sent (take count p.unsent) (drop count p.unsent)) in
-      leads-on M w k over (sending p (drop count p.unsent)) (with_sent (l.sent ++ take count p.unsent))
-      (sends w r k (l.sent ++ take count p.unsent) (drop count p.unsent) split) s.held s.shut split s.may_have
+  pub state-sends : Sends answers
+  state-sends M w k over p count r s =
+      let l = w.transcripts k in
+      let split : l.out ≡ (l.sent ++ take count p.outgoing) ++ drop count p.outgoing =
+      s.outgoing ∙ ap (λ (u : List ℕ). l.sent ++ u) (sym (take-append-drop count p.outgoing)) ∙ sym (append_assoc l.sent (take count p.outgoing) (drop count p.outgoing)) in
+      leads-on M w k over (sending p (drop count p.outgoing)) (with_sent (l.sent ++ take count p.outgoing))
+      (sends w r k (l.sent ++ take count p.outgoing) (drop count p.outgoing) split) s.held s.shut split s.may_have
 
-  pub line-turns : TakesTurns answers
-  line-turns M w k over p q N readings readings2 r s going none t =
-      let l = w.lines k in
+  pub state-turns : TakesTurns answers
+  state-turns M w k over p q N readings readings2 r s going none t =
+      let l = w.transcripts k in
       let ts = turns_of k w.log in
       let may = s.may_have going in
       let turn : Turn = record { cause = t.cause; outcome = t.turns.outcome; ended = t.turned.end } in
       let took : TakenOf l.rest q.held (l.shut ≡ true) (taken_for t.cause) =
       subst (λ (bs : List ℕ). TakenOf bs q.held (l.shut ≡ true) (taken_for t.cause)) (sym s.held)
       (subst (λ (b : Bool). TakenOf p.held q.held (b ≡ true) (taken_for t.cause)) (sym s.shut) t.took) in
-      let is_turn : IsTurn answers w.desk (is_last ts) turn N =
-      subst (λ (b : Bool). IsTurnFor answers t.cause w.desk b t.turns.outcome t.turned.end N) (same-last (length ts) p.left may.all) t.turns.is_turn in
+      let is_turn : IsTurn answers w.service (is_last ts) turn N =
+      subst (λ (b : Bool). IsTurnFor answers t.cause w.service b t.turns.outcome t.turned.end N) (same-last (length ts) p.left may.all) t.turns.is_turn in
       let v = turned_on w k turn q.held N in
-      let sent : l.out ≡ l.sent = s.unsent ∙ ap (λ (u : List ℕ). l.sent ++ u) none ∙ append-nil l.sent in
-      let unsent : l.out ++ response_of turn ≡ l.sent ++ q.unsent =
+      let sent : l.out ≡ l.sent = s.outgoing ∙ ap (λ (u : List ℕ). l.sent ++ u) none ∙ append-nil l.sent in
+      let outgoing : l.out ++ response_of turn ≡ l.sent ++ q.outgoing =
       ap (λ (u : List ℕ). u ++ response_of turn) sent
-      ∙ ap (λ (u : List ℕ). l.sent ++ u) (sym (t.unsent ∙ bytes-same t.turns.outcome t.turned.answer (is_some t.turned.end) t.turns.answer)) in
+      ∙ ap (λ (u : List ℕ). l.sent ++ u) (sym (t.outgoing ∙ bytes-same t.turns.outcome t.turned.answer (is_some t.turned.end) t.turns.answer)) in
       let later : q.ends ≡ None → MayHave (turn ∷ ts) q.left = λ stays.
       let ended = sym t.ends ∙ stays in
-      let one = count-one t.cause (on-request answers t.cause w.desk (p.left == 1) t.turns.outcome t.turned.end N t.turns.is_turn ended) in
-      let last = on-not_last answers t.cause w.desk (p.left == 1) t.turns.outcome t.turned.end N t.turns.is_turn ended in
+      let one = count-one t.cause (on-request answers t.cause w.service (p.left == 1) t.turns.outcome t.turned.end N t.turns.is_turn ended) in
+      let last = on-not_last answers t.cause w.service (p.left == 1) t.turns.outcome t.turned.end N t.turns.is_turn ended in
       may-more ts turn p.left q.left may ended last (t.left ∙ ap (λ (n : ℕ). p.left - n) one) in
       record {
         world = v;
         reached = turns w r k turn q.held N may.go_on took is_turn;
-        desk = refl;
+        service = refl;
         stands = stands-with v k over q (with_turn turn q.held l) (turn ∷ ts)
-            (pick-first (k == k) (with_turn turn q.held l) l (at-same k)) (pick-first (k == k) (turn ∷ ts) ts (at-same k)) refl s.shut unsent later;
-        others = λ j o x e still. stands-still w v j o x (pick-second (j == k) (with_turn turn q.held (w.lines j)) (w.lines j) e)
+            (pick-first (k == k) (with_turn turn q.held l) l (at-same k)) (pick-first (k == k) (turn ∷ ts) ts (at-same k)) refl s.shut outgoing later;
+        others = λ j o x e still. stands-still w v j o x (pick-second (j == k) (with_turn turn q.held (w.transcripts j)) (w.transcripts j) e)
             (pick-second (j == k) (turn ∷ turns_of j w.log) (turns_of j w.log) e) still;
       }

@@ -1,3 +1,3 @@
-pub mod Lines
+pub mod ConnectionStates
 pub mod Flows
 pub mod Worlds

@@ -3,7 +3,7 @@
 ghost use Rattle.std.specs.Prelude.{◌≡◌, ◌≤◌};
 
 use registry_names::Moment;
-use registry_talk::Clock;
+use registry_service::Clock;
 use std::time::{Instant, SystemTime};
 use std::{io, time};
 
@@ -27,7 +27,7 @@ impl<R: time::Clock> Clock for WallClock<'_, R> {
     ghost readings = { λ _. None };
 
     fn now(&mut self) -> Moment {
-        if let Ok(at) = moment(self.source) {
+        if let Ok(at) = clamped_moment(self.source) {
             self.last = at;
         }
         self.last
@@ -35,7 +35,7 @@ impl<R: time::Clock> Clock for WallClock<'_, R> {
 }
 
 /// The moment that it is. An error comes where the clock can't be read.
-pub fn moment<R: time::Clock>(source: &R) -> io::Result<Moment> {
+pub fn clamped_moment<R: time::Clock>(source: &R) -> io::Result<Moment> {
     let since = SystemTime::now(source)?.duration_since(SystemTime::UNIX_EPOCH);
     let seconds = since.map_or(0, |passed| passed.as_secs());
     Ok(Moment::clamped(i64::try_from(seconds).unwrap_or(i64::MAX)))

@@ -1,18 +1,18 @@
 //! The loop over all connections.
 
-use crate::clocks::{Timer, WallClock, moment};
-use crate::door::Door;
-use crate::hall::{Hall, SEAT_COUNT};
+use crate::clocks::{Timer, WallClock, clamped_moment};
+use crate::listener::Listener;
+use crate::pool::{CONNECTION_COUNT, ConnectionPool};
 use mio::net::TcpStream;
 use mio::{Events, Interest, Poll, Token};
-use registry_talk::Desk;
+use registry_service::Service;
 use std::alloc::Global;
 use std::net::Net;
 use std::time::{Duration, Instant};
 use std::{io, time};
 
-/// The token of the door. Those of connections are their places.
-const DOOR: Token = Token(SEAT_COUNT);
+/// The token of the listener. Those of connections are their places.
+const LISTENER: Token = Token(CONNECTION_COUNT);
 
 /// The most events of one wait.
 const EVENT_COUNT: usize = 256;
@@ -27,8 +27,8 @@ const LOOK_TIME: u64 = 250;
 #[derive(Drop)]
 pub struct Server {
     poll: Poll,
-    door: Door,
-    hall: Hall,
+    listener: Listener,
+    pool: ConnectionPool,
     // When to look for connections that are late.
     next_look: u64,
 }
@@ -38,30 +38,30 @@ impl Server {
     /// least. The errors are those of the system.
     pub fn bind<R: Net>(rt: &R, alloc: Global, port: u16, count: u64) -> io::Result<Server> {
         let poll = Poll::new(rt)?;
-        let door = Door::open(rt, poll.registry(), DOOR, port, count)?;
+        let listener = Listener::open(rt, poll.registry(), LISTENER, port, count)?;
         Ok(Server {
             poll,
-            door,
-            hall: Hall::new(alloc)?,
+            listener,
+            pool: ConnectionPool::new(alloc)?,
             next_look: 0,
         })
     }
 
     /// The port at which it listens.
     pub fn port(&self) -> io::Result<u16> {
-        self.door.port()
+        self.listener.port()
     }
 
-    /// Serves at a desk until the last connection has come in and all have ended. An error comes
-    /// where a clock can't be read at first, or the system can't be asked what is ready.
-    pub fn run<R: time::Clock, D: Desk>(
+    /// Serves with a service until the last connection has come in and all have ended. An error
+    /// comes where a clock can't be read at first, or the system can't be asked what is ready.
+    pub fn run<R: time::Clock, D: Service>(
         mut self,
         rt: &R,
         alloc: Global,
-        desk: &mut D,
+        service: &mut D,
     ) -> io::Result<()> {
         let start = Instant::now(rt)?;
-        let at = moment(rt)?;
+        let at = clamped_moment(rt)?;
         let mut timer = Timer::new(rt, start);
         let mut clock = WallClock::new(rt, at);
         let mut events = Events::with_capacity(alloc, EVENT_COUNT)?;
@@ -72,10 +72,10 @@ impl Server {
             let now = timer.now();
             self.wake(&events);
             self.admit(alloc, now);
-            self.hall
-                .visit_all(alloc, desk, &mut clock, &mut buffer, now);
+            self.pool
+                .visit_all(alloc, service, &mut clock, &mut buffer, now);
             self.end_late(now);
-            if self.door.is_shut() && self.hall.is_empty() {
+            if self.listener.is_shut() && self.pool.is_empty() {
                 break;
             }
         }
@@ -84,7 +84,7 @@ impl Server {
 
     // How long to wait for what is ready: not at all while a connection may go on.
     fn patience(&self) -> Duration {
-        if self.hall.is_busy() {
+        if self.pool.is_busy() {
             Duration::from_millis(0)
         } else {
             Duration::from_millis(LOOK_TIME)
@@ -93,45 +93,45 @@ impl Server {
 
     fn wake(&mut self, events: &Events) {
         for event in events.iter() {
-            if event.token() == DOOR {
-                self.door.ask();
+            if event.token() == LISTENER {
+                self.listener.ask();
             } else {
-                self.hall.wake(event.token().0);
+                self.pool.wake(event.token().0);
             }
         }
     }
 
     // Lets in who is there, as long as there are places.
     fn admit(&mut self, alloc: Global, now: u64) {
-        for _ in 0..SEAT_COUNT {
-            if !self.door.is_asked() {
+        for _ in 0..CONNECTION_COUNT {
+            if !self.listener.is_asked() {
                 return;
             }
-            let Some(place) = self.hall.place() else {
+            let Some(place) = self.pool.place() else {
                 return;
             };
-            match self.door.admit() {
-                Some(stream) => self.seat(alloc, place, stream, now),
+            match self.listener.admit() {
+                Some(stream) => self.add_connection(alloc, place, stream, now),
                 None => return,
             }
         }
     }
 
-    // A connection takes a place. One that the system can't tell of ends.
-    fn seat(&mut self, alloc: Global, place: usize, mut stream: TcpStream, now: u64) {
+    // A connection takes a place. One that the system can't report on ends.
+    fn add_connection(&mut self, alloc: Global, place: usize, mut stream: TcpStream, now: u64) {
         let interest = Interest::READABLE | Interest::WRITABLE;
         let registered = self
             .poll
             .registry()
             .register(&mut stream, Token(place), interest);
         if registered.is_ok() && stream.set_nodelay(true).is_ok() {
-            self.hall.seat(alloc, place, stream, now);
+            self.pool.add(alloc, place, stream, now);
         }
     }
 
     fn end_late(&mut self, now: u64) {
         if self.next_look <= now {
-            self.hall.end_late(now);
+            self.pool.end_late(now);
             self.next_look = now.saturating_add(LOOK_TIME);
         }
     }

@@ -3,7 +3,7 @@
 ghost use Rattle.std.specs.Prelude.{length};
 ghost use Rattle.registry_server.specs.Flows.{MovesAtMost};
 
-use crate::unsent::Unsent;
+use crate::outgoing::Outgoing;
 use mio::net::TcpStream;
 use std::io;
 use std::io::{ErrorKind, IoSlice, Read};
@@ -34,10 +34,10 @@ pub fn receive(stream: &TcpStream, buffer: &mut [u8]) -> Flow
 }
 
 /// Writes once what is left of a response, its head and its body in one call.
-pub fn send(stream: &TcpStream, unsent: &Unsent) -> Flow
-    ensures { MovesAtMost (length unsent.now) result }
+pub fn send(stream: &TcpStream, outgoing: &Outgoing) -> Flow
+    ensures { MovesAtMost (length outgoing.now) result }
 {
-    let (head, body) = unsent.parts();
+    let (head, body) = outgoing.parts();
     match stream.write_vectored(&[IoSlice::new(head), IoSlice::new(body)]) {
         Ok(count) => Flow::Moved(count),
         Err(error) => failed(&error),

@@ -20,7 +20,7 @@ organisation_is r o e = ap (λ os. is_some (at (rows text_cmp (map organisation_
 pub organisation_isnt : (r : AccessRows) (o : Text) → r.organisations.items ≡ [] → has_organisation (state_of r) o ≡ false
 organisation_isnt r o e = ap (λ os. is_some (at (rows text_cmp (map organisation_entry os)) o)) e ∙ ap is_some (at-rows text_key [] o)
 
--- a row of the member says what he is, and no row that he isn't one
+-- a row of the member says what they are, and no row that they aren't one
 pub member_is : (r : AccessRows) (o u : Text) (role : Role) → r.members.items ≡ record { organisation = o; user = u; role = role } ∷ [] → role_of (state_of r) (User u) o ≡ Some role
 member_is r o u role e = ap (λ ms. at (rows pair_cmp (map member_entry ms)) (o, u)) e ∙ at-rows pair_key (((o, u), role) ∷ []) (o, u)
     ∙ ap (λ b. cond b (Some role) None) (same_self pair_key (o, u))

@@ -139,9 +139,9 @@ held_found p v old new rows form call clean =
     let it = select_finds held_mapped held_text (col 1 3 ∷ []) _ held_means (p, v) held_spelled (λ (n : ℤ). n) (λ id vs. refl) old new rows form call clean in
     (it.0, first_listed held_spelled rows _ it.1 ∙ option_map_id (at (stored old).held (p, v)))
 
--- ---- an archive that stands, or is added
+-- ---- an archive that is there, or is added
 
--- it stands as it was
+-- it is as it was
 pub stands_stored : (integrity : Text) (bytes : List ℕ) (c : Contents) (n : ℤ) → number_of integrity bytes c.archives ≡ Some n → (c ≡ with_archive integrity bytes c) × (n ≡ archive_number integrity bytes c)
 stands_stored integrity bytes c n e = (
   rw (ap is_some e) refl,

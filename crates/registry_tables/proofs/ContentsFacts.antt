@@ -1,4 +1,4 @@
--- What the tables hold is told by their rows alone.
+-- What the tables hold is determined by their rows alone.
 use Rattle.std.proofs.Common.{◌≡◌, [], refl}
 use Rattle.sqlite_sql.specs.Ops.{unary}
 use Rattle.registry_names.specs.Maps.{rows, empty}
@@ -12,10 +12,10 @@ use Rattle.registry_tables.specs.Contents.{contents, archive_in, held_in, nothin
 use Rattle.registry_tables.specs.Fresh.{no_contents}
 
 pub contents_depend : DependsOn schema contents
-contents_depend old new (users, (tokens, (orgs, (members, (teams, (team_members, (packages, (grants, (owners, (versions, (spent, (tags, (needs, (meta, (need_ranges, (held, (archives, (counters, none)))))))))))))))))) = λ i. record {
+contents_depend old new (users, (tokens, (organisations, (members, (teams, (team_members, (packages, (grants, (owners, (versions, (spent, (tags, (needs, (meta, (need_ranges, (held, (archives, (counters, none)))))))))))))))))) = λ i. record {
   users = map_of 0 nothing_in (users i);
   tokens = map_by bytes user_in (tokens i);
-  orgs = map_of 0 nothing_in (orgs i);
+  organisations = map_of 0 nothing_in (organisations i);
   members = map_of 1 role_in (members i);
   teams = map_of 1 nothing_in (teams i);
   team_members = map_of 2 nothing_in (team_members i);

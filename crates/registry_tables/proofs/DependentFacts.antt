@@ -53,7 +53,7 @@ use Rattle.registry_tables.specs.Withdrawals.{is_foreign_need, ranges_on}
 use Rattle.registry_tables.proofs.MappedFacts.{need_ranges_mapped}
 use Rattle.registry_tables.proofs.RetiredFacts.{any_where, where_any}
 
--- ---- SELECT by target, but for a package's own needs
+-- ---- SELECT by target, except a package's own needs
 
 abbrev list_text : List ℕ
 list_text = codes "SELECT range, package, version FROM need_ranges WHERE target = ?1 AND package <> ?1 ORDER BY package, version, target, range"

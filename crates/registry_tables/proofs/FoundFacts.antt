@@ -1,4 +1,4 @@
--- What a query by key tells of its map: whether something is there.
+-- What a query by key says of its map: whether something is there.
 use Rattle.std.proofs.Common.{◌≡◌, ◌==◌, ℕ, List, [], ◌∷◌, map, length, not, Option, None, Some, is_some, option_map, arith, ne_eqb, refl, ap, ◌∙◌}
 use Rattle.sqlite_value.specs.Order.{Row}
 use Rattle.sqlite_trees.specs.Tree.{Trees}

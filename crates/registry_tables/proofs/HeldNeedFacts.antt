@@ -18,7 +18,7 @@ use Rattle.registry_tables.specs.Contents.{Contents}
 use Rattle.registry_tables.specs.Fresh.{fresh}
 use Rattle.registry_tables.specs.Needs.{need_key, with_need, with_needs, names_range, names_if_any, HoldsNeeds}
 
--- ---- what stands after a list of needs was put
+-- ---- what is there after a list of needs was put
 
 none_more : (b : Bool) (o : Bool) → ((b && false) || o) ≡ o
 none_more true o = refl
@@ -31,7 +31,7 @@ one_more true true true true o = refl
 one_more true true true false o = refl
 one_more true true false others o = refl
 
--- a target and a range stand where they stood, and under this version where the list names them
+-- a target and a range are where they were, and under this version where the list names them
 at-with_needs : (m : TextsMap 3 (Unit {0})) (p v : Text) (needs : List Need) (q w target range : Text)
     → is_some (at (with_needs m p v needs) (q, (w, (target, range)))) ≡ ((pair_is (p, v) (q, w) && names_range target range needs) || is_some (at m (q, (w, (target, range)))))
 at-with_needs m p v [] q w target range = sym (none_more (pair_is (p, v) (q, w)) _)

@@ -1,5 +1,5 @@
 -- What the join of team_members and grants shows: what a user's teams are granted. Those of a
--- package's scope are all that he has.
+-- package's scope are all that they have.
 use Rattle.std.proofs.Common.{◌≡◌, inl, inr, ℕ, List, [], ◌∷◌, map, codes, Bool, true, false, ◌&&◌, Option, Some, None, refl, sym, ap, ap₂, subst, ◌∙◌, true≢false}
 use Rattle.std.specs.Prelude.{◌↔◌, IsSome, is_some}
 use Rattle.std.specs.List.{list_any}
@@ -31,8 +31,8 @@ use Rattle.registry_rows.proofs.ListFacts.{has_mapped, map_has}
 use Rattle.registry_rows.proofs.ListingFacts.{first_risen}
 use Rattle.registry_rows.proofs.OrderFacts.{found_has}
 use Rattle.registry_rows.proofs.RowFacts.{some_same}
-use Rattle.registry_parts.specs.Joins.{Side, given, first, second, comparisons, join, joins, IsJoined}
-use Rattle.registry_parts.proofs.JoinFacts.{select_joins}
+use Rattle.registry_sql_laws.specs.Joins.{Side, given, first, second, comparisons, join, joins, IsJoined}
+use Rattle.registry_sql_laws.proofs.JoinFacts.{select_joins}
 use Rattle.registry_tables.specs.Schema.{schema}
 use Rattle.registry_tables.specs.Contents.{Contents, access_of}
 use Rattle.registry_tables.specs.Effects.{stored}
@@ -59,16 +59,16 @@ module _ (c : Contents) (o u p : Text) (shown : List Grant)
       let it = (tells h.0).0 h.1 in
       let k = it.key in
       let l = it.other_key in
-      let org = and_parts (is o k.0) _ it.pass in
-      let user = and_parts (is u k.1.1) _ org.1 in
-      let same_org = and_parts (is o l.0) _ user.1 in
-      let team = and_parts (is k.1.0 l.1.0) _ same_org.1 in
+      let organisation = and_parts (is o k.0) _ it.pass in
+      let user = and_parts (is u k.1.1) _ organisation.1 in
+      let same_organisation = and_parts (is o l.0) _ user.1 in
+      let team = and_parts (is k.1.0 l.1.0) _ same_organisation.1 in
       let pack = and_parts (is p l.1.1) _ team.1 in
-      let key : l ≡ (k.0, (k.1.0, p)) = ap₂ (λ (a : Text) (b : Text × Text). (a, b)) (sym (is_true o l.0 same_org.0) ∙ is_true o k.0 org.0)
+      let key : l ≡ (k.0, (k.1.0, p)) = ap₂ (λ (a : Text) (b : Text × Text). (a, b)) (sym (is_true o l.0 same_organisation.0) ∙ is_true o k.0 organisation.0)
       (ap₂ (λ (a b : Text). (a, b)) (sym (is_true k.1.0 l.1.0 team.0)) (sym (is_true p l.1.1 pack.0))) in
       let there : Has (keys (entries c.team_members)) k = map_has (λ (e : Triple × Unit {0}). e.0) (entries c.team_members) _ (found_has triple_key k it.value (entries c.team_members) (sym (at-entries triple_key c.team_members k) ∙ it.there)) in
       some_from test (keys (entries c.team_members)) k there
-      (and_from _ _ (and_from _ _ org.0 user.0) (ap (λ x. grants x g) (ap (at c.grants) (sym key) ∙ it.other_there) ∙ ap (λ (z : Grant). is_grant z g) (sym it.shown) ∙ h.2))
+      (and_from _ _ (and_from _ _ organisation.0 user.0) (ap (λ x. grants x g) (ap (at c.grants) (sym key) ∙ it.other_there) ∙ ap (λ (z : Grant). is_grant z g) (sym it.shown) ∙ h.2))
 
   -- a grant of a team is shown
   granted_shown : granted_in c o u p g ≡ true → is_listed shown g ≡ true
@@ -151,9 +151,9 @@ pub strangers_have_none : (c : Contents) → AreTeamsSound c → (o u p : Text) 
 strangers_have_none c sound o u p g scope none = false_from_ne_true _ (λ any.
     let k = some_has (λ (k : Triple). is k.1.1 u && grants (at c.grants (k.0, (k.1.0, p))) g) (keys (entries c.team_members)) any in
     let both = and_parts _ _ k.2 in
-    let same_org : k.0.0 ≡ o = some_same (sym (scope_is c sound.grants u p g k.0 both.1) ∙ scope) in
+    let same_organisation : k.0.0 ≡ o = some_same (sym (scope_is c sound.grants u p g k.0 both.1) ∙ scope) in
     let same_user : k.0.1.1 ≡ u = is_true k.0.1.1 u both.0 in
     let e = has_mapped (λ (e : Triple × Unit {0}). e.0) (entries c.team_members) k.0 k.1 in
     let x = first_risen triple_key k.0 e.0.1 (entries c.team_members) (entries_rise c.team_members) (subst (λ (j : Triple). Has (entries c.team_members) (j, e.0.1)) (sym e.2) e.1) in
     let member : IsSome (at c.members (k.0.0, k.0.1.1)) = sound.members k.0.0 k.0.1.0 k.0.1.1 (is_there (at-entries triple_key c.team_members k.0 ∙ x)) in
-    true≢false (sym member ∙ ap₂ (λ (a b : Text). is_some (at c.members (a, b))) same_org same_user ∙ none))
+    true≢false (sym member ∙ ap₂ (λ (a b : Text). is_some (at c.members (a, b))) same_organisation same_user ∙ none))

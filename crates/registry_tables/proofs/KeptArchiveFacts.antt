@@ -85,11 +85,11 @@ module _ (integrity : Text) (bytes : List ℕ) (c : Contents) where
     | inr other ↦ other
   ]
 
-  -- what stands there after
+  -- what is there after
   at-more : (o : Option ℤ) → number_of integrity bytes c.archives ≡ o → (n : ℤ) → at more n ≡ at (if is_some o then c.archives else put c.archives (next_archive c) new_archive) n
   at-more o e n = ap (λ (p : Option ℤ). at (if is_some p then c.archives else put c.archives (next_archive c) new_archive) n) e
 
-  -- what stood there stays
+  -- what was there stays
   pub stands_after : (n : ℤ) (a : Archive) → at c.archives n ≡ Some a → at more n ≡ Some a
   stands_after n a e = go (number_of integrity bytes c.archives) refl
     where
@@ -105,7 +105,7 @@ module _ (integrity : Text) (bytes : List ℕ) (c : Contents) where
       go (Some m) f = ap (λ (p : Option ℤ). at more (unwrap_or p (next_archive c))) f ∙ at-more (Some m) f m ∙ found_stands integrity bytes c.archives m f
       go None f = ap (λ (p : Option ℤ). at more (unwrap_or p (next_archive c))) f ∙ at-more None f (next_archive c) ∙ at-put_same number_key c.archives (next_archive c) new_archive
 
-  -- what stands after stood there, or is the new one where none was
+  -- what is there afterwards was there, or is the new one where none was
   pub stood_before : (n : ℤ) (a : Archive) → at more n ≡ Some a → (at c.archives n ≡ Some a) ⊎ ((number_of integrity bytes c.archives ≡ None) × (n ≡ archive_number integrity bytes c) × (a ≡ new_archive))
   stood_before n a e = go (number_of integrity bytes c.archives) refl
     where
@@ -212,7 +212,7 @@ others_keep_archives c d versions held archives h = record {
 }
 
 module _ (f : FormParts) (now : ℕ) (c : Contents) (integrity : f.integrity ≡ integrity_text f.archive) (new : is_some (at c.versions (f.name, version_of f)) ≡ false) (h : HoldsArchives c) where
-  -- what stands after stood before, or is the form's
+  -- what is there afterwards was there before, or is the form's
   abbrev IsBefore : ℤ → Archive → Type 0
   IsBefore n a = (at c.archives n ≡ Some a) ⊎ ((number_of f.integrity f.archive c.archives ≡ None) × (n ≡ number f now c) × (a ≡ new_archive f.integrity f.archive c))
 
@@ -236,7 +236,7 @@ module _ (f : FormParts) (now : ℕ) (c : Contents) (integrity : f.integrity ≡
   whole n a (inl e) = h.integrity n a e
   whole n a (inr it) = subst (λ (b : Archive). b.integrity ≡ integrity_text b.bytes) (sym it.2) integrity
 
-  -- the bytes of an archive that stood can't be the form's, where none was found
+  -- the bytes of an archive that was there can't be the form's, where none was found
   never : (n : ℤ) (a : Archive) → at c.archives n ≡ Some a → number_of f.integrity f.archive c.archives ≡ None → a.bytes ≡ f.archive → ⊥
   never n a e none same =
       let i : f.integrity ≡ a.integrity = integrity ∙ ap integrity_text (sym same) ∙ sym (h.integrity n a e) in

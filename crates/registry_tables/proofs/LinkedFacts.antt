@@ -12,8 +12,8 @@ use Rattle.registry_names.specs.Maps.{keep}
 use Rattle.registry_rows.specs.Frames.{Wrote}
 use Rattle.registry_rows.specs.Ready.{Ready, Leaves}
 use Rattle.registry_rows.specs.Statements.{Means, scan, by_texts}
-use Rattle.registry_parts.specs.Cascades.{Child, IsChild, HasChildren, links, link_of}
-use Rattle.registry_parts.proofs.CascadeFacts.{mapped_child, delete_cascades}
+use Rattle.registry_sql_laws.specs.Cascades.{Child, IsChild, HasChildren, links, link_of}
+use Rattle.registry_sql_laws.proofs.CascadeFacts.{mapped_child, delete_cascades}
 use Rattle.registry_tables.specs.Schema.{schema}
 use Rattle.registry_tables.specs.Schema as table
 use Rattle.registry_tables.specs.Contents.{Contents, contents}
@@ -21,7 +21,7 @@ use Rattle.registry_tables.specs.Effects.{stored}
 use Rattle.registry_tables.specs.Teams.{without_member, without_team}
 use Rattle.registry_tables.proofs.MappedFacts.{members_mapped, teams_mapped, team_members_mapped, grants_mapped}
 
--- ---- what goes with a member: his places in teams
+-- ---- what goes with a member: their places in teams
 
 abbrev pub member_in_teams : Child Contents 1
 member_in_teams = record { table = table.team_members; places = (0, 2); erases = λ q c. record c { team_members = keep c.team_members (λ k. not (pair_is q (k.0, k.1.1))) } }

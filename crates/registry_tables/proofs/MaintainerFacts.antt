@@ -37,9 +37,9 @@ put_means : Means schema put_text (Insert 8 (Values (lit Null ∷ put_cells) 3))
 unfolding understood everything
 put_means = (refl, (refl, refl))
 
-pub maintainer_put : (p u : Text) (old new : Shown) → Ready schema old → Wrote put_text (Stored p ∷ Stored u ∷ []) old new → HasCleanDisk new
+pub owner_put : (p u : Text) (old new : Shown) → Ready schema old → Wrote put_text (Stored p ∷ Stored u ∷ []) old new → HasCleanDisk new
     → Leaves schema contents (record (stored old) { owners = put (stored old).owners (p, u) tt }) new
-maintainer_put p u old new form call = insert_puts owners_mapped put_text put_cells put_means (Stored p ∷ Stored u ∷ []) refl old new (Ok call.0) form call.1
+owner_put p u old new form call = insert_puts owners_mapped put_text put_cells put_means (Stored p ∷ Stored u ∷ []) refl old new (Ok call.0) form call.1
 
 -- ---- DELETE
 
@@ -55,9 +55,9 @@ nothing_refers : IsUncascaded schema table.owners
 unfolding everything
 nothing_refers olds = refl
 
-pub maintainer_dropped : (p u : Text) (old new : Shown) → Ready schema old → Wrote drop_text (Stored p ∷ Stored u ∷ []) old new → HasCleanDisk new
+pub owner_dropped : (p u : Text) (old new : Shown) → Ready schema old → Wrote drop_text (Stored p ∷ Stored u ∷ []) old new → HasCleanDisk new
     → Leaves schema contents (record (stored old) { owners = erase (stored old).owners (p, u) }) new
-maintainer_dropped p u old new form call = delete_erases owners_mapped drop_text drop_means nothing_refers (p, u) old new (Ok call.0) form call.1
+owner_dropped p u old new form call = delete_erases owners_mapped drop_text drop_means nothing_refers (p, u) old new (Ok call.0) form call.1
 
 -- ---- SELECT
 

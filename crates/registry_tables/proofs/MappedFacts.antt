@@ -14,8 +14,8 @@ users_mapped = record { found = refl; shape = refl; indexed = refl; plain = refl
 pub tokens_mapped : IsMappedByBytes schema contents 1 table.tokens user_in (λ c m. record c { tokens = m })
 tokens_mapped = record { found = refl; shape = refl; indexed = refl; plain = refl; begins = refl; depends = contents_depend; alone = λ db rows. refl }
 
-pub orgs_mapped : IsMapped schema contents 2 table.orgs 0 nothing_in (λ c m. record c { orgs = m })
-orgs_mapped = record { found = refl; shape = refl; indexed = refl; plain = refl; texts = refl; depends = contents_depend; alone = λ db rows. refl }
+pub organisations_mapped : IsMapped schema contents 2 table.organisations 0 nothing_in (λ c m. record c { organisations = m })
+organisations_mapped = record { found = refl; shape = refl; indexed = refl; plain = refl; texts = refl; depends = contents_depend; alone = λ db rows. refl }
 
 pub members_mapped : IsMapped schema contents 3 table.members 1 role_in (λ c m. record c { members = m })
 members_mapped = record { found = refl; shape = refl; indexed = refl; plain = refl; texts = refl; depends = contents_depend; alone = λ db rows. refl }

@@ -75,7 +75,7 @@ there_already m q there = same_map (texts_key 3) _ _ (λ k. at-put (texts_key 3)
     each k true t = is_there (at m q) there ∙ ap (at m) (same_true (texts_key 3) q k t)
     each k false t = refl
 
--- a need that is there stands already
+-- a need that is there exists already
 pub stands_already : (p v : Text) (need : Need) (c : Contents) → is_some (at c.need_ranges (need_key p v need)) ≡ true → c ≡ record c { need_ranges = with_need c.need_ranges p v need }
 stands_already p v need c there = λ i. record c { need_ranges = sym (there_already c.need_ranges (need_key p v need) there) i }
 

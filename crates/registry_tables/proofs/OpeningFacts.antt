@@ -75,7 +75,7 @@ module _ {S : Type 0} (store : Ghosts S) where
         (known.0, sym (ap (λ (d : Database). understood d.schema number_query) same) ∙ known.1),
       )
 
-  -- a number is never told of a database with the first table alone
+  -- a number is never said of a database with the first table alone
   pub users_alone : (number : ℕ) (old new : Transaction S) → HasUsersAlone (shown store old) → ¬ Finds store old new (Some number)
   users_alone number old new alone found =
       let known = (number_told number old new found).1 in

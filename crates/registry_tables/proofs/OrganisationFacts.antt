@@ -18,7 +18,7 @@ use Rattle.registry_tables.specs.Schema.{schema}
 use Rattle.registry_tables.specs.Contents.{contents}
 use Rattle.registry_tables.specs.Effects.{stored}
 use Rattle.registry_tables.proofs.FoundFacts.{there_found}
-use Rattle.registry_tables.proofs.MappedFacts.{orgs_mapped}
+use Rattle.registry_tables.proofs.MappedFacts.{organisations_mapped}
 
 -- ---- INSERT
 
@@ -33,8 +33,8 @@ unfolding understood everything
 put_means = (refl, (refl, refl))
 
 pub organisation_put : (o : Text) (old new : Shown) → Ready schema old → Wrote put_text (Stored o ∷ []) old new → HasCleanDisk new
-    → Leaves schema contents (record (stored old) { orgs = put (stored old).orgs o tt }) new
-organisation_put o old new form call = insert_puts orgs_mapped put_text put_cells put_means (Stored o ∷ []) refl old new (Ok call.0) form call.1
+    → Leaves schema contents (record (stored old) { organisations = put (stored old).organisations o tt }) new
+organisation_put o old new form call = insert_puts organisations_mapped put_text put_cells put_means (Stored o ∷ []) refl old new (Ok call.0) form call.1
 
 -- ---- SELECT
 
@@ -46,5 +46,5 @@ unfolding understood everything
 find_means = ((refl, (refl, refl)), refl)
 
 pub organisation_found : (o : Text) (old new : Shown) (rows : List Row) → Ready schema old → Queried find_text (Stored o ∷ []) old new rows → HasCleanDisk new
-    → Reads schema old new × (not (length rows == 0) ≡ is_some (at (stored old).orgs o))
-organisation_found o = there_found orgs_mapped find_text (col 1 1 ∷ []) _ find_means o
+    → Reads schema old new × (not (length rows == 0) ≡ is_some (at (stored old).organisations o))
+organisation_found o = there_found organisations_mapped find_text (col 1 1 ∷ []) _ find_means o

@@ -85,7 +85,7 @@ module _ (p v : Text) (published withdrawn : ℕ) (c : Contents) where
       each None = refl
       each (Some m) = by_held m (is_held m gone) refl
 
-  -- what is left stood before
+  -- what is left was there before
   stood_before : (n : ℤ) (a : Archive) → at after.archives n ≡ Some a → at c.archives n ≡ Some a
   stood_before n a e = each (at c.held key) e
     where

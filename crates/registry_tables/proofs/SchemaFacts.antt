@@ -25,9 +25,9 @@ adds_tokens : AddsTable 1 (get_or creation 1 [])
 unfolding understood everything creation
 adds_tokens = record { table = record table.tokens { tree = 0 }; means = record { command = (refl, (refl, refl)); text = refl; defined = refl; bare = refl }; next = refl }
 
-adds_orgs : AddsTable 2 (get_or creation 2 [])
+adds_organisations : AddsTable 2 (get_or creation 2 [])
 unfolding understood everything creation
-adds_orgs = record { table = record table.orgs { tree = 0 }; means = record { command = (refl, (refl, refl)); text = refl; defined = refl; bare = refl }; next = refl }
+adds_organisations = record { table = record table.organisations { tree = 0 }; means = record { command = (refl, (refl, refl)); text = refl; defined = refl; bare = refl }; next = refl }
 
 adds_members : AddsTable 3 (get_or creation 3 [])
 unfolding understood everything creation
@@ -102,7 +102,7 @@ each_adds (sql ∷ sqls) n (suc i) all within = let same : suc n + i ≡ n + suc
 
 all_add : AddsAll 0 (take 16 creation)
 unfolding creation
-all_add = (adds_users, (adds_tokens, (adds_orgs, (adds_members, (adds_teams, (adds_team_members, (adds_packages, (adds_grants, (adds_owners, (adds_versions, (adds_spent, (adds_tags, (adds_needs, (adds_meta, (adds_need_ranges, (adds_held, tt))))))))))))))))
+all_add = (adds_users, (adds_tokens, (adds_organisations, (adds_members, (adds_teams, (adds_team_members, (adds_packages, (adds_grants, (adds_owners, (adds_versions, (adds_spent, (adds_tags, (adds_needs, (adds_meta, (adds_need_ranges, (adds_held, tt))))))))))))))))
 
 first_length : length (take 16 creation) ≡ 16
 unfolding creation

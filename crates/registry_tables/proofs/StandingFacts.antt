@@ -15,7 +15,7 @@ use Rattle.registry_tables.specs.Contents.{Contents, access_of, contents}
 use Rattle.registry_tables.specs.Teams.{AreGranted, AreHis}
 use Rattle.registry_tables.proofs.JoinedFacts.{scoped_are_all, strangers_have_none, unscoped_have_none}
 
--- those of his teams in the organisation of the scope
+-- those of their teams in the organisation of the scope
 pub members_grants : (c : Contents) (o u p : Text) (role : Option Role) (gs : List Grant) → scope_of p ≡ Some o → AreGranted c o u p gs → AreHis c (User u) p role gs
 members_grants c o u p role gs scope are sound is other g = are g ∙ scoped_are_all c sound.grants u p g o scope
 
@@ -31,7 +31,7 @@ strangers_grants c u p sound is other g = go (scope_of p) refl
 unscoped_grants : (c : Contents) (u p : Text) (role : Option Role) → scope_of p ≡ None → AreHis c (User u) p role []
 unscoped_grants c u p role scope sound is other g = sym (unscoped_have_none c sound.grants u p g scope)
 
--- a list with none is right where he is no developer, and on a package without a scope
+-- a list with none is right where they are no developer, and on a package without a scope
 pub no_grants : (c : Contents) (who : Caller) (p : Text) (role : Option Role)
     → ((u : Text) → who ≡ User u → role ≡ Some Developer → scope_of p ≡ None) → AreHis c who p role []
 no_grants c Operator p role scope = λ sound is other g. refl
@@ -41,6 +41,6 @@ no_grants c (User u) p (Some Admin) scope = λ sound is other g. absurd (true≢
 no_grants c (User u) p (Some Owner) scope = λ sound is other g. absurd (true≢false other)
 no_grants c Anonymous p role scope = λ sound is other g. refl
 
--- what is told of the same tables
+-- what is said of the same tables
 pub grants_before : (who : Caller) (p : Text) (role : Option Role) (gs : List Grant) (d e : Database) → d ≡ e → AreHis (contents d.trees) who p role gs → AreHis (contents e.trees) who p role gs
 grants_before who p role gs d e same = subst (λ (d : Database). AreHis (contents d.trees) who p role gs) same

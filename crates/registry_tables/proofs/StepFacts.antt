@@ -5,7 +5,7 @@ use Rattle.registry_names.specs.Maps.{at, put}
 use Rattle.registry_names.specs.declared.status.Status.{Status}
 use Rattle.registry_access.specs.declared.grant.Grant.{Grant}
 use Rattle.registry_access.specs.declared.role.Role.{Role}
-use Rattle.registry_rules.specs.Changes.{Change, AddUser, AddToken, AddOrg, PutMember, DropMember, AddTeam, PutTeamMember, DropTeamMember, DropTeam, PutGrant, DropGrant, PutMaintainer, DropMaintainer, PutStatus, AddVersion, RetireVersion, PutDeprecation, PutTag, DropTag, made, all_made}
+use Rattle.registry_rules.specs.Changes.{Change, AddUser, AddToken, AddOrg, PutMember, DropMember, AddTeam, PutTeamMember, DropTeamMember, DropTeam, PutGrant, DropGrant, PutOwner, DropOwner, PutStatus, AddVersion, RetireVersion, PutDeprecation, PutTag, DropTag, made, all_made}
 use Rattle.registry_rules.specs.Operations.{with_member, with_grant, with_status, retired, with_tag}
 use Rattle.registry_tables.specs.Archives.{HeldAreStored}
 use Rattle.registry_tables.specs.Changes.{stored_by, all_stored}
@@ -47,8 +47,8 @@ change_makes (DropTeam o t) c held = refl
 change_makes (PutGrant o t p grant true) c held = grant_either c o t p grant (is_some (at c.grants (o, (t, p))))
 change_makes (PutGrant o t p grant false) c held = refl
 change_makes (DropGrant o t p) c held = refl
-change_makes (PutMaintainer p u) c held = refl
-change_makes (DropMaintainer p u) c held = refl
+change_makes (PutOwner p u) c held = refl
+change_makes (DropOwner p u) c held = refl
 change_makes (PutStatus p status true) c held = status_either c p status (is_some (at c.packages p))
 change_makes (PutStatus p status false) c held = refl
 change_makes (AddVersion f now) c held = ap (λ live. record (registry_of c) { live = live }) (live_put f now c held)
@@ -71,8 +71,8 @@ change_keeps (DropTeamMember o t u) c held = held
 change_keeps (DropTeam o t) c held = held
 change_keeps (PutGrant o t p grant stands) c held = held
 change_keeps (DropGrant o t p) c held = held
-change_keeps (PutMaintainer p u) c held = held
-change_keeps (DropMaintainer p u) c held = held
+change_keeps (PutOwner p u) c held = held
+change_keeps (DropOwner p u) c held = held
 change_keeps (PutStatus p status stands) c held = held
 change_keeps (AddVersion f now) c held = put_held_stored f now c held
 change_keeps (RetireVersion p v published withdrawn) c held = retired_held_stored p v published withdrawn c held

@@ -19,8 +19,8 @@ use Rattle.registry_rows.specs.TextKeys.{Texts, texts_from}
 use Rattle.registry_rows.specs.Statements.{MeansQuery, scan, by_texts, in_order}
 use Rattle.registry_rows.specs.Ready.{Ready, Reads, Queried}
 use Rattle.registry_rows.proofs.LookUpFacts.{select_lists_two, seen_as_is}
-use Rattle.registry_parts.specs.Places.{by_places}
-use Rattle.registry_parts.proofs.PartFacts.{select_part}
+use Rattle.registry_sql_laws.specs.Places.{by_places}
+use Rattle.registry_sql_laws.proofs.PartFacts.{select_part}
 use Rattle.registry_tables.specs.Schema.{schema}
 use Rattle.registry_tables.specs.Effects.{stored}
 use Rattle.registry_tables.specs.Teams.{teams_of, text_spelled, users_of}

@@ -1,4 +1,4 @@
--- What rows tell the policy of an organisation.
+-- What rows say to the policy of an organisation.
 use Rattle.std.specs.Prelude.{◌≡◌, List}
 use Rattle.registry_names.specs.Texts.{Text}
 use Rattle.registry_access.specs.Callers.{role_of}

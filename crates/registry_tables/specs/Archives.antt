@@ -61,6 +61,6 @@ pub record HoldsArchives (c : Contents) : Type 0 where
   -- an archive is some version's
   pub had : (n : ℤ) (a : Archive) → at c.archives n ≡ Some a → (k : Pair) × (at c.held k ≡ Some n)
   pub integrity : (n : ℤ) (a : Archive) → at c.archives n ≡ Some a → a.integrity ≡ integrity_text a.bytes
-  -- the same bytes stand once
+  -- the same bytes occur once
   pub once : (m n : ℤ) (a b : Archive) → at c.archives m ≡ Some a → at c.archives n ≡ Some b → a.bytes ≡ b.bytes → m ≡ n
   pub bare : (k : Pair) (release : Release) → at c.versions k ≡ Some release → release.archive ≡ []

@@ -4,7 +4,7 @@ use Rattle.std.specs.declared.cmp.Ordering.{Ordering}
 use Rattle.registry_names.specs.Maps.{MapBy, at, put, erase}
 use Rattle.registry_publish.specs.Form.{FormParts}
 use Rattle.registry_rules.specs.Actions.{version_of}
-use Rattle.registry_rules.specs.Changes.{Change, AddUser, AddToken, AddOrg, PutMember, DropMember, AddTeam, PutTeamMember, DropTeamMember, DropTeam, PutGrant, DropGrant, PutMaintainer, DropMaintainer, PutStatus, AddVersion, RetireVersion, PutDeprecation, PutTag, DropTag, release_of}
+use Rattle.registry_rules.specs.Changes.{Change, AddUser, AddToken, AddOrg, PutMember, DropMember, AddTeam, PutTeamMember, DropTeamMember, DropTeam, PutGrant, DropGrant, PutOwner, DropOwner, PutStatus, AddVersion, RetireVersion, PutDeprecation, PutTag, DropTag, release_of}
 use Rattle.registry_rules.specs.State.{Release}
 use Rattle.registry_tables.specs.Archives.{archive_number, with_archive}
 use Rattle.registry_tables.specs.Contents.{Contents}
@@ -16,11 +16,11 @@ use Rattle.registry_tables.specs.Withdrawals.{version_retired, with_message}
 abbrev pub amended : {K X : Type 0} {cmp : K → K → Ordering} → MapBy cmp X → K → X → MapBy cmp X
 amended m k x = if is_some (at m k) then put m k x else m
 
--- the row of a key: a new one, or what stands there already is amended
+-- the row of a key: a new one, or what is there already is amended
 abbrev pub with_row : {K X : Type 0} {cmp : K → K → Ordering} → MapBy cmp X → K → X → Bool → MapBy cmp X
 with_row m k x stands = if stands then amended m k x else put m k x
 
--- the row of a version that is published at this moment: its archive stands elsewhere
+-- the row of a version that is published at this moment: its archive is elsewhere
 abbrev pub row_of : FormParts → ℕ → Release
 row_of f now = record (release_of f now) { archive = [] }
 
@@ -41,7 +41,7 @@ version_put f now c = record (with_archive f.integrity f.archive c) {
 abbrev pub stored_by : Change → Contents → Contents
 stored_by (AddUser u) c = record c { users = put c.users u tt }
 stored_by (AddToken digest u) c = record c { tokens = put c.tokens digest u }
-stored_by (AddOrg o) c = record c { orgs = put c.orgs o tt }
+stored_by (AddOrg o) c = record c { organisations = put c.organisations o tt }
 stored_by (PutMember o u role stands) c = record c { members = with_row c.members (o, u) role stands }
 stored_by (DropMember o u) c = without_member o u c
 stored_by (AddTeam o t) c = record c { teams = put c.teams (o, t) tt }
@@ -50,8 +50,8 @@ stored_by (DropTeamMember o t u) c = record c { team_members = erase c.team_memb
 stored_by (DropTeam o t) c = without_team o t c
 stored_by (PutGrant o t p grant stands) c = record c { grants = with_row c.grants (o, (t, p)) grant stands }
 stored_by (DropGrant o t p) c = record c { grants = erase c.grants (o, (t, p)) }
-stored_by (PutMaintainer p u) c = record c { owners = put c.owners (p, u) tt }
-stored_by (DropMaintainer p u) c = record c { owners = erase c.owners (p, u) }
+stored_by (PutOwner p u) c = record c { owners = put c.owners (p, u) tt }
+stored_by (DropOwner p u) c = record c { owners = erase c.owners (p, u) }
 stored_by (PutStatus p status stands) c = record c { packages = with_row c.packages p status stands }
 stored_by (AddVersion f now) c = version_put f now c
 stored_by (RetireVersion p v published withdrawn) c = version_retired p v published withdrawn c

@@ -80,7 +80,7 @@ pub record Contents : Type 0 where
   pub users : TextMap (Unit {0})
   -- the user of a token, under the bytes of its digest
   pub tokens : BytesMap Text
-  pub orgs : TextMap (Unit {0})
+  pub organisations : TextMap (Unit {0})
   -- organisation and user
   pub members : PairMap Role
   -- organisation and team
@@ -115,7 +115,7 @@ abbrev pub contents : Trees → Contents
 contents db = record {
   users = map_of 0 nothing_in (db table.users.tree);
   tokens = map_by bytes user_in (db table.tokens.tree);
-  orgs = map_of 0 nothing_in (db table.orgs.tree);
+  organisations = map_of 0 nothing_in (db table.organisations.tree);
   members = map_of 1 role_in (db table.members.tree);
   teams = map_of 1 nothing_in (db table.teams.tree);
   team_members = map_of 2 nothing_in (db table.team_members.tree);
@@ -139,7 +139,7 @@ abbrev pub access_of : Contents → Access
 access_of c = record {
   users = c.users;
   tokens = c.tokens;
-  organisations = c.orgs;
+  organisations = c.organisations;
   roles = c.members;
   teams = c.teams;
   team_members = c.team_members;

@@ -1,4 +1,4 @@
--- What a call inside a transaction finds, makes and tells. `old` and `new` are the transaction at
+-- What a call inside a transaction finds, makes and says. `old` and `new` are the transaction at
 -- its entry and at its exit.
 use Rattle.std.specs.Prelude.{◌≡◌, Result, IfOk, IsTrue, OnOk}
 use Rattle.sqlite.specs.Held.{state}
@@ -55,7 +55,7 @@ module _ {S : Type 0} (store : Ghosts S) where
     abbrev pub Makes : (Contents → Contents) → Type 0
     Makes f = HasCleanDisk (shown new) → OnOk result (Leaves schema contents (f (stored_in old)) (shown new))
 
-    -- an answer is told by what is stored, and leaves everything as it was
+    -- an answer is determined by what is stored, and leaves everything as it was
     abbrev pub Tells : (R → Contents → Type 0) → Type 0
     Tells is_told = HasCleanDisk (shown new) → IfOk result (λ answer. Reads schema (shown old) (shown new) × is_told answer (stored_in old))
 

@@ -25,7 +25,7 @@ schema_after n = record {
   views = [];
 }
 
--- where the number of the schema stands, and which one it is
+-- where the number of the schema is, and which one it is
 abbrev pub schema_key : Text
 schema_key = codes "schema"
 
@@ -37,7 +37,7 @@ with_number c n = record c { meta = put c.meta schema_key n }
 
 -- what no rows say
 abbrev pub no_contents : Contents
-no_contents = record { users = empty; tokens = empty; orgs = empty; members = empty; teams = empty; team_members = empty; packages = empty; grants = empty; owners = empty; versions = empty; spent = empty; tags = empty; needs = empty; meta = empty; need_ranges = empty; held = empty; archives = empty; last_archive = pos 0 }
+no_contents = record { users = empty; tokens = empty; organisations = empty; members = empty; teams = empty; team_members = empty; packages = empty; grants = empty; owners = empty; versions = empty; spent = empty; tags = empty; needs = empty; meta = empty; need_ranges = empty; held = empty; archives = empty; last_archive = pos 0 }
 
 -- a registry of which nothing was asked yet
 abbrev pub fresh : Contents

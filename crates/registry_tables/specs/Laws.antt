@@ -1,4 +1,4 @@
--- What holds of the words that contracts cite, whatever is stored.
+-- What holds of the definitions that contracts cite, whatever is stored.
 use Rattle.std.specs.Prelude.{◌≡◌, ℕ, List, None, Some, IsTrue, false, is_some}
 use Rattle.sqlite.specs.State.{HasCleanDisk}
 use Rattle.sqlite.specs.declared.transaction.Transaction.{Transaction}

@@ -11,15 +11,15 @@ use Rattle.registry_tables.specs.Contents.{Contents}
 
 -- ---- how they are stored
 
--- where a need of this package and version stands
+-- where a need of this package and version is
 abbrev pub need_key : Text → Text → Need → Texts 3
 need_key p v need = (p, (v, (need.target, need.range)))
 
--- a need stands under this package and version
+-- a need is under this package and version
 abbrev pub with_need : TextsMap 3 (Unit {0}) → Text → Text → Need → TextsMap 3 (Unit {0})
 with_need m p v need = put m (need_key p v need) tt
 
--- each target and range of the list stands under them
+-- each target and range of the list is under them
 abbrev pub with_needs : TextsMap 3 (Unit {0}) → Text → Text → List Need → TextsMap 3 (Unit {0})
 with_needs m p v [] = m
 with_needs m p v (need ∷ needs) = with_needs (with_need m p v need) p v needs

@@ -40,7 +40,7 @@ role_number Owner = 2
 abbrev pub role_spelled : Row → Role
 role_spelled r = role_of (number_in (column r 0))
 
--- a member and his role
+-- a member and their role
 abbrev pub member_spelled : Row → Text × Role
 member_spelled r = (text_in (column r 0), role_of (number_in (column r 1)))
 

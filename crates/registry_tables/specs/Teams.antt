@@ -52,7 +52,7 @@ abbrev pub granted_in : Contents → Text → Text → Text → Grant → Bool
 granted_in c o u p g = list_any (λ k. pair_is (o, u) (k.0, k.1.1) && grants (at c.grants (k.0, (k.1.0, p))) g) (keys (entries c.team_members))
 
 -- the list has what is granted so, and nothing else. Neither the order counts nor how often a grant
--- stands there
+-- occurs there
 abbrev pub AreGranted : Contents → Text → Text → Text → List Grant → Type 0
 AreGranted c o u p gs = (g : Grant) → is_listed gs g ≡ granted_in c o u p g
 
@@ -69,7 +69,7 @@ pub record AreTeamsSound (c : Contents) : Type 0 where
   pub members : TeamsAreOfMembers c
   pub grants : GrantsInScope c
 
--- the list has what the caller is granted on the package, where it is told right what his role is
+-- the list has what the caller is granted on the package, where the role that it is given is right
 -- in the organisation of its scope. Of an owner or admin nothing is said
 abbrev pub AreHis : Contents → Caller → Text → Option Role → List Grant → Type 0
 AreHis c who p role gs = AreTeamsSound c → role ≡ scope_role (access_of c) who (scope_of p)

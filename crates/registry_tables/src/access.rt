@@ -16,7 +16,7 @@ use registry_names::{Fault, Ident, Text};
 use sqlite::{Alter, Transaction};
 use std::alloc::Global;
 
-/// What the policy asks of an organisation and a caller: whether it is there, and his role in it.
+/// What the policy asks of an organisation and a caller: whether it is there, and their role in it.
 pub fn load_access<S: Alter>(
     alloc: Global,
     tx: &mut Transaction<'_, S>,
@@ -66,7 +66,7 @@ fn one_name(alloc: Global, name: &str) -> Result<Vec<Text>, Fault>
     Ok(vec![in alloc; name]?)
 }
 
-// The membership of a caller, if he is a member. Of one who is no user nothing is asked.
+// The membership of a caller, if they are a member. Of one who is no user nothing is asked.
 fn member_rows<S: Alter>(
     alloc: Global,
     tx: &mut Transaction<'_, S>,
@@ -84,7 +84,7 @@ fn member_rows<S: Alter>(
     }
 }
 
-// The membership of a user, if he is a member.
+// The membership of a user, if they are a member.
 fn user_rows<S: Alter>(
     alloc: Global,
     tx: &mut Transaction<'_, S>,

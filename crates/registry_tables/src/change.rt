@@ -6,7 +6,7 @@ ghost use Rattle.registry_tables.specs.Changes.{stored_by};
 ghost use Rattle.registry_tables.specs.Effects.{InForm, Makes};
 
 use crate::grants::{drop_grant, put_grant};
-use crate::maintainers::{drop_maintainer, put_maintainer};
+use crate::maintainers::{drop_owner, put_owner};
 use crate::members::{drop_member, put_member};
 use crate::organisations::add_organisation;
 use crate::statuses::put_status;
@@ -23,10 +23,11 @@ use sqlite::{Alter, Transaction};
 
 /// Makes one change. Nothing else that is stored is changed.
 ///
-/// A new row of a key that is there already is a fault, and so is a row of which the tables lack
-/// what it refers to: a version of a package without a status, or a tag of a version that doesn't
-/// live. A grant refers to its team and its package's status, a maintainer to the user and to that
-/// status. A version doesn't go before each tag that names it is gone, or names another.
+/// No clause says so, but a new row of a key that is there already is a fault, and so is a row of
+/// which the tables lack what it refers to: a version of a package without a status, or a tag of a
+/// version that doesn't live. A grant refers to its team and its package's status, a maintainer to
+/// the user and to that status. A version doesn't go before each tag that names it is gone, or
+/// names another.
 pub fn make<S: Alter>(tx: &mut Transaction<'_, S>, change: &Change<'_>) -> Result<(), Fault>
     requires in_form { InForm S.Store tx.old }
     ensures stays { Stays S.Store tx.old tx.new }
@@ -67,12 +68,8 @@ pub fn make<S: Alter>(tx: &mut Transaction<'_, S>, change: &Change<'_>) -> Resul
             team,
             package,
         } => drop_grant(tx, organisation, team, package.text()),
-        Change::PutMaintainer { package, user } => put_maintainer(tx, package.text(), user.text()),
-        Change::DropMaintainer { package, user } => drop_maintainer(
-            tx,
-            package.text(),
-            user.text(),
-        ),
+        Change::PutOwner { package, user } => put_owner(tx, package.text(), user.text()),
+        Change::DropOwner { package, user } => drop_owner(tx, package.text(), user.text()),
         Change::PutStatus {
             package,
             status,

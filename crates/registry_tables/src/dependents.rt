@@ -4,7 +4,7 @@ ghost use Rattle.std.specs.Prelude.{◌≡◌, IfOk};
 ghost use Rattle.std.specs.List.{list_any};
 ghost use Rattle.registry_ranges.specs.Texts as ranges;
 ghost use Rattle.registry_rows.specs.Frames.{Stays};
-ghost use Rattle.registry_rules.specs.Withdrawals as words;
+ghost use Rattle.registry_rules.specs.Withdrawals as definitions;
 ghost use Rattle.registry_tables.specs.Contents.{registry_of};
 ghost use Rattle.registry_tables.specs.Effects.{InForm, Tells};
 ghost use Rattle.registry_tables.specs.Needs.{HoldsNeeds};
@@ -26,7 +26,7 @@ pub fn is_depended<S: Alter>(
     requires in_form { InForm S.Store tx.old }
     ensures stays { Stays S.Store tx.old tx.new }
     ensures tells { Tells S.Store tx.old tx.new result (λ depended c. HoldsNeeds c
-        → depended ≡ words.is_depended (registry_of c) name.now version.now) }
+        → depended ≡ definitions.is_depended (registry_of c) name.now version.now) }
 {
     let texts = load_dependents(alloc, tx, name)?;
     any_binds(alloc, &texts, version)

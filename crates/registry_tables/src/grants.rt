@@ -129,7 +129,7 @@ fn number_of(grant: Grant) -> i64
 }
 
 /// What the teams of an organisation that a user is in are granted on a package, in any order. A
-/// grant may stand there more than once.
+/// grant may occur there more than once.
 pub fn load_grants<S: Alter>(
     alloc: Global,
     tx: &mut Transaction<'_, S>,

@@ -62,13 +62,13 @@ pub fn tables_are_made_once<S: Alter>()
 {}
 
 /// Where each grant is on a package of its organisation's scope, the teams of that organisation
-/// have all that a user is granted on the package. Where it has no scope he is granted nothing.
+/// have all that a user is granted on the package. Where it has no scope they are granted nothing.
 pub fn grants_stay_in_scope()
     ensures scoped { ScopesGrantAll }
     ensures unscoped { NoScopeGrantsNothing }
 {}
 
-/// Where what stands refers to what is there, a team has members of its organisation alone, and
+/// Where references hold, a team has members of its organisation alone, and
 /// grants on packages of its scope.
 pub fn teams_stay_sound()
     ensures { TeamsStaySound }

@@ -86,7 +86,7 @@ fn is_user(text: &Text, user: &str) -> bool
 
 /// Makes a user a maintainer of a package. One who is is a fault, and so is a package that has no
 /// status, or a user who isn't there.
-pub(crate) fn put_maintainer<S: Alter>(
+pub(crate) fn put_owner<S: Alter>(
     tx: &mut Transaction<'_, S>,
     name: &str,
     user: &str,
@@ -103,8 +103,8 @@ pub(crate) fn put_maintainer<S: Alter>(
     )
 }
 
-/// Ends a user's maintaining of a package, if he is one of its maintainers.
-pub(crate) fn drop_maintainer<S: Alter>(
+/// Ends a user's maintaining of a package, if they are one of its maintainers.
+pub(crate) fn drop_owner<S: Alter>(
     tx: &mut Transaction<'_, S>,
     name: &str,
     user: &str,

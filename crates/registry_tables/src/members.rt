@@ -1,4 +1,4 @@
-//! The table `members`: the members of every organisation, each with his role.
+//! The table `members`: the members of every organisation, each with their role.
 
 ghost use Rattle.std.specs.Prelude.{◌≡◌, ◌&&◌, IfOk, Some, map, not, pos};
 ghost use Rattle.std.specs.List.{list_any};
@@ -21,7 +21,7 @@ use registry_rows::{RowKind, first_in, read, values_in, write};
 use sqlite::{Alter, Error, Row, Transaction, params};
 use std::alloc::Global;
 
-/// The role of a user in an organisation. None where he isn't a member of it.
+/// The role of a user in an organisation. None where they aren't a member of it.
 pub fn load_role<S: Alter>(
     tx: &mut Transaction<'_, S>,
     organisation: &str,
@@ -89,7 +89,7 @@ fn names(member: &Member, user: &str) -> bool
     member.user.as_str() == user
 }
 
-/// Gives a user this role in an organisation. `stands` says whether he is a member already.
+/// Gives a user this role in an organisation. `stands` says whether they are a member already.
 pub(crate) fn put_member<S: Alter>(
     tx: &mut Transaction<'_, S>,
     organisation: &str,
@@ -145,7 +145,7 @@ fn update_member<S: Alter>(
     )
 }
 
-/// Drops a member of an organisation, if he is one, and with that from each of its teams.
+/// Drops a member of an organisation, if they are one, and with that from each of its teams.
 pub(crate) fn drop_member<S: Alter>(
     tx: &mut Transaction<'_, S>,
     organisation: &str,
@@ -179,7 +179,7 @@ impl RowKind for RoleRow {
     }
 }
 
-// A member and his role.
+// A member and their role.
 struct ListedMember;
 
 impl RowKind for ListedMember {

@@ -17,7 +17,7 @@ pub fn has_organisation<S: Alter>(
     requires in_form { InForm S.Store tx.old }
     ensures stays { Stays S.Store tx.old tx.new }
     ensures tells { Tells S.Store tx.old tx.new result
-        (λ has c. has ≡ is_some (at c.orgs organisation.now)) }
+        (λ has c. has ≡ is_some (at c.organisations organisation.now)) }
 {
     let rows = read(
         tx,
@@ -35,7 +35,7 @@ pub(crate) fn add_organisation<S: Alter>(
     requires in_form { InForm S.Store tx.old }
     ensures stays { Stays S.Store tx.old tx.new }
     ensures makes { Makes S.Store tx.old tx.new result
-        (λ c. record c { orgs = put c.orgs organisation.now tt }) }
+        (λ c. record c { organisations = put c.organisations organisation.now tt }) }
 {
     write(tx, "INSERT INTO orgs VALUES (?1)", params![organisation])
 }

@@ -1,9 +1,9 @@
 //! The tables of schema 3.
 //!
-//! Each has one primary key of its first columns, but for `archives`, whose key is a number that
+//! Each has one primary key of its first columns, except `archives`, whose key is a number that
 //! SQLite counts. No column may be null, and every value has its column's type (`STRICT`). A
 //! foreign key names rows that must be there; where it cascades, a row goes with the one that it
-//! names. Tables are made in this order, and the one index behind them.
+//! names. Tables are made in this order, and the one index after them.
 
 ghost use Rattle.std.specs.Prelude.{◌≡◌, IsErr, OnOk, length, map};
 ghost use Rattle.sqlite.specs.State.{HasCleanDisk};
@@ -43,7 +43,7 @@ const TABLES: [&str; 18] = [
     "CREATE INDEX archives_by_integrity ON archives (integrity)",
 ];
 
-/// Makes the tables in a database that has none: all of them empty, but for the number of the
+/// Makes the tables in a database that has none: all of them empty, except the number of the
 /// schema. Where a table of one of their names is there already, the answer is `Database`.
 pub fn create<S: Alter>(tx: &mut Transaction<'_, S>) -> Result<(), Fault>
     ensures stays { Stays S.Store tx.old tx.new }

@@ -1,4 +1,4 @@
-//! How a caller stands to a package.
+//! What a caller is to a package.
 
 ghost use Rattle.std.specs.Prelude.{◌≡◌};
 ghost use Rattle.registry_access.specs.Callers as callers;
@@ -20,10 +20,10 @@ use registry_names::{Fault, Name};
 use sqlite::{Alter, Transaction};
 use std::alloc::Global;
 
-/// How a caller stands to a package: all that the policy asks of him and it.
+/// What a caller is to a package: all that the policy asks of them and it.
 ///
 /// A package without a scope is in no organisation, and only a member of an organisation is in its
-/// teams: of others no grant is asked for, nor of an owner or admin, whose role alone lets him
+/// teams: of others no grant is asked for, nor of an owner or admin, whose role alone lets them
 /// write.
 pub fn load_standing<S: Alter>(
     alloc: Global,
@@ -97,8 +97,8 @@ fn maintains<S: Alter>(
     }
 }
 
-// What the caller's teams are granted on the package, where his role in the organisation of its
-// scope alone doesn't let him write.
+// What the caller's teams are granted on the package, where their role in the organisation of its
+// scope alone doesn't let them write.
 fn load_granted<S: Alter>(
     alloc: Global,
     tx: &mut Transaction<'_, S>,

@@ -55,7 +55,7 @@ pub(crate) fn put_team_member<S: Alter>(
     )
 }
 
-/// Takes a user out of a team, if he is in it.
+/// Takes a user out of a team, if they are in it.
 pub(crate) fn drop_team_member<S: Alter>(
     tx: &mut Transaction<'_, S>,
     organisation: &str,

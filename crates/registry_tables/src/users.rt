@@ -1,4 +1,4 @@
-//! The table `users`: everybody who may ask in a name of his own.
+//! The table `users`: everybody who may ask in a name of their own.
 
 ghost use Rattle.std.specs.Prelude.{◌≡◌, is_some};
 ghost use Rattle.registry_names.specs.Maps.{at, put};
@@ -20,7 +20,7 @@ pub fn has_user<S: Alter>(tx: &mut Transaction<'_, S>, user: &str) -> Result<boo
     Ok(!rows.is_empty())
 }
 
-/// Adds a user. One of his name is a fault.
+/// Adds a user. One of their name is a fault.
 pub(crate) fn add_user<S: Alter>(tx: &mut Transaction<'_, S>, user: &str) -> Result<(), Fault>
     requires in_form { InForm S.Store tx.old }
     ensures stays { Stays S.Store tx.old tx.new }

@@ -14,7 +14,8 @@ use sqlite::{Alter, Transaction, params};
 /// Ends the life of a version, which was published and is withdrawn at these moments, with what it
 /// depends on. Its archive goes with it, unless another version has it.
 ///
-/// A tag that names it is a fault, and so is a version that was withdrawn already.
+/// A tag that names it is a fault, and so is a version that was withdrawn already; no clause says
+/// so.
 pub(crate) fn retire_version<S: Alter>(
     tx: &mut Transaction<'_, S>,
     name: &Name,

@@ -1,8 +1,8 @@
 -- Bytes that an inbox holds, one read after another.
 use Rattle.std.proofs.Common.{◌≡◌, ℕ, zero, suc, ◌+◌, ◌-◌, ◌<◌, ◌≤◌, max, List, [], ◌++◌, Option, Bool, true, false, refl, sym, ap, subst, ◌∙◌, append_assoc, append-nil, arith, inl, inr, length, add-one}
 use Rattle.std.specs.Io.KnownBytes.{Consumes, Keeps, IsAtEnd}
-use Rattle.registry_names.specs.Ends.{RisesBetween, raised}
-use Rattle.registry_names.proofs.EndFacts.{Reads-nothing, Reads-one, Reads-append, Consumes-kept}
+use Rattle.registry_names.specs.ByteStreams.{RisesBetween, raised}
+use Rattle.registry_names.proofs.ByteStreamFacts.{Reads-nothing, Reads-one, Reads-append, Consumes-kept}
 use Rattle.registry_wire.specs.Inboxes.{Unread, failures_admitted}
 use Rattle.registry_wire.specs.Pieces.{Moves, GoesOn}
 use Rattle.registry_wire.specs.Reading.{TakenOf, Takes, CountsInterrupted, IsEndOf}

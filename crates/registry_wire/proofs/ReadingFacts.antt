@@ -161,7 +161,7 @@ one-reading bytes (w ∷ ws) (v ∷ vs) d e s t =
     let more = one-reading s.0 ws vs d e s.2 (subst (λ (l : List ℕ). Spells l vs e) (sym same.1) t.2) in
     (cons-same w v ws vs same.0 more.0, more.1)
 
--- ---- a reader that tells its bytes
+-- ---- a reader whose bytes are known
 
 told : (held left left2 got : List ℕ) → left ≡ got ++ left2 → (held ++ got) ++ left2 ≡ held ++ left
 told held left left2 got e = append_assoc held got left2 ∙ ap (λ (l : List ℕ). held ++ l) (sym e)

@@ -9,7 +9,7 @@ use Rattle.registry_wire.specs.Spelling.{HasHead, HasRequest, IsBad}
 use Rattle.registry_wire.specs.declared.wanted.Wanted.{Wanted}
 use Rattle.registry_wire.proofs.HeadFacts.{head-more}
 
--- a head, and behind it a body of the length that it says
+-- a head, and after it a body of the length that it says
 pub has-request : (bytes : List ℕ) (h : RequestHead) (k n : ℕ) (w : Wanted) (body : List ℕ) → HasHead bytes h (drop k bytes) → body_len (fields_of h) ≡ Ok n → n ≤ length (drop k bytes)
     → body ≡ take n (drop k bytes) → w ≡ wanted_of h body → HasRequest bytes w (drop (k + n) bytes)
 has-request bytes h k n w body x len low body_is w_is =

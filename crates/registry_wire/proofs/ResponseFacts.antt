@@ -2,24 +2,24 @@
 use Rattle.std.proofs.Common.{◌≡◌, ℕ, List, ◌++◌, Option, Bool, true, sym, subst, ap, ◌∙◌, append_assoc, take, drop}
 use Rattle.std.specs.Prelude.{Result, Ok, Err, OnOk, OnErr}
 use Rattle.std.proofs.lemmas.List.{take-append-drop}
-use Rattle.registry_names.specs.Ends.{Writes, WritesFront}
-use Rattle.registry_names.proofs.EndFacts.{Writes-append, WritesFront-append, WritesFront-longer}
+use Rattle.registry_names.specs.ByteStreams.{Writes, WritesPrefix}
+use Rattle.registry_names.proofs.ByteStreamFacts.{Writes-append, WritesPrefix-append, WritesPrefix-longer}
 
--- the head with the front of the body, and then the rest of it
-halves : (head front rest body : List ℕ) → body ≡ front ++ rest → (head ++ front) ++ rest ≡ head ++ body
-halves head front rest body e = append_assoc head front rest ∙ ap (λ (l : List ℕ). head ++ l) (sym e)
+-- the head with the prefix of the body, and then the rest of it
+halves : (head prefix rest body : List ℕ) → body ≡ prefix ++ rest → (head ++ prefix) ++ rest ≡ head ++ body
+halves head prefix rest body e = append_assoc head prefix rest ∙ ap (λ (l : List ℕ). head ++ l) (sym e)
 
-pub writes-halves : (head front rest body : List ℕ) (a b c : Option (List ℕ)) (s t : Bool) → body ≡ front ++ rest
-    → Writes a b s (head ++ front) → Writes b c t rest → (s ≡ true → t ≡ true) → Writes a c t (head ++ body)
-writes-halves head front rest body a b c s t e first second stays = subst (λ (l : List ℕ). Writes a c t l) (halves head front rest body e) (Writes-append first second stays)
+pub writes-halves : (head prefix rest body : List ℕ) (a b c : Option (List ℕ)) (s t : Bool) → body ≡ prefix ++ rest
+    → Writes a b s (head ++ prefix) → Writes b c t rest → (s ≡ true → t ≡ true) → Writes a c t (head ++ body)
+writes-halves head prefix rest body a b c s t e first second stays = subst (λ (l : List ℕ). Writes a c t l) (halves head prefix rest body e) (Writes-append first second stays)
 
-pub front-first : (head front rest body : List ℕ) (a b : Option (List ℕ)) (s : Bool) → body ≡ front ++ rest
-    → WritesFront a b s (head ++ front) → WritesFront a b s (head ++ body)
-front-first head front rest body a b s e first = subst (λ (l : List ℕ). WritesFront a b s l) (halves head front rest body e) (WritesFront-longer rest first)
+pub prefix-first : (head prefix rest body : List ℕ) (a b : Option (List ℕ)) (s : Bool) → body ≡ prefix ++ rest
+    → WritesPrefix a b s (head ++ prefix) → WritesPrefix a b s (head ++ body)
+prefix-first head prefix rest body a b s e first = subst (λ (l : List ℕ). WritesPrefix a b s l) (halves head prefix rest body e) (WritesPrefix-longer rest first)
 
-pub front-second : (head front rest body : List ℕ) (a b c : Option (List ℕ)) (s t : Bool) → body ≡ front ++ rest
-    → Writes a b s (head ++ front) → WritesFront b c t rest → (s ≡ true → t ≡ true) → WritesFront a c t (head ++ body)
-front-second head front rest body a b c s t e first second stays = subst (λ (l : List ℕ). WritesFront a c t l) (halves head front rest body e) (WritesFront-append first second stays)
+pub prefix-second : (head prefix rest body : List ℕ) (a b c : Option (List ℕ)) (s t : Bool) → body ≡ prefix ++ rest
+    → Writes a b s (head ++ prefix) → WritesPrefix b c t rest → (s ≡ true → t ≡ true) → WritesPrefix a c t (head ++ body)
+prefix-second head prefix rest body a b c s t e first second stays = subst (λ (l : List ℕ). WritesPrefix a c t l) (halves head prefix rest body e) (WritesPrefix-append first second stays)
 
 -- three texts, pushed one after the other
 pub pushed-three : (a b c h0 h1 h2 h3 : List ℕ) → h1 ≡ h0 ++ a → h2 ≡ h1 ++ b → h3 ≡ h2 ++ c → h3 ≡ h0 ++ (a ++ (b ++ c))
@@ -32,8 +32,8 @@ pushed-five a b c d e h0 h1 h2 h3 h4 h5 first second third fourth fifth =
     pushed-three c d e h2 h3 h4 h5 third fourth fifth ∙ ap (λ (l : List ℕ). l ++ (c ++ (d ++ e))) (second ∙ ap (λ (l : List ℕ). l ++ b) first) ∙ append_assoc (h0 ++ a) b (c ++ (d ++ e)) ∙ append_assoc h0 a (b ++ (c ++ (d ++ e)))
 
 -- a body and its halves
-pub split-whole : (k : ℕ) (body front rest : List ℕ) → front ≡ take k body → rest ≡ drop k body → body ≡ front ++ rest
-split-whole k body front rest e f = sym (ap (λ (l : List ℕ). l ++ rest) e ∙ ap (λ (l : List ℕ). take k body ++ l) f ∙ take-append-drop k body)
+pub split-whole : (k : ℕ) (body prefix rest : List ℕ) → prefix ≡ take k body → rest ≡ drop k body → body ≡ prefix ++ rest
+split-whole k body prefix rest e f = sym (ap (λ (l : List ℕ). l ++ rest) e ∙ ap (λ (l : List ℕ). take k body ++ l) f ∙ take-append-drop k body)
 
 -- what follows from a fact follows where it holds
 pub on-ok : {T E P Q : Type 0} (r : Result T E) → (P → Q) → OnOk r P → OnOk r Q

@@ -16,7 +16,7 @@ Fields = List (List ℕ × List ℕ)
 abbrev pub fields_of : RequestHead → Fields
 fields_of h = map name_and_value h.fields
 
--- the same text but for the case of ASCII letters
+-- the same text except for the case of ASCII letters
 unfoldable pub is_same : List ℕ → List ℕ → Bool
 is_same a b = bytes_eq (map to_ascii_lowercase a) (map to_ascii_lowercase b)
 

@@ -11,7 +11,7 @@ use Rattle.registry_wire.specs.declared.wanted.Wanted.{Wanted}
 abbrev pub OneReading : Type 0
 OneReading = (bytes : List ℕ) (ws vs : List Wanted) (d e : Ending) → Spells bytes ws d → Spells bytes vs e → (ws ≡ vs) × (d ≡ e)
 
--- bytes that come later change nothing about a whole request, and stand behind it
+-- bytes that come later change nothing about a whole request, and follow it
 abbrev pub RequestStays : Type 0
 RequestStays = (bytes more : List ℕ) (w : Wanted) (rest : List ℕ) → HasRequest bytes w rest → HasRequest (bytes ++ more) w (rest ++ more)
 
@@ -19,6 +19,6 @@ RequestStays = (bytes more : List ℕ) (w : Wanted) (rest : List ℕ) → HasReq
 abbrev pub BadStays : Type 0
 BadStays = (bytes more : List ℕ) (r : Refusal) → IsBad bytes r → IsBad (bytes ++ more) r
 
--- of a reader that tells its bytes, what is taken is taken of all that was held or left
+-- of a reader whose bytes are known, what is taken is taken of all that was held or left
 abbrev pub TakesOfAll : Type 0
 TakesOfAll = (held left held2 left2 : List ℕ) (r : Taken) → Takes held (Some left) held2 (Some left2) false r → TakenOfAll (held ++ left) (held2 ++ left2) r

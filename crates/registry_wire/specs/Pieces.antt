@@ -1,14 +1,14 @@
 -- What one more read gives an inbox.
 use Rattle.std.specs.Prelude.{◌≡◌, ◌<◌, ◌+◌, ◌⊎◌, ℕ, Bool, List, ◌++◌, Option, length}
-use Rattle.registry_names.specs.Ends.{Reads, raised}
+use Rattle.registry_names.specs.ByteStreams.{Reads, raised}
 use Rattle.registry_wire.specs.Inboxes.{Unread, interruption_limit}
 use Rattle.registry_wire.specs.declared.inbox.Piece.{Piece}
 use Rattle.registry_wire.specs.declared.inbox.Piece.TheVariants.{More, End, Broken, Memory}
 
--- the reader gave some bytes, and they are held behind the others
-pub record Moves (held : List ℕ) (left : Option (List ℕ)) (held2 : List ℕ) (left2 : Option (List ℕ)) (silent : Bool) : Type 0 where
+-- the reader gave some bytes, and they are held after the others
+pub record Moves (held : List ℕ) (left : Option (List ℕ)) (held2 : List ℕ) (left2 : Option (List ℕ)) (unknown : Bool) : Type 0 where
   pub got : List ℕ
-  pub gave : Reads left left2 silent got
+  pub gave : Reads left left2 unknown got
   pub holds : held2 ≡ held ++ got
 
 -- nothing more is held, and nothing was interrupted

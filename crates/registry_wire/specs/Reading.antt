@@ -1,7 +1,7 @@
 -- What a read of a request takes from an inbox.
 use Rattle.std.specs.Prelude.{◌≡◌, ◌<◌, ◌⊎◌, ◌+◌, ℕ, Bool, false, List, ◌++◌, Option}
 use Rattle.std.specs.Io.KnownBytes.{IsAtEnd}
-use Rattle.registry_names.specs.Ends.{Reads, raised_by}
+use Rattle.registry_names.specs.ByteStreams.{Reads, raised_by}
 use Rattle.registry_names.specs.declared.stop.Fault.TheVariants.{Memory}
 use Rattle.registry_wire.specs.Inboxes.{interruption_limit}
 use Rattle.registry_wire.specs.Spelling.{EndsWith, HasRequest, IsBad, IsUnfinished}
@@ -9,7 +9,7 @@ use Rattle.registry_wire.specs.declared.first.Ending.TheVariants.{Closed, BadInp
 use Rattle.registry_wire.specs.declared.inbox.Taken.{Taken}
 use Rattle.registry_wire.specs.declared.inbox.Taken.TheVariants as taken
 
--- What was taken once all these bytes were held, and what is held then: but for a whole request
+-- What was taken once all these bytes were held, and what is held then: except for a whole request
 -- nothing is lost.
 abbrev pub TakenOf : List ℕ → List ℕ → Type 0 → Taken → Type 0
 TakenOf all held AtEnd (taken.Whole w) = HasRequest all w held
@@ -26,11 +26,11 @@ IsEndOf all (taken.Bad r) = EndsWith all (BadInput r)
 IsEndOf all taken.ReadFault = ⊥
 IsEndOf all (taken.Faulted fault) = ⊥
 
--- The reader gave some bytes, which are held behind those that were held before.
-pub record Takes (held : List ℕ) (left : Option (List ℕ)) (held2 : List ℕ) (left2 : Option (List ℕ)) (silent : Bool) (r : Taken) : Type 0 where
+-- The reader gave some bytes, which are held after those that were held before.
+pub record Takes (held : List ℕ) (left : Option (List ℕ)) (held2 : List ℕ) (left2 : Option (List ℕ)) (unknown : Bool) (r : Taken) : Type 0 where
   pub got : List ℕ
-  pub gave : Reads left left2 silent got
-  pub took : TakenOf (held ++ got) held2 (silent ≡ false → IsAtEnd left2) r
+  pub gave : Reads left left2 unknown got
+  pub took : TakenOf (held ++ got) held2 (unknown ≡ false → IsAtEnd left2) r
 
 -- Some reads failed: all of them were interrupted, and are counted. None of them brought the count
 -- to the limit.
@@ -40,7 +40,7 @@ pub record CountsInterrupted (count count2 failures failures2 : ℕ) : Type 0 wh
   pub rose : failures2 ≡ raised_by failed failures
   pub few : 0 < failed → count2 < interruption_limit
 
--- ---- of a reader that tells its bytes
+-- ---- of a reader whose bytes are known
 
 -- What was taken of all that was held or left, and all that is held or left then.
 abbrev pub TakenOfAll : List ℕ → List ℕ → Taken → Type 0

@@ -29,7 +29,7 @@ type_line kind = codes "content-type: " ++ media_type kind ++ line_end
 abbrev pub length_line : ℕ → List ℕ
 length_line len = codes "content-length: " ++ decimal len ++ line_end
 
--- whoever shows no token is told of which kind it is
+-- whoever shows no token learns which kind it is
 abbrev pub challenge : ℕ → List ℕ
 challenge status = only_if (status == 401) (codes "www-authenticate: Bearer\r\n")
 

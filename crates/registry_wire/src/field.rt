@@ -1,4 +1,4 @@
-//! The fields of a head, as spans of the bytes that it stands in.
+//! The fields of a head, as spans of the bytes that it is in.
 
 ghost use Rattle.std.specs.Prelude.{◌≡◌, ◌≤◌, ◌+◌, ◌==◌, ◌||◌, length, map, All, reverse, min, bytes_eq, codes, true, IfOk};
 ghost use Rattle.std.specs.List.{list_all, list_any};
@@ -177,7 +177,7 @@ fn is_close(item: &[u8]) -> bool
     is_same(trimmed(item), b"close")
 }
 
-// Whether two texts are the same but for the case of ASCII letters.
+// Whether two texts are the same except for the case of ASCII letters.
 #[tactic(auto, unfolding(crate::specs::Fields::is_same))]
 fn is_same(a: &[u8], b: &[u8]) -> bool
     ensures { result ≡ spec.is_same a.now b.now }

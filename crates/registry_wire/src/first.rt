@@ -9,7 +9,7 @@ ghost use Rattle.registry_wire.specs.Spelling.{EndsWith, IsUnfinished, Says, req
 ghost use Rattle.registry_wire.specs.declared.first.First.TheVariants.{Unfinished};
 
 use crate::field::Values;
-use crate::head::{HeadFound, HeadParts, front_of, head_in};
+use crate::head::{HeadFound, HeadParts, head_in, prefix_of};
 use crate::wanted::{Authorization, Wanted};
 use registry_names::{Blob, Fault, Refusal};
 use std::alloc::{AllocError, Global};
@@ -34,7 +34,7 @@ pub enum First {
 /// How the bytes of a connection end.
 #[derive(Clone, Copy, Debug, PartialEq, Eq)]
 pub enum Ending {
-    /// Behind a whole request, or before the first.
+    /// After a whole request, or before the first.
     Closed,
     /// With what is no request that is served.
     BadInput(Refusal),
@@ -53,7 +53,7 @@ pub fn first_in(alloc: Global, bytes: &[u8]) -> Result<First, Fault>
     ensures fault { IfErr result (λ fault. fault ≡ Memory) }
     ensures short { result ≡ Ok Unfinished → length bytes.now < request_limit }
 {
-    let parts = match head_in(front_of(bytes)) {
+    let parts = match head_in(prefix_of(bytes)) {
         HeadFound::Whole(parts) => parts,
         HeadFound::Unfinished => return Ok(First::Unfinished),
         HeadFound::Never => return Ok(First::Bad(Refusal::BadBody)),

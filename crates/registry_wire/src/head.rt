@@ -82,13 +82,13 @@ fn is_other(method: Method) -> bool
 }
 
 /// The first bytes, as many as a head may have.
-pub fn front_of(bytes: &[u8]) -> &[u8]
+pub fn prefix_of(bytes: &[u8]) -> &[u8]
     ensures value { result.now ≡ take head_limit bytes.now }
     ensures few { length result.now ≤ head_limit }
 {
     if bytes.len() > HEAD_LIMIT {
-        let (front, _) = bytes.split_at(HEAD_LIMIT);
-        return front;
+        let (prefix, _) = bytes.split_at(HEAD_LIMIT);
+        return prefix;
     }
     bytes
 }

@@ -1,8 +1,8 @@
-//! Requests read from an end.
+//! Requests read from a byte stream.
 
 ghost use Rattle.std.specs.Prelude.{◌≡◌, ◌≢◌, ◌≤◌, ◌<◌, [], true, false, length, drop, Ok, IfOk, IfErr};
 ghost use Rattle.std.specs.Io.KnownBytes.{IsAtEnd};
-ghost use Rattle.registry_names.specs.Ends.{RisesBetween};
+ghost use Rattle.registry_names.specs.ByteStreams.{RisesBetween};
 ghost use Rattle.registry_names.specs.declared.stop.Fault.TheVariants.{Memory};
 ghost use Rattle.registry_wire.specs.Inboxes.{failures_admitted, unread};
 ghost use Rattle.registry_wire.specs.Pieces.{Gives, Moves};
@@ -85,7 +85,7 @@ impl<R: ByteIn> Inbox<R> {
         }
     }
 
-    /// Reads until the bytes that are held begin with a whole request, and takes it; or tells why
+    /// Reads until the bytes that are held begin with a whole request, and takes it; or says why
     /// there is none. Where none was taken all that was read is held, so that after a fault the
     /// call can be made again.
     ///
@@ -93,7 +93,7 @@ impl<R: ByteIn> Inbox<R> {
     /// `INTERRUPTION_LIMIT`, which is a failure.
     pub fn read_request(&mut self, alloc: Global) -> Taken
         ensures takes { Takes self.old.held (R.bytes self.old.reader)
-            self.new.held (R.bytes self.new.reader) (R.is_silent self.new.reader) result }
+            self.new.held (R.bytes self.new.reader) (R.is_unknown self.new.reader) result }
 
         // Only interrupted reads are tried again, and only a failed one is a fault: then no more
         // failed than bring the number of the interrupted ones to its limit, or the first one did.
@@ -104,7 +104,7 @@ impl<R: ByteIn> Inbox<R> {
             → RisesBetween 1 (failures_admitted self.old.interruptions)
             (R.failures self.old.reader) (R.failures self.new.reader) }
 
-        ensures silent { R.is_silent self.old.reader ≡ true → R.is_silent self.new.reader ≡ true }
+        ensures unknown { R.is_unknown self.old.reader ≡ true → R.is_unknown self.new.reader ≡ true }
     {
         'pieces: loop {
             match self.first(alloc) {
@@ -138,11 +138,11 @@ impl<R: ByteIn> Inbox<R> {
     #[tactic(auto, using(crate::proofs::InboxFacts::moving))]
     fn read_more(&mut self) -> Piece
         ensures moves { Moves self.old.held (R.bytes self.old.reader)
-            self.new.held (R.bytes self.new.reader) (R.is_silent self.new.reader) }
+            self.new.held (R.bytes self.new.reader) (R.is_unknown self.new.reader) }
         ensures gives { Gives result self.old self.new
             (R.failures self.old.reader) (R.failures self.new.reader)
-            (R.is_silent self.new.reader ≡ false → IsAtEnd (R.bytes self.new.reader)) }
-        ensures silent { R.is_silent self.old.reader ≡ true → R.is_silent self.new.reader ≡ true }
+            (R.is_unknown self.new.reader ≡ false → IsAtEnd (R.bytes self.new.reader)) }
+        ensures unknown { R.is_unknown self.old.reader ≡ true → R.is_unknown self.new.reader ≡ true }
     {
         if self.held.reserve(PIECE_LEN).is_err() {
             return Piece::Memory;

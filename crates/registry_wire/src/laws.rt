@@ -14,7 +14,7 @@ pub fn later_bytes_change_nothing()
     ensures bad { BadStays }
 {}
 
-/// What an inbox takes over a reader that tells its bytes is the first request that all the bytes
+/// What an inbox takes over a reader whose bytes are known is the first request that all the bytes
 /// spell, those that it held and those that the reader had left, or how they end; at a fault all of
 /// them are still held or left.
 pub fn what_is_left_is_read()

@@ -5,7 +5,7 @@ ghost use Rattle.registry_wire.specs.Asked as spec;
 
 use registry_names::Method;
 
-/// The method of this name. Names are told apart by case.
+/// The method of this name. Names differ by case.
 pub(crate) fn method_of(name: &[u8]) -> Method
     ensures { result ≡ spec.method_of name.now }
 {

@@ -1,7 +1,7 @@
 //! The bytes of a response.
 
 ghost use Rattle.std.specs.Prelude.{◌≡◌, ◌+◌, ◌≤◌, ◌++◌, length, true, OnOk, OnErr, IsErr};
-ghost use Rattle.registry_names.specs.Ends.{Writes, WritesFront, failures_after, full_count};
+ghost use Rattle.registry_names.specs.ByteStreams.{Writes, WritesPrefix, failures_after, full_count};
 ghost use Rattle.http.specs.StatusCode.{code_digits};
 ghost use Rattle.registry_wire.specs.Responses as spec;
 ghost use Rattle.registry_wire.specs.Responses.{head_of, response_bytes};
@@ -20,7 +20,7 @@ pub enum ContentKind {
     Bytes,
 }
 
-/// A response, of a body that stands elsewhere.
+/// A response, of a body that is elsewhere.
 #[derive(Clone, Copy)]
 pub struct Response<'a> {
     pub status: StatusCode,
@@ -133,44 +133,44 @@ fn put_if(head: &mut ShortText, applies: bool, text: &[u8])
 /// The most bytes that are gathered for one write.
 const GATHER_LIMIT: usize = 4096;
 
-/// Writes a response, or a front of it up to the first failed write. It takes no memory: the head
-/// and the front of the body go out in one write, and the rest of the body as it stands.
+/// Writes a response, or a prefix of it up to the first failed write. It takes no memory: the head
+/// and the prefix of the body go out in one write, and the rest of the body as it is.
 pub fn write_response<W: ByteOut>(
     response: &Response<'_>,
     writer: &mut W,
 ) -> Result<(), WriteFailed>
     ensures ok { OnOk result (Writes (W.bytes writer.old) (W.bytes writer.new)
-        (W.is_silent writer.new) (response_bytes response.now)) }
-    ensures err { OnErr result (WritesFront (W.bytes writer.old) (W.bytes writer.new)
-        (W.is_silent writer.new) (response_bytes response.now)) }
+        (W.is_unknown writer.new) (response_bytes response.now)) }
+    ensures err { OnErr result (WritesPrefix (W.bytes writer.old) (W.bytes writer.new)
+        (W.is_unknown writer.new) (response_bytes response.now)) }
 
     ensures counted { W.failures writer.new ≡ failures_after result (W.failures writer.old) }
     ensures full { W.failures writer.old ≡ full_count → IsErr result }
 
-    ensures told { OnOk result (W.is_silent writer.new ≡ W.is_silent writer.old) }
-    ensures silent { W.is_silent writer.old ≡ true → W.is_silent writer.new ≡ true }
+    ensures told { OnOk result (W.is_unknown writer.new ≡ W.is_unknown writer.old) }
+    ensures unknown { W.is_unknown writer.old ≡ true → W.is_unknown writer.new ≡ true }
 {
     let head = response.head();
-    let (front, rest) = response.body.split_at(front_len(response.body));
-    let first = gathered(head.as_slice(), front);
+    let (prefix, rest) = response.body.split_at(prefix_len(response.body));
+    let first = gathered(head.as_slice(), prefix);
     write_whole(writer, first.as_slice())?;
     write_whole(writer, rest)
 }
 
 // How much of a body goes out with the head.
-fn front_len(body: &[u8]) -> usize
+fn prefix_len(body: &[u8]) -> usize
     ensures within { result ≤ length body.now }
     ensures few { result ≤ 3840 }
 {
     body.len().min(GATHER_LIMIT - SHORT_LIMIT)
 }
 
-fn gathered(head: &[u8], front: &[u8]) -> ArrayVec<u8, GATHER_LIMIT>
-    requires { length head.now + length front.now ≤ 4096 }
-    ensures { result.items ≡ head.now ++ front.now }
+fn gathered(head: &[u8], prefix: &[u8]) -> ArrayVec<u8, GATHER_LIMIT>
+    requires { length head.now + length prefix.now ≤ 4096 }
+    ensures { result.items ≡ head.now ++ prefix.now }
 {
     let mut bytes = ArrayVec::new();
     let _head_fits = bytes.try_extend_from_slice(head);
-    let _front_fits = bytes.try_extend_from_slice(front);
+    let _prefix_fits = bytes.try_extend_from_slice(prefix);
     bytes
 }

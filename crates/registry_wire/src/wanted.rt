@@ -6,7 +6,7 @@ use registry_names::{Blob, Method};
 #[derive(Debug)]
 pub struct Wanted {
     pub method: Method,
-    /// The target as it stands in the head, escapes and query included.
+    /// The target as it is in the head, escapes and query included.
     pub target: Blob,
     pub authorization: Authorization,
     pub body: Blob,

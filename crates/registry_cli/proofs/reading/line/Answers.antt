@@ -15,23 +15,23 @@ use Rattle.registry_cli.proofs.reading.line.Goals as goal
 pub returns-in-Ok : goal.returns-in-Ok
 returns-in-Ok c =
     let app_is : app_of c.in_ok-registry.field-0 ≡ registry = c.in_ok-registry.ensures.app in
-    let words_are : map (λ s. s.now) c.as_slice.result.now ≡ c.args.words.now = ap (map (λ s. s.now)) c.as_slice.ensures.value ∙ c.in_ok-texts.ensures in
+    let parameters_are : map (λ s. s.now) c.as_slice.result.now ≡ c.args.arguments.now = ap (map (λ s. s.now)) c.as_slice.ensures.value ∙ c.in_ok-texts.ensures in
     let has = c.in-Ok.ensures.matches (ap is_simple app_is) in
-    let rows_are : rows_of (found_of c.in-Ok.matches) ≡ matches_of registry c.args.words.now = has.0 ∙ ap₂ matches_of app_is words_are in
-    let found_is : subcommand_rows_of c.in-Ok.matches ≡ subcommand_of registry c.args.words.now = has.1 ∙ ap₂ subcommand_of app_is words_are in
+    let rows_are : rows_of (found_of c.in-Ok.matches) ≡ matches_of registry c.args.arguments.now = has.0 ∙ ap₂ matches_of app_is parameters_are in
+    let found_is : subcommand_rows_of c.in-Ok.matches ≡ subcommand_of registry c.args.arguments.now = has.1 ∙ ap₂ subcommand_of app_is parameters_are in
     let parsed = c.in-Ok.ensures.parsed in
     let checked = (parsed.parsed (parsed.from.globals ∙ c.in_ok-registry.ensures.local)).checked in
     let used = checked.subcommand (parsed.from.needs_subcommand ∙ ap (λ (a : App). a.top.subcommand_required) app_is) in
     let given : is_some (subcommand_rows_of c.in-Ok.matches) ≡ true = used_is _ used in
     record {
       ok = IfOk-weaker c.line_in.result _ _ (λ l h. (h.0 ∙ ap₂ line_in rows_are found_is, sym (ap are_both_in rows_are) ∙ h.1)) c.line_in.ensures.ok;
-      whole = IfOk-weaker c.line_in.result _ _ (λ l h. subst (λ (what : List Text). IsWhole what) (sym (ap (λ (l : Line). l.what) (h.0 ∙ ap₂ line_in rows_are found_is))) (whole_of c.args.words.now (ap is_some (sym found_is) ∙ given))) c.line_in.ensures.ok;
-      faultless = IfOk-weaker c.line_in.result _ _ (λ l h. sym (ap₂ fault_of app_is words_are) ∙ c.in-Ok.ensures.kinds (ap is_simple_and_free app_is)) c.line_in.ensures.ok;
+      whole = IfOk-weaker c.line_in.result _ _ (λ l h. subst (λ (what : List Text). IsWhole what) (sym (ap (λ (l : Line). l.what) (h.0 ∙ ap₂ line_in rows_are found_is))) (whole_of c.args.arguments.now (ap is_some (sym found_is) ∙ given))) c.line_in.ensures.ok;
+      faultless = IfOk-weaker c.line_in.result _ _ (λ l h. sym (ap₂ fault_of app_is parameters_are) ∙ c.in-Ok.ensures.kinds (ap is_simple_and_free app_is)) c.line_in.ensures.ok;
       err = IfErr-weaker c.line_in.result _ _ (λ u h taken. subst (λ (rows : List Row). IsMemoryOrBoth u (are_both_in rows)) rows_are h) c.line_in.ensures.err;
     }
 
 pub returns-clause-err : goal.returns-clause-err
 returns-clause-err c =
     let app_is : app_of c.in_ok-registry.field-0 ≡ registry = c.in_ok-registry.ensures.app in
-    let words_are : map (λ s. s.now) c.as_slice.result.now ≡ c.args.words.now = ap (map (λ s. s.now)) c.as_slice.ensures.value ∙ c.in_ok-texts.ensures in
-    λ taken. inl (c.said.ensures (c.in-Err.ensures.passes (ap₂ takes app_is words_are ∙ taken)))
+    let parameters_are : map (λ s. s.now) c.as_slice.result.now ≡ c.args.arguments.now = ap (map (λ s. s.now)) c.as_slice.ensures.value ∙ c.in_ok-texts.ensures in
+    λ taken. inl (c.said.ensures (c.in-Err.ensures.passes (ap₂ takes app_is parameters_are ∙ taken)))

@@ -1,7 +1,7 @@
 use Rattle.std.proofs.Common.{map}
 use Rattle.registry_rows.proofs.QuietFacts.{stays_then}
 use Rattle.registry_rules.specs.Changes.{change_of}
-use Rattle.registry_desk.proofs.ShelfFacts.{changed_no_more}
+use Rattle.registry_desk.proofs.CacheFacts.{changed_no_more}
 use Rattle.registry_desk.proofs.answer.accepted.Goals as goal
 
 pub returns-in_err-make_all-clause-stays : goal.returns-in_err-make_all-clause-stays
@@ -11,7 +11,7 @@ pub returns-clause-stays : goal.returns-clause-stays
 returns-clause-stays g c = stays_then g.S.Store c.args.tx.now c.reply_to.new.tx c.make_all.new.tx c.reply_to.ensures.stays c.make_all.ensures.stays
 
 pub returns-in_err-make_all-clause-no_more : goal.returns-in_err-make_all-clause-no_more
-returns-in_err-make_all-clause-no_more g c = changed_no_more (map change_of c.args.changes.now) c.args.texts.now c.forget_changed.new.texts c.forget_changed.ensures
+returns-in_err-make_all-clause-no_more g c = changed_no_more (map change_of c.args.changes.now) c.args.cache.now c.forget_changed.new.cache c.forget_changed.ensures
 
 pub returns-clause-no_more : goal.returns-clause-no_more
-returns-clause-no_more g c = changed_no_more (map change_of c.args.changes.now) c.args.texts.now c.forget_changed.new.texts c.forget_changed.ensures
+returns-clause-no_more g c = changed_no_more (map change_of c.args.changes.now) c.args.cache.now c.forget_changed.new.cache c.forget_changed.ensures

@@ -10,9 +10,9 @@ use Rattle.registry_tables.specs.Effects.{shown, stored_in}
 use Rattle.registry_tables.specs.Schema.{schema}
 use Rattle.registry_history.specs.Answers.{answer}
 use Rattle.registry_desk.specs.Resting.{settled_by}
-use Rattle.registry_desk.specs.Shelves.{IsSoundFor, LeavesTextsRight}
+use Rattle.registry_desk.specs.Caches.{IsSoundFor, LeavesCacheRight}
 use Rattle.registry_desk.proofs.AnswerFacts.{known_stands}
-use Rattle.registry_desk.proofs.ShelfFacts.{sound_for}
+use Rattle.registry_desk.proofs.CacheFacts.{sound_for}
 use Rattle.registry_desk.proofs.answer.answered_to.Goals as goal
 
 pub answered_by-requires : goal.answered_by-requires
@@ -34,7 +34,7 @@ returns-clause-answers g c known sound needs right clean =
     let same : stored_in g.S.Store c.facts.new.tx ≡ was = ap (λ (d : Database). contents d.trees) told.0.same in
     let stands = known_stands (registry_of was) c.args.caller c.in_ok-about.about r known (told.1 sound needs) in
     IfOk-weaker c.answered_by.result _ _ (λ _ e. e ∙ ap (λ (d : Contents). answer (registry_of d) r) same)
-    (c.answered_by.ensures.answers (subst (λ (d : Contents). FactsTell (record { caller = Some c.args.caller; about = c.in_ok-about.about }) (registry_of d) r) (sym same) stands) (subst (λ (d : Contents). IsSoundFor r.what d c.args.texts.now) (sym same) (sound_for r.what was c.args.texts.now sound right)) clean)
+    (c.answered_by.ensures.answers (subst (λ (d : Contents). FactsTell (record { caller = Some c.args.caller; about = c.in_ok-about.about }) (registry_of d) r) (sym same) stands) (subst (λ (d : Contents). IsSoundFor r.what d c.args.cache.now) (sym same) (sound_for r.what was c.args.cache.now sound right)) clean)
 
 pub returns-clause-settles : goal.returns-clause-settles
 returns-clause-settles g c known sound needs clean =
@@ -56,4 +56,4 @@ pub returns-clause-right : goal.returns-clause-right
 returns-clause-right g c clean =
     let were : HasCleanDisk (shown g.S.Store c.facts.new.tx) = omega (arith, c.answered_by.ensures.stays.survives.clean, clean) in
     let same : stored_in g.S.Store c.facts.new.tx ≡ stored_in g.S.Store c.args.tx.now = ap (λ (d : Database). contents d.trees) (c.in_ok-about.ensures.tells were).0.same in
-    subst (λ (d : Contents). IfOk c.answered_by.result (LeavesTextsRight d (stored_in g.S.Store c.answered_by.new.tx) c.args.request.now.what c.args.texts.now c.answered_by.new.texts)) same (c.answered_by.ensures.right clean)
+    subst (λ (d : Contents). IfOk c.answered_by.result (LeavesCacheRight d (stored_in g.S.Store c.answered_by.new.tx) c.args.request.now.what c.args.cache.now c.answered_by.new.cache)) same (c.answered_by.ensures.right clean)

@@ -12,7 +12,7 @@ decreases-pass_items l = 2 * l.depth + 1
 abbrev pub decreases-pass_members : goal.decreases-pass_members
 decreases-pass_members l = 2 * l.depth + 1
 
--- what is left behind all items is what is left behind those to come
+-- what is left after all items is what is left after those to come
 abbrev pub invariant-pass_items-items : goal.invariant-pass_items-items
 invariant-pass_items-items l =
     (n : ℕ) × (length l.reader ≤ n) × (behind_items l.depth l.initial.reader ≡ behind items_are_held (items (value l.depth) n l.reader))

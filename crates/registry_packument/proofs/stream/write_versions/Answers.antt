@@ -1,12 +1,12 @@
 use Rattle.std.proofs.Common.{◌≡◌, true, [], ◌∷◌, ap}
-use Rattle.registry_names.proofs.EndFacts.{on_err}
-use Rattle.registry_packument.specs.Streams.{row_front, versions_front}
-use Rattle.registry_packument.proofs.StreamFacts.{HasLeft-piece, HasLeft-failed, HasLeft-stopped, behind, versions_front-cut, versions_front-next, length-versions_front, is_some-next}
+use Rattle.registry_names.proofs.ByteStreamFacts.{on_err}
+use Rattle.registry_packument.specs.Streams.{row_prefix, versions_prefix}
+use Rattle.registry_packument.proofs.StreamFacts.{HasLeft-piece, HasLeft-failed, HasLeft-stopped, behind, versions_prefix-cut, versions_prefix-next, length-versions_prefix, is_some-next}
 use Rattle.registry_packument.proofs.stream.write_versions.Goals as goal
 
 pub returns-in_err-row-clause-err : goal.returns-in_err-row-clause-err
 returns-in_err-row-clause-err g c =
-    on_err c.from_residual.result (HasLeft-stopped c.versions.invariant.front (length-versions_front c.versions.later (g.S.VersionSource.rows c.versions.source)))
+    on_err c.from_residual.result (HasLeft-stopped c.versions.invariant.prefix (length-versions_prefix c.versions.later (g.S.VersionSource.rows c.versions.source)))
 
 pub returns-in_err-write_version-clause-err : goal.returns-in_err-write_version-clause-err
 returns-in_err-write_version-clause-err g c =
@@ -14,8 +14,8 @@ returns-in_err-write_version-clause-err g c =
     let left = g.S.VersionSource.rows c.next.new.self in
     let row = c.in-Some.row in
     on_err c.from_residual-in_err-write_version.result
-    (HasLeft-failed (row_front c.versions.later row) (behind row left) c.versions.invariant.front
-    (versions_front-cut c.versions.later row old left (rw c.in-Some.is at c.in_ok-row.ensures.gives)) c.in_err-write_version.ensures.err c.in_err-write_version.ensures.silent)
+    (HasLeft-failed (row_prefix c.versions.later row) (behind row left) c.versions.invariant.prefix
+    (versions_prefix-cut c.versions.later row old left (rw c.in-Some.is at c.in_ok-row.ensures.gives)) c.in_err-write_version.ensures.err c.in_err-write_version.ensures.unknown)
 
 pub versions-preserved : goal.versions-preserved
 versions-preserved g c =
@@ -25,16 +25,16 @@ versions-preserved g c =
     let gives : old ≡ row ∷ left = rw c.in-Some.is at c.in_ok-row.ensures.gives in
     let documents = is_some-next row old left gives c.in_ok-write_version.ensures.whole in
     record {
-      front = HasLeft-piece (row_front c.versions.later row) (versions_front true left) c.versions.invariant.front
-          (versions_front-next c.versions.later row old left gives c.in_ok-write_version.ensures.whole) c.in_ok-write_version.ensures.ok c.in_ok-write_version.ensures.silent;
+      prefix = HasLeft-piece (row_prefix c.versions.later row) (versions_prefix true left) c.versions.invariant.prefix
+          (versions_prefix-next c.versions.later row old left gives c.in_ok-write_version.ensures.whole) c.in_ok-write_version.ensures.ok c.in_ok-write_version.ensures.unknown;
       documents = cc;
       failures = cc (c.in_ok-write_version.ensures.counted);
-      silence = cc (c.in_ok-write_version.ensures.told (λ e. cc));
+      still_unknown = cc (c.in_ok-write_version.ensures.told (λ e. cc));
     }
 
 pub returns-in_err-write_whole-clause-err : goal.returns-in_err-write_whole-clause-err
 returns-in_err-write_whole-clause-err g c =
     let none = rw c.in_default.is at c.in_ok-row.ensures.gives in
     on_err c.from_residual-in_err-write_whole.result
-    (HasLeft-failed {c = g.W.ByteOut.bytes c.write_whole.new.writer} {t = g.W.ByteOut.is_silent c.write_whole.new.writer} (125 ∷ 125 ∷ []) [] c.versions.invariant.front (ap (versions_front c.versions.later) none.0)
-    (rw c.as_bytes.ensures.value at c.in_err-write_whole.ensures.err) c.in_err-write_whole.ensures.silent)
+    (HasLeft-failed {c = g.W.ByteOut.bytes c.write_whole.new.writer} {t = g.W.ByteOut.is_unknown c.write_whole.new.writer} (125 ∷ 125 ∷ []) [] c.versions.invariant.prefix (ap (versions_prefix c.versions.later) none.0)
+    (rw c.as_bytes.ensures.value at c.in_err-write_whole.ensures.err) c.in_err-write_whole.ensures.unknown)

@@ -1,16 +1,16 @@
 use Rattle.std.proofs.Common.{◌≡◌, false, is_some, length}
 use Rattle.registry_packument.specs.Packuments.{version_pairs}
-use Rattle.registry_packument.specs.Streams.{versions_front}
+use Rattle.registry_packument.specs.Streams.{versions_prefix}
 use Rattle.registry_packument.proofs.StreamFacts.{HasLeft}
 use Rattle.registry_packument.proofs.stream.write_versions.Given as goal
 
 abbrev pub invariant-versions : goal.invariant-versions
 invariant-versions g l = record {
-  front : HasLeft (g.W.ByteOut.bytes l.fn.writer) (g.W.ByteOut.bytes l.writer) (g.W.ByteOut.is_silent l.writer)
-      (versions_front false (g.S.VersionSource.rows l.fn.source)) (versions_front l.later (g.S.VersionSource.rows l.source));
+  prefix : HasLeft (g.W.ByteOut.bytes l.fn.writer) (g.W.ByteOut.bytes l.writer) (g.W.ByteOut.is_unknown l.writer)
+      (versions_prefix false (g.S.VersionSource.rows l.fn.source)) (versions_prefix l.later (g.S.VersionSource.rows l.source));
   documents : is_some (version_pairs (g.S.VersionSource.rows l.fn.source)) ≡ is_some (version_pairs (g.S.VersionSource.rows l.source));
   failures : g.W.ByteOut.failures l.writer ≡ g.W.ByteOut.failures l.fn.writer;
-  silence : g.W.ByteOut.is_silent l.writer ≡ g.W.ByteOut.is_silent l.fn.writer;
+  still_unknown : g.W.ByteOut.is_unknown l.writer ≡ g.W.ByteOut.is_unknown l.fn.writer;
 }
 
 abbrev pub decreases-versions : goal.decreases-versions

@@ -8,7 +8,7 @@ use Rattle.registry_tables.specs.Effects.{shown, stored_in}
 use Rattle.registry_tables.specs.Needs.{with_needs}
 use Rattle.registry_tables.proofs.needs.put_needs.Given as goal
 
--- the needs so far stand
+-- the needs so far are stored
 abbrev pub invariant-loop-need : goal.invariant-loop-need
 invariant-loop-need g l = record {
   stays : Stays g.S.Store l.fn.tx l.tx;

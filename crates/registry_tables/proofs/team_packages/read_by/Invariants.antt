@@ -6,7 +6,7 @@ use Rattle.registry_tables.specs.Effects.{IsAsBefore, shown, stored_in}
 use Rattle.registry_tables.specs.Teams.{AreTeamsSound, granted_entry, readable}
 use Rattle.registry_tables.proofs.team_packages.read_by.Given as goal
 
--- of the grants so far those stand that the caller reads, and nothing has changed
+-- of the grants so far there are those that the caller reads, and nothing has changed
 abbrev pub invariant-loop-row : goal.invariant-loop-row
 invariant-loop-row g l = record {
   stays : Stays g.S.Store l.fn.tx l.tx;

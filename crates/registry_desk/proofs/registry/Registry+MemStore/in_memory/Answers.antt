@@ -1,7 +1,7 @@
 use Rattle.std.proofs.Common.{ap, subst, sym}
 use Rattle.sqlite.proofs.Callers.{memory_is_clean}
-use Rattle.registry_texts.specs.Stores.{AreRight, Store}
-use Rattle.registry_texts.proofs.RightFacts.{new_right}
+use Rattle.registry_cache.specs.Caches.{AreRight, Cache}
+use Rattle.registry_cache.proofs.RightFacts.{new_right}
 use Rattle.registry_tables.specs.Archives.{HoldsArchives}
 use Rattle.registry_tables.specs.Contents.{Contents, registry_of}
 use Rattle.registry_tables.specs.Needs.{HoldsNeeds}
@@ -16,8 +16,8 @@ use Rattle.registry_desk.proofs.registry.Registry+MemStore.in_memory.Goals as go
 pub invariant_of-result : goal.invariant_of-result
 invariant_of-result c = record {
   rests = c.in_ok-create_tables.ensures.rests;
-  right = λ clean on. subst (AreRight _) (sym c.in_ok-texts.ensures) (new_right _ _);
-  limited = ap (λ (s : Store). s.limit) c.in_ok-texts.ensures;
+  right = λ clean on. subst (AreRight _) (sym c.in_ok-cache.ensures) (new_right _ _);
+  limited = ap (λ (s : Cache). s.limit) c.in_ok-cache.ensures;
 }
 
 pub returns-clause-fresh : goal.returns-clause-fresh

@@ -5,9 +5,9 @@ use Rattle.registry_wire.proofs.inbox.Inbox.read_request.Given as goal
 
 abbrev pub invariant-pieces : goal.invariant-pieces
 invariant-pieces g l = record {
-  moved : Moves l.fn.self.held (g.R.ByteIn.bytes l.fn.self.reader) l.self.held (g.R.ByteIn.bytes l.self.reader) (g.R.ByteIn.is_silent l.self.reader);
+  moved : Moves l.fn.self.held (g.R.ByteIn.bytes l.fn.self.reader) l.self.held (g.R.ByteIn.bytes l.self.reader) (g.R.ByteIn.is_unknown l.self.reader);
   counted : CountsInterrupted l.fn.self.interruptions l.self.interruptions (g.R.ByteIn.failures l.fn.self.reader) (g.R.ByteIn.failures l.self.reader);
-  silent : g.R.ByteIn.is_silent l.fn.self.reader ≡ true → g.R.ByteIn.is_silent l.self.reader ≡ true;
+  unknown : g.R.ByteIn.is_unknown l.fn.self.reader ≡ true → g.R.ByteIn.is_unknown l.self.reader ≡ true;
 }
 
 abbrev pub decreases-pieces : goal.decreases-pieces

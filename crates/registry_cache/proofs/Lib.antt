@@ -1,0 +1,4 @@
+pub mod CacheFacts
+pub mod PrefixFacts
+pub mod NamedFacts
+pub mod RightFacts

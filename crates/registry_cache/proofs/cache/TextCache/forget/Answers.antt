@@ -1,0 +1,46 @@
+use Rattle.std.proofs.Common.{ap, sym, ◌∙◌, string_bytes, length, arith}
+use Rattle.registry_cache.specs.Caches.{Entries, Cache, cache, size, forgotten}
+use Rattle.registry_cache.specs.Inside.{named}
+use Rattle.registry_cache.proofs.NamedFacts.{query, named-remove_entry, size-remove_entry, remove_entry-none}
+use Rattle.registry_cache.proofs.cache.TextCache.forget.Goals as goal
+
+pub overflow_sub-self : goal.overflow_sub-self
+overflow_sub-self c =
+    let sum = size-remove_entry string_bytes (query string_bytes c.args.name.now) c.self.inside.entries.entries c.in-Some.text (sym c.in-Some.ensures.value) in
+    let counted = c.self.invariant.counted in
+    let same = ap length c.as_str.ensures.text in
+    omega arith
+
+pub invariant_of-self : goal.invariant_of-self
+invariant_of-self c =
+    let sum = size-remove_entry string_bytes (query string_bytes c.args.name.now) c.self.inside.entries.entries c.in-Some.text (sym c.in-Some.ensures.value) in
+    let counted = c.self.invariant.counted in
+    let limited = c.self.invariant.limited in
+    let same = ap length c.as_str.ensures.text in
+    let left = ap (λ q. size (named string_bytes q.entries)) c.pop.ensures.entries in
+    record {
+      counted = omega arith;
+      limited = omega arith;
+      unbounded = ap (λ q. q.cap) c.pop.ensures.entries ∙ c.self.invariant.unbounded;
+    }
+
+pub invariant_of-self-in_default : goal.invariant_of-self-in_default
+invariant_of-self-in_default c = record {
+  counted = c.self.invariant.counted
+      ∙ ap (λ es. size (named string_bytes es)) (sym (remove_entry-none string_bytes (query string_bytes c.args.name.now) c.self.inside.entries.entries (sym c.in_default.ensures.value)))
+      ∙ ap (λ q. size (named string_bytes q.entries)) (sym c.pop.ensures.entries);
+  limited = c.self.invariant.limited;
+  unbounded = ap (λ q. q.cap) c.pop.ensures.entries ∙ c.self.invariant.unbounded;
+}
+
+pub returns-in-Some : goal.returns-in-Some
+returns-in-Some c =
+    ap (λ q. cache (named string_bytes q.entries) c.self.inside.limit) c.pop.ensures.entries
+    ∙ ap (λ (es : Entries). cache es c.self.inside.limit) (named-remove_entry string_bytes c.args.name.now c.self.inside.entries.entries c.len-names_differ.ensures.valid.0)
+    ∙ ap (λ (s : Cache). forgotten s c.args.name.now) c.self.view_is
+
+pub returns-in_default : goal.returns-in_default
+returns-in_default c =
+    ap (λ q. cache (named string_bytes q.entries) c.self.inside.limit) c.pop.ensures.entries
+    ∙ ap (λ (es : Entries). cache es c.self.inside.limit) (named-remove_entry string_bytes c.args.name.now c.self.inside.entries.entries c.len-names_differ.ensures.valid.0)
+    ∙ ap (λ (s : Cache). forgotten s c.args.name.now) c.self.view_is

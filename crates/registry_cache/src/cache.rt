@@ -1,0 +1,150 @@
+//! The cache of texts.
+
+ghost use Rattle.std.specs.Prelude.{◌≡◌, ◌≤◌, ◌+◌, ◌∷◌, [], length, option_copied, IfOk, OnOk, OnErr};
+ghost use Rattle.registry_cache.specs.Caches.{cache, kept, size, asked, forgotten, with_text, with_room, prefix};
+
+use crate::shared_text::SharedText;
+use lru::LruCache;
+use std::alloc::{AllocError, Global};
+use std::marker::Model;
+
+/// Texts by name, of which all together have a limited number of bytes. The names, and what a text
+/// takes in memory beside its bytes, aren't counted. Contracts see each name with its text, the
+/// latest asked first, and the limit.
+#[derive(Drop)]
+pub struct TextCache {
+    entries: LruCache<String, SharedText>,
+    size: usize,
+    limit: usize,
+}
+
+impl Model for TextCache {
+    ghost use Rattle.registry_cache.specs.Caches.{Cache, cache_code};
+
+    ghost Value = { Cache };
+
+    ghost coded = { cache_code };
+
+    ghost use Rattle.registry_cache.specs.Inside.{shown, IsCounted};
+
+    ghost view = { shown };
+
+    ghost invariant = { IsCounted };
+}
+
+impl TextCache {
+    /// A cache that keeps nothing, and will keep texts of at most `limit` bytes together.
+    ///
+    /// An error comes where no memory is left.
+    pub fn new(alloc: Global, limit: usize) -> Result<TextCache, AllocError>
+        ensures { IfOk result (λ s. s ≡ cache [] limit) }
+    {
+        let entries = LruCache::unbounded(alloc)?;
+        Ok(TextCache {
+            entries,
+            size: 0,
+            limit,
+        })
+    }
+
+    /// The text that is kept under the name, which is now the latest asked.
+    ///
+    /// An error comes where the number of the text's owners can't be counted any more.
+    pub fn get(&mut self, name: &str) -> Result<Option<SharedText>, AllocError>
+        ensures text { IfOk result (λ text. text ≡ kept self.old name.now) }
+        ensures cache { self.new ≡ asked self.old name.now }
+    {
+        self.ask(name);
+        match self.peek(name) {
+            Some(text) => Ok(Some(text.share()?)),
+            None => Ok(None),
+        }
+    }
+
+    /// The text that is kept under the name. The order stays as it is.
+    pub fn peek(&self, name: &str) -> Option<&SharedText>
+        ensures { option_copied result ≡ kept self.now name.now }
+    {
+        self.entries.peek(name)
+    }
+
+    /// Keeps the text under the name, in place of what was kept there, as the latest asked. Others
+    /// go where there are too many bytes, the least lately asked first. A text that alone has more
+    /// bytes than the limit isn't kept: what was kept under the name goes, and of the others none.
+    ///
+    /// At an error, which comes where no memory is left, nothing is kept under the name, and of the
+    /// others as much as if the text were.
+    pub fn put(&mut self, name: &str, text: SharedText) -> Result<(), AllocError>
+        ensures ok { OnOk result (self.new ≡ with_text self.old name.now text) }
+        ensures err { OnErr result (self.new ≡ with_room self.old name.now text) }
+    {
+        self.forget(name);
+        let len = text.as_str().len();
+        if len > self.limit {
+            return Ok(());
+        }
+        self.make_room(self.limit - len);
+        self.add(name, text, len)
+    }
+
+    /// Keeps nothing under the name from now on, and all else as it is.
+    pub fn forget(&mut self, name: &str)
+        ensures { self.new ≡ forgotten self.old name.now }
+    {
+        let _names_differ = self.entries.len();
+        if let Some(text) = self.entries.pop(name) {
+            self.size -= text.as_str().len();
+        }
+    }
+
+    /// The number of bytes of all texts together.
+    pub fn size(&self) -> usize
+        ensures size { result ≡ size self.now.entries }
+        ensures limited { result ≤ self.now.limit }
+    {
+        self.size
+    }
+
+    /// The limit of that number.
+    pub fn limit(&self) -> usize
+        ensures { result ≡ self.now.limit }
+    {
+        self.limit
+    }
+
+    fn ask(&mut self, name: &str)
+        ensures { self.new ≡ asked self.old name.now }
+    {
+        let _names_differ = self.entries.len();
+        self.entries.promote(name);
+    }
+
+    // Lets the least lately asked go until no more bytes are kept than these.
+    fn make_room(&mut self, room: usize)
+        ensures { self.new ≡ cache (prefix room self.old.entries) self.old.limit }
+    {
+        while self.size > room {
+            let Some((_, text)) = self.entries.pop_lru() else {
+                return;
+            };
+            self.size -= text.as_str().len();
+        }
+    }
+
+    // Keeps a text more, under a name that has none.
+    fn add(&mut self, name: &str, text: SharedText, len: usize) -> Result<(), AllocError>
+        requires new { kept self.old name.now ≡ None }
+        requires len { len ≡ length text }
+        requires room { size self.old.entries + len ≤ self.old.limit }
+        ensures ok { OnOk result
+            (self.new ≡ cache ((name.now, text) ∷ self.old.entries) self.old.limit) }
+        ensures err { OnErr result (self.new ≡ self.old) }
+    {
+        let alloc = *self.entries.allocator();
+        let name = String::from_str(alloc, name)?;
+        let _few = self.entries.len();
+        self.entries.put(name, text)?;
+        self.size += len;
+        Ok(())
+    }
+}

@@ -1,0 +1,10 @@
+use Rattle.std.proofs.Common.{inr, refl}
+use Rattle.registry_desk.proofs.CacheFacts.{is_put_as}
+use Rattle.registry_desk.proofs.cache.put.Goals as goal
+
+pub returns-in-Ok : goal.returns-in-Ok
+returns-in-Ok c =
+    is_put_as c.args.name.now c.args.text.now c.text.result.now c.in-Ok.text c.put-kept.result c.args.cache.now c.put-kept.new.self c.text.ensures.text c.in-Ok.ensures c.put-kept.ensures.ok c.put-kept.ensures.err
+
+pub returns-in_default : goal.returns-in_default
+returns-in_default c = inr (inr refl)

@@ -1,0 +1,20 @@
+use Rattle.std.proofs.Common.{subst}
+use Rattle.sqlite.specs.Held.{state}
+use Rattle.registry_http.specs.Services.{Applies}
+use Rattle.registry_http.proofs.service.RegistryServiceService.answer.Goals as goal
+
+pub returns : goal.returns
+returns g c = subst (λ was. Applies (state g.S.Store was) (state g.S.Store c.apply.new.self) c.args.request.now c.apply.result) c.self.view_is (record {
+  answer = c.apply.ensures.answer;
+  served = c.apply.ensures.served;
+  opened = c.apply.ensures.opened;
+  step = c.apply.ensures.step;
+  moves = c.apply.ensures.moves;
+  history = c.apply.ensures.history;
+  sound = c.apply.ensures.sound;
+  form = c.apply.ensures.form;
+  needs = c.apply.ensures.needs;
+  archives = c.apply.ensures.archives;
+  survives = c.apply.ensures.survives;
+  stays = c.apply.ensures.stays;
+})

@@ -1,0 +1,81 @@
+-- A registry as the service that connections ask, and the run that turns come to.
+use Rattle.std.specs.Prelude.{◌≡◌, ◌⊎◌, ◌++◌, ◌∷◌, [], ℕ, List, map, Ok, Err}
+use Rattle.sqlite.specs.State.{State as Shown}
+use Rattle.registry_names.specs.declared.stop.Stop.{Stop}
+use Rattle.registry_rules.specs.declared.request.Request.{Request}
+use Rattle.registry_tables.specs.Archives.{HoldsArchives}
+use Rattle.registry_tables.specs.Needs.{HoldsNeeds}
+use Rattle.registry_history.specs.Runs.{Outcome}
+use Rattle.registry_desk.specs.Promises.{Answered, GrowsHistory, HasHeadline, Keeps, KeepsForm, KeepsSound, Moves, RanTo, Served, SurvivesCrash, RunSurvivesCrash, Stepped, Stored, SurvivesOne, SurvivesRun, WasOpen, WritesHistory}
+use Rattle.registry_service.specs.Courses.{Follow}
+use Rattle.registry_service.specs.Histories.{LogEntry, FollowAll}
+use Rattle.registry_service.specs.Requests.{reads_request}
+use Rattle.registry_service.specs.Turns.{Answering, Cause, Turn, bad_input, no_memory, request, stopped}
+
+-- all that is promised of a request to a registry
+pub record Applies (old new : Shown) (r : Request) (o : Outcome) : Type 0 where
+  pub answer : Answered old new r o
+  pub served : Served old new o
+  pub opened : WasOpen old new
+  pub step : Stepped old new r o
+  pub moves : Moves old new r o
+  pub history : GrowsHistory old new r o
+  pub sound : KeepsSound old new
+  pub form : KeepsForm old new
+  pub needs : Keeps old new HoldsNeeds
+  pub archives : Keeps old new HoldsArchives
+  pub survives : SurvivesOne old new r
+  pub stays : SurvivesCrash new o
+
+-- ---- the requests of turns
+
+-- the turn was taken for this request
+abbrev pub Asks : Cause → Request → Type 0
+Asks (request w at) r = reads_request w at (Ok r)
+Asks (bad_input refusal) r = ⊥
+Asks no_memory r = ⊥
+
+-- the turn asked nothing of the registry
+abbrev pub AsksNothing : Cause → Outcome → Type 0
+AsksNothing (request w at) o = (s : Stop) × reads_request w at (Err s) × (o ≡ stopped s)
+AsksNothing (bad_input refusal) o = Unit {0}
+AsksNothing no_memory o = Unit {0}
+
+-- with one more turn, the requests and outcomes go on from the older ones
+abbrev pub AsksNext : Turn → List Request → List Outcome → List Request → List Outcome → Type 0
+AsksNext t qs ps rs os = ((r : Request) × Asks t.cause r × (rs ≡ qs ++ r ∷ []) × (os ≡ ps ++ t.outcome ∷ []))
+    ⊎ (AsksNothing t.cause t.outcome × (rs ≡ qs) × (os ≡ ps))
+
+-- these are the requests in form among the turns, and their outcomes, in their order
+abbrev pub AskAll : List Turn → List Request → List Outcome → Type 0
+AskAll [] rs os = (rs ≡ []) × (os ≡ [])
+AskAll (t ∷ ts) rs os = (qs : List Request) × (ps : List Outcome) × AskAll ts qs ps × AsksNext t qs ps rs os
+
+-- the turns are one run of the registry: of it all holds that `run` says
+pub record IsOneRun (old new : Shown) (ts : List Turn) : Type 0 where
+  pub requests : List Request
+  pub outcomes : List Outcome
+  pub asked : AskAll ts requests outcomes
+  pub ran : RanTo old new requests outcomes
+  pub stored : Stored old new requests outcomes
+  pub headline : HasHeadline old new requests outcomes
+  pub history : WritesHistory old new requests outcomes
+  pub sound : KeepsSound old new
+  pub form : KeepsForm old new
+  pub needs : Keeps old new HoldsNeeds
+  pub archives : Keeps old new HoldsArchives
+  pub survives : SurvivesRun old new requests outcomes
+  pub stays : RunSurvivesCrash new outcomes
+
+module _ {D : Type 0} (show : D → Shown) where
+  -- whby a service answers where it shows a registry
+  abbrev pub applied : Answering D
+  applied M r o N = Applies (show M) (show N) r o
+
+  -- of one connection
+  abbrev pub TurnsRun : Type 0
+  TurnsRun = (M N : D) (ts : List Turn) → Follow applied M ts N → IsOneRun (show M) (show N) ts
+
+  -- of all connections
+  abbrev pub LogRuns : Type 0
+  LogRuns = (M N : D) (log : List LogEntry) → FollowAll applied M log N → IsOneRun (show M) (show N) (map (λ e. e.turn) log)

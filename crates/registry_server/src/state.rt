@@ -1,0 +1,177 @@
+//! One connection, apart from its socket.
+
+ghost use Rattle.std.specs.Prelude.{◌≡◌, ◌≤◌, ◌-◌, ◌==◌, ◌++◌, ◌∷◌, [], ℕ, length, drop, OnOk, OnErr};
+ghost use Rattle.registry_service.specs.Courses.{Gave};
+ghost use Rattle.registry_service.specs.Servings.{bytes_of};
+ghost use Rattle.registry_service.specs.Turns.{Turns, request};
+ghost use Rattle.registry_server.specs.declared.state.Progress.TheVariants.{Answered};
+ghost use Rattle.registry_server.specs.ConnectionStates.{Does, IsStarved, fresh, holding, pending, sending};
+
+use crate::outgoing::Outgoing;
+use registry_service::{Clock, End, REQUEST_LIMIT, Service, Turned, turn, turn_away, turn_starved};
+use registry_wire::{Ending, First, Wanted, ending_of, first_in};
+use std::alloc::{AllocError, Global};
+use std::marker::Model;
+
+/// The most bytes of memory that are kept where none is held.
+const KEPT_LIMIT: usize = 16_384;
+
+/// What came on a connection and isn't used yet, what isn't sent of a response, how many requests
+/// it may still have, and how it ends once all is sent, if it does.
+#[derive(Drop)]
+pub struct ConnectionState {
+    held: Vec<u8>,
+    outgoing: Outgoing,
+    left: u32,
+    ends: Option<End>,
+}
+
+impl Model for ConnectionState {
+    ghost use Rattle.registry_server.specs.ConnectionStates.{Pending, pending};
+
+    ghost Value = { Pending };
+
+    ghost view = { λ l. pending l.held.items l.outgoing l.left l.ends };
+}
+
+/// What a turn did.
+#[derive(Clone, Copy, Debug, PartialEq, Eq)]
+pub enum Progress {
+    /// A response is to be sent.
+    Answered,
+    /// More has to come.
+    Waits,
+    /// Nothing came after the last request, and nothing comes.
+    Closed,
+}
+
+impl ConnectionState {
+    /// A connection on which nothing came. It takes no memory.
+    pub fn new(alloc: Global) -> ConnectionState
+        ensures { result ≡ fresh }
+    {
+        ConnectionState {
+            held: Vec::new(alloc),
+            outgoing: Outgoing::none(),
+            left: REQUEST_LIMIT,
+            ends: None,
+        }
+    }
+
+    /// Whether no byte is held.
+    pub fn is_empty(&self) -> bool
+        ensures { result ≡ (length self.now.held == 0) }
+    {
+        self.held.is_empty()
+    }
+
+    /// How the connection ends once all is sent, if it does.
+    pub fn ends(&self) -> Option<End>
+        ensures { result ≡ self.now.ends }
+    {
+        self.ends
+    }
+
+    /// What isn't sent yet.
+    pub fn outgoing(&self) -> &Outgoing
+        ensures { result.now ≡ self.now.outgoing }
+    {
+        &self.outgoing
+    }
+
+    /// These bytes came. After an error none of them is held.
+    pub fn came(&mut self, bytes: &[u8]) -> Result<(), AllocError>
+        ensures ok { OnOk result (self.new ≡ holding self.old (self.old.held ++ bytes.now)) }
+        ensures err { OnErr result (self.new ≡ self.old) }
+    {
+        self.held.extend_from_slice(bytes)
+    }
+
+    /// So many bytes of the response were sent.
+    pub fn sent(&mut self, count: usize)
+        requires { count ≤ length self.old.outgoing }
+        ensures { self.new ≡ sending self.old (drop count self.old.outgoing) }
+    {
+        self.outgoing.advance(count);
+    }
+
+    /// The next turn: the first request is taken where it has come whole, asked at the clock's
+    /// moment, and answered by the service. What is no request is answered, too, and so is want of
+    /// memory to read one; after these, after a fault, after the last request and after one that
+    /// asks for it the connection ends. `is_over` says that no more bytes come.
+    ///
+    /// The response takes the place of the one before, which the caller has sent.
+    pub fn take_turn<D: Service, C: Clock>(
+        &mut self,
+        alloc: Global,
+        service: &mut D,
+        clock: &mut C,
+        is_over: bool,
+    ) -> Progress
+        ensures { Does D.answers self.old self.new service.old service.new
+            (C.readings clock.old) (C.readings clock.new) is_over result }
+    {
+        match first_in(alloc, &self.held) {
+            Ok(First::Whole(wanted, used)) => {
+                self.drop_first(alloc, used);
+                let turned = self.answered(alloc, service, clock, &wanted);
+                self.put(turned)
+            }
+            Ok(First::Bad(refusal)) => self.put(turn_away(refusal)),
+            Ok(First::Unfinished) if !is_over => Progress::Waits,
+            Ok(First::Unfinished) => match ending_of(&self.held) {
+                Ending::Closed => Progress::Closed,
+                Ending::BadInput(refusal) => self.put(turn_away(refusal)),
+            },
+            Err(_) => self.put(turn_starved()),
+        }
+    }
+
+    /// There was no memory to hold what came: this is answered, and the connection ends.
+    pub fn starve(&mut self)
+        ensures { IsStarved self.old self.new }
+    {
+        let _answered = self.put(turn_starved());
+    }
+
+    // The turn of a whole request. It is one of those that the connection may have.
+    fn answered<D: Service, C: Clock>(
+        &mut self,
+        alloc: Global,
+        service: &mut D,
+        clock: &mut C,
+        wanted: &Wanted,
+    ) -> Turned
+        ensures turns { (at : ℕ) × Turns D.answers service.old (request wanted.now at)
+            (self.old.left == 1) result service.new
+            × Gave (C.readings clock.old) (C.readings clock.new) (at ∷ []) }
+        ensures state { self.new
+            ≡ pending self.old.held self.old.outgoing (self.old.left - 1) self.old.ends }
+    {
+        let is_last = self.left == 1;
+        self.left = self.left.saturating_sub(1);
+        turn(alloc, service, wanted, clock.now(), is_last)
+    }
+
+    // The response of a turn is to be sent.
+    fn put(&mut self, turned: Turned) -> Progress
+        ensures state { self.new
+            ≡ pending self.old.held (bytes_of turned) self.old.left turned.end }
+        ensures answered { result ≡ Answered }
+    {
+        self.ends = turned.end;
+        self.outgoing = Outgoing::of(turned);
+        Progress::Answered
+    }
+
+    // These bytes are used. What is kept of memory for none is little.
+    fn drop_first(&mut self, alloc: Global, used: usize)
+        requires { used ≤ length self.old.held }
+        ensures { self.new ≡ holding self.old (drop used self.old.held) }
+    {
+        self.held.drain(..used);
+        if self.held.is_empty() && self.held.capacity() > KEPT_LIMIT {
+            self.held = Vec::new(alloc);
+        }
+    }
+}

@@ -1,0 +1,307 @@
+-- Turns of a connection, one after another.
+use Rattle.std.proofs.Common.{◌≡◌, ◌≢◌, ◌≤◌, ◌<◌, ◌+◌, ◌==◌, ◌++◌, ◌∷◌, ◌⊎◌, ◌∙◌, [], ℕ, Bool, true, false, List, length, Option, Some, None, Ok, Err, refl, sym, ap, subst, inl, inr, append_assoc, append-nil, arith, length-append, is_some, if◌then◌else◌}
+use Rattle.std.specs.Int.{from_bool}
+use Rattle.std.proofs.lemmas.Bool.{eqb-false}
+use Rattle.registry_names.specs.ByteStreams.{Reads, Writes, WritesPrefix}
+use Rattle.registry_names.specs.declared.refusal.Refusal.{Refusal}
+use Rattle.registry_names.proofs.ByteStreamFacts.{Reads-append, Reads-nothing, Writes-append, Writes-nothing}
+use Rattle.registry_wire.specs.Reading.{TakenOf}
+use Rattle.registry_wire.specs.Spelling.{EndsWith, IsBad}
+use Rattle.registry_wire.specs.declared.first.Ending.TheVariants as ending
+use Rattle.registry_wire.proofs.RequestFacts.{request-more, bad-more}
+use Rattle.registry_service.specs.HttpAnswers.{AnswersSo, Outcome, answer_bytes, response_to}
+use Rattle.registry_service.specs.Courses.{AtEndOf, BreaksOff, Completes, Course, EndsAs, EndsUnasked, Follow, Gave, GoOn, GoesTo, IsServed, Rests, Side, Took, count_of, moments, requests, taken_for, written}
+use Rattle.registry_service.specs.Servings.{bytes_of}
+use Rattle.registry_service.specs.Turns.{Answering, Cause, IsTurn, IsTurnFor, Turn, bad_input, end_of, is_request, no_memory, request}
+use Rattle.registry_service.specs.declared.answer.Answer.{Answer}
+use Rattle.registry_service.specs.declared.serving.Served.{Served}
+use Rattle.registry_service.specs.declared.turning.End.{End}
+use Rattle.registry_service.specs.declared.turning.End.TheVariants.{Closed, Limit, BadInput, ReadFault, WriteFault, Faulted}
+use Rattle.registry_service.specs.declared.turning.Turned.{Turned}
+
+-- ---- bytes that come later
+
+bad-more_of : (all more : List ℕ) (r : Refusal) → IsBad all r ⊎ (EndsWith all (ending.BadInput r) × ⊥) → IsBad (all ++ more) r ⊎ (EndsWith (all ++ more) (ending.BadInput r) × ⊥)
+bad-more_of all more r (inl bad) = inl (bad-more all more r bad)
+bad-more_of all more r (inr none) = absurd none.1
+
+taken-more : (all more held : List ℕ) (c : Cause) → TakenOf all held ⊥ (taken_for c) → TakenOf (all ++ more) (held ++ more) ⊥ (taken_for c)
+taken-more all more held (request w at) took = request-more all more w held took
+taken-more all more held (bad_input r) took = (ap (λ (l : List ℕ). l ++ more) took.0, bad-more_of all more r took.1)
+taken-more all more held no_memory took = (ap (λ (l : List ℕ). l ++ more) took.0, took.1)
+
+-- bytes that come later follow those that are held
+pub took-more : (came more : List ℕ) (ts : List Turn) (held : List ℕ) → Took came ts held ⊥ → Took (came ++ more) ts (held ++ more) ⊥
+took-more came more [] held same = ap (λ (l : List ℕ). l ++ more) same
+took-more came more (t ∷ ts) held took = (took.0 ++ more, took-more came more ts took.0 took.1, taken-more took.0 more held t.cause took.2)
+
+-- ---- turns after which the connection goes on
+
+goes-on_false : (o : Outcome) (last closes : Bool) → end_of o last closes ≡ None → last ≡ false
+goes-on_false (Err fault) last closes stays = cc
+goes-on_false (Ok reply) true closes stays = cc
+goes-on_false (Ok reply) false closes stays = refl
+
+never-fails_read : (o : Outcome) (last closes : Bool) → end_of o last closes ≡ Some ReadFault → ⊥
+never-fails_read (Err fault) last closes e = cc
+never-fails_read (Ok reply) true closes e = cc
+never-fails_read (Ok reply) false true e = cc
+never-fails_read (Ok reply) false false e = cc
+
+never-fails_write : (o : Outcome) (last closes : Bool) → end_of o last closes ≡ Some WriteFault → ⊥
+never-fails_write (Err fault) last closes e = cc
+never-fails_write (Ok reply) true closes e = cc
+never-fails_write (Ok reply) false true e = cc
+never-fails_write (Ok reply) false false e = cc
+
+pub taken-open : (all held : List ℕ) (AtEnd : Type 0) (c : Cause) → is_request c ≡ true → TakenOf all held AtEnd (taken_for c) → TakenOf all held ⊥ (taken_for c)
+taken-open all held AtEnd (request w at) is took = took
+taken-open all held AtEnd (bad_input r) is took = cc
+taken-open all held AtEnd no_memory is took = cc
+
+count-one : (c : Cause) → is_request c ≡ true → count_of c ≡ 1
+count-one (request w at) is = refl
+count-one (bad_input r) is = cc
+count-one no_memory is = cc
+
+-- ---- the clock
+
+gave-on_some : (rs rest : List ℕ) (b c : Option (List ℕ)) (ms ns : List ℕ) → rs ≡ ms ++ rest → b ≡ Some rest → Gave b c ns → length (ms ++ ns) ≤ length rs
+    → (r : List ℕ) × (rs ≡ (ms ++ ns) ++ r) × (c ≡ Some r)
+gave-on_some rs rest b c ms ns whole told gave few =
+    let later : Gave (Some rest) c ns = subst (λ (o : Option (List ℕ)). Gave o c ns) told gave in
+    let size : length rs ≡ length ms + length rest = ap length whole ∙ length-append ms rest in
+    let enough : length ns ≤ length rest = omega (arith, size, few, length-append ms ns) in
+    let found = later enough in
+    (found.0, whole ∙ ap (λ (l : List ℕ). ms ++ l) found.1 ∙ sym (append_assoc ms ns found.0), found.2)
+
+pub gave-on : (a b c : Option (List ℕ)) (ms ns : List ℕ) → Gave a b ms → Gave b c ns → Gave a c (ms ++ ns)
+gave-on None b c ms ns first second = tt
+gave-on (Some rs) b c ms ns first second = λ few.
+    let found = first (omega (arith, few, length-append ms ns)) in
+    gave-on_some rs found.0 b c ms ns found.1 found.2 second few
+
+pub gave-nothing : (a : Option (List ℕ)) → Gave a a []
+gave-nothing None = tt
+gave-nothing (Some rs) = λ few. (rs, refl, refl)
+
+-- ---- whether a turn counts
+
+number_of : (b : Bool) → from_bool b ≡ (if b then 1 else 0)
+number_of true = refl
+number_of false = refl
+
+counts-as : (b : Bool) (c : Cause) (k : ℕ) → k ≡ from_bool b → b ≡ is_request c → k ≡ count_of c
+counts-as b c k one same = one ∙ ap from_bool same ∙ number_of (is_request c)
+
+counts-more : (n k size older : ℕ) (turned : Turned) (c : Cause) → n ≡ size → older ≡ size → k ≡ from_bool turned.is_request → turned.is_request ≡ is_request c → n + k ≡ older + count_of c
+counts-more n k size older turned c e f one same = let one = counts-as turned.is_request c k one same in omega (arith, e, f, one)
+
+one-more : (k : ℕ) (turned : Turned) (c : Cause) → is_request c ≡ true → k ≡ from_bool turned.is_request → turned.is_request ≡ is_request c → k ≡ 1
+one-more k turned c is one same = counts-as turned.is_request c k one same ∙ count-one c is
+
+below : (n k : ℕ) → n < 1000 → k ≡ 1 → n + 1 ≢ 1000 → n + k < 1000
+below n k few one other = omega (arith, few, one, other)
+
+-- a connection that goes on had fewer turns than it may have
+pub within : (n k : ℕ) → n < 1000 → k ≡ 1 → (n + 1 == 1000) ≡ false → n + k < 1000
+within n k few one other = below n k few one (eqb-false (n + 1) 1000 other)
+
+-- ---- the end of what came
+
+bad-any : (all : List ℕ) (r : Refusal) (AtEnd : Type 0) → IsBad all r ⊎ (EndsWith all (ending.BadInput r) × ⊥) → IsBad all r ⊎ (EndsWith all (ending.BadInput r) × AtEnd)
+bad-any all r AtEnd (inl bad) = inl bad
+bad-any all r AtEnd (inr none) = absurd none.1
+
+taken-any : (all held : List ℕ) (AtEnd : Type 0) (c : Cause) → TakenOf all held ⊥ (taken_for c) → TakenOf all held AtEnd (taken_for c)
+taken-any all held AtEnd (request w at) took = took
+taken-any all held AtEnd (bad_input r) took = (took.0, bad-any all r AtEnd took.1)
+taken-any all held AtEnd no_memory took = took
+
+pub took-any : (came : List ℕ) (ts : List Turn) (held : List ℕ) (AtEnd : Type 0) → Took came ts held ⊥ → Took came ts held AtEnd
+took-any came [] held AtEnd took = took
+took-any came (t ∷ ts) held AtEnd took = (took.0, took.1, taken-any took.0 held AtEnd t.cause took.2)
+
+ends-unasked : {D : Type 0} (s : Side D) (ts : List Turn) (e : End) → GoOn ts → EndsUnasked s e → EndsAs s ts e
+ends-unasked s ts e on (inl closed) = subst (λ (e : End). EndsAs s ts e) (sym closed.0) (inr (on, closed.1, closed.2))
+ends-unasked s ts e on (inr failed) = subst (λ (e : End). EndsAs s ts e) (sym failed.0) (on, failed.1)
+
+-- ---- a response
+
+pub bytes-same : (o : Outcome) (a : Answer) (closes : Bool) → AnswersSo o a → answer_bytes a closes ≡ response_to o closes
+bytes-same o a closes is = rw (is.status, is.kind, is.body) refl
+
+-- ---- one turn more
+
+module _ {D : Type 0} (answers : Answering D) where
+  pub on-request : (c : Cause) (K : D) (last : Bool) (o : Outcome) (ended : Option End) (N : D) → IsTurnFor answers c K last o ended N → ended ≡ None → is_request c ≡ true
+  on-request (request w at) K last o ended N turn stays = refl
+  on-request (bad_input r) K last o ended N turn stays = let shut = turn.0.1 in cc
+  on-request no_memory K last o ended N turn stays = let shut = turn.0.1 in cc
+
+  pub on-not_last : (c : Cause) (K : D) (last : Bool) (o : Outcome) (ended : Option End) (N : D) → IsTurnFor answers c K last o ended N → ended ≡ None → last ≡ false
+  on-not_last (request w at) K last o ended N turn stays = goes-on_false o last w.closes (sym turn.ends ∙ stays)
+  on-not_last (bad_input r) K last o ended N turn stays = let shut = turn.0.1 in cc
+  on-not_last no_memory K last o ended N turn stays = let shut = turn.0.1 in cc
+
+  not-read_fault : (c : Cause) (K : D) (last : Bool) (o : Outcome) (ended : Option End) (N : D) → IsTurnFor answers c K last o ended N → ended ≡ Some ReadFault → ⊥
+  not-read_fault (request w at) K last o ended N turn e = never-fails_read o last w.closes (sym turn.ends ∙ e)
+  not-read_fault (bad_input r) K last o ended N turn e = let shut = turn.0.1 in cc
+  not-read_fault no_memory K last o ended N turn e = let shut = turn.0.1 in cc
+
+  not-write_fault : (c : Cause) (K : D) (last : Bool) (o : Outcome) (ended : Option End) (N : D) → IsTurnFor answers c K last o ended N → ended ≡ Some WriteFault → ⊥
+  not-write_fault (request w at) K last o ended N turn e = never-fails_write o last w.closes (sym turn.ends ∙ e)
+  not-write_fault (bad_input r) K last o ended N turn e = let shut = turn.0.1 in cc
+  not-write_fault no_memory K last o ended N turn e = let shut = turn.0.1 in cc
+
+  -- the turn by which a connection ends
+  pub ends-as : (s : Side D) (t : Turn) (ts : List Turn) (e : End) (K : D) (last : Bool) (N : D) → IsTurn answers K last t N → t.ended ≡ Some e → GoOn ts → EndsAs s (t ∷ ts) e
+  ends-as s t ts Closed K last N turn ended on = inl (ended, on)
+  ends-as s t ts Limit K last N turn ended on = (ended, on)
+  ends-as s t ts BadInput K last N turn ended on = (ended, on)
+  ends-as s t ts ReadFault K last N turn ended on = absurd (not-read_fault t.cause K last t.outcome t.ended N turn ended)
+  ends-as s t ts WriteFault K last N turn ended on = absurd (not-write_fault t.cause K last t.outcome t.ended N turn ended)
+  ends-as s t ts (Faulted fault) K last N turn ended on = (ended, on)
+
+  -- turns that go on are those of requests
+  pub requests-all : (M : D) (ts : List Turn) (N : D) → Follow answers M ts N → GoOn ts → requests ts ≡ length ts
+  requests-all M [] N follow on = refl
+  requests-all M (t ∷ ts) N follow on =
+      let older = requests-all M ts follow.0 follow.1 on.1 in
+      let one = count-one t.cause (on-request t.cause follow.0 _ t.outcome t.ended N follow.2 on.0) in
+      omega (arith, older, one)
+
+  took-open : (M : D) (ts : List Turn) (N : D) (came held : List ℕ) (AtEnd : Type 0) → Follow answers M ts N → GoOn ts → Took came ts held AtEnd → Took came ts held ⊥
+  took-open M [] N came held AtEnd follow on took = took
+  took-open M (t ∷ ts) N came held AtEnd follow on took =
+      (took.0, took.1, taken-open took.0 held AtEnd t.cause (on-request t.cause follow.0 _ t.outcome t.ended N follow.2 on.0) took.2)
+
+  -- the turn that was taken
+  abbrev pub turn_of : (mid new : Side D) (last : Bool) (turned : Turned) → GoesTo answers mid new last turned → Turn
+  turn_of mid new last turned goes = record { cause = goes.cause; outcome = goes.turns.outcome; ended = turned.end }
+
+  pub course-on : (old mid new : Side D) (ts : List Turn) (last : Bool) (turned : Turned) → Course answers old mid ts → GoOn ts → (mid.unknown ≡ true → new.unknown ≡ true)
+      → last ≡ (length ts + 1 == 1000) → (goes : GoesTo answers mid new last turned) → Course answers old new (turn_of mid new last turned goes ∷ ts)
+  course-on old mid new ts last turned c on stays is_last goes = record {
+    got = c.got ++ goes.got;
+    gave = Reads-append c.gave goes.gave stays;
+    took = (
+      mid.held ++ goes.got,
+      subst (λ (came : List ℕ). Took came ts (mid.held ++ goes.got) ⊥) (append_assoc old.held c.got goes.got)
+          (took-more (old.held ++ c.got) goes.got ts mid.held (took-open old.service ts mid.service (old.held ++ c.got) mid.held _ c.follow on c.took)),
+      goes.took,
+    );
+    follow = (mid.service, c.follow, subst (λ (b : Bool). IsTurn answers mid.service b (turn_of mid new last turned goes) new.service) is_last goes.turns.is_turn);
+    asked = gave-on old.readings mid.readings new.readings (moments ts) _ c.asked goes.asked;
+  }
+
+  -- ---- turns in a row
+
+  -- so many turns were taken and their responses written, and the connection goes on
+  pub record Going (old now : Side D) (out out2 : Option (List ℕ)) (out_unknown : Bool) (n : ℕ) : Type 0 where
+    pub turns : List Turn
+    pub course : Course answers old now turns
+    pub go_on : GoOn turns
+    pub wrote : Writes out out2 out_unknown (written turns)
+    pub count : n ≡ length turns
+
+  pub going-first : (s : Side D) (out : Option (List ℕ)) (out_unknown : Bool) → Going s s out out out_unknown 0
+  going-first s out out_unknown = record {
+    turns = [];
+    course = record {
+      got = [];
+      gave = Reads-nothing s.left s.unknown;
+      took = sym (append-nil s.held);
+      follow = refl;
+      asked = gave-nothing s.readings;
+    };
+    go_on = tt;
+    wrote = Writes-nothing out out_unknown;
+    count = refl;
+  }
+
+  abbrev served : ℕ → End → Served
+  served n e = record { requests = n; end = e }
+
+  -- a connection that ends without one more turn
+  pub rest-on : (old mid new : Side D) (out out2 : Option (List ℕ)) (out_unknown : Bool) (n : ℕ) (e : End) → Going old mid out out2 out_unknown n → (mid.unknown ≡ true → new.unknown ≡ true)
+      → Rests answers mid new e → IsServed answers old new out out2 out_unknown (served n e)
+  rest-on old mid new out out2 out_unknown n e going stays rests =
+      let ts = going.turns in
+      let c = going.course in
+      let took = took-more (old.held ++ c.got) rests.got ts mid.held (took-open old.service ts mid.service (old.held ++ c.got) mid.held _ c.follow going.go_on c.took) in
+      let all : Took (old.held ++ (c.got ++ rests.got)) ts (mid.held ++ rests.got) ⊥ = subst (λ (came : List ℕ). Took came ts (mid.held ++ rests.got) ⊥) (append_assoc old.held c.got rests.got) took in
+      inl (record {
+        turns = ts;
+        course = record {
+          got = c.got ++ rests.got;
+          gave = Reads-append c.gave rests.gave stays;
+          took = took-any _ ts new.held (AtEndOf new) (subst (λ (held : List ℕ). Took (old.held ++ (c.got ++ rests.got)) ts held ⊥) (sym rests.held) all);
+          follow = subst (λ (M : D). Follow answers old.service ts M) (sym rests.service) c.follow;
+          asked = subst (λ (readings : Option (List ℕ)). Gave old.readings readings (moments ts)) (sym rests.readings) c.asked;
+        };
+        wrote = going.wrote;
+        ends = ends-unasked new ts e going.go_on rests.ends;
+        count = going.count ∙ sym (requests-all old.service ts mid.service c.follow going.go_on);
+      })
+
+  -- one more turn, of which all is written, and by which the connection ends
+  pub end-on : (old mid new : Side D) (out out2 out3 : Option (List ℕ)) (out_unknown mute2 : Bool) (n k : ℕ) (last : Bool) (turned : Turned) (e : End) → Going old mid out out2 out_unknown n
+      → (mid.unknown ≡ true → new.unknown ≡ true) → (out_unknown ≡ true → mute2 ≡ true) → last ≡ (n + 1 == 1000) → GoesTo answers mid new last turned → Writes out2 out3 mute2 (bytes_of turned)
+      → k ≡ from_bool turned.is_request → turned.end ≡ Some e → IsServed answers old new out out3 mute2 (served (n + k) e)
+  end-on old mid new out out2 out3 out_unknown mute2 n k last turned e going stays still is_last goes wrote one ended =
+      let ts = going.turns in
+      let t = turn_of mid new last turned goes in
+      let place = is_last ∙ ap (λ (n : ℕ). n + 1 == 1000) going.count in
+      inl (record {
+        turns = t ∷ ts;
+        course = course-on old mid new ts last turned going.course going.go_on stays place goes;
+        wrote = Writes-append going.wrote (subst (λ (bs : List ℕ). Writes out2 out3 mute2 bs) (bytes-same goes.turns.outcome turned.answer (is_some turned.end) goes.turns.answer) wrote) still;
+        ends = ends-as new t ts e mid.service last new.service goes.turns.is_turn ended going.go_on;
+        count = counts-more n k (length ts) (requests ts) turned goes.cause going.count (requests-all old.service ts mid.service going.course.follow going.go_on) one goes.turns.counts;
+      })
+
+  -- one more turn, of which not all is written
+  pub break-on : (old mid new : Side D) (out out2 out3 : Option (List ℕ)) (out_unknown mute2 : Bool) (n : ℕ) (last : Bool) (turned : Turned) → Going old mid out out2 out_unknown n
+      → (mid.unknown ≡ true → new.unknown ≡ true) → (out_unknown ≡ true → mute2 ≡ true) → last ≡ (n + 1 == 1000) → GoesTo answers mid new last turned → WritesPrefix out2 out3 mute2 (bytes_of turned)
+      → IsServed answers old new out out3 mute2 (served n WriteFault)
+  break-on old mid new out out2 out3 out_unknown mute2 n last turned going stays still is_last goes wrote =
+      let ts = going.turns in
+      let place = is_last ∙ ap (λ (n : ℕ). n + 1 == 1000) going.count in
+      let part = subst (λ (bs : List ℕ). WritesPrefix out2 out3 mute2 bs) (bytes-same goes.turns.outcome turned.answer (is_some turned.end) goes.turns.answer) wrote in
+      inr (record {
+        newest = turn_of mid new last turned goes;
+        older = ts;
+        course = course-on old mid new ts last turned going.course going.go_on stays place goes;
+        go_on = going.go_on;
+        sent = part.count;
+        is_less = part.is_less;
+        wrote = Writes-append going.wrote part.wrote still;
+        ends = refl;
+        count = going.count ∙ sym (requests-all old.service ts mid.service going.course.follow going.go_on);
+      })
+
+  -- one more turn, of which all is written, and the connection goes on
+  pub go-on : (old mid new : Side D) (out out2 out3 : Option (List ℕ)) (out_unknown mute2 : Bool) (n k : ℕ) (last : Bool) (turned : Turned) → Going old mid out out2 out_unknown n
+      → (mid.unknown ≡ true → new.unknown ≡ true) → (out_unknown ≡ true → mute2 ≡ true) → last ≡ (n + 1 == 1000) → GoesTo answers mid new last turned → Writes out2 out3 mute2 (bytes_of turned)
+      → k ≡ from_bool turned.is_request → turned.end ≡ None → Going old new out out3 mute2 (n + k) × (k ≡ 1) × (last ≡ false)
+  go-on old mid new out out2 out3 out_unknown mute2 n k last turned going stays still is_last goes wrote one ended =
+      let ts = going.turns in
+      let t = turn_of mid new last turned goes in
+      let place = is_last ∙ ap (λ (n : ℕ). n + 1 == 1000) going.count in
+      let single = one-more k turned goes.cause (on-request goes.cause mid.service last goes.turns.outcome turned.end new.service goes.turns.is_turn ended) one goes.turns.counts in (
+        record {
+          turns = t ∷ ts;
+          course = course-on old mid new ts last turned going.course going.go_on stays place goes;
+          go_on = (ended, going.go_on);
+          wrote = Writes-append going.wrote (subst (λ (bs : List ℕ). Writes out2 out3 mute2 bs) (bytes-same goes.turns.outcome turned.answer (is_some turned.end) goes.turns.answer) wrote) still;
+          count = omega (arith, going.count, single);
+        },
+        single,
+        on-not_last goes.cause mid.service last goes.turns.outcome turned.end new.service goes.turns.is_turn ended,
+      )
+
+  -- a turn never ends a connection as a failed read does
+  pub ended-unread : (mid new : Side D) (last : Bool) (turned : Turned) (e : End) → GoesTo answers mid new last turned → turned.end ≡ Some e → ¬ (e ≡ ReadFault)
+  ended-unread mid new last turned e goes ended same =
+      not-read_fault goes.cause mid.service last goes.turns.outcome turned.end new.service goes.turns.is_turn (ended ∙ ap (λ (e : End). Some e) same)

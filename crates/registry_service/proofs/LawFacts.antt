@@ -1,0 +1,56 @@
+-- What turns take of all the bytes of a connection.
+use Rattle.std.proofs.Common.{◌≡◌, ◌⊎◌, ◌++◌, ◌∷◌, ◌∙◌, [], ℕ, Bool, false, List, Some, refl, sym, ap, subst, inl, inr, append_assoc, append-nil}
+use Rattle.std.specs.Io.KnownBytes.{Consumes, IsAtEnd}
+use Rattle.registry_names.specs.declared.refusal.Refusal.{Refusal}
+use Rattle.registry_wire.specs.Reading.{TakenOf}
+use Rattle.registry_wire.specs.Spelling.{EndsWith, IsBad, Spells}
+use Rattle.registry_wire.specs.declared.first.Ending.{Ending}
+use Rattle.registry_wire.specs.declared.first.Ending.TheVariants as ending
+use Rattle.registry_wire.specs.declared.wanted.Wanted.{Wanted}
+use Rattle.registry_wire.proofs.RequestFacts.{request-more, bad-more}
+use Rattle.registry_service.specs.Courses.{AtEndOf, Course, Side, Took, taken_for}
+use Rattle.registry_service.specs.Laws.{TakenOfAll, TurnsAreSpelled, wanted_by, wanted_of}
+use Rattle.registry_service.specs.Turns.{Answering, Cause, Turn, bad_input, no_memory, request}
+use Rattle.registry_service.proofs.CourseFacts.{took-more}
+
+-- ---- spelled
+
+spells-on : (c : Cause) (all rest : List ℕ) (AtEnd : Type 0) (vs : List Wanted) (e : Ending) → TakenOf all rest AtEnd (taken_for c) → Spells rest vs e → Spells all (wanted_by c ++ vs) e
+spells-on (request w at) all rest AtEnd vs e took spells = (rest, took, spells)
+spells-on (bad_input r) all rest AtEnd vs e took spells = subst (λ (bytes : List ℕ). Spells bytes vs e) took.0 spells
+spells-on no_memory all rest AtEnd vs e took spells = subst (λ (bytes : List ℕ). Spells bytes vs e) took.0 spells
+
+spells-all : (AtEnd : Type 0) (came rest : List ℕ) (ts : List Turn) (vs : List Wanted) (e : Ending) → Took came ts rest AtEnd → Spells rest vs e → Spells came (wanted_of ts ++ vs) e
+spells-all AtEnd came rest [] vs e took spells = subst (λ (bytes : List ℕ). Spells bytes vs e) took spells
+spells-all AtEnd came rest (t ∷ ts) vs e took spells =
+    subst (λ (ws : List Wanted). Spells came ws e) (sym (append_assoc (wanted_of ts) (wanted_by t.cause) vs))
+    (spells-all ⊥ came took.0 ts (wanted_by t.cause ++ vs) e took.1 (spells-on t.cause took.0 rest AtEnd vs e took.2 spells))
+
+pub turns-spell : TurnsAreSpelled
+turns-spell came rest ts vs e took spells = spells-all (Unit {0}) came rest ts vs e took spells
+
+-- ---- of all that was left
+
+bad-end : (all more : List ℕ) (r : Refusal) (AtEnd : Type 0) → (AtEnd → more ≡ []) → IsBad all r ⊎ (EndsWith all (ending.BadInput r) × AtEnd)
+    → IsBad (all ++ more) r ⊎ (EndsWith (all ++ more) (ending.BadInput r) × (more ≡ []))
+bad-end all more r AtEnd none (inl bad) = inl (bad-more all more r bad)
+bad-end all more r AtEnd none (inr last) =
+    let empty = none last.1 in
+    let same : all ≡ all ++ more = sym (append-nil all) ∙ ap (λ (l : List ℕ). all ++ l) (sym empty) in
+    inr (subst (λ (l : List ℕ). EndsWith l (ending.BadInput r)) same last.0, empty)
+
+taken-end : (all more held : List ℕ) (c : Cause) (AtEnd : Type 0) → (AtEnd → more ≡ []) → TakenOf all held AtEnd (taken_for c) → TakenOf (all ++ more) (held ++ more) (more ≡ []) (taken_for c)
+taken-end all more held (request w at) AtEnd none took = request-more all more w held took
+taken-end all more held (bad_input r) AtEnd none took = (ap (λ (l : List ℕ). l ++ more) took.0, bad-end all more r AtEnd none took.1)
+taken-end all more held no_memory AtEnd none took = (ap (λ (l : List ℕ). l ++ more) took.0, took.1)
+
+took-end : (came more : List ℕ) (ts : List Turn) (held : List ℕ) (AtEnd : Type 0) → (AtEnd → more ≡ []) → Took came ts held AtEnd → Took (came ++ more) ts (held ++ more) (more ≡ [])
+took-end came more [] held AtEnd none took = ap (λ (l : List ℕ). l ++ more) took
+took-end came more (t ∷ ts) held AtEnd none took = (took.0 ++ more, took-more came more ts took.0 took.1, taken-end took.0 more held t.cause AtEnd none took.2)
+
+pub taken-of_all : {D : Type 0} (answers : Answering D) → TakenOfAll answers
+taken-of_all answers old new ts left left2 c told told2 loud =
+    let gave = c.gave.told loud in
+    let whole : left ≡ c.got ++ left2 = rw (told, told2) at gave in
+    subst (λ (bytes : List ℕ). Took bytes ts (new.held ++ left2) (left2 ≡ [])) (append_assoc old.held c.got left2 ∙ ap (λ (l : List ℕ). old.held ++ l) (sym whole))
+    (took-end (old.held ++ c.got) left2 ts new.held (AtEndOf new) (λ last. let end = last loud in rw told2 at end) c.took)

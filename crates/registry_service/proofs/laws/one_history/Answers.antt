@@ -1,0 +1,5 @@
+use Rattle.registry_service.proofs.HistoryFacts.{one-history}
+use Rattle.registry_service.proofs.laws.one_history.Goals as goal
+
+pub returns : goal.returns
+returns g c = λ M w reached. one-history g.D.Service.answers M w reached

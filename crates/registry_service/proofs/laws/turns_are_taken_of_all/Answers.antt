@@ -1,0 +1,5 @@
+use Rattle.registry_service.proofs.LawFacts.{taken-of_all}
+use Rattle.registry_service.proofs.laws.turns_are_taken_of_all.Goals as goal
+
+pub returns : goal.returns
+returns g c = taken-of_all g.D.Service.answers

@@ -1,0 +1,168 @@
+-- The turns of one connection, one after the other: what they take, what they write, and how it
+-- ends.
+use Rattle.std.specs.Prelude.{◌≡◌, ◌≤◌, ◌<◌, ◌+◌, ◌==◌, ◌++◌, ◌∷◌, ◌⊎◌, [], ℕ, Bool, true, false, List, length, take, Option, Some, None, if◌then◌else◌}
+use Rattle.std.specs.Io.KnownBytes.{IsAtEnd}
+use Rattle.registry_names.specs.ByteStreams.{Reads, RisesBetween, Writes}
+use Rattle.registry_names.specs.declared.stop.Fault.TheVariants.{Memory}
+use Rattle.registry_wire.specs.Inboxes.{failures_admitted}
+use Rattle.registry_wire.specs.Reading.{CountsInterrupted, TakenOf}
+use Rattle.registry_wire.specs.Spelling.{EndsWith, IsUnfinished}
+use Rattle.registry_wire.specs.declared.first.Ending.TheVariants as ending
+use Rattle.registry_wire.specs.declared.inbox.Taken.{Taken}
+use Rattle.registry_wire.specs.declared.inbox.Taken.TheVariants as taken
+use Rattle.registry_service.specs.Turns.{Answering, Cause, IsTurn, Turn, Turns, bad_input, is_request, no_memory, request, request_limit, response_of}
+use Rattle.registry_service.specs.declared.serving.Served.{Served}
+use Rattle.registry_service.specs.declared.turning.End.{End}
+use Rattle.registry_service.specs.declared.turning.End.TheVariants.{Closed, Limit, BadInput, ReadFault, WriteFault, Faulted}
+use Rattle.registry_service.specs.declared.turning.Turned.{Turned}
+
+-- ---- lists of turns, the newest first
+
+-- the connection goes on after each of them
+abbrev pub GoOn : List Turn → Type 0
+GoOn [] = Unit {0}
+GoOn (t ∷ ts) = (t.ended ≡ None) × GoOn ts
+
+-- what is written of the turns, in their order
+abbrev pub written : List Turn → List ℕ
+written [] = []
+written (t ∷ ts) = written ts ++ response_of t
+
+-- a request has one moment
+abbrev pub moment_of : Cause → List ℕ
+moment_of (request w at) = at ∷ []
+moment_of (bad_input r) = []
+moment_of no_memory = []
+
+-- the moments of the requests, in their order
+abbrev pub moments : List Turn → List ℕ
+moments [] = []
+moments (t ∷ ts) = moments ts ++ moment_of t.cause
+
+abbrev pub count_of : Cause → ℕ
+count_of c = if is_request c then 1 else 0
+
+-- how many of the turns are those of requests
+abbrev pub requests : List Turn → ℕ
+requests [] = 0
+requests (t ∷ ts) = requests ts + count_of t.cause
+
+-- what an inbox gives for a turn
+abbrev pub taken_for : Cause → Taken
+taken_for (request w at) = taken.Whole w
+taken_for (bad_input r) = taken.Bad r
+taken_for no_memory = taken.Faulted Memory
+
+-- The turns were taken of these bytes, one after the other, and what is held follows them. AtEnd
+-- says that no more bytes are left
+abbrev pub Took : List ℕ → List Turn → List ℕ → Type 0 → Type 0
+Took came [] held AtEnd = held ≡ came
+Took came (t ∷ ts) held AtEnd = (rest : List ℕ) × Took came ts rest ⊥ × TakenOf rest held AtEnd (taken_for t.cause)
+
+-- The clock gave these moments, the first of its readings, where so many are known
+abbrev pub Gave : Option (List ℕ) → Option (List ℕ) → List ℕ → Type 0
+Gave None new ms = Unit {0}
+Gave (Some readings) new ms = length ms ≤ length readings → (rest : List ℕ) × (readings ≡ ms ++ rest) × (new ≡ Some rest)
+
+-- ---- a connection
+
+-- a service, what came on a connection and isn't used yet, the bytes of its reader that are known,
+-- and the clock's readings that are known
+pub record Side (D : Type 0) : Type 0 where
+  pub service : D
+  pub held : List ℕ
+  pub left : Option (List ℕ)
+  pub unknown : Bool
+  pub readings : Option (List ℕ)
+
+abbrev pub side : {D : Type 0} → D → List ℕ → Option (List ℕ) → Bool → Option (List ℕ) → Side D
+side service held left unknown readings = record { service = service; held = held; left = left; unknown = unknown; readings = readings }
+
+-- no more bytes are left
+abbrev pub AtEndOf : {D : Type 0} → Side D → Type 0
+AtEndOf s = s.unknown ≡ false → IsAtEnd s.left
+
+-- the turns in a row ended the connection, with the newest of them
+abbrev pub EndedBy : List Turn → End → Type 0
+EndedBy [] e = ⊥
+EndedBy (t ∷ ts) e = (t.ended ≡ Some e) × GoOn ts
+
+-- how a connection ended that all was written of
+abbrev pub EndsAs : {D : Type 0} → Side D → List Turn → End → Type 0
+EndsAs s ts Closed = EndedBy ts Closed ⊎ (GoOn ts × EndsWith s.held ending.Closed × AtEndOf s)
+EndsAs s ts Limit = EndedBy ts Limit
+EndsAs s ts BadInput = EndedBy ts BadInput
+EndsAs s ts ReadFault = GoOn ts × IsUnfinished s.held
+EndsAs s ts WriteFault = ⊥
+EndsAs s ts (Faulted fault) = EndedBy ts (Faulted fault)
+
+-- why no turn is taken: nothing is left after the last one, or a read failed
+abbrev pub EndsUnasked : {D : Type 0} → Side D → End → Type 0
+EndsUnasked s e = ((e ≡ Closed) × EndsWith s.held ending.Closed × AtEndOf s) ⊎ ((e ≡ ReadFault) × IsUnfinished s.held)
+
+-- How many reads failed, and how many were interrupted: at a read fault at least one failed, and no
+-- more than the inbox admitted; at any other end all that failed were interrupted, and tried again
+abbrev pub ReadsFail : End → ℕ → ℕ → ℕ → ℕ → Type 0
+ReadsFail Closed count count2 failures failures2 = CountsInterrupted count count2 failures failures2
+ReadsFail Limit count count2 failures failures2 = CountsInterrupted count count2 failures failures2
+ReadsFail BadInput count count2 failures failures2 = CountsInterrupted count count2 failures failures2
+ReadsFail ReadFault count count2 failures failures2 = RisesBetween 1 (failures_admitted count) failures failures2
+ReadsFail WriteFault count count2 failures failures2 = CountsInterrupted count count2 failures failures2
+ReadsFail (Faulted fault) count count2 failures failures2 = CountsInterrupted count count2 failures failures2
+
+module _ {D : Type 0} (answers : Answering D) where
+  -- the turns by a service, each on what the older ones left, and the service that they leave
+  abbrev pub Follow : D → List Turn → D → Type 0
+  Follow M [] N = N ≡ M
+  Follow M (t ∷ ts) N = (K : D) × Follow M ts K × IsTurn answers K (length ts + 1 == request_limit) t N
+
+  -- the turns, of all that was held at first and that the reader gave since
+  pub record Course (old new : Side D) (ts : List Turn) : Type 0 where
+    pub got : List ℕ
+    pub gave : Reads old.left new.left new.unknown got
+    pub took : Took (old.held ++ got) ts new.held (AtEndOf new)
+    pub follow : Follow old.service ts new.service
+    pub asked : Gave old.readings new.readings (moments ts)
+
+  -- one more turn
+  pub record GoesTo (old new : Side D) (last : Bool) (t : Turned) : Type 0 where
+    pub cause : Cause
+    pub got : List ℕ
+    pub gave : Reads old.left new.left new.unknown got
+    pub took : TakenOf (old.held ++ got) new.held (AtEndOf new) (taken_for cause)
+    pub turns : Turns answers old.service cause last t new.service
+    pub asked : Gave old.readings new.readings (moment_of cause)
+
+  -- no turn
+  pub record Rests (old new : Side D) (e : End) : Type 0 where
+    pub got : List ℕ
+    pub gave : Reads old.left new.left new.unknown got
+    pub held : new.held ≡ old.held ++ got
+    pub service : new.service ≡ old.service
+    pub readings : new.readings ≡ old.readings
+    pub ends : EndsUnasked new e
+
+  -- ---- the whole connection
+
+  -- all was written of the turns
+  pub record Completes (old new : Side D) (out out2 : Option (List ℕ)) (out_unknown : Bool) (s : Served) : Type 0 where
+    pub turns : List Turn
+    pub course : Course old new turns
+    pub wrote : Writes out out2 out_unknown (written turns)
+    pub ends : EndsAs new turns s.end
+    pub count : s.requests ≡ requests turns
+
+  -- a write failed: the older responses were written whole, and a part of the newest
+  pub record BreaksOff (old new : Side D) (out out2 : Option (List ℕ)) (out_unknown : Bool) (s : Served) : Type 0 where
+    pub newest : Turn
+    pub older : List Turn
+    pub course : Course old new (newest ∷ older)
+    pub go_on : GoOn older
+    pub sent : ℕ
+    pub is_less : sent < length (response_of newest)
+    pub wrote : Writes out out2 out_unknown (written older ++ take sent (response_of newest))
+    pub ends : s.end ≡ WriteFault
+    pub count : s.requests ≡ requests older
+
+  abbrev pub IsServed : Side D → Side D → Option (List ℕ) → Option (List ℕ) → Bool → Served → Type 0
+  IsServed old new out out2 out_unknown s = Completes old new out out2 out_unknown s ⊎ BreaksOff old new out out2 out_unknown s

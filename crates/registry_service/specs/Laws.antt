@@ -1,0 +1,27 @@
+-- What holds of every connection: the laws that the functions of `src/laws.rt` ensure.
+use Rattle.std.specs.Prelude.{◌≡◌, ◌++◌, ◌∷◌, [], ℕ, false, List, Some}
+use Rattle.registry_wire.specs.Spelling.{Spells}
+use Rattle.registry_wire.specs.declared.first.Ending.{Ending}
+use Rattle.registry_wire.specs.declared.wanted.Wanted.{Wanted}
+use Rattle.registry_service.specs.Courses.{Course, Side, Took}
+use Rattle.registry_service.specs.Turns.{Answering, Cause, Turn, bad_input, no_memory, request}
+
+abbrev pub wanted_by : Cause → List Wanted
+wanted_by (request w at) = w ∷ []
+wanted_by (bad_input r) = []
+wanted_by no_memory = []
+
+-- the whole requests that the turns were taken for, in their order
+abbrev pub wanted_of : List Turn → List Wanted
+wanted_of [] = []
+wanted_of (t ∷ ts) = wanted_of ts ++ wanted_by t.cause
+
+-- the requests of the turns are the first that the bytes spell: what the rest spells follows them.
+-- Whether more may come is no matter
+abbrev pub TurnsAreSpelled : Type 0
+TurnsAreSpelled = (came rest : List ℕ) (ts : List Turn) (vs : List Wanted) (e : Ending) → Took came ts rest (Unit {0}) → Spells rest vs e → Spells came (wanted_of ts ++ vs) e
+
+-- of a reader whose bytes are known, the turns were taken of all that was held or left
+abbrev pub TakenOfAll : {D : Type 0} → Answering D → Type 0
+TakenOfAll {D} answers = (old new : Side D) (ts : List Turn) (left left2 : List ℕ) → Course answers old new ts → old.left ≡ Some left → new.left ≡ Some left2 → new.unknown ≡ false
+    → Took (old.held ++ left) ts (new.held ++ left2) (left2 ≡ [])

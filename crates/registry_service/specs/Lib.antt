@@ -1,0 +1,11 @@
+pub mod Actions
+pub mod HttpAnswers
+pub mod Bodies
+pub mod Callers
+pub mod Courses
+pub mod Histories
+pub mod Laws
+pub mod Readings
+pub mod Requests
+pub mod Servings
+pub mod Turns

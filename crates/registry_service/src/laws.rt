@@ -1,0 +1,27 @@
+//! Laws of turns. Each is the contract of a function that does nothing.
+
+ghost use Rattle.registry_service.specs.Histories.{IsOneHistory, Reached, World};
+ghost use Rattle.registry_service.specs.Laws.{TakenOfAll, TurnsAreSpelled};
+
+use crate::turning::Service;
+
+/// Whatever comes, on whichever connection, in whatever pieces, and whoever's turn it is, there is
+/// one list of turns such that the service is what they leave, each taken at what all older ones
+/// left. Each connection's turns are the first that its bytes spell, and the rest is still held or,
+/// after its end, dropped; its answers are those of its turns, and what was sent is a prefix of
+/// them.
+pub fn one_history<D: Service>()
+    ensures { (M : D) (w : World D) → Reached D.answers M w → IsOneHistory D.answers M w }
+{}
+
+/// The whole requests that the turns of a connection were taken for are the first that its bytes
+/// spell, in their order. All the bytes of a connection have one reading, so there are no others.
+pub fn turns_are_spelled()
+    ensures { TurnsAreSpelled }
+{}
+
+/// Of a reader whose bytes are known, the turns of a connection were taken of all that was held or
+/// left, and what follows them still is.
+pub fn turns_are_taken_of_all<D: Service>()
+    ensures { TakenOfAll D.answers }
+{}

@@ -1,0 +1,22 @@
+//! What a request of HTTP asks of the registry, and what an outcome of the registry is in HTTP.
+//!
+//! [`request_of`] forms the request that a whole request of HTTP spells, or answers the first
+//! refusal of its form: of its route, the values of its path from left to right, its body, and then
+//! its authorization.
+#![tactic(auto)]
+
+mod action;
+mod answer;
+mod body;
+mod caller;
+mod from_path;
+pub mod laws;
+mod path_values;
+mod request;
+mod serving;
+mod turning;
+
+pub use crate::answer::{Answer, Body};
+pub use crate::request::request_of;
+pub use crate::serving::{Clock, Served, serve};
+pub use crate::turning::{End, REQUEST_LIMIT, Service, Turned, turn, turn_away, turn_starved};

@@ -1,0 +1,142 @@
+//! One turn of a connection.
+
+ghost use Rattle.std.specs.Prelude.{◌≡◌, true, Result};
+ghost use Rattle.registry_names.specs.declared.stop.Fault.{Fault};
+ghost use Rattle.registry_rules.specs.declared.reply.Reply.{Reply};
+ghost use Rattle.registry_rules.specs.declared.request.Request.{Request};
+ghost use Rattle.registry_service.specs.Turns as spec;
+ghost use Rattle.registry_service.specs.Turns.{IsAnswered, Turns, bad_input, no_memory, request};
+
+use crate::answer::Answer;
+use crate::request::request_of;
+use registry_names::{Fault, Moment, Refusal, Stop};
+use registry_rules::{Reply, Request};
+use registry_wire::Wanted;
+use std::alloc::Global;
+
+/// The most requests of one connection.
+pub const REQUEST_LIMIT: u32 = 1000;
+
+/// Where requests are answered, one after the other.
+pub trait Service {
+    // What holds of a service, a request, its outcome, and the service that it leaves.
+    ghost answers: { Self → Request → Result Reply Fault → Self → Type 0 };
+
+    /// Answers one request.
+    fn answer(&mut self, alloc: Global, request: &Request) -> Result<Reply, Fault>
+        ensures { answers self.old request.now result self.new };
+}
+
+/// How a connection ends.
+#[derive(Clone, Copy, Debug, PartialEq, Eq)]
+pub enum End {
+    /// The other side ended it after a whole request, or a request asked for it.
+    Closed,
+    /// It had `REQUEST_LIMIT` requests.
+    Limit,
+    /// What came was no request that is served.
+    BadInput,
+    /// A read failed.
+    ReadFault,
+    /// A write failed. The command of the last request may have been done.
+    WriteFault,
+    /// A fault was answered.
+    Faulted(Fault),
+}
+
+/// What a turn answers, and how the connection ends after it, if it does.
+pub struct Turned {
+    pub answer: Answer,
+    pub end: Option<End>,
+    /// Whether a whole request was answered, and not what is none.
+    pub is_request: bool,
+}
+
+// Written out, so that to drop a turn is one call and not one for each part.
+impl Drop for Turned {
+    fn drop(self) {
+        let Turned {
+            answer: _,
+            end: _,
+            is_request: _,
+        } = self;
+    }
+}
+
+fn answered<D: Service>(
+    alloc: Global,
+    service: &mut D,
+    wanted: &Wanted,
+    at: Moment,
+) -> Result<Reply, Fault>
+    ensures { IsAnswered D.answers service.old wanted.now at result service.new }
+{
+    match request_of(alloc, wanted, at) {
+        Ok(request) => service.answer(alloc, &request),
+        Err(Stop::Refused(refusal)) => Ok(Reply::Refused(refusal)),
+        Err(Stop::Fault(fault)) => Err(fault),
+    }
+}
+
+fn end_of(outcome: &Result<Reply, Fault>, is_last: bool, closes: bool) -> Option<End>
+    ensures { result ≡ spec.end_of outcome.now is_last closes }
+{
+    match outcome {
+        Err(fault) => Some(End::Faulted(*fault)),
+        Ok(_) => {
+            if is_last {
+                Some(End::Limit)
+            } else if closes {
+                Some(End::Closed)
+            } else {
+                None
+            }
+        }
+    }
+}
+
+/// The turn of a whole request, asked at this moment: it is formed, answered by the service where
+/// it is in form, and its outcome is put into an answer. `is_last` says that it is the last one
+/// that its connection may have.
+///
+/// The connection ends after a fault, after the last request, and after one that asks for it.
+pub fn turn<D: Service>(
+    alloc: Global,
+    service: &mut D,
+    wanted: &Wanted,
+    at: Moment,
+    is_last: bool,
+) -> Turned
+    ensures { Turns D.answers service.old (request wanted.now at) is_last result service.new }
+{
+    let outcome = answered(alloc, service, wanted, at);
+    let end = end_of(&outcome, is_last, wanted.closes);
+    Turned {
+        answer: Answer::of(outcome),
+        end,
+        is_request: true,
+    }
+}
+
+/// The turn of what is no request: it is answered, and the connection ends. It takes no memory.
+pub fn turn_away(refusal: Refusal) -> Turned
+    ensures { spec.TurnsAway (bad_input refusal) result }
+{
+    Turned {
+        answer: Answer::of(Ok(Reply::Refused(refusal))),
+        end: Some(End::BadInput),
+        is_request: false,
+    }
+}
+
+/// The turn of a request that there was no memory to read: the fault is answered, and the
+/// connection ends. It takes no memory.
+pub fn turn_starved() -> Turned
+    ensures { spec.TurnsAway no_memory result }
+{
+    Turned {
+        answer: Answer::of(Err(Fault::Memory)),
+        end: Some(End::Faulted(Fault::Memory)),
+        is_request: false,
+    }
+}

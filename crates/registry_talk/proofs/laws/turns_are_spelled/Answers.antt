@@ -1,5 +1,0 @@
-use Rattle.registry_talk.proofs.LawFacts.{turns-spell}
-use Rattle.registry_talk.proofs.laws.turns_are_spelled.Goals as goal
-
-pub returns : goal.returns
-returns c = turns-spell

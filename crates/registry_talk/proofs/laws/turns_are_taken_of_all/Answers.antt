@@ -1,5 +1,0 @@
-use Rattle.registry_talk.proofs.LawFacts.{taken-of_all}
-use Rattle.registry_talk.proofs.laws.turns_are_taken_of_all.Goals as goal
-
-pub returns : goal.returns
-returns g c = taken-of_all g.D.Desk.answers

@@ -1,4 +1,0 @@
-pub mod StoreFacts
-pub mod FrontFacts
-pub mod NamedFacts
-pub mod RightFacts

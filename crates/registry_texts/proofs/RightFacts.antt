@@ -1,7 +1,0 @@
--- Of a store that keeps nothing all is right.
-use Rattle.std.proofs.Common.{ℕ, []}
-use Rattle.registry_names.specs.Texts.{Text}
-use Rattle.registry_texts.specs.Stores.{store, AreRight}
-
-pub new_right : (R : Text → Text → Type 0) (limit : ℕ) → AreRight R (store [] limit)
-new_right R limit = record { right = λ name text h. cc }

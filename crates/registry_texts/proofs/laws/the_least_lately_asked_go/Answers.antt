@@ -1,8 +1,0 @@
-use Rattle.registry_texts.proofs.FrontFacts.{is_longest, all_stay}
-use Rattle.registry_texts.proofs.laws.the_least_lately_asked_go.Goals as goal
-
-pub returns-clause-longest : goal.returns-clause-longest
-returns-clause-longest c = is_longest
-
-pub returns-clause-all : goal.returns-clause-all
-returns-clause-all c = all_stay
