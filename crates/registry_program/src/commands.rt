@@ -5,17 +5,12 @@ ghost use Rattle.registry_cli.specs.Lines.{IsWhole, asks_to_serve};
 
 use crate::ending::{Ending, Failure};
 use crate::moment::read_moment;
-use crate::opening::{let_go, open};
+use crate::registries::Registries;
 use crate::run::MOST_READ;
 use crate::serving::serve;
 use registry_cli::{Line, Printed, action_of, line, render};
-use registry_desk::Registry;
-use registry_http::RegistryService;
 use registry_names::{ByteOut, Fault, FromRead, Moment, ReadStop, Text, read_whole, write_whole};
-use registry_rules::{Reply, Request};
-use registry_service::Service;
-use sqlite::{Alter, FileStore};
-use sqlite_disk::Disk;
+use registry_rules::Request;
 use std::alloc::Global;
 use std::fs;
 use std::io::ErrorKind;
@@ -24,11 +19,12 @@ use std::io::ErrorKind;
 /// it is refused.
 ///
 /// The moment is read first, where the arguments say none, then the file of a publish, then the
-/// texts in their order, and last the registry's file is opened. Arguments that ask to serve are
-/// answered once the last connection has ended.
-pub fn answer_command<O: ByteOut, E: ByteOut>(
+/// texts in their order, and last the registry is asked. Arguments that ask to serve are answered
+/// once the last connection has ended.
+pub fn answer_command<R: Registries, O: ByteOut, E: ByteOut>(
     rt: &HostRuntime,
     alloc: Global,
+    registries: &mut R,
     arguments: &[Text],
     output: &mut O,
     errors: &mut E,
@@ -37,14 +33,15 @@ pub fn answer_command<O: ByteOut, E: ByteOut>(
     if line.asks_to_serve() {
         serve(rt, alloc, &line, output)
     } else {
-        print_answer(rt, alloc, &line, output, errors)
+        print_answer(rt, alloc, registries, &line, output, errors)
     }
 }
 
 // Prints the answer to what a line asks for.
-fn print_answer<O: ByteOut, E: ByteOut>(
+fn print_answer<R: Registries, O: ByteOut, E: ByteOut>(
     rt: &HostRuntime,
     alloc: Global,
+    registries: &mut R,
     line: &Line,
     output: &mut O,
     errors: &mut E,
@@ -53,7 +50,8 @@ fn print_answer<O: ByteOut, E: ByteOut>(
     requires asks { asks_to_serve line.now.what ≡ false }
 {
     let request = request(rt, alloc, line)?;
-    let printed = answer(rt, alloc, line.db.as_str(), &request)?;
+    let reply = registries.reply(rt, alloc, line.db.as_str(), &request)?;
+    let printed = render(alloc, &reply)?;
     print(&printed, output, errors)
 }
 
@@ -100,48 +98,6 @@ fn file_bytes(rt: &HostRuntime, alloc: Global, path: &str) -> Result<Vec<u8>, En
         Ok(bytes) => Ok(bytes),
         Err(ReadStop::Read) => Err(Ending::Fault(Failure::File)),
         Err(ReadStop::Memory) => Err(Ending::from(Fault::Memory)),
-    }
-}
-
-// The answer of the registry in the file at the path.
-fn answer(
-    rt: &HostRuntime,
-    alloc: Global,
-    path: &str,
-    request: &Request,
-) -> Result<Printed, Ending> {
-    let reply = reply(rt, alloc, path, request)?;
-    Ok(render(alloc, &reply)?)
-}
-
-fn reply(rt: &HostRuntime, alloc: Global, path: &str, request: &Request) -> Result<Reply, Ending> {
-    match open(rt, path) {
-        Ok(registry) => reply_in(alloc, registry, request),
-        Err(ending) => Err(ending),
-    }
-}
-
-// The reply of a registry, which is let go.
-fn reply_in<D: Disk + Drop>(
-    alloc: Global,
-    registry: Registry<FileStore<D>>,
-    request: &Request,
-) -> Result<Reply, Ending> {
-    let mut service = RegistryService::new(registry);
-    let reply = reply_of(alloc, &mut service, request);
-    let_go(service.into_registry());
-    reply
-}
-
-// The service answers as `Registry::apply` does, by a contract of one clause.
-fn reply_of<S: Alter>(
-    alloc: Global,
-    service: &mut RegistryService<S>,
-    request: &Request,
-) -> Result<Reply, Ending> {
-    match service.answer(alloc, request) {
-        Ok(reply) => Ok(reply),
-        Err(fault) => Err(Ending::from(fault)),
     }
 }
 

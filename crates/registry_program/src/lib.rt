@@ -6,9 +6,11 @@ mod ending;
 mod moment;
 mod opening;
 mod publication;
+mod registries;
 mod run;
 mod serving;
 
 pub use crate::ending::{Ending, Failure, Obstacle};
 pub use crate::opening::let_go;
-pub use crate::run::{program, report};
+pub use crate::registries::{InFiles, Registries, reply_of};
+pub use crate::run::{program, program_over, report};

@@ -3,6 +3,7 @@
 use crate::commands::answer_command;
 use crate::ending::{Ending, Failure, Obstacle};
 use crate::publication::packument_of;
+use crate::registries::{InFiles, Registries};
 use registry_names::{BODY_LIMIT, ByteIn, ByteOut, Fault, Text, read_whole, write_whole};
 use std::alloc::Global;
 
@@ -31,10 +32,24 @@ pub fn program<I: ByteIn, O: ByteOut, E: ByteOut>(
     output: &mut O,
     errors: &mut E,
 ) -> u8 {
+    program_over(rt, alloc, &mut InFiles, arguments, input, output, errors)
+}
+
+/// Runs the program, as [`program`] does, with these registries for those in files. What is served
+/// over HTTP is in a file all the same.
+pub fn program_over<R: Registries, I: ByteIn, O: ByteOut, E: ByteOut>(
+    rt: &HostRuntime,
+    alloc: Global,
+    registries: &mut R,
+    arguments: &[Text],
+    input: &mut I,
+    output: &mut O,
+    errors: &mut E,
+) -> u8 {
     let done = if arguments.is_empty() {
         print_packument(alloc, input, output)
     } else {
-        answer_command(rt, alloc, arguments, output, errors)
+        answer_command(rt, alloc, registries, arguments, output, errors)
     };
     match done {
         Ok(status) => status,

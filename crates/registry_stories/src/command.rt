@@ -3,8 +3,9 @@
 use crate::arguments::{Arguments, arguments_of};
 use crate::failure::Stop;
 use crate::piece::file_bytes;
+use crate::registry::StoryRegistry;
 use registry_names::{FromRead, Text, ToWrite};
-use registry_program::program;
+use registry_program::program_over;
 use std::alloc::{AllocError, Global};
 
 /// All that a call with these arguments prints: standard output, then standard error, and the
@@ -12,6 +13,7 @@ use std::alloc::{AllocError, Global};
 pub fn printed(
     rt: &HostRuntime,
     alloc: Global,
+    registry: &mut StoryRegistry,
     line: &str,
     at: Option<&str>,
 ) -> Result<String, Stop> {
@@ -21,7 +23,7 @@ pub fn printed(
         Some(name) => file_bytes(rt, alloc, name.as_str())?,
         None => Vec::new(alloc),
     };
-    Ok(called(rt, alloc, &texts, &input)?)
+    Ok(called(rt, alloc, registry, &texts, &input)?)
 }
 
 // The arguments with the moment that is stated, where they have none. A call without arguments has
@@ -49,14 +51,16 @@ fn has_moment(texts: &[Text]) -> bool {
 fn called(
     rt: &HostRuntime,
     alloc: Global,
+    registry: &mut StoryRegistry,
     texts: &[Text],
     input: &[u8],
 ) -> Result<String, AllocError> {
     let mut output = Vec::new(alloc);
     let mut errors = Vec::new(alloc);
-    let status = program(
+    let status = program_over(
         rt,
         alloc,
+        registry,
         texts,
         &mut FromRead::new(input),
         &mut ToWrite::new(&mut output),

@@ -1,8 +1,9 @@
-//! A connection over HTTP to the registry in the file, without a socket: the server's own state of
-//! a connection is given what comes, and asked what is to be sent.
+//! A connection over HTTP to the registry of a story, without a socket: the server's own state of a
+//! connection is given what comes, and asked what is to be sent.
 
 use crate::clock::StatedClock;
 use crate::failure::{Stop, failed};
+use crate::registry::{DB, StoryRegistry};
 use registry_desk::Registry;
 use registry_http::RegistryService;
 use registry_names::{Fault, Moment};
@@ -12,9 +13,6 @@ use registry_service::{End, REQUEST_LIMIT, Service};
 use sqlite::FileStore;
 use sqlite_disk::Disk;
 use std::alloc::{AllocError, Global};
-
-/// The file of the registry.
-pub const DB: &str = "registry.db";
 
 /// From so many bytes on, what comes in pieces comes in large ones.
 const MANY: usize = 20_000;
@@ -38,21 +36,27 @@ pub struct Answer {
     pub end: Option<End>,
 }
 
-/// What the registry in the file answers at this moment on a connection on which these bytes come.
+/// What the registry answers at this moment on a connection on which these bytes come.
 pub fn answered(
     rt: &HostRuntime,
     alloc: Global,
+    registry: &mut StoryRegistry,
     at: Moment,
     asked: &[u8],
     pace: Pace,
 ) -> Result<Answer, Stop> {
-    match Registry::open(rt, DB) {
-        Ok(registry) => Ok(answered_by(alloc, registry, at, asked, pace)?),
-        Err(_) => Err(failed(alloc, "the registry's file can't be opened")),
+    match registry {
+        StoryRegistry::InMemory(service) =>
+            Ok(Exchange::new(alloc, at).carry(alloc, service, asked, pace)?),
+        StoryRegistry::InFile => match Registry::open(rt, DB) {
+            Ok(registry) => Ok(answered_in(alloc, registry, at, asked, pace)?),
+            Err(_) => Err(failed(alloc, "the registry's file can't be opened")),
+        },
     }
 }
 
-fn answered_by<D: Disk + Drop>(
+// What a registry in a file answers, which is let go.
+fn answered_in<D: Disk + Drop>(
     alloc: Global,
     registry: Registry<FileStore<D>>,
     at: Moment,

@@ -1,7 +1,8 @@
 //! The stories of one file, said one after the other.
 
-use crate::exchange::{DB, Pace};
+use crate::exchange::Pace;
 use crate::failure::Stop;
+use crate::registry::{DB, StoryRegistry};
 use crate::scene::Scene;
 use crate::story::{Story, stories_of};
 use std::alloc::Global;
@@ -59,8 +60,7 @@ fn run_at<'a>(
     story: &Story<'a>,
     pace: Pace,
 ) -> Result<u64, Stop> {
-    forget(rt);
-    let mut scene = Scene::new(rt, alloc, pace);
+    let mut scene = Scene::new(rt, alloc, pace, empty(rt, alloc, story)?);
     match scene.run(story) {
         Ok(()) => Ok(scene.calls()),
         Err(Stop::Failed(said)) => {
@@ -76,7 +76,17 @@ fn run_at<'a>(
     }
 }
 
-// Removes the registry and its log.
+// An empty registry for a story.
+fn empty(rt: &HostRuntime, alloc: Global, story: &Story<'_>) -> Result<StoryRegistry, Stop> {
+    if story.is_in_file() {
+        forget(rt);
+        Ok(StoryRegistry::InFile)
+    } else {
+        StoryRegistry::in_memory(alloc)
+    }
+}
+
+// Removes the registry's file and its log.
 fn forget(rt: &HostRuntime) {
     let _ = fs::remove_file(rt, DB);
     let _ = fs::remove_file(rt, "registry.db-wal");

@@ -14,6 +14,7 @@ mod exchange;
 mod failure;
 mod file;
 mod piece;
+mod registry;
 mod scene;
 mod story;
 

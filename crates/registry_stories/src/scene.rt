@@ -1,10 +1,11 @@
-//! What a story is at: the registry's file beside, the moment, and what isn't compared yet.
+//! What a story is at: its registry, the moment, and what isn't compared yet.
 
 use crate::command::printed;
 use crate::exchange::{Answer, Pace, answered, end_text};
 use crate::failure::{Stop, differing, failed};
 use crate::piece::piece;
-use crate::story::{Line, Story, is_unknown};
+use crate::registry::StoryRegistry;
+use crate::story::{IN_FILE, Line, Story, is_unknown};
 use registry_names::Moment;
 use std::alloc::Global;
 use std::{fs, mem};
@@ -22,6 +23,7 @@ pub struct Scene<'a> {
     rt: &'a HostRuntime,
     alloc: Global,
     pace: Pace,
+    registry: StoryRegistry,
     /// The line that runs.
     number: u64,
     calls: u64,
@@ -39,11 +41,17 @@ pub struct Scene<'a> {
 
 impl<'a> Scene<'a> {
     /// A story at its beginning.
-    pub fn new(rt: &'a HostRuntime, alloc: Global, pace: Pace) -> Scene<'a> {
+    pub fn new(
+        rt: &'a HostRuntime,
+        alloc: Global,
+        pace: Pace,
+        registry: StoryRegistry,
+    ) -> Scene<'a> {
         Scene {
             rt,
             alloc,
             pace,
+            registry,
             number: 0,
             calls: 0,
             at: None,
@@ -77,7 +85,7 @@ impl<'a> Scene<'a> {
         if !self.printed.is_empty() {
             return self.expect_printed(line.text);
         }
-        if is_unknown(line.text) {
+        if is_unknown(line.text) || line.text == IN_FILE {
             return Ok(());
         }
         if let Some(rest) = line.text.strip_prefix('>') {
@@ -116,7 +124,7 @@ impl<'a> Scene<'a> {
     // Calls the program.
     fn call(&mut self, arguments: &str) -> Result<(), Stop> {
         self.calls = self.calls.saturating_add(1);
-        self.printed = printed(self.rt, self.alloc, arguments, self.at)?;
+        self.printed = printed(self.rt, self.alloc, &mut self.registry, arguments, self.at)?;
         Ok(())
     }
 
@@ -199,7 +207,8 @@ impl<'a> Scene<'a> {
         };
         self.calls = self.calls.saturating_add(1);
         let at = Moment::clamped(at);
-        self.answer = Some(answered(self.rt, self.alloc, at, &asked, self.pace)?);
+        let (rt, alloc, pace) = (self.rt, self.alloc, self.pace);
+        self.answer = Some(answered(rt, alloc, &mut self.registry, at, &asked, pace)?);
         Ok(())
     }
 

@@ -3,6 +3,9 @@
 use crate::failure::{Stop, failed};
 use std::alloc::Global;
 
+/// The line that says that the registry of a story is in a file.
+pub const IN_FILE: &str = "in a file";
+
 /// A story: its title, and its lines with their numbers.
 #[derive(Drop)]
 pub struct Story<'a> {
@@ -18,6 +21,11 @@ pub struct Line<'a> {
 }
 
 impl Story<'_> {
+    /// Whether its registry is in a file, and not in memory.
+    pub fn is_in_file(&self) -> bool {
+        self.lines.iter().any(|line| line.text == IN_FILE)
+    }
+
     /// Whether it has a connection over HTTP.
     pub fn has_connection(&self) -> bool {
         self.lines.iter().any(|line| line.text.starts_with('>'))

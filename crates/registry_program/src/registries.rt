@@ -1,0 +1,67 @@
+//! The registries that command lines name by their paths.
+
+use crate::ending::Ending;
+use crate::opening::{let_go, open};
+use registry_desk::Registry;
+use registry_http::RegistryService;
+use registry_rules::{Reply, Request};
+use registry_service::Service;
+use sqlite::{Alter, FileStore};
+use sqlite_disk::Disk;
+use std::alloc::Global;
+
+/// What answers the requests of command lines.
+pub trait Registries {
+    /// The reply of the registry at the path, or why there is none.
+    fn reply(
+        &mut self,
+        rt: &HostRuntime,
+        alloc: Global,
+        path: &str,
+        request: &Request,
+    ) -> Result<Reply, Ending>;
+}
+
+/// Registries in files. Each request opens the file at its path, and lets go of it.
+#[derive(Drop)]
+pub struct InFiles;
+
+impl Registries for InFiles {
+    /// The file is made where there is none.
+    fn reply(
+        &mut self,
+        rt: &HostRuntime,
+        alloc: Global,
+        path: &str,
+        request: &Request,
+    ) -> Result<Reply, Ending> {
+        match open(rt, path) {
+            Ok(registry) => reply_in(alloc, registry, request),
+            Err(ending) => Err(ending),
+        }
+    }
+}
+
+// The reply of a registry, which is let go.
+fn reply_in<D: Disk + Drop>(
+    alloc: Global,
+    registry: Registry<FileStore<D>>,
+    request: &Request,
+) -> Result<Reply, Ending> {
+    let mut service = RegistryService::new(registry);
+    let reply = reply_of(alloc, &mut service, request);
+    let_go(service.into_registry());
+    reply
+}
+
+/// The reply of a service, which answers as `Registry::apply` does, by a contract of one clause.
+pub fn reply_of<S: Alter>(
+    alloc: Global,
+    service: &mut RegistryService<S>,
+    request: &Request,
+) -> Result<Reply, Ending> {
+    match service.answer(alloc, request) {
+        Ok(reply) => Ok(reply),
+        Err(fault) => Err(Ending::from(fault)),
+    }
+}
