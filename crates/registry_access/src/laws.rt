@@ -30,6 +30,6 @@ pub fn agreeing_states_allow_the_same()
 {}
 
 /// Whoever loads all rows may put any ask to them.
-pub fn whole_rows_stand()
+pub fn all_stored_rows_answer_every_ask()
     ensures { WholeRowsStand }
 {}

@@ -16,8 +16,8 @@ use Rattle.registry_tables.specs.Contents.{Contents, contents}
 use Rattle.registry_tables.specs.Effects.{stored}
 use Rattle.registry_tables.specs.Fresh.{fresh, schema_key, schema_number}
 use Rattle.registry_tables.specs.Schema.{schema}
-use Rattle.registry_desk.specs.declared.open.Left.{Left}
-use Rattle.registry_desk.specs.declared.open.Left.TheVariants as left
+use Rattle.registry_desk.specs.declared.open.Unopened.{Unopened}
+use Rattle.registry_desk.specs.declared.open.Unopened.TheVariants as unopened
 
 -- the rowids of each table rise
 abbrev pub HaveRowids : Shown → Type 0
@@ -67,6 +67,6 @@ module _ (image : Image) where
   module _ {D : Type 0} {g : disk.Ghosts D} where
     -- after an open that failed, a crash leaves what it could have left before, or, where no table
     -- was found, none or those of a fresh registry
-    abbrev pub LeavesAtMost : Left D g → Type 0
-    LeavesAtMost (left.Files rest) = (files : Files D) × (image_of g files ≡ image) × (IsCleanLeft rest → LeavesFiles files rest)
-    LeavesAtMost (left.Database conn) = HasCleanDisk (file_state conn) → (db : Trees) × AreFoundIn image db × ((later : Trees) → (file_state conn).may_leave later → LeavesFound db later)
+    abbrev pub LeavesAtMost : Unopened D g → Type 0
+    LeavesAtMost (unopened.Files rest) = (files : Files D) × (image_of g files ≡ image) × (IsCleanLeft rest → LeavesFiles files rest)
+    LeavesAtMost (unopened.Database conn) = HasCleanDisk (file_state conn) → (db : Trees) × AreFoundIn image db × ((later : Trees) → (file_state conn).may_leave later → LeavesFound db later)

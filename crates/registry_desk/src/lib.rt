@@ -23,5 +23,5 @@ mod same;
 mod teams;
 mod withdrawals;
 
-pub use crate::open::Left;
+pub use crate::open::Unopened;
 pub use crate::registry::Registry;

@@ -39,7 +39,7 @@ const SCHEMA: u32 = 3;
 const CACHE_PAGES: usize = 1_000;
 
 /// What is left of the files after an open that failed.
-pub enum Left<D: Disk> {
+pub enum Unopened<D: Disk> {
     /// They hold no database that can be opened.
     Files(Leftover<D>),
     /// They hold a database, and it is no registry or a fault came.
@@ -47,11 +47,11 @@ pub enum Left<D: Disk> {
 }
 
 // Written out, so that to drop it is one call and not one for each part.
-impl<D: Disk + Drop> Drop for Left<D> {
+impl<D: Disk + Drop> Drop for Unopened<D> {
     fn drop(self) {
         match self {
-            Left::Files(_files) => {}
-            Left::Database(_conn) => {}
+            Unopened::Files(_files) => {}
+            Unopened::Database(_conn) => {}
         }
     }
 }
@@ -102,7 +102,7 @@ impl<D: Disk + Drop> Registry<FileStore<D>> {
         alloc: Global,
         files: Files<D>,
         options: Options,
-    ) -> Result<Registry<FileStore<D>>, (Fault, Left<D>)>
+    ) -> Result<Registry<FileStore<D>>, (Fault, Unopened<D>)>
         requires log { IsTrue (D.Disk.is_usable files.log) }
         requires db { IsTrue (D.Disk.is_usable files.db) }
         ensures found { IfOk result (λ r. HoldsFound (image_of D.Disk files) (file_state r)) }
@@ -116,9 +116,9 @@ impl<D: Disk + Drop> Registry<FileStore<D>> {
         match Connection::open_files_with(alloc, files, options, true) {
             Ok(conn) => match held(alloc, conn) {
                 Ok(registry) => Ok(registry),
-                Err((fault, conn)) => Err((fault, Left::Database(conn))),
+                Err((fault, conn)) => Err((fault, Unopened::Database(conn))),
             },
-            Err((error, left)) => Err((fault_of(error), Left::Files(left))),
+            Err((error, left)) => Err((fault_of(error), Unopened::Files(left))),
         }
     }
 }
@@ -129,7 +129,7 @@ fn opened_from<S: Start>(
     rt: &HostRuntime,
     path: &str,
     start: S,
-) -> Result<Registry<FileStore<FileFrom<S>>>, (Fault, Option<Left<FileFrom<S>>>)>
+) -> Result<Registry<FileStore<FileFrom<S>>>, (Fault, Option<Unopened<FileFrom<S>>>)>
     ensures found { IfOk result (λ r. HoldsFound (image_at S.Start) (file_state r)) }
     ensures each { IfOk result (λ r. HoldsEach (image_at S.Start) (file_state r)) }
     ensures empty { IfOk result (λ r. IsFreshIfEmpty (image_at S.Start) (file_state r)) }

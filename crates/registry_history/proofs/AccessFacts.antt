@@ -20,7 +20,7 @@ use Rattle.registry_rules.specs.declared.request.Action.{Action}
 use Rattle.registry_rules.specs.declared.request.Action.TheVariants as command
 use Rattle.registry_rules.specs.declared.request.Action.TheVariants.{UserAdd, TokenAdd, OrgCreate, OrgSet, OrgRemove, TeamCreate, TeamDestroy, TeamAdd, TeamRemove, Revoke, OwnerAdd, OwnerRemove, Publish}
 use Rattle.registry_rules.proofs.PublishedFacts.{granted_first, grants_after, maintained_first, maintainers_after}
-use Rattle.registry_history.specs.AccessReadings.{HasAccess, adds_user, user_added, gives_token, token_user, creates, created, gives_role, removes, role, creates_team, destroys, team_stands, joins, leaves, in_team, is_of, gives_grant, ends_grant, last_grant, is_he, makes_maintainer, ends_maintainer, maintains}
+use Rattle.registry_history.specs.AccessReadings.{HasAccess, adds_user, user_added, gives_token, token_user, creates, created, gives_role, removes, role, creates_team, destroys, team_exists, joins, leaves, in_team, is_of, gives_grant, ends_grant, last_grant, is_he, makes_maintainer, ends_maintainer, maintains}
 use Rattle.registry_history.specs.History.{Entry, Legal, after}
 use Rattle.registry_history.specs.Readings.{or_before, unless_ended, was_published}
 use Rattle.registry_history.proofs.LeftFacts.{joined, left_by, left_is}
@@ -152,7 +152,7 @@ module _ (S : State) (now : ℕ) (who : Caller) (h : List Entry) (has : HasAcces
   roles_step (OrgRemove q v) o u = at-erase pair_key S.access.roles (q, v) (o, u) ∙ removed_after (is q o && is v u) _ _ (has.roles o u)
   roles_step what o u = has.roles o u
 
-  teams_step : (what : Action) (o t : Text) → is_some (at (left_by S now who what).access.teams (o, t)) ≡ (creates_team what o t || (not (destroys what o t) && team_stands h o t))
+  teams_step : (what : Action) (o t : Text) → is_some (at (left_by S now who what).access.teams (o, t)) ≡ (creates_team what o t || (not (destroys what o t) && team_exists h o t))
   teams_step (OrgCreate q v) o t = ap is_some (at-put pair_key S.access.teams (q, developers) tt (o, t)) ∙ put_there (is q o && is developers t) tt _ _ (has.teams o t)
   teams_step (TeamCreate q s) o t = ap is_some (at-put pair_key S.access.teams (q, s) tt (o, t)) ∙ put_there (is q o && is s t) tt _ _ (has.teams o t)
   teams_step (TeamDestroy q s) o t = ap is_some (at-erase pair_key S.access.teams (q, s) (o, t)) ∙ erased_after (is q o && is s t) _ _ (has.teams o t)

@@ -83,9 +83,9 @@ destroys (TeamDestroy q s) o t = is q o && is s t
 destroys _ o t = false
 
 -- a team exists that was created, unless it was destroyed since
-abbrev pub team_stands : List Entry → Text → Text → Bool
-team_stands [] o t = false
-team_stands (e ∷ h) o t = creates_team e.what o t || (not (destroys e.what o t) && team_stands h o t)
+abbrev pub team_exists : List Entry → Text → Text → Bool
+team_exists [] o t = false
+team_exists (e ∷ h) o t = creates_team e.what o t || (not (destroys e.what o t) && team_exists h o t)
 
 -- Whether a command brings a user into a team: the owner with whom an organisation is created, and
 -- who is given a role in it and had none before, come into the first one
@@ -167,7 +167,7 @@ pub record HasAccess (h : List Entry) (A : Access) : Type 0 where
   pub tokens : (digest : Text) → at A.tokens digest ≡ token_user h digest
   pub organisations : (o : Text) → is_some (at A.organisations o) ≡ created h o
   pub roles : (o u : Text) → at A.roles (o, u) ≡ role h o u
-  pub teams : (o t : Text) → is_some (at A.teams (o, t)) ≡ team_stands h o t
+  pub teams : (o t : Text) → is_some (at A.teams (o, t)) ≡ team_exists h o t
   pub team_members : (o t u : Text) → is_some (at A.team_members (o, (t, u))) ≡ in_team h o t u
   pub grants : (o t p : Text) → at A.grants (o, (t, p)) ≡ last_grant h o t p
   pub maintainers : (p u : Text) → is_some (at A.maintainers (p, u)) ≡ maintains h p u

@@ -1,5 +1,5 @@
 use Rattle.registry_access.proofs.WholeFacts.{whole_stand}
-use Rattle.registry_access.proofs.laws.whole_rows_stand.Goals as goal
+use Rattle.registry_access.proofs.laws.all_stored_rows_answer_every_ask.Goals as goal
 
 pub returns : goal.returns
 returns c = whole_stand

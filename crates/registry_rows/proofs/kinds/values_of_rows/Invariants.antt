@@ -1,5 +1,5 @@
 use Rattle.std.proofs.Common.{◌≡◌, take, map}
-use Rattle.registry_rows.proofs.kinds.values_in.Given as goal
+use Rattle.registry_rows.proofs.kinds.values_of_rows.Given as goal
 
 -- the values so far are the first rows, read
 abbrev pub invariant-loop-row : goal.invariant-loop-row
