@@ -1,6 +1,23 @@
 -- What a history says of who is there, in what, and of what they may do, by the last entry that
 -- speaks of it, and a state of which it says so. No reading uses a definition of what a step makes:
 -- each is a recursion over the entries, and an entry that speaks of something else says nothing.
+--
+-- | Reading       | Given by                                       | Ended by                    |
+-- |---------------|------------------------------------------------|-----------------------------|
+-- | `user_added`  | a new user                                     | nothing                     |
+-- | `token_user`  | a new token                                    | nothing                     |
+-- | `created`     | a new organisation                             | nothing                     |
+-- | `role`        | a new organisation to its first owner, a role  | the user's removal from the |
+-- |               | that is given                                  | organisation                |
+-- | `team_exists` | a new team; a new organisation, for            | its destruction             |
+-- |               | `developers`                                   |                             |
+-- | `in_team`     | an addition to the team; a new organisation    | a removal from the team or  |
+-- |               | and a first role in it, for `developers`       | from the organisation, the  |
+-- |               |                                                | team's destruction          |
+-- | `last_grant`  | a grant; the first publish of a scope's        | a revocation, the team's    |
+-- |               | package, for `developers`                      | destruction                 |
+-- | `maintains`   | an addition of the maintainer; the first       | the maintainer's removal    |
+-- |               | publish of a package without a scope           |                             |
 use Rattle.std.specs.Prelude.{◌≡◌, Bool, false, not, ◌&&◌, ◌||◌, List, [], ◌∷◌, is_some, is_none, Option, Some, None, if◌then◌else◌}
 use Rattle.registry_names.specs.Texts.{Text, is}
 use Rattle.registry_names.specs.Maps.{at}
@@ -137,15 +154,15 @@ last_grant (e ∷ h) o t p = or_before (gives_grant e.what (was_published h p) o
 -- ---- maintainers
 
 -- whether the caller is this user
-abbrev pub is_he : Caller → Text → Bool
-is_he (User v) u = is v u
-is_he _ u = false
+abbrev pub is_caller : Caller → Text → Bool
+is_caller (User v) u = is v u
+is_caller _ u = false
 
 -- Whether a command of this caller makes a user a maintainer of a package, which was published
 -- before or wasn't: the first publish of a package without a scope makes its publisher one
 abbrev pub makes_maintainer : Caller → Action → Bool → Text → Text → Bool
 makes_maintainer who (OwnerAdd q v) before p u = is q p && is v u
-makes_maintainer who (Publish f) before p u = is_none (scope_of f.name) && (is f.name p && is_he who u) && not before
+makes_maintainer who (Publish f) before p u = is_none (scope_of f.name) && (is f.name p && is_caller who u) && not before
 makes_maintainer who _ before p u = false
 
 -- whether it ends that
