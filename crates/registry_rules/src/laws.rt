@@ -14,7 +14,7 @@ use crate::request::{Action, Asked, Request};
 use registry_publish::PublishForm;
 
 /// A user who is added is there, and a token that is added is theirs. Nothing else changes.
-pub fn users_and_tokens_are_added()
+pub fn added_users_and_tokens_are_there()
     ensures users { UsersAreAdded }
     ensures tokens { TokensAreAdded }
 {}
@@ -93,7 +93,7 @@ pub fn deprecations_mark()
 
 /// A query changes nothing, and a command nothing of a package that it doesn't name, but that a
 /// team that is destroyed is granted nothing on it.
-pub fn packages_stand_apart()
+pub fn commands_leave_other_packages()
     ensures queries { QueriesChangeNothing }
     ensures packages { PackagesStandApart }
 {}

@@ -8,7 +8,7 @@ ghost use Rattle.registry_server.specs.declared.state.Progress.TheVariants.{Answ
 ghost use Rattle.registry_server.specs.ConnectionStates.{Does, IsStarved, fresh, holding, pending, sending};
 
 use crate::outgoing::Outgoing;
-use registry_service::{Clock, End, REQUEST_LIMIT, Service, Turned, turn, turn_away, turn_starved};
+use registry_service::{Clock, End, REQUESTS_PER_CONNECTION, Service, Turned, turn, turn_away, turn_starved};
 use registry_wire::{Ending, First, Wanted, ending_of, first_in};
 use std::alloc::{AllocError, Global};
 use std::marker::Model;
@@ -53,7 +53,7 @@ impl ConnectionState {
         ConnectionState {
             held: Vec::new(alloc),
             outgoing: Outgoing::none(),
-            left: REQUEST_LIMIT,
+            left: REQUESTS_PER_CONNECTION,
             ends: None,
         }
     }

@@ -1,5 +1,5 @@
 use Rattle.registry_rules.proofs.LawFacts as facts
-use Rattle.registry_rules.proofs.laws.users_and_tokens_are_added.Goals as goal
+use Rattle.registry_rules.proofs.laws.added_users_and_tokens_are_there.Goals as goal
 
 pub returns-clause-users : goal.returns-clause-users
 returns-clause-users c = facts.users_are_added
