@@ -81,7 +81,7 @@ bench: out/registry
 
 test: kit examples
 	@tools/check_listings
-	@rt ci
+	@tools/gate_times rt ci
 
 # Proves and builds the program that runs stories, and runs it on a copy of their files.
 stories: kit
