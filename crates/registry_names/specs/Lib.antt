@@ -13,5 +13,7 @@ pub mod Precedence
 pub mod Refusals
 pub mod Tags
 pub mod Texts
+pub mod VersionOrder
+pub mod VersionOrderLaws
 pub mod VersionReading
 pub mod Versions

@@ -5,9 +5,11 @@ ghost use Rattle.std.specs.Cmp.{IsTotalOrder};
 ghost use Rattle.registry_names.specs.Texts.{text_cmp, is};
 ghost use Rattle.registry_names.specs.Keys.{IsKey, pair_cmp, pair_is, triple_cmp, triple_is};
 ghost use Rattle.registry_names.specs.Precedence.{text_precedence};
+ghost use Rattle.registry_names.specs.Versions.{precedence};
 ghost use Rattle.registry_names.specs.Laws.{UnderKeys, EmptyAnswers, PutAnswers, EraseAnswers, KeepAnswers, ReviseAnswers, AnswersTell};
 ghost use Rattle.registry_names.specs.Laws.{RowsAnswer, RowsPush, RowsKeep, RowsRevise, EntriesAnswer, EntriesRise, EntriesTold};
 ghost use Rattle.registry_names.specs.Laws.{PartAnswers, PartMembers, PartRises, PartTold};
+ghost use Rattle.registry_names.specs.Laws.{VersionsBelow, ReleaseAbove, VersionsTie, SameVersions};
 ghost use Rattle.registry_names.specs.Laws.{PrecedenceTells, PrecedenceOfVersions, OthersBelow, GreatestIs, GreatestStands, GreatestOfMembers};
 
 /// One, two and three texts are keys: their orders are total and tie equal keys alone.
@@ -45,6 +47,16 @@ pub fn parts_answer<R, X>()
     ensures members { UnderKeys R (PartMembers X) }
     ensures rise { UnderKeys R (PartRises X) }
     ensures told { UnderKeys R (PartTold X) }
+{}
+
+/// Precedence is a total order of versions, by their numbers in turn and then by the prerelease,
+/// which a release is above; and it ties no two versions.
+pub fn versions_are_ordered()
+    ensures total { IsTotalOrder precedence }
+    ensures below { VersionsBelow }
+    ensures release { ReleaseAbove }
+    ensures ties { VersionsTie }
+    ensures same { SameVersions }
 {}
 
 /// Precedence is a total order of all texts, by SemVer where they are versions, and the greatest
