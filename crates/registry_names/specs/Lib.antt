@@ -11,6 +11,7 @@ pub mod Moments
 pub mod Names
 pub mod Precedence
 pub mod Refusals
+pub mod Spellings
 pub mod Tags
 pub mod Texts
 pub mod VersionOrder

@@ -11,6 +11,7 @@ ghost use Rattle.registry_names.specs.Laws.{RowsAnswer, RowsPush, RowsKeep, Rows
 ghost use Rattle.registry_names.specs.Laws.{PartAnswers, PartMembers, PartRises, PartTold};
 ghost use Rattle.registry_names.specs.Laws.{VersionsBelow, ReleaseAbove, VersionsTie, SameVersions};
 ghost use Rattle.registry_names.specs.Laws.{PrecedenceTells, PrecedenceOfVersions, OthersBelow, GreatestIs, GreatestStands, GreatestOfMembers};
+ghost use Rattle.registry_names.specs.Spellings.{IsReadBack, status_named, status_text};
 
 /// One, two and three texts are keys: their orders are total and tie equal keys alone.
 pub fn texts_are_keys()
@@ -69,4 +70,9 @@ pub fn precedence_orders_texts()
     ensures greatest { GreatestIs }
     ensures stands { GreatestStands }
     ensures members { GreatestOfMembers }
+{}
+
+/// The text of a status is read as that status, and no other text is.
+pub fn statuses_are_read_back()
+    ensures { IsReadBack status_text status_named }
 {}
