@@ -7,7 +7,7 @@ use Rattle.registry_names.specs.Keys.{IsKey, by_first}
 use Rattle.registry_names.specs.Maps.{MapBy, empty, at, put, erase, keep, entries, revise, rows, part, first_at, rises, among, keys}
 use Rattle.registry_names.specs.Versions.{VersionParts, IsVersionOf, precedence}
 use Rattle.registry_names.specs.VersionOrder.{IsBelow, release_of, same_version}
-use Rattle.registry_names.specs.Precedence.{IsSemVer, text_precedence}
+use Rattle.registry_names.specs.Precedence.{IsSemVer, text_precedence, version_in}
 use Rattle.registry_names.specs.Greatest.{IsGreatest, greatest}
 
 -- a law under every order and test that make keys of K
@@ -103,6 +103,10 @@ SameVersions = (a b : VersionParts) → (same_version a b ≡ true) ↔ (a ≡ b
 -- texts of one precedence are one
 abbrev pub PrecedenceTells : Type 0
 PrecedenceTells = (a b : Text) → text_precedence a b ≡ Equal → a ≡ b
+
+-- the parts of a text that is a version are its own
+abbrev pub VersionsAreRead : Type 0
+VersionsAreRead = (t : Text) (v : VersionParts) → IsVersionOf t v → version_in t ≡ Some v
 
 -- of two versions it is SemVer's
 abbrev pub PrecedenceOfVersions : Type 0

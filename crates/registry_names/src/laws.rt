@@ -10,7 +10,7 @@ ghost use Rattle.registry_names.specs.Laws.{UnderKeys, EmptyAnswers, PutAnswers,
 ghost use Rattle.registry_names.specs.Laws.{RowsAnswer, RowsPush, RowsKeep, RowsRevise, EntriesAnswer, EntriesRise, EntriesTold};
 ghost use Rattle.registry_names.specs.Laws.{PartAnswers, PartMembers, PartRises, PartTold};
 ghost use Rattle.registry_names.specs.Laws.{VersionsBelow, ReleaseAbove, VersionsTie, SameVersions};
-ghost use Rattle.registry_names.specs.Laws.{PrecedenceTells, PrecedenceOfVersions, OthersBelow, GreatestIs, GreatestStands, GreatestOfMembers};
+ghost use Rattle.registry_names.specs.Laws.{PrecedenceTells, PrecedenceOfVersions, VersionsAreRead, OthersBelow, GreatestIs, GreatestStands, GreatestOfMembers};
 ghost use Rattle.registry_names.specs.Spellings.{IsReadBack, status_named, status_text};
 
 /// One, two and three texts are keys: their orders are total and tie equal keys alone.
@@ -60,11 +60,13 @@ pub fn versions_are_ordered()
     ensures same { SameVersions }
 {}
 
-/// Precedence is a total order of all texts, by SemVer where they are versions, and the greatest
-/// of a list is the member that none of the others has precedence over.
+/// Precedence is a total order of all texts, by SemVer where they are versions, of which each is
+/// read to its own parts. The greatest of a list is the member that none of the others has
+/// precedence over.
 pub fn precedence_orders_texts()
     ensures total { IsTotalOrder text_precedence }
     ensures exact { PrecedenceTells }
+    ensures read { VersionsAreRead }
     ensures versions { PrecedenceOfVersions }
     ensures others { OthersBelow }
     ensures greatest { GreatestIs }

@@ -1,10 +1,10 @@
 //! Versions.
 
-ghost use Rattle.std.specs.Prelude.{◌≡◌, ◌≢◌, IfOk, IfErr, Some, false, refl};
+ghost use Rattle.std.specs.Prelude.{◌≡◌, ◌≢◌, IfOk, IfErr, [], Some, false, refl};
 ghost use Rattle.std.specs.Cmp.{partial_equiv_from_equiv};
 ghost use Rattle.std.specs.Hash as fed;
 ghost use Rattle.std.proofs.Common.{ap};
-ghost use Rattle.semver.specs.Identifiers.{parts_of};
+ghost use Rattle.semver.specs.Identifiers.{build_text, parts_of};
 ghost use Rattle.semver.specs.Parse.{memory_error};
 ghost use Rattle.registry_names.specs.Faults.{IsMemoryOr};
 ghost use Rattle.registry_names.specs.VersionReading as spec;
@@ -62,14 +62,16 @@ impl Drop for Ver {
 }
 
 impl Model for Ver {
-    ghost use Rattle.std.specs.Prelude.{string_bytes};
+    ghost use Rattle.std.specs.Prelude.{◌≡◌, [], string_bytes};
+    ghost use Rattle.semver.specs.Identifiers.{build_text};
     ghost use Rattle.registry_names.specs.Versions.{VersionParts, IsVersionOf, version_parts};
 
     ghost Value = { VersionParts };
 
     ghost view = { λ v. version_parts v.version };
 
-    ghost invariant = { λ v. IsVersionOf (string_bytes v.text) (version_parts v.version) };
+    ghost invariant = { λ v. IsVersionOf (string_bytes v.text) (version_parts v.version)
+        × (build_text v.version.build ≡ []) };
 }
 
 impl Ver {
@@ -111,9 +113,10 @@ impl Ver {
         self.text.as_str()
     }
 
-    /// The version as the crate `semver` holds it.
+    /// The version as the crate `semver` holds it, without build metadata.
     pub fn as_semver(&self) -> &Version
-        ensures { version_parts result.now ≡ self.now }
+        ensures parts { version_parts result.now ≡ self.now }
+        ensures plain { build_text result.now.build ≡ [] }
     {
         &self.version
     }
