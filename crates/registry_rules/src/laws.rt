@@ -3,7 +3,7 @@
 
 ghost use Rattle.std.specs.Prelude.{◌≡◌, None};
 ghost use Rattle.registry_rules.specs.Kept.{IsKept};
-ghost use Rattle.registry_rules.specs.Laws.{GrantsAreGiven, GrantsAreRevoked, MaintainersAreAdded, MaintainersAreRemoved, OtherMaintainersAreMaintainers, PublishesGiveFirstRights, StatusesAreSet, NewTeamsAreEmpty, TeamMembersAreAdded, TeamMembersAreRemoved, TeamsAreCreated, TeamsAreDestroyed, MembersAreRemoved, OrganisationsAreCreated, OtherOwnersAreOwners, RolesAreSet, PackagesStandApart, PublishesAddVersions, PublishesSetStatuses, PublishesSetTags, QueriesChangeNothing, RemovedTagsAreGone, SetTagsName, TokensAreAdded, UsersAreAdded, WithdrawalsSpend, WithdrawalsFreeTags, DeprecationsMark};
+ghost use Rattle.registry_rules.specs.Laws.{GrantsAreGiven, GrantsAreRevoked, MaintainersAreAdded, MaintainersAreRemoved, OtherMaintainersAreMaintainers, PublishesGiveFirstRights, StatusesAreSet, NewTeamsAreEmpty, TeamMembersAreAdded, TeamMembersAreRemoved, TeamsAreCreated, TeamsAreDestroyed, MembersAreRemoved, NeededHaveDependents, OrganisationsAreCreated, OtherOwnersAreOwners, RolesAreSet, PackagesStandApart, PublishesAddVersions, PublishesSetStatuses, PublishesSetTags, QueriesChangeNothing, RemovedTagsAreGone, SetTagsName, TokensAreAdded, UsersAreAdded, WithdrawalsSpend, WithdrawalsFreeTags, DeprecationsMark};
 ghost use Rattle.registry_rules.specs.Refusals.{refusal};
 ghost use Rattle.registry_rules.specs.Requests.{ArePartsInForm, IsActionInForm, IsAskedInForm, IsInForm};
 ghost use Rattle.registry_rules.specs.State.{State, nothing};
@@ -75,6 +75,12 @@ pub fn other_maintainers_are_maintainers()
 pub fn tags_are_set_and_removed()
     ensures set { SetTagsName }
     ensures removed { RemovedTagsAreGone }
+{}
+
+/// A version is needed exactly where another package has a live version whose manifest has a need
+/// of its package, with a text that is no range, or a range that allows the version.
+pub fn needed_versions_have_dependents()
+    ensures { NeededHaveDependents }
 {}
 
 /// A version that is withdrawn lives no more and is spent, with the moments of its publish and of
