@@ -46,8 +46,10 @@ pub fn answered(
     pace: Pace,
 ) -> Result<Answer, Stop> {
     match registry {
-        StoryRegistry::InMemory(service) =>
-            Ok(Exchange::new(alloc, at).carry(alloc, service, asked, pace)?),
+        StoryRegistry::InMemory(service) => {
+            let exchange = Exchange::new(alloc, at);
+            Ok(exchange.carry(alloc, service, asked, pace)?)
+        }
         StoryRegistry::InFile => match Registry::open(rt, DB) {
             Ok(registry) => Ok(answered_in(alloc, registry, at, asked, pace)?),
             Err(_) => Err(failed(alloc, "the registry's file can't be opened")),
