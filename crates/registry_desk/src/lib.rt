@@ -11,6 +11,7 @@ mod answer;
 mod cache;
 mod facts;
 mod grants;
+pub mod laws;
 mod maintainers;
 mod open;
 mod organisations;
