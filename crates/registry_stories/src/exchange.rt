@@ -146,6 +146,9 @@ impl Exchange {
         is_over: bool,
     ) -> Result<Option<End>, AllocError> {
         for _ in 0..=REQUESTS_PER_CONNECTION {
+            if !self.state.may_take_turn() {
+                break;
+            }
             match self
                 .state
                 .take_turn(alloc, service, &mut self.clock, is_over)
@@ -154,11 +157,8 @@ impl Exchange {
                 Progress::Waits => return Ok(None),
                 Progress::Closed => return Ok(Some(End::Closed)),
             }
-            if let Some(end) = self.state.ends() {
-                return Ok(Some(end));
-            }
         }
-        Ok(None)
+        Ok(self.state.ends())
     }
 
     // Sends all that isn't sent.
