@@ -3,4 +3,5 @@ pub mod GrantFacts
 pub mod HidingFacts
 pub mod LawFacts
 pub mod LevelFacts
+pub mod SpellingFacts
 pub mod WholeFacts

@@ -8,4 +8,5 @@ pub mod Policy
 pub mod Positions
 pub mod RowMaps
 pub mod RowsFor
+pub mod Spellings
 pub mod Standings

@@ -1,6 +1,6 @@
 //! What a caller may do, decided from rows or from a standing.
 
-ghost use Rattle.std.specs.Prelude.{◌≡◌, IsSome};
+ghost use Rattle.std.specs.Prelude.{◌≡◌};
 ghost use Rattle.registry_names.specs.Texts.{Text};
 ghost use Rattle.registry_access.specs.Access.{Access};
 ghost use Rattle.registry_access.specs.Policy.{allowed_at, allowed_in};
@@ -56,9 +56,9 @@ pub fn allowed(rows: &AccessRows, caller: &Caller, ask: &Ask) -> Result<Rule, Re
     by_rows(rows, caller, ask)
 }
 
-/// The same of an ask about the package of a standing, as [`allowed`] answers it.
+/// The same of an ask about the package of a standing, as [`allowed`] answers it. An ask about no
+/// package, which a standing can't answer, is `NotFound`.
 pub fn allowed_by(standing: &Standing, caller: &Caller, ask: &Ask) -> Result<Rule, Refusal>
-    requires { IsSome (asked_package ask.now) }
     ensures of_standing { result
         ≡ allowed_at caller.now ask.now (position_of standing.now caller.now) }
     ensures of_state { (S : Access) (p : Text) → asked_package ask.now ≡ Some p
@@ -96,7 +96,6 @@ fn by_rows(rows: &AccessRows, caller: &Caller, ask: &Ask) -> Result<Rule, Refusa
 }
 
 fn by_position(caller: &Caller, ask: &Ask, at: Position) -> Result<Rule, Refusal>
-    requires { IsSome (asked_package ask.now) }
     ensures { result ≡ allowed_at caller.now ask.now at }
 {
     match *ask {
@@ -104,6 +103,8 @@ fn by_position(caller: &Caller, ask: &Ask, at: Position) -> Result<Rule, Refusal
         Ask::Write(_) => may_write(caller, at),
         Ask::Owners(_) => may_manage_maintainers(caller, at),
         Ask::Read(_) => may_read(at),
-        Ask::Operate | Ask::OrgMembers(_) | Ask::OrgTeams(_) | Ask::OrgRead(_) => unreachable!(),
+        Ask::Operate | Ask::OrgMembers(_) | Ask::OrgTeams(_) | Ask::OrgRead(_) => {
+            Err(Refusal::NotFound)
+        }
     }
 }

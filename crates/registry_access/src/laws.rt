@@ -1,7 +1,9 @@
-//! Laws of the policy. Each is the contract of a function that does nothing.
+//! Laws of the policy and of its words. Each is the contract of a function that does nothing.
 
+ghost use Rattle.registry_names.specs.Spellings.{IsReadBack};
 ghost use Rattle.registry_access.specs.Hiding.{UnreadAreHidden};
 ghost use Rattle.registry_access.specs.Laws.{AgreeingAllow, GreatestGrantCounts, WholeRowsStand, WritersRead};
+ghost use Rattle.registry_access.specs.Spellings.{grant_named, grant_text, role_named, role_text};
 
 /// A package that a caller may not read is hidden from them: where every package without a scope is
 /// public, whatever they ask, except to publish it as a member of its scope, they get what they
@@ -30,6 +32,16 @@ pub fn agreeing_states_allow_the_same()
 {}
 
 /// Whoever loads all rows may put any ask to them.
-pub fn whole_rows_stand()
+pub fn all_stored_rows_answer_every_ask()
     ensures { WholeRowsStand }
+{}
+
+/// The text of a role is read as that role, and no other text is.
+pub fn roles_are_read_back()
+    ensures { IsReadBack role_text role_named }
+{}
+
+/// The text of a grant is read as that grant, and no other text is.
+pub fn grants_are_read_back()
+    ensures { IsReadBack grant_text grant_named }
 {}

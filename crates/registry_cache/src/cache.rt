@@ -1,6 +1,6 @@
 //! The cache of texts.
 
-ghost use Rattle.std.specs.Prelude.{◌≡◌, ◌≤◌, ◌+◌, ◌∷◌, [], length, option_copied, IfOk, OnOk, OnErr};
+ghost use Rattle.std.specs.Prelude.{◌≡◌, ◌≤◌, ◌<◌, ◌+◌, ◌∷◌, [], length, option_copied, IsOk, IfOk, OnOk, OnErr};
 ghost use Rattle.registry_cache.specs.Caches.{cache, kept, size, asked, forgotten, with_text, with_room, prefix};
 
 use crate::shared_text::SharedText;
@@ -70,13 +70,15 @@ impl TextCache {
 
     /// Keeps the text under the name, in place of what was kept there, as the latest asked. Others
     /// go where there are too many bytes, the least lately asked first. A text that alone has more
-    /// bytes than the limit isn't kept: what was kept under the name goes, and of the others none.
+    /// bytes than the limit isn't kept, and this is no error: what was kept under the name goes, and
+    /// of the others none.
     ///
-    /// At an error, which comes where no memory is left, nothing is kept under the name, and of the
-    /// others as much as if the text were.
+    /// An error comes where no memory is left for a text that has room. Then nothing is kept under
+    /// the name, and of the others as much as if the text were.
     pub fn put(&mut self, name: &str, text: SharedText) -> Result<(), AllocError>
         ensures ok { OnOk result (self.new ≡ with_text self.old name.now text) }
         ensures err { OnErr result (self.new ≡ with_room self.old name.now text) }
+        ensures long { self.old.limit < length text → IsOk result }
     {
         self.forget(name);
         let len = text.as_str().len();

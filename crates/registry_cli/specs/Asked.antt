@@ -8,7 +8,7 @@ use Rattle.registry_rules.specs.declared.request.Action.TheVariants as action
 use Rattle.registry_rules.specs.declared.request.Credential.{Credential}
 use Rattle.registry_rules.specs.declared.request.Credential.TheVariants as credential
 use Rattle.registry_cli.specs.Lines.{argument_at}
-use Rattle.registry_cli.specs.Readings.{Reading, four, gives, one, read_then, reads_asked, reads_ident, reads_level, reads_message, reads_name, reads_role, reads_selector, reads_status, reads_tag, reads_token, reads_version, three, two}
+use Rattle.registry_cli.specs.Readings.{Reading, four, gives, one, read_then, reads_asked, reads_grant, reads_ident, reads_message, reads_name, reads_role, reads_selector, reads_status, reads_tag, reads_token, reads_version, three, two}
 use Rattle.registry_cli.specs.declared.action.Verb.{Verb}
 use Rattle.registry_cli.specs.declared.action.Verb.TheVariants.{UserAdd, TokenAdd, OrgCreate, OrgSet, OrgRemove, TeamCreate, TeamDestroy, TeamAdd, TeamRemove, Grant, Revoke, SetAccess, OwnerAdd, OwnerRemove, Publish, TagSet, TagRemove, Deprecate, Withdraw, Packument, VersionDoc, Archive, Tags, Members, Teams, TeamMembers, TeamPackages}
 use Rattle.registry_cli.specs.declared.meaning.Line.{Line}
@@ -69,7 +69,7 @@ asked TeamCreate arguments body = read_then (two reads_ident reads_ident argumen
 asked TeamDestroy arguments body = read_then (two reads_ident reads_ident arguments) (λ p. gives (action.TeamDestroy p.0 p.1))
 asked TeamAdd arguments body = read_then (three reads_ident reads_ident reads_ident arguments) (λ p. gives (action.TeamAdd p.0 p.1 p.2))
 asked TeamRemove arguments body = read_then (three reads_ident reads_ident reads_ident arguments) (λ p. gives (action.TeamRemove p.0 p.1 p.2))
-asked Grant arguments body = read_then (four reads_ident reads_ident reads_name reads_level arguments) (λ p. gives (action.Grant p.0 p.1 p.2 p.3))
+asked Grant arguments body = read_then (four reads_ident reads_ident reads_name reads_grant arguments) (λ p. gives (action.Grant p.0 p.1 p.2 p.3))
 asked Revoke arguments body = read_then (three reads_ident reads_ident reads_name arguments) (λ p. gives (action.Revoke p.0 p.1 p.2))
 asked SetAccess arguments body = read_then (two reads_name reads_status arguments) (λ p. gives (action.SetAccess p.0 p.1))
 asked OwnerAdd arguments body = read_then (two reads_name reads_ident arguments) (λ p. gives (action.OwnerAdd p.0 p.1))

@@ -2,7 +2,6 @@ pub mod Asked
 pub mod Lines
 pub mod Prints
 pub mod Readings
-pub mod Spellings
 pub mod Subcommands
 pub mod Tables
 pub mod Usages

@@ -6,6 +6,7 @@ use Rattle.registry_names.specs.Faults.{IsMemoryOr}
 use Rattle.registry_names.specs.Idents.{is_ident}
 use Rattle.registry_names.specs.Messages.{is_message}
 use Rattle.registry_names.specs.Names.{IsName}
+use Rattle.registry_names.specs.Spellings.{status_named}
 use Rattle.registry_names.specs.Tags.{latest}
 use Rattle.registry_names.specs.declared.status.Status.{Status}
 use Rattle.registry_names.specs.Versions.{IsVersion, IsVersionOf, VersionParts}
@@ -15,13 +16,13 @@ use Rattle.registry_names.specs.declared.stop.Stop.TheVariants.{Refused}
 use Rattle.registry_ranges.specs.Grammar.{IsRangeText}
 use Rattle.registry_ranges.specs.Tags.{IsNeither, IsTag}
 use Rattle.registry_ranges.specs.Selectors.{Condition, HasConditions, IsSelector}
+use Rattle.registry_access.specs.Spellings.{grant_named, role_named}
 use Rattle.registry_access.specs.declared.role.Role.{Role}
 use Rattle.registry_access.specs.declared.grant.Grant.{Grant}
 use Rattle.registry_publish.specs.Tokens.{digest_of}
 use Rattle.registry_rules.specs.declared.request.Asked.{Asked}
 use Rattle.registry_rules.specs.declared.request.Asked.TheVariants.{Exact, Latest}
 use Rattle.registry_cli.specs.Lines.{argument_at}
-use Rattle.registry_cli.specs.Spellings as spelled
 
 -- what may be answered where a value of this type is to be read
 abbrev pub Reading : Type 0 → Type 1
@@ -50,16 +51,16 @@ reads_token t (Ok digest) = digest_of t ≡ Some digest
 reads_token t (Err stop) = (stop ≡ Refused BadBody) × (digest_of t ≡ None)
 
 abbrev pub reads_role : Text → Reading Role
-reads_role t (Ok role) = spelled.role t ≡ Ok role
-reads_role t (Err stop) = (stop ≡ Refused BadBody) × (spelled.role t ≡ Err BadBody)
+reads_role t (Ok role) = role_named t ≡ Some role
+reads_role t (Err stop) = (stop ≡ Refused BadBody) × (role_named t ≡ None)
 
-abbrev pub reads_level : Text → Reading Grant
-reads_level t (Ok level) = spelled.level t ≡ Ok level
-reads_level t (Err stop) = (stop ≡ Refused BadBody) × (spelled.level t ≡ Err BadBody)
+abbrev pub reads_grant : Text → Reading Grant
+reads_grant t (Ok grant) = grant_named t ≡ Some grant
+reads_grant t (Err stop) = (stop ≡ Refused BadBody) × (grant_named t ≡ None)
 
 abbrev pub reads_status : Text → Reading Status
-reads_status t (Ok status) = spelled.status t ≡ Ok status
-reads_status t (Err stop) = (stop ≡ Refused BadBody) × (spelled.status t ≡ Err BadBody)
+reads_status t (Ok status) = status_named t ≡ Some status
+reads_status t (Err stop) = (stop ≡ Refused BadBody) × (status_named t ≡ None)
 
 abbrev pub reads_selector : Text → Reading (List (List Condition))
 reads_selector t (Ok ranges) = HasConditions t ranges

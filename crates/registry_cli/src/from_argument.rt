@@ -4,7 +4,6 @@ ghost use Rattle.std.specs.Prelude.{List, ℕ, Result};
 ghost use Rattle.registry_names.specs.declared.stop.Stop.{Stop};
 ghost use Rattle.registry_cli.specs.Readings as spec;
 
-use crate::spelling;
 use registry_access::{Grant, Role};
 use registry_names::{Ident, LATEST, Message, Name, Refusal, Status, Stop, TagText, Ver};
 use registry_publish::TokenDigest;
@@ -69,20 +68,20 @@ impl FromArgument for Role {
     ghost reads = { spec.reads_role };
 
     fn read(_alloc: Global, text: &str) -> Result<Role, Stop> {
-        match spelling::role(text) {
-            Ok(role) => Ok(role),
-            Err(refusal) => Err(Stop::Refused(refusal)),
+        match Role::parse(text) {
+            Some(role) => Ok(role),
+            None => Err(Stop::Refused(Refusal::BadBody)),
         }
     }
 }
 
 impl FromArgument for Grant {
-    ghost reads = { spec.reads_level };
+    ghost reads = { spec.reads_grant };
 
     fn read(_alloc: Global, text: &str) -> Result<Grant, Stop> {
-        match spelling::level(text) {
-            Ok(level) => Ok(level),
-            Err(refusal) => Err(Stop::Refused(refusal)),
+        match Grant::parse(text) {
+            Some(grant) => Ok(grant),
+            None => Err(Stop::Refused(Refusal::BadBody)),
         }
     }
 }
@@ -91,9 +90,9 @@ impl FromArgument for Status {
     ghost reads = { spec.reads_status };
 
     fn read(_alloc: Global, text: &str) -> Result<Status, Stop> {
-        match spelling::status(text) {
-            Ok(status) => Ok(status),
-            Err(refusal) => Err(Stop::Refused(refusal)),
+        match Status::parse(text) {
+            Some(status) => Ok(status),
+            None => Err(Stop::Refused(Refusal::BadBody)),
         }
     }
 }

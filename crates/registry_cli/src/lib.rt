@@ -1,5 +1,5 @@
-//! The program's arguments and what it prints: what a command line means and asks for, how roles,
-//! levels and statuses are spelled, and what is printed of an answer.
+//! The program's arguments and what it prints: what a command line means and asks for, and what is
+//! printed of an answer.
 #![tactic(auto)]
 
 mod action;
@@ -10,7 +10,6 @@ mod from_argument;
 mod meaning;
 mod printed;
 mod reading;
-pub mod spelling;
 mod subcommand;
 mod usage;
 

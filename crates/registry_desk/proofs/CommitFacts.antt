@@ -6,6 +6,8 @@ use Rattle.sqlite.specs.Held.{Held, state}
 use Rattle.sqlite.specs.State.{State as Shown, HasCleanDisk, IsRolledBack, KeepsCommit, Shows}
 use Rattle.sqlite.specs.Steps.{FailsToCommit, IsEmpty}
 use Rattle.sqlite.specs.declared.error.Error.{Error}
+use Rattle.sqlite_catalog.specs.Listing.{IsSound}
+use Rattle.sqlite_trees.specs.Tree.{Trees}
 use Rattle.sqlite_trees.specs.declared.store.Store.{Ghosts}
 use Rattle.registry_rows.specs.Frames.{IsCommitted}
 use Rattle.registry_rows.specs.Ready.{IsReady, Leaves, Ready}
@@ -14,7 +16,8 @@ use Rattle.registry_tables.specs.Contents.{Contents, contents}
 use Rattle.registry_rows.specs.Tables.{no_tables}
 use Rattle.registry_tables.specs.Effects.{stored}
 use Rattle.registry_tables.specs.Schema.{schema}
-use Rattle.registry_desk.specs.Resting.{Rests}
+use Rattle.registry_desk.specs.Promises.{IsSure}
+use Rattle.registry_desk.specs.Resting.{IsRegistryOf, Rests}
 
 -- an empty database has no tables, also once a transaction is begun
 pub empty_begun : {S : Type 0} (store : Ghosts S) (h : Held S) → (HasCleanDisk (state store h) → IsEmpty (state store h)) → Ready no_tables (state store (record h { in_transaction = true }))
@@ -26,6 +29,16 @@ ready_again mid new same ready = record {
   sound = subst IsDatabase (sym same) ready.sound;
   rowids = subst (λ (d : Database). AllByRecursion (λ t. HasRowids (d.trees t.tree)) schema.tables) (sym same) ready.rowids;
 }
+
+-- a database that is seen so is left so
+pub registry_left : (s : Shown) (db : Trees) (c : Contents) → IsReady schema s → db ≡ s.now.trees → stored s ≡ c → IsRegistryOf db c
+registry_left s db c ready is holds = (subst (IsSound schema) (sym is) (subst (λ k. IsSound k s.now.trees) ready.schema_is ready.sound), ap contents is ∙ holds)
+
+-- so it is where what is seen was committed
+pub rests_sure : {S : Type 0} (store : Ghosts S) (h : Held S) → ((db : Trees) → (state store h).may_leave db → db ≡ (state store h).committed.trees) → Rests (state store h)
+    → HasCleanDisk (state store h) → IsTrue (state store h).is_open → IsSure (state store h)
+rests_sure store h settled rests clean on db left =
+    registry_left (state store h) db _ (rests.in_form clean on) (settled db left ∙ ap (λ (d : Database). d.trees) (sym (rests.settled clean on))) refl
 
 -- a transaction that is begun finds the tables in form
 pub begun_in_form : {S : Type 0} (store : Ghosts S) (h : Held S) → Ready schema (state store h) → Ready schema (state store (record h { in_transaction = true }))

@@ -6,4 +6,5 @@ mod OpenedFacts
 mod SettlingFacts
 mod CacheFacts
 pub mod AnswerFacts
+mod StopFacts
 pub mod StoredFacts

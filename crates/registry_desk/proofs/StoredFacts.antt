@@ -1,17 +1,18 @@
 -- Runs, one request at a time, and what they leave of all that is stored.
-use Rattle.std.proofs.Common.{◌≡◌, inl, inr, ◌∙◌, arith, List, [], ◌∷◌, ◌++◌, Ok, Err, OnOk, IsTrue, true≢false, refl, sym, ap, subst}
-use Rattle.std.specs.Prelude.{is_ok}
+use Rattle.std.proofs.Common.{◌≡◌, ◌⊎◌, inl, inr, ◌∙◌, arith, Bool, true, false, List, [], ◌∷◌, ◌++◌, Ok, Err, OnOk, IsTrue, true≢false, refl, sym, ap, subst}
 use Rattle.sqlite.specs.State.{State as Shown, HasCleanDisk}
 use Rattle.sqlite.proofs.StateLemmas.{survives_then}
 use Rattle.sqlite_trees.specs.Tree.{Trees}
 use Rattle.registry_rules.specs.State.{State}
 use Rattle.registry_rules.specs.declared.request.Request.{Request}
-use Rattle.registry_tables.specs.Contents.{Contents, contents}
+use Rattle.registry_tables.specs.Contents.{Contents}
 use Rattle.registry_tables.specs.Effects.{registry_in, stored}
 use Rattle.registry_tables.specs.Archives.{HoldsArchives}
 use Rattle.registry_tables.specs.Needs.{HoldsNeeds}
-use Rattle.registry_desk.specs.Promises.{Answered, HoldsSound, IsSure, Keeps, KeepsForm, KeepsSound, Moves, RanTo, Served, SurvivesCrash, RunSurvivesCrash, Stepped, Stored, SurvivesOne, SurvivesRun, WasOpen}
-use Rattle.registry_desk.specs.Resting.{SettlesOne, end_stored, ends_replied, next_stored, settled_by}
+use Rattle.registry_rows.proofs.QuietFacts.{on_answer}
+use Rattle.registry_desk.specs.Promises.{Answered, HoldsSound, Keeps, KeepsForm, KeepsSound, KeepsSure, Moves, RanTo, Served, ServedRun, ShutByFaults, StaysSure, Stepped, Stored, SurvivesOne, SurvivesRun, WasOpen}
+use Rattle.registry_desk.specs.Resting.{IsRegistryOf, Serves, end_stored, left_by, next_stored, settled_by}
+use Rattle.registry_desk.proofs.SettlingFacts.{faulted_next}
 use Rattle.registry_history.specs.Runs.{Outcome, HaveOutcomes, IsAnswer, next}
 use Rattle.registry_history.proofs.RunFacts.{ran_none, ran_push}
 
@@ -24,31 +25,42 @@ end_stored_push S c (q ∷ rs) (p ∷ os) r o before = end_stored_push (next S q
 end_stored_push S c [] (p ∷ os) r o before = absurd before
 end_stored_push S c (q ∷ rs) [] r o before = absurd before
 
--- what an earlier request settles
-settled_before : (S : State) (c d : Contents) (rs : List Request) (os : List Outcome) (r : Request) (o : Outcome) → HaveOutcomes S rs os
-    → SettlesOne rs os c d → SettlesOne (rs ++ r ∷ []) (os ++ o ∷ []) c d
-settled_before S c d [] [] r o before settles = absurd settles
-settled_before S c d (q ∷ rs) (p ∷ os) r o before (inl here) = inl here
-settled_before S c d (q ∷ rs) (p ∷ os) r o before (inr later) = inr (settled_before (next S q p) (next_stored q p c) d rs os r o before.1 later)
-settled_before S c d [] (p ∷ os) r o before settles = absurd before
-settled_before S c d (q ∷ rs) [] r o before settles = absurd before
+-- what a crash leaves after one outcome more
+left_by_push : (S : State) (may : Trees → Type 0) (rs : List Request) (os : List Outcome) (r : Request) (o : Outcome) (c : Contents) (db : Trees) → HaveOutcomes S rs os
+    → left_by (left_by may rs os c) (r ∷ []) (o ∷ []) (end_stored rs os c) db → left_by may (rs ++ r ∷ []) (os ++ o ∷ []) c db
+left_by_push S may [] [] r o c db before left = left
+left_by_push S may (q ∷ rs) (Ok reply ∷ os) r o c db before left =
+    left_by_push (next S q (Ok reply)) (λ db. IsRegistryOf db (next_stored q (Ok reply) c)) rs os r o (next_stored q (Ok reply) c) db before.1 left
+left_by_push S may (q ∷ rs) (Err fault ∷ os) r o c db before left =
+    let since : Trees → Type 0 = λ db. may db ⊎ IsRegistryOf db (settled_by q c) in
+    left_by_push (next S q (Err fault)) since rs os r o c db before.1
+    (subst (λ d. left_by (left_by since rs os c) (r ∷ []) (o ∷ []) (end_stored rs os d) db) (sym (faulted_next c q fault)) left)
+left_by_push S may [] (p ∷ os) r o c db before left = absurd before
+left_by_push S may (q ∷ rs) [] r o c db before left = absurd before
 
--- what this one settles
-settled_now : (S : State) (c d : Contents) (rs : List Request) (os : List Outcome) (r : Request) (o : Outcome) → HaveOutcomes S rs os
-    → d ≡ settled_by r (end_stored rs os c) → SettlesOne (rs ++ r ∷ []) (os ++ o ∷ []) c d
-settled_now S c d [] [] r o before is = inl is
-settled_now S c d (q ∷ rs) (p ∷ os) r o before is = inr (settled_now (next S q p) (next_stored q p c) d rs os r o before.1 is)
-settled_now S c d [] (p ∷ os) r o before is = absurd before
-settled_now S c d (q ∷ rs) [] r o before is = absurd before
+-- what a crash leaves after one outcome
+left_by_one : (may : Trees → Type 0) (r : Request) (o : Outcome) (c : Contents) (db : Trees) → may db ⊎ IsRegistryOf db (settled_by r c) → OnOk o (IsRegistryOf db (next_stored r o c))
+    → left_by may (r ∷ []) (o ∷ []) c db
+left_by_one may r (Ok reply) c db earlier sure = sure
+left_by_one may r (Err fault) c db earlier sure = earlier
 
-last_replied : (os : List Outcome) (o : Outcome) → ends_replied (os ++ o ∷ []) ≡ is_ok o
-last_replied [] o = refl
-last_replied (p ∷ []) o = refl
-last_replied (p ∷ q ∷ os) o = last_replied (q ∷ os) o
+-- open or shut, after one outcome
+served_one : (was is : Bool) (o : Outcome) → OnOk o (IsTrue was × IsTrue is) → (IsTrue is → IsTrue was) → Serves was (o ∷ []) is
+served_one true is (Ok reply) served opened = served.1
+served_one false is (Ok reply) served opened = absurd (true≢false (sym served.0))
+served_one true true (Err fault) served opened = inl refl
+served_one true false (Err fault) served opened = inr refl
+served_one false true (Err fault) served opened = absurd (true≢false (sym (opened refl)))
+served_one false false (Err fault) served opened = refl
 
-on_reply : (P : Type 0) (o : Outcome) → OnOk o P → IsTrue (is_ok o) → P
-on_reply P (Ok reply) holds replied = holds
-on_reply P (Err fault) holds replied = absurd (true≢false (sym replied))
+-- and after one more
+served_push : (was mid is : Bool) (os : List Outcome) (o : Outcome) → Serves was os mid → Serves mid (o ∷ []) is → Serves was (os ++ o ∷ []) is
+served_push was mid is [] o before one = subst (λ b. Serves b (o ∷ []) is) before one
+served_push true mid is (Ok reply ∷ os) o before one = served_push true mid is os o before one
+served_push false mid is (Ok reply ∷ os) o before one = absurd before
+served_push true mid is (Err fault ∷ os) o (inl still) one = inl (served_push true mid is os o still one)
+served_push true mid is (Err fault ∷ os) o (inr shut) one = inr (served_push false mid is os o shut one)
+served_push false mid is (Err fault ∷ os) o before one = served_push false mid is os o before one
 
 -- a fault is an answer to all
 answer_of : (T : State) (r : Request) (o : Outcome) (P : Type 0) → OnOk o P → (P → IsAnswer T r o) → IsAnswer T r o
@@ -68,28 +80,34 @@ pub record HasAnswered (old new : Shown) (r : Request) (o : Outcome) : Type 0 wh
   pub needs : Keeps old new HoldsNeeds
   pub archives : Keeps old new HoldsArchives
   pub survives : SurvivesOne old new r
-  pub stays : SurvivesCrash new o
+  pub stays : StaysSure new
 
 pub record HasRun (old new : Shown) (rs : List Request) (os : List Outcome) : Type 0 where
   pub ran : RanTo old new rs os
   pub stored : Stored old new rs os
+  pub served : ServedRun old new os
+  pub opened : WasOpen old new
   pub sound : KeepsSound old new
   pub form : KeepsForm old new
   pub needs : Keeps old new HoldsNeeds
   pub archives : Keeps old new HoldsArchives
   pub survives : SurvivesRun old new rs os
-  pub stays : RunSurvivesCrash new os
+  pub stays : KeepsSure old new
+  pub closes : ShutByFaults old new
 
 pub has_run_none : (s : Shown) → HasRun s s [] []
 has_run_none s = record {
   ran = λ sound clean. ran_none (registry_in s) s.is_open;
   stored = λ sound clean on. refl;
+  served = λ clean. refl;
+  opened = λ clean on. on;
   sound = λ sound clean on. sound;
   form = λ needs clean on kept. kept;
   needs = λ sound clean on holds. holds;
   archives = λ sound clean on holds. holds;
-  survives = record { clean = omega arith; shield = λ h. h; counts = omega arith; limit = refl; closes = λ _ on. inl on; crash = λ _ db left. inl left };
-  stays = λ clean replied. absurd (true≢false (sym replied));
+  survives = λ sound clean db left. left;
+  stays = λ sure. sure;
+  closes = record { clean = omega arith; shield = λ h. h; counts = omega arith; limit = refl; closes = λ _ on. inl on; crash = λ _ db left. inl left };
 }
 
 pub has_run_more : (old mid new : Shown) (rs : List Request) (os : List Outcome) (r : Request) (o : Outcome)
@@ -97,21 +115,28 @@ pub has_run_more : (old mid new : Shown) (rs : List Request) (os : List Outcome)
 has_run_more old mid new rs os r o run made =
     let before : HasCleanDisk new → HasCleanDisk mid = λ clean. omega (arith, made.survives.clean, clean) in
     let still : HoldsSound old → HasCleanDisk new → IsTrue mid.is_open → HoldsSound mid = λ sound clean on. run.sound sound (before clean) on in
-    let left : (db : Trees) → HasCleanDisk new → IsTrue mid.is_open × (HoldsSound mid → contents db ≡ settled_by r (stored mid)) → HoldsSound old → SettlesOne (rs ++ r ∷ []) (os ++ o ∷ []) (stored old) (contents db) =
-    λ db clean is sound. settled_now (registry_in old) (stored old) (contents db) rs os r o (run.ran sound (before clean)).answers
-    (is.1 (still sound clean is.0) ∙ ap (settled_by r) (run.stored sound (before clean) is.0)) in
+    let was_open : HasCleanDisk new → OnOk o (IsTrue mid.is_open) = λ clean. on_answer o (λ on. on.0) (made.served clean) in
+    let same : HoldsSound old → HasCleanDisk new → IsTrue mid.is_open → stored mid ≡ end_stored rs os (stored old) = λ sound clean on. run.stored sound (before clean) on in
     record {
       ran = λ sound clean. ran_push (registry_in old) (registry_in mid) (registry_in new) mid.is_open new.is_open rs os r o (run.ran sound (before clean))
-          (answer_of (registry_in mid) r o (IsTrue mid.is_open) (made.served clean) (λ on. made.answer (still sound clean on) clean)) (made.served clean) (made.opened clean)
+          (answer_of (registry_in mid) r o (IsTrue mid.is_open) (was_open clean) (λ on. made.answer (still sound clean on) clean)) (was_open clean) (made.opened clean)
           (λ on. made.moves (still sound clean (made.opened clean on)) clean on);
-      stored = λ sound clean on. made.step (still sound clean (made.opened clean on)) clean on ∙ ap (next_stored r o) (run.stored sound (before clean) (made.opened clean on))
+      stored = λ sound clean on. made.step (still sound clean (made.opened clean on)) clean on ∙ ap (next_stored r o) (same sound clean (made.opened clean on))
           ∙ sym (end_stored_push (registry_in old) (stored old) rs os r o (run.ran sound (before clean)).answers);
+      served = λ clean. served_push old.is_open mid.is_open new.is_open os o (run.served (before clean)) (served_one mid.is_open new.is_open o (made.served clean) (made.opened clean));
+      opened = λ clean on. run.opened (before clean) (made.opened clean on);
       sound = λ sound clean on. made.sound (still sound clean (made.opened clean on)) clean on;
       form = λ needs clean on kept.
           made.form (still (record { refers = kept.sound; needs = needs }) clean (made.opened clean on)).needs clean on (run.form needs (before clean) (made.opened clean on) kept);
       needs = λ sound clean on holds. made.needs (still sound clean (made.opened clean on)) clean on (run.needs sound (before clean) (made.opened clean on) holds);
       archives = λ sound clean on holds. made.archives (still sound clean (made.opened clean on)) clean on (run.archives sound (before clean) (made.opened clean on) holds);
-      survives = survives_then old mid new _ _ (λ db. HoldsSound old → SettlesOne (rs ++ r ∷ []) (os ++ o ∷ []) (stored old) (contents db))
-          (λ clean db settles sound. settled_before (registry_in old) (stored old) (contents db) rs os r o (run.ran sound (before clean)).answers (settles sound)) (λ clean db is. left db clean is) run.survives made.survives;
-      stays = λ clean replied. on_reply (IsSure new) o (made.stays clean) (subst IsTrue (last_replied os o) replied);
+      survives = λ sound clean db left. left_by_push (registry_in old) old.may_leave rs os r o (stored old) db (run.ran sound (before clean)).answers
+          (left_by_one _ r o _ db
+          (elim (made.survives.crash clean db left) [
+            | inl earlier ↦ inl (run.survives sound (before clean) db earlier)
+            | inr (on, makes) ↦ inr (subst (IsRegistryOf db) (ap (settled_by r) (same sound clean on)) (makes (still sound clean on)))
+          ])
+          (on_answer o (λ on. subst (IsRegistryOf db) (made.step (still sound clean on.0) clean on.1 ∙ ap (next_stored r o) (same sound clean on.0)) (made.stays clean on.1 db left)) (made.served clean)));
+      stays = λ sure. made.stays;
+      closes = survives_then old mid new _ _ (λ db. Unit {0}) (λ _ _ any. any) (λ _ _ made. tt) run.closes made.survives;
     }

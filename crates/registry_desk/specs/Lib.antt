@@ -3,3 +3,4 @@ pub mod Opened
 pub mod Promises
 pub mod Resting
 pub mod Caches
+pub mod Stops

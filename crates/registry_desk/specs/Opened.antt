@@ -1,5 +1,5 @@
 -- What an open gives of the database that it finds, and what a crash leaves of that.
-use Rattle.std.specs.Prelude.{◌≡◌, ◌⊎◌, [], Some}
+use Rattle.std.specs.Prelude.{◌≡◌, ◌⊎◌, ◌++◌, [], Some, codes}
 use Rattle.std.specs.List.{AllByRecursion}
 use Rattle.sqlite.specs.Effect.{Database}
 use Rattle.sqlite.specs.Files.{AreFoundIn, HoldsDatabase, IsCleanLeft, LeavesFiles, file_state, image_of}
@@ -10,14 +10,15 @@ use Rattle.sqlite_disk.specs.declared.Files.{Files}
 use Rattle.sqlite_trees.specs.Tree.{Trees}
 use Rattle.sqlite_wal.specs.Recovery.{Image}
 use Rattle.registry_names.specs.Maps.{at}
+use Rattle.registry_names.specs.Texts.{Text}
 use Rattle.registry_rows.specs.Rows.{HasRowids}
 use Rattle.registry_rows.specs.Tables.{no_tables}
 use Rattle.registry_tables.specs.Contents.{Contents, contents}
 use Rattle.registry_tables.specs.Effects.{stored}
 use Rattle.registry_tables.specs.Fresh.{fresh, schema_key, schema_number}
 use Rattle.registry_tables.specs.Schema.{schema}
-use Rattle.registry_desk.specs.declared.open.Left.{Left}
-use Rattle.registry_desk.specs.declared.open.Left.TheVariants as left
+use Rattle.registry_desk.specs.declared.open.Unopened.{Unopened}
+use Rattle.registry_desk.specs.declared.open.Unopened.TheVariants as unopened
 
 -- the rowids of each table rise
 abbrev pub HaveRowids : Shown → Type 0
@@ -64,9 +65,14 @@ module _ (image : Image) where
     abbrev pub IsFreshIfEmpty : Type 0
     IsFreshIfEmpty = HasCleanDisk s → image.db ≡ [] → stored s ≡ fresh
 
-  module _ {D : Type 0} {g : disk.Ghosts D} where
-    -- after an open that failed, a crash leaves what it could have left before, or, where no table
-    -- was found, none or those of a fresh registry
-    abbrev pub LeavesAtMost : Left D g → Type 0
-    LeavesAtMost (left.Files rest) = (files : Files D) × (image_of g files ≡ image) × (IsCleanLeft rest → LeavesFiles files rest)
-    LeavesAtMost (left.Database conn) = HasCleanDisk (file_state conn) → (db : Trees) × AreFoundIn image db × ((later : Trees) → (file_state conn).may_leave later → LeavesFound db later)
+-- after an open of these files that failed, a crash leaves what it could have left before, or, where
+-- no table was found, none or those of a fresh registry
+module _ {D : Type 0} {g : disk.Ghosts D} (files : Files D) where
+  abbrev pub LeavesAtMost : Unopened D g → Type 0
+  LeavesAtMost (unopened.Files rest) = IsCleanLeft rest → LeavesFiles files rest
+  LeavesAtMost (unopened.Database conn) =
+      HasCleanDisk (file_state conn) → (db : Trees) × AreFoundIn (image_of g files) db × ((later : Trees) → (file_state conn).may_leave later → LeavesFound db later)
+
+-- a path that begins with "file:", which is a URI to SQLite
+abbrev pub IsUri : Text → Type 0
+IsUri path = (rest : Text) × (path ≡ codes "file:" ++ rest)

@@ -1,34 +1,57 @@
 -- What is promised of a request, and of a run, as long as the disk returns what was written to it.
 -- `old` and `new` are what the connection shows at the entry and at the exit.
--- What decides a request is read from rows that refer to others, and from the needs that are
--- stored. So it is promised where those are there, and these are the needs of live versions
--- (`HoldsSound`): of a new registry that is so, and every request keeps it.
+--
+-- | Clause    | Of  | Says                                                            | Needs     |
+-- |-----------|-----|-----------------------------------------------------------------|-----------|
+-- | answer    | a   | a reply is the machine's                                        | S         |
+-- | ran       | r   | so is each, on what the earlier ones left                       | S         |
+-- | served    | a r | a reply comes from an open registry, and leaves it open         |           |
+-- | opened    | a r | it was open where it is open                                    |           |
+-- | step      | a   | what is stored is changed as the outcome says                   | S, open   |
+-- | stored    | r   | and as all outcomes say                                         | S, open   |
+-- | moves     | a   | so is the registry's state                                      | S, open   |
+-- | history   | a r | a legal history of what was held goes on                        | N, open   |
+-- | headline  | r   | the theorem, of a registry of which nothing was asked           | N, open   |
+-- | sound     | a r | references, and the needs that are stored, stay right           | S, open   |
+-- | needs     | a r | the needs that are stored stay those of live versions           | S, open   |
+-- | archives  | a r | so do the archives                                              | S, open   |
+-- | form      | a r | each text that is held stays in form                            | N, open   |
+-- | survives  | a r | what a crash leaves, by the outcomes; no reply is lost          | S         |
+-- | stays     | a   | a crash leaves what is stored, and nothing else                 | open      |
+-- | stays     | r   | it still does, where it did at the entry                        | open      |
+-- | closes    | r   | only a fault of the disk shuts it                               |           |
+--
+-- Of: a is `Registry::apply`, and r is `Registry::run`. Needs: each clause supposes a clean disk at
+-- the exit (`HasCleanDisk`), and also
+--   S     references hold at the entry, and the needs that are stored are those of live versions
+--         (`HoldsSound`): what decides a request is read from them;
+--   N     the needs that are stored at the entry are those of live versions (`HoldsNeeds`), and
+--         a legal history led to the state, nothing was asked, or it is in form, each of which
+--         gives the references;
+--   open  the registry is open at the exit: a fault of the disk may have shut it.
+-- A new registry has S and N, and every request keeps them.
 use Rattle.std.specs.Prelude.{◌≡◌, List, OnOk, IsTrue}
 use Rattle.sqlite_trees.specs.Tree.{Trees}
 use Rattle.sqlite.specs.State.{State as Shown, HasCleanDisk, Survives}
 use Rattle.registry_rules.specs.Kept.{IsKept, IsSound}
 use Rattle.registry_rules.specs.State.{nothing}
 use Rattle.registry_rules.specs.declared.request.Request.{Request}
-use Rattle.registry_tables.specs.Contents.{Contents, contents}
+use Rattle.registry_tables.specs.Contents.{Contents}
 use Rattle.registry_tables.specs.Effects.{registry_in, stored}
 use Rattle.registry_tables.specs.Needs.{HoldsNeeds}
 use Rattle.registry_history.specs.Headline.{Headline}
 use Rattle.registry_history.specs.History.{Entry, Legal, after}
 use Rattle.registry_history.specs.Says.{Says}
-use Rattle.registry_desk.specs.Resting.{SettlesOne, end_stored, ends_replied, next_stored, settled_by}
+use Rattle.registry_desk.specs.Resting.{IsRegistryOf, Serves, end_stored, left_by, next_stored, settled_by}
 use Rattle.registry_history.specs.Runs.{Outcome, IsAnswer, Ran, grown, history, next}
 
 -- an open after a crash finds what is stored now, and nothing else
 abbrev pub IsSure : Shown → Type 0
-IsSure s = (db : Trees) → s.may_leave db → contents db ≡ stored s
+IsSure s = (db : Trees) → s.may_leave db → IsRegistryOf db (stored s)
 
--- that is so after a reply
-abbrev pub SurvivesCrash : Shown → Outcome → Type 0
-SurvivesCrash new o = HasCleanDisk new → OnOk o (IsSure new)
-
--- that is so where the last outcome of a run is a reply
-abbrev pub RunSurvivesCrash : Shown → List Outcome → Type 0
-RunSurvivesCrash new os = HasCleanDisk new → IsTrue (ends_replied os) → IsSure new
+-- that is so as long as the registry is open
+abbrev pub StaysSure : Shown → Type 0
+StaysSure s = HasCleanDisk s → IsTrue s.is_open → IsSure s
 
 -- references hold, and the needs that are stored are those of live versions
 pub record HoldsSound (s : Shown) : Type 0 where
@@ -59,9 +82,9 @@ module _ (old new : Shown) where
   abbrev pub Answered : Request → Outcome → Type 0
   Answered r o = HoldsSound old → HasCleanDisk new → IsAnswer (registry_in old) r o
 
-  -- a reply comes from an open registry alone
+  -- a reply comes from an open registry alone, and leaves it open
   abbrev pub Served : Outcome → Type 0
-  Served o = HasCleanDisk new → OnOk o (IsTrue old.is_open)
+  Served o = HasCleanDisk new → OnOk o (IsTrue old.is_open × IsTrue new.is_open)
 
   -- what is stored is changed as the outcome says
   abbrev pub Stepped : Request → Outcome → Type 0
@@ -78,7 +101,7 @@ module _ (old new : Shown) where
 
   -- a crash leaves what it could have left before, or what an open registry makes of the request
   abbrev pub SurvivesOne : Request → Type 0
-  SurvivesOne r = Survives old new (λ db. IsTrue old.is_open × (HoldsSound old → contents db ≡ settled_by r (stored old)))
+  SurvivesOne r = Survives old new (λ db. IsTrue old.is_open × (HoldsSound old → IsRegistryOf db (settled_by r (stored old))))
 
   -- ---- a run
 
@@ -99,7 +122,19 @@ module _ (old new : Shown) where
   WritesHistory rs os = HoldsNeeds (stored old) → HasCleanDisk new → IsTrue new.is_open → (h : List Entry) → Legal h → registry_in old ≡ after h
       → Says (history h (registry_in old) rs os) (registry_in new)
 
-  -- a crash leaves what it could have left before, or what one of the requests settles on what the
-  -- earlier ones left
+  -- an open registry answers, until a fault shuts it, and a shut one answers by faults alone
+  abbrev pub ServedRun : List Outcome → Type 0
+  ServedRun os = HasCleanDisk new → Serves old.is_open os new.is_open
+
+  -- after each reply a crash leaves what is stored then and nothing else, and after a fault what it
+  -- could have left before, or what the request makes
   abbrev pub SurvivesRun : List Request → List Outcome → Type 0
-  SurvivesRun rs os = Survives old new (λ db. HoldsSound old → SettlesOne rs os (stored old) (contents db))
+  SurvivesRun rs os = HoldsSound old → HasCleanDisk new → (db : Trees) → new.may_leave db → left_by old.may_leave rs os (stored old) db
+
+  -- where a crash left what was stored and nothing else, as long as it was open, it still does
+  abbrev pub KeepsSure : Type 0
+  KeepsSure = StaysSure old → StaysSure new
+
+  -- only a fault of the disk shuts it, and no fault is forgotten
+  abbrev pub ShutByFaults : Type 0
+  ShutByFaults = Survives old new (λ db. Unit {0})

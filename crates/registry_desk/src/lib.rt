@@ -11,6 +11,7 @@ mod answer;
 mod cache;
 mod facts;
 mod grants;
+pub mod laws;
 mod maintainers;
 mod open;
 mod organisations;
@@ -23,5 +24,5 @@ mod same;
 mod teams;
 mod withdrawals;
 
-pub use crate::open::Left;
+pub use crate::open::Unopened;
 pub use crate::registry::Registry;

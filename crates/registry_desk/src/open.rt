@@ -1,17 +1,18 @@
 //! A registry in a file.
 
-ghost use Rattle.std.specs.Prelude.{◌≡◌, codes, false, true, IfErr, IfOk, IfSome, IsTrue, OnOk};
-ghost use Rattle.sqlite.specs.Files.{file_state, image_of};
+ghost use Rattle.std.specs.Prelude.{◌≡◌, codes, false, true, IfErr, IfOk, IfSome, IsErrAnd, IsTrue, OnOk};
+ghost use Rattle.sqlite.specs.Files.{Finds, IsBlankAs, IsCleanLeft, IsOpened, LeavesFiles, file_state, image_of};
 ghost use Rattle.sqlite.specs.Held.{state};
 ghost use Rattle.sqlite.specs.State.{HasCleanDisk, Survives};
 ghost use Rattle.sqlite_std_file.specs.File.{IsFresh, file_is_usable};
+ghost use Rattle.sqlite_store.specs.FileStore.{view};
 ghost use Rattle.sqlite_trees.specs.Tree.{Trees};
 ghost use Rattle.sqlite_wal.specs.Files.{image_at};
 ghost use Rattle.registry_rows.specs.Ready.{Ready};
 ghost use Rattle.registry_rows.specs.Tables.{no_tables};
 ghost use Rattle.registry_tables.specs.Effects.{stored};
 ghost use Rattle.registry_tables.specs.Schema as tables;
-ghost use Rattle.registry_desk.specs.Opened.{HoldsEach, HoldsFound, IsFreshIfEmpty, IsJustOpened, IsLeftOf, IsMadeOf, IsNumbered, LeavesAtMost};
+ghost use Rattle.registry_desk.specs.Opened.{HoldsEach, HoldsFound, IsFreshIfEmpty, IsJustOpened, IsLeftOf, IsMadeOf, IsNumbered, IsUri, LeavesAtMost};
 ghost use Rattle.registry_desk.specs.Promises.{IsSure};
 ghost use Rattle.registry_desk.specs.Resting.{Rests};
 
@@ -39,7 +40,7 @@ const SCHEMA: u32 = 3;
 const CACHE_PAGES: usize = 1_000;
 
 /// What is left of the files after an open that failed.
-pub enum Left<D: Disk> {
+pub enum Unopened<D: Disk> {
     /// They hold no database that can be opened.
     Files(Leftover<D>),
     /// They hold a database, and it is no registry or a fault came.
@@ -47,11 +48,11 @@ pub enum Left<D: Disk> {
 }
 
 // Written out, so that to drop it is one call and not one for each part.
-impl<D: Disk + Drop> Drop for Left<D> {
+impl<D: Disk + Drop> Drop for Unopened<D> {
     fn drop(self) {
         match self {
-            Left::Files(_files) => {}
-            Left::Database(_conn) => {}
+            Unopened::Files(_files) => {}
+            Unopened::Database(_conn) => {}
         }
     }
 }
@@ -64,11 +65,15 @@ impl Registry<FileStore<File>> {
     ///
     /// What is said here holds as long as the disk returns what was written to it, and nobody
     /// else writes the file. A torn write is supposed to leave each byte old or new:
-    /// [`open_from`](Registry::open_from) may suppose less.
+    /// [`open_from`](Registry::open_from) may suppose less. Its start `Unknown` counts the file as
+    /// empty, so of any other file these clauses say nothing by themselves: those of `open_from`
+    /// say it, for every start.
     pub fn open(rt: &HostRuntime, path: &str) -> Result<Registry<FileStore<File>>, Fault>
         ensures served { IfOk result (λ r. HasCleanDisk (file_state r)
             → IsTrue (file_state r).is_open) }
         ensures stays { IfOk result (λ r. HasCleanDisk (file_state r) → IsSure (file_state r)) }
+        ensures memory { path.now ≡ codes ":memory:" → result ≡ Err Fault.Database }
+        ensures uri { IsUri path.now → result ≡ Err Fault.Database }
     {
         Registry::open_from(rt, path, Unknown)
     }
@@ -87,6 +92,8 @@ impl<S: Start> Registry<FileStore<FileFrom<S>>> {
         ensures served { IfOk result (λ r. HasCleanDisk (file_state r)
             → IsTrue (file_state r).is_open) }
         ensures stays { IfOk result (λ r. HasCleanDisk (file_state r) → IsSure (file_state r)) }
+        ensures memory { path.now ≡ codes ":memory:" → result ≡ Err Fault.Database }
+        ensures uri { IsUri path.now → result ≡ Err Fault.Database }
     {
         match opened_from(rt, path, start) {
             Ok(registry) => Ok(registry),
@@ -102,7 +109,7 @@ impl<D: Disk + Drop> Registry<FileStore<D>> {
         alloc: Global,
         files: Files<D>,
         options: Options,
-    ) -> Result<Registry<FileStore<D>>, (Fault, Left<D>)>
+    ) -> Result<Registry<FileStore<D>>, (Fault, Unopened<D>)>
         requires log { IsTrue (D.Disk.is_usable files.log) }
         requires db { IsTrue (D.Disk.is_usable files.db) }
         ensures found { IfOk result (λ r. HoldsFound (image_of D.Disk files) (file_state r)) }
@@ -111,15 +118,36 @@ impl<D: Disk + Drop> Registry<FileStore<D>> {
         ensures served { IfOk result (λ r. HasCleanDisk (file_state r)
             → IsTrue (file_state r).is_open) }
         ensures stays { IfOk result (λ r. HasCleanDisk (file_state r) → IsSure (file_state r)) }
-        ensures left { IfErr result (λ e. LeavesAtMost (image_of D.Disk files) e.1) }
+        ensures left { IfErr result (λ e. LeavesAtMost files e.1) }
     {
-        match Connection::open_files_with(alloc, files, options, true) {
+        match connected(alloc, files, options) {
             Ok(conn) => match held(alloc, conn) {
                 Ok(registry) => Ok(registry),
-                Err((fault, conn)) => Err((fault, Left::Database(conn))),
+                Err((fault, conn)) => Err((fault, Unopened::Database(conn))),
             },
-            Err((error, left)) => Err((fault_of(error), Left::Files(left))),
+            Err((fault, left)) => Err((fault, Unopened::Files(left))),
         }
+    }
+}
+
+// Opens the database in the files. Each page of a new one ends in a sum.
+fn connected<D: Disk + Drop>(
+    alloc: Global,
+    files: Files<D>,
+    options: Options,
+) -> Result<Connection<FileStore<D>>, (Fault, Leftover<D>)>
+    requires log { IsTrue (D.Disk.is_usable files.log) }
+    requires db { IsTrue (D.Disk.is_usable files.db) }
+    ensures idle { IfOk result (λ conn. conn.in_transaction ≡ false) }
+    ensures opened { IfOk result (λ conn. HasCleanDisk (file_state conn) → IsOpened conn) }
+    ensures found { IfOk result (λ conn. HasCleanDisk (file_state conn) → Finds files conn) }
+    ensures sums { IfOk result (λ conn. HasCleanDisk (file_state conn)
+        → IsBlankAs true (image_of D.Disk files) → (view conn.store).has_sums ≡ true) }
+    ensures left { IfErr result (λ e. IsCleanLeft e.1 → LeavesFiles files e.1) }
+{
+    match Connection::open_files_with(alloc, files, options, true) {
+        Ok(conn) => Ok(conn),
+        Err((error, left)) => Err((fault_of(error), left)),
     }
 }
 
@@ -129,14 +157,18 @@ fn opened_from<S: Start>(
     rt: &HostRuntime,
     path: &str,
     start: S,
-) -> Result<Registry<FileStore<FileFrom<S>>>, (Fault, Option<Left<FileFrom<S>>>)>
+) -> Result<Registry<FileStore<FileFrom<S>>>, (Fault, Option<Unopened<FileFrom<S>>>)>
     ensures found { IfOk result (λ r. HoldsFound (image_at S.Start) (file_state r)) }
     ensures each { IfOk result (λ r. HoldsEach (image_at S.Start) (file_state r)) }
     ensures empty { IfOk result (λ r. IsFreshIfEmpty (image_at S.Start) (file_state r)) }
     ensures served { IfOk result (λ r. HasCleanDisk (file_state r)
         → IsTrue (file_state r).is_open) }
     ensures stays { IfOk result (λ r. HasCleanDisk (file_state r) → IsSure (file_state r)) }
-    ensures left { IfErr result (λ e. IfSome e.1 (LeavesAtMost (image_at S.Start))) }
+    ensures memory { path.now ≡ codes ":memory:"
+        → IsErrAnd result (λ e. e.0 ≡ Fault.Database) }
+    ensures uri { IsUri path.now → IsErrAnd result (λ e. e.0 ≡ Fault.Database) }
+    ensures left { IfErr result (λ e. IfSome e.1 (λ left. (files : _)
+        × IsFresh true files.log × IsFresh false files.db × LeavesAtMost files left)) }
 {
     let options = match options(rt) {
         Ok(options) => options,
@@ -154,7 +186,8 @@ fn opened_from<S: Start>(
 
 // How a registry's file is read and written.
 fn options(rt: &HostRuntime) -> Result<Options, Fault>
-    ensures { IfOk result (λ options. options.cache_pages ≡ CACHE_PAGES) }
+    ensures ok { IfOk result (λ options. options.cache_pages ≡ CACHE_PAGES) }
+    ensures err { IfErr result (λ fault. fault ≡ Fault.Database) }
 {
     let random = RandomState::new(rt).map_err(|_| Fault::Database)?;
     Ok(Options {
@@ -166,7 +199,9 @@ fn options(rt: &HostRuntime) -> Result<Options, Fault>
 // The files at the path, which are made if they are missing. To SQLite ":memory:" is no file and
 // what begins with "file:" is a URI, so no file of such a name is made.
 fn files_at<S: Start>(rt: &HostRuntime, path: &str, start: S) -> Result<Files<FileFrom<S>>, Fault>
-    ensures memory { path.now ≡ codes ":memory:" → result ≡ Err Fault.Database }
+    ensures memory { path.now ≡ codes ":memory:"
+        → IsErrAnd result (λ fault. fault ≡ Fault.Database) }
+    ensures uri { IsUri path.now → IsErrAnd result (λ fault. fault ≡ Fault.Database) }
     ensures log { IfOk result (λ files. IsTrue (file_is_usable S.Start files.log)) }
     ensures db { IfOk result (λ files. IsTrue (file_is_usable S.Start files.db)) }
     ensures fresh { IfOk result (λ files. IsFresh true files.log × IsFresh false files.db) }

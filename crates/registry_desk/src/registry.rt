@@ -4,15 +4,16 @@ ghost use Rattle.std.specs.Prelude.{◌≡◌, false, IfErr, IfOk, IsTrue, OnErr
 ghost use Rattle.sqlite.specs.Held.{state};
 ghost use Rattle.sqlite.specs.State.{HasCleanDisk, Survives};
 ghost use Rattle.sqlite.specs.Steps.{IsEmpty, over_memory};
-ghost use Rattle.registry_rules.specs.Kept.{IsSound};
+ghost use Rattle.registry_rules.specs.Kept.{IsKept, IsSound};
+ghost use Rattle.registry_rules.specs.State.{nothing};
 ghost use Rattle.registry_tables.specs.Archives.{HoldsArchives};
 ghost use Rattle.registry_tables.specs.Contents.{contents};
 ghost use Rattle.registry_tables.specs.Effects.{registry_in, stored};
 ghost use Rattle.registry_tables.specs.Fresh.{fresh};
 ghost use Rattle.registry_tables.specs.Needs.{HoldsNeeds};
 ghost use Rattle.registry_history.specs.Headline.{Headline};
-ghost use Rattle.registry_desk.specs.Promises.{Answered, GrowsHistory, HasHeadline, Keeps, KeepsForm, KeepsSound, Moves, RanTo, Served, SurvivesCrash, RunSurvivesCrash, Stepped, Stored, SurvivesOne, SurvivesRun, WasOpen, WritesHistory};
-ghost use Rattle.registry_desk.specs.Resting.{Rests};
+ghost use Rattle.registry_desk.specs.Promises.{Answered, GrowsHistory, HasHeadline, Keeps, KeepsForm, KeepsSound, KeepsSure, Moves, RanTo, Served, ServedRun, ShutByFaults, StaysSure, Stepped, Stored, SurvivesOne, SurvivesRun, WasOpen, WritesHistory};
+ghost use Rattle.registry_desk.specs.Resting.{Rests, end_stored};
 ghost use Rattle.registry_desk.specs.Caches.{HasPackuments};
 
 use crate::answer::answered_inside;
@@ -66,9 +67,11 @@ impl Registry<MemStore> {
     /// A new registry in memory, or a fault. Of a new one nothing was asked yet.
     pub fn in_memory(alloc: Global) -> Result<Registry<MemStore>, Fault>
         ensures fresh { IfOk result (λ r. stored (state over_memory r) ≡ fresh) }
+        ensures empty { IfOk result (λ r. registry_in (state over_memory r) ≡ nothing) }
         ensures needs { IfOk result (λ r. HoldsNeeds (stored (state over_memory r))) }
         ensures archives { IfOk result (λ r. HoldsArchives (stored (state over_memory r))) }
         ensures sound { IfOk result (λ r. IsSound (registry_in (state over_memory r)).access) }
+        ensures form { IfOk result (λ r. IsKept (registry_in (state over_memory r))) }
         ensures served { IfOk result (λ r. IsTrue (state over_memory r).is_open) }
     {
         let Ok(mut conn) = Connection::open_in_memory(alloc) else {
@@ -80,14 +83,20 @@ impl Registry<MemStore> {
     }
 
     /// Answers requests on a new registry in memory, in their order, and gives the registry that
-    /// they leave with the outcomes. A fault comes where no registry could be made, or no room
-    /// for the outcomes was left: then nothing was run.
+    /// they leave with the outcomes: all that a further request supposes of it is so. A fault comes
+    /// where no registry could be made, or no room for the outcomes was left: then nothing was run.
     pub fn run_in_memory(
         alloc: Global,
         requests: &[Request],
     ) -> Result<(Registry<MemStore>, Vec<Result<Reply, Fault>>), Fault>
         ensures headline { IfOk result (λ ran.
             Headline requests.now ran.1.items (registry_in (state over_memory ran.0))) }
+        ensures stored { IfOk result (λ ran.
+            stored (state over_memory ran.0) ≡ end_stored requests.now ran.1.items fresh) }
+        ensures needs { IfOk result (λ ran. HoldsNeeds (stored (state over_memory ran.0))) }
+        ensures archives { IfOk result (λ ran. HoldsArchives (stored (state over_memory ran.0))) }
+        ensures form { IfOk result (λ ran. IsKept (registry_in (state over_memory ran.0))) }
+        ensures served { IfOk result (λ ran. IsTrue (state over_memory ran.0).is_open) }
     {
         let mut registry = Registry::in_memory(alloc)?;
         let outcomes = registry.run(alloc, requests)?;
@@ -101,8 +110,9 @@ impl<S: Alter> Registry<S> {
     ///
     /// What is said here holds as long as the disk returns what was written to it, which memory
     /// always does; and of a registry where references hold, and the needs that are stored are
-    /// those of live versions, as in a new one: every request keeps that. A crash leaves what it
-    /// could have left before, or what the request makes; after a reply that alone.
+    /// those of live versions, as in a new one: every request keeps that. A crash leaves what is
+    /// stored, as long as the registry is open, as it is after a reply. Where a fault of the disk
+    /// has shut it, a crash leaves what it could have left before, or what the request makes.
     pub fn apply(&mut self, alloc: Global, request: &Request) -> Result<Reply, Fault>
         ensures answer { Answered (state S.Store self.old) (state S.Store self.new)
             request.now result }
@@ -120,7 +130,7 @@ impl<S: Alter> Registry<S> {
         ensures archives { Keeps (state S.Store self.old) (state S.Store self.new) HoldsArchives }
         ensures survives { SurvivesOne (state S.Store self.old) (state S.Store self.new)
             request.now }
-        ensures stays { SurvivesCrash (state S.Store self.new) result }
+        ensures stays { StaysSure (state S.Store self.new) }
     {
         requests_are_in_form(request);
         answered(alloc, &mut self.conn, &mut self.cache, request)
@@ -129,8 +139,10 @@ impl<S: Alter> Registry<S> {
     /// Answers requests in their order, as [`apply`](Registry::apply) does. Room for all outcomes
     /// is taken first: where that is refused, the answer is `Memory` and nothing was run.
     ///
-    /// A crash leaves what it could have left before, or what one of the requests makes of what
-    /// the earlier ones left; where the last outcome is a reply, what is left then alone.
+    /// A crash leaves what is stored, as long as the registry is open. Where a fault of the disk
+    /// has shut it, no reply is lost: a crash leaves what was stored at the last one, or before the
+    /// first request what it could have left, or what a request makes that was answered by a fault
+    /// since.
     pub fn run(
         &mut self,
         alloc: Global,
@@ -144,14 +156,18 @@ impl<S: Alter> Registry<S> {
             (state S.Store self.new) requests.now outcomes.items) }
         ensures stored { IfOk result (λ outcomes. Stored (state S.Store self.old)
             (state S.Store self.new) requests.now outcomes.items) }
+        ensures served { IfOk result (λ outcomes. ServedRun (state S.Store self.old)
+            (state S.Store self.new) outcomes.items) }
+        ensures opened { WasOpen (state S.Store self.old) (state S.Store self.new) }
         ensures sound { KeepsSound (state S.Store self.old) (state S.Store self.new) }
         ensures form { KeepsForm (state S.Store self.old) (state S.Store self.new) }
         ensures needs { Keeps (state S.Store self.old) (state S.Store self.new) HoldsNeeds }
         ensures archives { Keeps (state S.Store self.old) (state S.Store self.new) HoldsArchives }
         ensures survives { IfOk result (λ outcomes. SurvivesRun (state S.Store self.old)
             (state S.Store self.new) requests.now outcomes.items) }
-        ensures stays { IfOk result (λ outcomes.
-            RunSurvivesCrash (state S.Store self.new) outcomes.items) }
+        ensures stays { KeepsSure (state S.Store self.old) (state S.Store self.new) }
+        ensures closes { OnOk result
+            (ShutByFaults (state S.Store self.old) (state S.Store self.new)) }
         ensures not_run { OnErr result (self.new ≡ self.old) }
         ensures memory { IfErr result (λ fault. fault ≡ Fault.Memory) }
     {
@@ -212,7 +228,6 @@ fn answered<S: Alter>(
     ensures opened { WasOpen (state S.Store conn.old) (state S.Store conn.new) }
     ensures step { Stepped (state S.Store conn.old) (state S.Store conn.new) request.now result }
     ensures survives { SurvivesOne (state S.Store conn.old) (state S.Store conn.new) request.now }
-    ensures stays { SurvivesCrash (state S.Store conn.new) result }
 {
     let mut tx = conn.transaction();
     let reply = answered_inside(alloc, &mut tx, cache, request)?;

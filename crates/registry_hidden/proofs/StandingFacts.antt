@@ -33,7 +33,7 @@ use Rattle.registry_rules.specs.declared.request.Action.TheVariants.{UserAdd, To
 use Rattle.registry_rules.specs.declared.request.Credential.{Credential}
 use Rattle.registry_rules.specs.declared.request.Credential.TheVariants as credential
 use Rattle.registry_rules.proofs.AllowedFacts.{policy_passed}
-use Rattle.registry_rules.proofs.LawFacts.{packages_stand_apart}
+use Rattle.registry_rules.proofs.LawFacts.{commands_leave_other_packages}
 use Rattle.registry_history.proofs.LeftFacts.{left_by, left_is, joined}
 use Rattle.registry_hidden.specs.Concerns.{concerns, is_member_publish}
 use Rattle.registry_hidden.specs.Without.{state_without}
@@ -250,7 +250,7 @@ standing_kept S now who what p o shown sound scoped unmanaging known nothing str
     other = uncalled S now who what p (λ here. concerned_refused S now who p o sound scoped unmanaging what here nothing stranger) may (concerns what p) refl
 
     apart : IsApart S (step_by S now who what) what p
-    apart = packages_stand_apart S now who what p (unnamed what p other)
+    apart = commands_leave_other_packages S now who what p (unnamed what p other)
 
     by_caller : (c : Caller) → is_owner_or_admin (role_of S.access c o) ≡ false → caller_of S shown ≡ Some c → level_in S.access c p ≡ Nothing → refusal_by S now c what ≡ None
         → IsApart S (step_by S now c what) what p → KeepsStanding S (step_by S now c what) p o c shown

@@ -15,7 +15,7 @@ pub fn packages_are_left_apart()
 
 /// Of a legal history the entries that don't name a package are a legal history, too, and what they
 /// leave is the registry without the package.
-pub fn untouched_packages_are_absent()
+pub fn histories_without_a_package_leave_the_rest()
     ensures { UntouchedLeaveTheRest }
 {}
 

@@ -20,7 +20,7 @@ use Rattle.registry_rules.specs.declared.request.Action.{Action}
 use Rattle.registry_rules.specs.declared.request.Action.TheVariants as command
 use Rattle.registry_rules.specs.declared.request.Action.TheVariants.{UserAdd, TokenAdd, OrgCreate, OrgSet, OrgRemove, TeamCreate, TeamDestroy, TeamAdd, TeamRemove, Revoke, OwnerAdd, OwnerRemove, Publish}
 use Rattle.registry_rules.proofs.PublishedFacts.{granted_first, grants_after, maintained_first, maintainers_after}
-use Rattle.registry_history.specs.AccessReadings.{HasAccess, adds_user, user_added, gives_token, token_user, creates, created, gives_role, removes, role, creates_team, destroys, team_stands, joins, leaves, in_team, is_of, gives_grant, ends_grant, last_grant, is_he, makes_maintainer, ends_maintainer, maintains}
+use Rattle.registry_history.specs.AccessReadings.{HasAccess, adds_user, user_added, gives_token, token_user, creates, created, gives_role, removes, role, creates_team, destroys, team_exists, joins, leaves, in_team, is_of, gives_grant, ends_grant, last_grant, is_caller, makes_maintainer, ends_maintainer, maintains}
 use Rattle.registry_history.specs.History.{Entry, Legal, after}
 use Rattle.registry_history.specs.Readings.{or_before, unless_ended, was_published}
 use Rattle.registry_history.proofs.LeftFacts.{joined, left_by, left_is}
@@ -118,7 +118,7 @@ makes_none true true true true stood = refl
 makes_none true true true false stood = absurd (true≢false (sym (stood refl)))
 
 maintained_by_first : (m : PairMap (Unit {0})) (who : Caller) (q p u : Text) (scope : Option Text) (before said : Bool) → (is q p ≡ true → before ≡ false) → is_some (at m (p, u)) ≡ said
-    → is_some (at (maintained_first who q scope m) (p, u)) ≡ (is_none scope && (is q p && is_he who u) && not before || said)
+    → is_some (at (maintained_first who q scope m) (p, u)) ≡ (is_none scope && (is q p && is_caller who u) && not before || said)
 maintained_by_first m who q p u (Some s) before said fresh same = same
 maintained_by_first m Operator q p u None before said fresh same = same ∙ sym (no_user (is q p) before said)
 maintained_by_first m Anonymous q p u None before said fresh same = same ∙ sym (no_user (is q p) before said)
@@ -126,9 +126,9 @@ maintained_by_first m (User v) q p u None before said fresh same =
     ap is_some (at-put pair_key m (q, v) tt (p, u)) ∙ put_there (is q p && is v u) tt _ _ same ∙ ap (λ b. b || said) (sym (makes_first (is q p) (is v u) before fresh))
 
 maintained_published : (m : PairMap (Unit {0})) (who : Caller) (q p u : Text) (old : Option Status) (before said : Bool) → (is q p ≡ true → is_some old ≡ before) → is_some (at m (p, u)) ≡ said
-    → is_some (at (maintainers_after who q old m) (p, u)) ≡ (is_none (scope_of q) && (is q p && is_he who u) && not before || said)
+    → is_some (at (maintainers_after who q old m) (p, u)) ≡ (is_none (scope_of q) && (is q p && is_caller who u) && not before || said)
 maintained_published m who q p u (Some s) before said stood same =
-    same ∙ ap (λ b. b || said) (sym (makes_none (is_none (scope_of q)) (is q p) (is_he who u) before (λ e. sym (stood e))))
+    same ∙ ap (λ b. b || said) (sym (makes_none (is_none (scope_of q)) (is q p) (is_caller who u) before (λ e. sym (stood e))))
 maintained_published m who q p u None before said stood same = maintained_by_first m who q p u (scope_of q) before said (λ e. sym (stood e)) same
 
 -- ---- each map, an entry later
@@ -152,7 +152,7 @@ module _ (S : State) (now : ℕ) (who : Caller) (h : List Entry) (has : HasAcces
   roles_step (OrgRemove q v) o u = at-erase pair_key S.access.roles (q, v) (o, u) ∙ removed_after (is q o && is v u) _ _ (has.roles o u)
   roles_step what o u = has.roles o u
 
-  teams_step : (what : Action) (o t : Text) → is_some (at (left_by S now who what).access.teams (o, t)) ≡ (creates_team what o t || (not (destroys what o t) && team_stands h o t))
+  teams_step : (what : Action) (o t : Text) → is_some (at (left_by S now who what).access.teams (o, t)) ≡ (creates_team what o t || (not (destroys what o t) && team_exists h o t))
   teams_step (OrgCreate q v) o t = ap is_some (at-put pair_key S.access.teams (q, developers) tt (o, t)) ∙ put_there (is q o && is developers t) tt _ _ (has.teams o t)
   teams_step (TeamCreate q s) o t = ap is_some (at-put pair_key S.access.teams (q, s) tt (o, t)) ∙ put_there (is q o && is s t) tt _ _ (has.teams o t)
   teams_step (TeamDestroy q s) o t = ap is_some (at-erase pair_key S.access.teams (q, s) (o, t)) ∙ erased_after (is q o && is s t) _ _ (has.teams o t)

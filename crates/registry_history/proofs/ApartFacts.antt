@@ -15,7 +15,7 @@ use Rattle.registry_rules.specs.Effects.{effects_for, step}
 use Rattle.registry_rules.specs.Operations.{with_member, with_role, with_grant, regranted, with_status, restated, with_tag, moved}
 use Rattle.registry_rules.specs.State.{State, Release}
 use Rattle.registry_rules.specs.declared.request.Action.{Action}
-use Rattle.registry_rules.proofs.LawFacts.{packages_stand_apart}
+use Rattle.registry_rules.proofs.LawFacts.{commands_leave_other_packages}
 use Rattle.registry_history.specs.Answers.{dist_tag, version_row, packument_in}
 use Rattle.registry_history.specs.Apart.{ChangesOfOthers, StepsOfOthers, are_about, is_about}
 
@@ -86,7 +86,7 @@ changes_of_others S (change ∷ changes) p e =
 step_same : (S : State) (now : ℕ) (who : Option Caller) (what : Action) (p : Text) → names_package what p ≡ false → IsSame S (all_made S (effects_for S now who what)) p
 step_same S now None what p e = unchanged S p
 step_same S now (Some who) what p e =
-    let apart = packages_stand_apart S now who what p e in
+    let apart = commands_leave_other_packages S now who what p e in
     record { live = same_part text_key _ S.live p apart.live; tags = same_part text_key _ S.tags p apart.tags }
 
 pub steps_of_others : StepsOfOthers

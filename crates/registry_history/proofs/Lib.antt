@@ -1,6 +1,7 @@
 mod AccessFacts
 pub mod ApartFacts
 pub mod FreedFacts
+pub mod LastingFacts
 mod LegalFacts
 pub mod LeftFacts
 pub mod PublishFacts

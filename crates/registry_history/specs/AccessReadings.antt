@@ -1,6 +1,23 @@
 -- What a history says of who is there, in what, and of what they may do, by the last entry that
 -- speaks of it, and a state of which it says so. No reading uses a definition of what a step makes:
 -- each is a recursion over the entries, and an entry that speaks of something else says nothing.
+--
+-- | Reading       | Given by                                       | Ended by                    |
+-- |---------------|------------------------------------------------|-----------------------------|
+-- | `user_added`  | a new user                                     | nothing                     |
+-- | `token_user`  | a new token                                    | nothing                     |
+-- | `created`     | a new organisation                             | nothing                     |
+-- | `role`        | a new organisation to its first owner, a role  | the user's removal from the |
+-- |               | that is given                                  | organisation                |
+-- | `team_exists` | a new team; a new organisation, for            | its destruction             |
+-- |               | `developers`                                   |                             |
+-- | `in_team`     | an addition to the team; a new organisation    | a removal from the team or  |
+-- |               | and a first role in it, for `developers`       | from the organisation, the  |
+-- |               |                                                | team's destruction          |
+-- | `last_grant`  | a grant; the first publish of a scope's        | a revocation, the team's    |
+-- |               | package, for `developers`                      | destruction                 |
+-- | `maintains`   | an addition of the maintainer; the first       | the maintainer's removal    |
+-- |               | publish of a package without a scope           |                             |
 use Rattle.std.specs.Prelude.{◌≡◌, Bool, false, not, ◌&&◌, ◌||◌, List, [], ◌∷◌, is_some, is_none, Option, Some, None, if◌then◌else◌}
 use Rattle.registry_names.specs.Texts.{Text, is}
 use Rattle.registry_names.specs.Maps.{at}
@@ -83,9 +100,9 @@ destroys (TeamDestroy q s) o t = is q o && is s t
 destroys _ o t = false
 
 -- a team exists that was created, unless it was destroyed since
-abbrev pub team_stands : List Entry → Text → Text → Bool
-team_stands [] o t = false
-team_stands (e ∷ h) o t = creates_team e.what o t || (not (destroys e.what o t) && team_stands h o t)
+abbrev pub team_exists : List Entry → Text → Text → Bool
+team_exists [] o t = false
+team_exists (e ∷ h) o t = creates_team e.what o t || (not (destroys e.what o t) && team_exists h o t)
 
 -- Whether a command brings a user into a team: the owner with whom an organisation is created, and
 -- who is given a role in it and had none before, come into the first one
@@ -137,15 +154,15 @@ last_grant (e ∷ h) o t p = or_before (gives_grant e.what (was_published h p) o
 -- ---- maintainers
 
 -- whether the caller is this user
-abbrev pub is_he : Caller → Text → Bool
-is_he (User v) u = is v u
-is_he _ u = false
+abbrev pub is_caller : Caller → Text → Bool
+is_caller (User v) u = is v u
+is_caller _ u = false
 
 -- Whether a command of this caller makes a user a maintainer of a package, which was published
 -- before or wasn't: the first publish of a package without a scope makes its publisher one
 abbrev pub makes_maintainer : Caller → Action → Bool → Text → Text → Bool
 makes_maintainer who (OwnerAdd q v) before p u = is q p && is v u
-makes_maintainer who (Publish f) before p u = is_none (scope_of f.name) && (is f.name p && is_he who u) && not before
+makes_maintainer who (Publish f) before p u = is_none (scope_of f.name) && (is f.name p && is_caller who u) && not before
 makes_maintainer who _ before p u = false
 
 -- whether it ends that
@@ -167,7 +184,7 @@ pub record HasAccess (h : List Entry) (A : Access) : Type 0 where
   pub tokens : (digest : Text) → at A.tokens digest ≡ token_user h digest
   pub organisations : (o : Text) → is_some (at A.organisations o) ≡ created h o
   pub roles : (o u : Text) → at A.roles (o, u) ≡ role h o u
-  pub teams : (o t : Text) → is_some (at A.teams (o, t)) ≡ team_stands h o t
+  pub teams : (o t : Text) → is_some (at A.teams (o, t)) ≡ team_exists h o t
   pub team_members : (o t u : Text) → is_some (at A.team_members (o, (t, u))) ≡ in_team h o t u
   pub grants : (o t p : Text) → at A.grants (o, (t, p)) ≡ last_grant h o t p
   pub maintainers : (p u : Text) → is_some (at A.maintainers (p, u)) ≡ maintains h p u

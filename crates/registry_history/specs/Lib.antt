@@ -3,6 +3,7 @@ pub mod Answers
 pub mod Apart
 pub mod Headline
 pub mod History
+pub mod Lasting
 pub mod Readings
 pub mod Runs
 pub mod Says

@@ -100,12 +100,15 @@ one-run old new ts runs = record {
   history = λ needs clean on h legal is.
       let sound : HoldsSound old = record { refers = subst (λ (S : State). IsSound S.access) (sym is) (history_says h legal).sound; needs = needs } in
       run_says h _ runs.requests runs.outcomes _ _ (runs.run.ran sound clean) on legal is;
+  served = runs.run.served;
+  opened = runs.run.opened;
   sound = runs.run.sound;
   form = runs.run.form;
   needs = runs.run.needs;
   archives = runs.run.archives;
   survives = runs.run.survives;
   stays = runs.run.stays;
+  closes = runs.run.closes;
 }
 
 pub turns-run : {D : Type 0} (show : D → Shown) → TurnsRun show

@@ -6,7 +6,7 @@ use Rattle.registry_rules.specs.declared.request.Request.{Request}
 use Rattle.registry_tables.specs.Archives.{HoldsArchives}
 use Rattle.registry_tables.specs.Needs.{HoldsNeeds}
 use Rattle.registry_history.specs.Runs.{Outcome}
-use Rattle.registry_desk.specs.Promises.{Answered, GrowsHistory, HasHeadline, Keeps, KeepsForm, KeepsSound, Moves, RanTo, Served, SurvivesCrash, RunSurvivesCrash, Stepped, Stored, SurvivesOne, SurvivesRun, WasOpen, WritesHistory}
+use Rattle.registry_desk.specs.Promises.{Answered, GrowsHistory, HasHeadline, Keeps, KeepsForm, KeepsSound, KeepsSure, Moves, RanTo, Served, ServedRun, ShutByFaults, StaysSure, Stepped, Stored, SurvivesOne, SurvivesRun, WasOpen, WritesHistory}
 use Rattle.registry_service.specs.Courses.{Follow}
 use Rattle.registry_service.specs.Histories.{LogEntry, FollowAll}
 use Rattle.registry_service.specs.Requests.{reads_request}
@@ -25,7 +25,7 @@ pub record Applies (old new : Shown) (r : Request) (o : Outcome) : Type 0 where
   pub needs : Keeps old new HoldsNeeds
   pub archives : Keeps old new HoldsArchives
   pub survives : SurvivesOne old new r
-  pub stays : SurvivesCrash new o
+  pub stays : StaysSure new
 
 -- ---- the requests of turns
 
@@ -60,15 +60,18 @@ pub record IsOneRun (old new : Shown) (ts : List Turn) : Type 0 where
   pub stored : Stored old new requests outcomes
   pub headline : HasHeadline old new requests outcomes
   pub history : WritesHistory old new requests outcomes
+  pub served : ServedRun old new outcomes
+  pub opened : WasOpen old new
   pub sound : KeepsSound old new
   pub form : KeepsForm old new
   pub needs : Keeps old new HoldsNeeds
   pub archives : Keeps old new HoldsArchives
   pub survives : SurvivesRun old new requests outcomes
-  pub stays : RunSurvivesCrash new outcomes
+  pub stays : KeepsSure old new
+  pub closes : ShutByFaults old new
 
 module _ {D : Type 0} (show : D → Shown) where
-  -- whby a service answers where it shows a registry
+  -- what a service answers where it shows a registry
   abbrev pub applied : Answering D
   applied M r o N = Applies (show M) (show N) r o
 

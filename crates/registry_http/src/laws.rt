@@ -10,8 +10,8 @@ use sqlite::Alter;
 /// The turns of a connection, or of many that take turns, are one run of the registry: of the
 /// requests in form among them, in their order, with the outcomes that were answered. So what is
 /// said of a run holds of them: each outcome is the machine's answer on what the earlier ones left,
-/// a crash leaves what it could have left before or what one of them settles, and of a registry of
-/// which nothing was asked before the headline holds.
+/// no reply is lost in a crash, and of a registry of which nothing was asked before the headline
+/// holds.
 pub fn turns_are_one_run<S: Alter>()
     ensures connection { TurnsRun (state S.Store) }
     ensures all { LogRuns (state S.Store) }

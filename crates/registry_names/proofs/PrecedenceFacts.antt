@@ -1,52 +1,21 @@
 -- Precedence is a total order of texts, and SemVer's own where both texts are versions.
-use Rattle.std.proofs.Common.{◌≡◌, Some, None, Ok, Err, Result, [], refl, sym, ap, ◌∙◌, arith, Ordering, Less, Equal, Greater, nat_cmp}
+use Rattle.std.proofs.Common.{◌≡◌, Some, None, Ok, Err, Result, [], refl, sym, ap, ◌∙◌, arith, Ordering, Less, Equal, Greater}
 use Rattle.std.specs.Option.{option_cmp}
 use Rattle.std.specs.Ordering.{ordering_then}
-use Rattle.std.specs.Cmp.{IsTotalOrder, nat_cmp_total, on_total, then_total, tied_itself}
+use Rattle.std.specs.Cmp.{IsTotalOrder, on_total, then_total, tied_itself}
 use Rattle.std.specs.Cmp.Lexicographic.{options_total}
-use Rattle.std.specs.FinMap.{nat_cmp-IsAntisymmetric}
 use Rattle.semver.specs.Grammar.{IsValid}
-use Rattle.semver.specs.OrderLaws.{pre_total, pre-anti}
 use Rattle.semver.specs.Parse.{Parts, version_parts}
 use Rattle.semver.specs.declared.error.Error.{Error}
 use Rattle.semver.proofs.Grammar.{version_parts-complete, version_parts-sound}
 use Rattle.registry_names.specs.Texts.{Text, text_cmp}
 use Rattle.registry_names.specs.Versions.{VersionParts, IsVersionOf, precedence, text_of_version}
 use Rattle.registry_names.specs.Precedence.{IsSemVer, numbers_of, version_in, text_precedence}
+use Rattle.registry_names.specs.VersionOrderLaws.{second_tie}
+pub use Rattle.registry_names.specs.VersionOrderLaws.{precedence_total, precedence_exact}
 use Rattle.registry_names.proofs.TextFacts.{text_total, text_exact}
 
--- what two comparisons, one after the other, say of each
-first_tie : (o r : Ordering) → ordering_then o r ≡ Equal → o ≡ Equal
-first_tie Less r e = cc
-first_tie Equal r e = refl
-first_tie Greater r e = cc
-
-second_tie : (o r : Ordering) → ordering_then o r ≡ Equal → r ≡ Equal
-second_tie Less r e = cc
-second_tie Equal r e = e
-second_tie Greater r e = cc
-
-then_self : (o : Ordering) → ordering_then o Equal ≡ o
-then_self Less = refl
-then_self Equal = refl
-then_self Greater = refl
-
 -- ---- versions
-
-pub precedence_total : IsTotalOrder precedence
-precedence_total = then_total (on_total (λ (v : VersionParts). v.major) nat_cmp_total) (then_total (on_total (λ (v : VersionParts). v.minor) nat_cmp_total)
-    (then_total (on_total (λ (v : VersionParts). v.patch) nat_cmp_total) (on_total (λ (v : VersionParts). v.pre) pre_total)))
-
--- versions of one precedence are one
-pub precedence_exact : (x y : VersionParts) → precedence x y ≡ Equal → x ≡ y
-precedence_exact x y e =
-    let majors = nat_cmp-IsAntisymmetric x.major y.major (first_tie (nat_cmp x.major y.major) _ e) in
-    let after_major = second_tie (nat_cmp x.major y.major) _ e in
-    let minors = nat_cmp-IsAntisymmetric x.minor y.minor (first_tie (nat_cmp x.minor y.minor) _ after_major) in
-    let after_minor = second_tie (nat_cmp x.minor y.minor) _ after_major in
-    let patches = nat_cmp-IsAntisymmetric x.patch y.patch (first_tie (nat_cmp x.patch y.patch) _ after_minor) in
-    let pres = pre-anti x.pre y.pre (second_tie (nat_cmp x.patch y.patch) _ after_minor) in
-    λ i. record { major = majors i; minor = minors i; patch = patches i; pre = pres i }
 
 -- a version's text reads to its numbers and its prerelease
 pub version_reads : (t : Text) (v : VersionParts) → IsVersionOf t v → version_in t ≡ Some v

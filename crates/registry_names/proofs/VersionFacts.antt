@@ -40,3 +40,6 @@ kept t p h fits short =
     let f = and_left _ _ fits in
     let g = and_left _ _ f in
     (sym (rw e at s.0), short, leb-true _ _ (and_left _ _ g), leb-true _ _ (and_right _ _ g), leb-true _ _ (and_right _ _ f), s.1.3)
+
+pub no_build : (t : List ℕ) (p : Parts) → version_parts t ≡ Ok p → in_profile p ≡ true → p.4 ≡ []
+no_build t p h fits = none_left p.4 (and_right _ _ fits)

@@ -1,12 +1,13 @@
 -- What the words of this crate promise: the laws that the functions of `src/laws.rt` ensure.
-use Rattle.std.specs.Prelude.{◌≡◌, ◌↔◌, Bool, true, cond, List, [], ◌∷◌, ◌++◌, map, filter, is_some, Some, None, option_map}
+use Rattle.std.specs.Prelude.{◌≡◌, ◌≢◌, ◌↔◌, Bool, true, cond, List, [], ◌∷◌, ◌++◌, map, filter, is_some, Some, None, option_map}
 use Rattle.std.specs.declared.cmp.Ordering.{Ordering}
 use Rattle.std.specs.declared.cmp.Ordering.TheVariants.{Less, Equal}
 use Rattle.registry_names.specs.Texts.{Text, is}
 use Rattle.registry_names.specs.Keys.{IsKey, by_first}
 use Rattle.registry_names.specs.Maps.{MapBy, empty, at, put, erase, keep, entries, revise, rows, part, first_at, rises, among, keys}
 use Rattle.registry_names.specs.Versions.{VersionParts, IsVersionOf, precedence}
-use Rattle.registry_names.specs.Precedence.{IsSemVer, text_precedence}
+use Rattle.registry_names.specs.VersionOrder.{IsBelow, release_of, same_version}
+use Rattle.registry_names.specs.Precedence.{IsSemVer, text_precedence, version_in}
 use Rattle.registry_names.specs.Greatest.{IsGreatest, greatest}
 
 -- a law under every order and test that make keys of K
@@ -79,11 +80,33 @@ module _ (X : Type 0) {K : Type 0} (cmp : K → K → Ordering) (same : K → K 
   abbrev pub PartTold : Type 0
   PartTold = (m : MapBy (by_first cmp) X) (p : Text) (es : List (K × X)) → rises cmp es ≡ true → ((k : K) → first_at same es k ≡ at m (p, k)) → part cmp m p ≡ es
 
--- ---- precedence
+-- ---- versions
+
+-- precedence puts one version below another exactly where it is below
+abbrev pub VersionsBelow : Type 0
+VersionsBelow = (a b : VersionParts) → (precedence a b ≡ Less) ↔ IsBelow a b
+
+-- a version with a prerelease is below the release of its numbers
+abbrev pub ReleaseAbove : Type 0
+ReleaseAbove = (v : VersionParts) → v.pre ≢ [] → precedence v (release_of v) ≡ Less
+
+-- versions of one precedence are one
+abbrev pub VersionsTie : Type 0
+VersionsTie = (a b : VersionParts) → (precedence a b ≡ Equal) ↔ (a ≡ b)
+
+-- the test holds of one version alone
+abbrev pub SameVersions : Type 0
+SameVersions = (a b : VersionParts) → (same_version a b ≡ true) ↔ (a ≡ b)
+
+-- ---- precedence of texts
 
 -- texts of one precedence are one
 abbrev pub PrecedenceTells : Type 0
 PrecedenceTells = (a b : Text) → text_precedence a b ≡ Equal → a ≡ b
+
+-- the parts of a text that is a version are its own
+abbrev pub VersionsAreRead : Type 0
+VersionsAreRead = (t : Text) (v : VersionParts) → IsVersionOf t v → version_in t ≡ Some v
 
 -- of two versions it is SemVer's
 abbrev pub PrecedenceOfVersions : Type 0

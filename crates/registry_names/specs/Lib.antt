@@ -11,7 +11,10 @@ pub mod Moments
 pub mod Names
 pub mod Precedence
 pub mod Refusals
+pub mod Spellings
 pub mod Tags
 pub mod Texts
+pub mod VersionOrder
+pub mod VersionOrderLaws
 pub mod VersionReading
 pub mod Versions

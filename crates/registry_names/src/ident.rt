@@ -1,15 +1,23 @@
 //! The names of users, organisations and teams.
 
-ghost use Rattle.std.specs.Prelude.{◌≡◌, List, ℕ, string_bytes, IfOk, IfErr, slice_index, true, false};
+ghost use Rattle.std.specs.Prelude.{◌≡◌, List, ℕ, string_bytes, bytes_eq, IfOk, IfErr, Some, slice_index, true, false};
 ghost use Rattle.std.specs.List.{list_all};
+ghost use Rattle.std.specs.Cmp.Rules.{comparing, hashing};
+ghost use Rattle.std.specs.Hash as fed;
+ghost use Rattle.std.proofs.Common.{rules};
 ghost use Rattle.registry_names.specs.Faults.{IsMemoryOr, IsRefused};
 ghost use Rattle.registry_names.specs.Idents as spec;
 ghost use Rattle.registry_names.specs.Idents.{is_lower_alphanumeric, is_ident_char};
+ghost use Rattle.registry_names.specs.Texts.{text_cmp};
 
 use crate::form::kept_in_form;
 use crate::refusal::Refusal;
 use crate::stop::Stop;
 use std::alloc::Global;
+use std::cmp::Ordering;
+use std::convert::AsStr;
+use std::fmt;
+use std::hash::{Hash, Hasher};
 use std::marker::Model;
 
 const LONGEST: usize = 64;
@@ -81,5 +89,71 @@ impl Ident {
         ensures form { spec.is_ident self.now ≡ true }
     {
         self.text.as_str()
+    }
+}
+
+impl PartialEq for Ident {
+    ghost eq = { bytes_eq };
+
+    ghost laws = { Prim.search (comparing, rules) };
+
+    fn eq(&self, other: &Ident) -> bool {
+        self.text() == other.text()
+    }
+}
+
+impl Eq for Ident {
+    ghost laws = { Prim.search (comparing, rules) };
+}
+
+impl PartialOrd for Ident {
+    ghost partial_cmp = { λ x y. Some (text_cmp x y) };
+
+    ghost laws = { Prim.search (comparing, rules) };
+
+    fn partial_cmp(&self, other: &Ident) -> Option<Ordering> {
+        Some(self.cmp(other))
+    }
+}
+
+/// By bytes, as Rust orders texts.
+impl Ord for Ident {
+    ghost cmp = { text_cmp };
+
+    ghost total = { Prim.search (comparing, rules) };
+
+    ghost matches_partial_cmp = { Prim.search (comparing, rules) };
+
+    ghost matches_eq = { Prim.search (comparing, rules) };
+
+    fn cmp(&self, other: &Ident) -> Ordering {
+        self.text().cmp(other.text())
+    }
+}
+
+/// As its text.
+impl Hash for Ident {
+    ghost hash_input = { fed.str };
+
+    ghost respects_eq = { Prim.search (hashing, rules) };
+
+    fn hash<H: Hasher>(&self, state: &mut H) {
+        self.text().hash(state);
+    }
+}
+
+impl AsStr for Ident {
+    ghost text = { λ text. text };
+
+    fn as_str(&self) -> &str {
+        self.text()
+    }
+}
+
+impl fmt::Display for Ident {
+    ghost output = { λ text. Some text };
+
+    fn fmt<W: fmt::Write>(&self, f: &mut fmt::Formatter<W>) -> fmt::Result {
+        f.pad(self.text())
     }
 }

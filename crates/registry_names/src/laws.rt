@@ -5,10 +5,13 @@ ghost use Rattle.std.specs.Cmp.{IsTotalOrder};
 ghost use Rattle.registry_names.specs.Texts.{text_cmp, is};
 ghost use Rattle.registry_names.specs.Keys.{IsKey, pair_cmp, pair_is, triple_cmp, triple_is};
 ghost use Rattle.registry_names.specs.Precedence.{text_precedence};
+ghost use Rattle.registry_names.specs.Versions.{precedence};
 ghost use Rattle.registry_names.specs.Laws.{UnderKeys, EmptyAnswers, PutAnswers, EraseAnswers, KeepAnswers, ReviseAnswers, AnswersTell};
 ghost use Rattle.registry_names.specs.Laws.{RowsAnswer, RowsPush, RowsKeep, RowsRevise, EntriesAnswer, EntriesRise, EntriesTold};
 ghost use Rattle.registry_names.specs.Laws.{PartAnswers, PartMembers, PartRises, PartTold};
-ghost use Rattle.registry_names.specs.Laws.{PrecedenceTells, PrecedenceOfVersions, OthersBelow, GreatestIs, GreatestStands, GreatestOfMembers};
+ghost use Rattle.registry_names.specs.Laws.{VersionsBelow, ReleaseAbove, VersionsTie, SameVersions};
+ghost use Rattle.registry_names.specs.Laws.{PrecedenceTells, PrecedenceOfVersions, VersionsAreRead, OthersBelow, GreatestIs, GreatestStands, GreatestOfMembers};
+ghost use Rattle.registry_names.specs.Spellings.{IsReadBack, status_named, status_text};
 
 /// One, two and three texts are keys: their orders are total and tie equal keys alone.
 pub fn texts_are_keys()
@@ -47,14 +50,31 @@ pub fn parts_answer<R, X>()
     ensures told { UnderKeys R (PartTold X) }
 {}
 
-/// Precedence is a total order of all texts, by SemVer where they are versions, and the greatest
-/// of a list is the member that none of the others has precedence over.
+/// Precedence is a total order of versions, by their numbers in turn and then by the prerelease,
+/// which a release is above; and it ties no two versions.
+pub fn versions_are_ordered()
+    ensures total { IsTotalOrder precedence }
+    ensures below { VersionsBelow }
+    ensures release { ReleaseAbove }
+    ensures ties { VersionsTie }
+    ensures same { SameVersions }
+{}
+
+/// Precedence is a total order of all texts, by SemVer where they are versions, of which each is
+/// read to its own parts. The greatest of a list is the member that none of the others has
+/// precedence over.
 pub fn precedence_orders_texts()
     ensures total { IsTotalOrder text_precedence }
     ensures exact { PrecedenceTells }
+    ensures read { VersionsAreRead }
     ensures versions { PrecedenceOfVersions }
     ensures others { OthersBelow }
     ensures greatest { GreatestIs }
     ensures stands { GreatestStands }
     ensures members { GreatestOfMembers }
+{}
+
+/// The text of a status is read as that status, and no other text is.
+pub fn statuses_are_read_back()
+    ensures { IsReadBack status_text status_named }
 {}

@@ -1,11 +1,15 @@
 //! The names of packages.
 
-ghost use Rattle.std.specs.Prelude.{◌≡◌, List, ℕ, string_bytes, Option, option_map, slice_index, IfOk, IfErr, MatchOption};
+ghost use Rattle.std.specs.Prelude.{◌≡◌, List, ℕ, string_bytes, Option, option_map, slice_index, IfOk, IfErr, MatchOption, Some};
 ghost use Rattle.std.specs.List.{list_all};
 ghost use Rattle.std.specs.Str.{bytes_eq};
+ghost use Rattle.std.specs.Cmp.Rules.{comparing, hashing};
+ghost use Rattle.std.specs.Hash as fed;
+ghost use Rattle.std.proofs.Common.{rules};
 ghost use Rattle.registry_names.specs.Faults.{IsMemoryOr, IsRefused};
 ghost use Rattle.registry_names.specs.Names as spec;
 ghost use Rattle.registry_names.specs.Names.{is_name_char, is_scoped_start, scope_of, IsNameOf, IsName};
+ghost use Rattle.registry_names.specs.Texts.{text_cmp};
 
 use crate::form::kept_in_form;
 use crate::ident::{
@@ -14,6 +18,10 @@ use crate::ident::{
 use crate::refusal::Refusal;
 use crate::stop::Stop;
 use std::alloc::Global;
+use std::cmp::Ordering;
+use std::convert::AsStr;
+use std::fmt;
+use std::hash::{Hash, Hasher};
 use std::marker::Model;
 
 const LONGEST: usize = 214;
@@ -148,5 +156,71 @@ impl Name {
             Some((_, part)) => part,
             None => unreachable!(),
         }
+    }
+}
+
+impl PartialEq for Name {
+    ghost eq = { bytes_eq };
+
+    ghost laws = { Prim.search (comparing, rules) };
+
+    fn eq(&self, other: &Name) -> bool {
+        self.text() == other.text()
+    }
+}
+
+impl Eq for Name {
+    ghost laws = { Prim.search (comparing, rules) };
+}
+
+impl PartialOrd for Name {
+    ghost partial_cmp = { λ x y. Some (text_cmp x y) };
+
+    ghost laws = { Prim.search (comparing, rules) };
+
+    fn partial_cmp(&self, other: &Name) -> Option<Ordering> {
+        Some(self.cmp(other))
+    }
+}
+
+/// By bytes, as Rust orders texts.
+impl Ord for Name {
+    ghost cmp = { text_cmp };
+
+    ghost total = { Prim.search (comparing, rules) };
+
+    ghost matches_partial_cmp = { Prim.search (comparing, rules) };
+
+    ghost matches_eq = { Prim.search (comparing, rules) };
+
+    fn cmp(&self, other: &Name) -> Ordering {
+        self.text().cmp(other.text())
+    }
+}
+
+/// As its text.
+impl Hash for Name {
+    ghost hash_input = { fed.str };
+
+    ghost respects_eq = { Prim.search (hashing, rules) };
+
+    fn hash<H: Hasher>(&self, state: &mut H) {
+        self.text().hash(state);
+    }
+}
+
+impl AsStr for Name {
+    ghost text = { λ text. text };
+
+    fn as_str(&self) -> &str {
+        self.text()
+    }
+}
+
+impl fmt::Display for Name {
+    ghost output = { λ text. Some text };
+
+    fn fmt<W: fmt::Write>(&self, f: &mut fmt::Formatter<W>) -> fmt::Result {
+        f.pad(self.text())
     }
 }

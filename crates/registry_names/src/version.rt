@@ -1,10 +1,15 @@
 //! Versions.
 
-ghost use Rattle.std.specs.Prelude.{◌≡◌, ◌≢◌, IfOk, IfErr, false};
-ghost use Rattle.semver.specs.Identifiers.{parts_of};
+ghost use Rattle.std.specs.Prelude.{◌≡◌, ◌≢◌, IfOk, IfErr, [], Some, false, refl};
+ghost use Rattle.std.specs.Cmp.{partial_equiv_from_equiv};
+ghost use Rattle.std.specs.Hash as fed;
+ghost use Rattle.std.proofs.Common.{ap};
+ghost use Rattle.semver.specs.Identifiers.{build_text, parts_of};
 ghost use Rattle.semver.specs.Parse.{memory_error};
 ghost use Rattle.registry_names.specs.Faults.{IsMemoryOr};
 ghost use Rattle.registry_names.specs.VersionReading as spec;
+ghost use Rattle.registry_names.specs.VersionOrder.{same_version};
+ghost use Rattle.registry_names.specs.VersionOrderLaws.{precedence_partial, precedence_total, same_version_decides, same_version_equivalence, same_version_ties};
 ghost use Rattle.registry_names.specs.Versions.{IsVersion, IsVersionOf, precedence, text_of_version, version_parts};
 
 use crate::refusal::Refusal;
@@ -12,6 +17,8 @@ use crate::stop::{Fault, Stop};
 use semver::{Error, Version};
 use std::alloc::{AllocError, Global};
 use std::cmp::Ordering;
+use std::fmt;
+use std::hash::{Hash, Hasher};
 use std::marker::Model;
 
 const LONGEST: usize = 256;
@@ -55,14 +62,16 @@ impl Drop for Ver {
 }
 
 impl Model for Ver {
-    ghost use Rattle.std.specs.Prelude.{string_bytes};
+    ghost use Rattle.std.specs.Prelude.{◌≡◌, [], string_bytes};
+    ghost use Rattle.semver.specs.Identifiers.{build_text};
     ghost use Rattle.registry_names.specs.Versions.{VersionParts, IsVersionOf, version_parts};
 
     ghost Value = { VersionParts };
 
     ghost view = { λ v. version_parts v.version };
 
-    ghost invariant = { λ v. IsVersionOf (string_bytes v.text) (version_parts v.version) };
+    ghost invariant = { λ v. IsVersionOf (string_bytes v.text) (version_parts v.version)
+        × (build_text v.version.build ≡ []) };
 }
 
 impl Ver {
@@ -104,17 +113,73 @@ impl Ver {
         self.text.as_str()
     }
 
-    /// The version as the crate `semver` holds it.
+    /// The version as the crate `semver` holds it, without build metadata.
     pub fn as_semver(&self) -> &Version
-        ensures { version_parts result.now ≡ self.now }
+        ensures parts { version_parts result.now ≡ self.now }
+        ensures plain { build_text result.now.build ≡ [] }
     {
         &self.version
     }
+}
 
-    /// The order by precedence (SemVer 2.0.0, item 11).
-    pub fn cmp(&self, other: &Ver) -> Ordering
-        ensures { result ≡ precedence self.now other.now }
-    {
+impl PartialEq for Ver {
+    ghost eq = { same_version };
+
+    ghost laws = { partial_equiv_from_equiv same_version_equivalence };
+
+    fn eq(&self, other: &Ver) -> bool {
+        let (one, other) = (&self.version, &other.version);
+        one.major == other.major
+            && one.minor == other.minor
+            && one.patch == other.patch
+            && one.pre == other.pre
+    }
+}
+
+impl Eq for Ver {
+    ghost laws = { same_version_equivalence };
+}
+
+impl PartialOrd for Ver {
+    ghost partial_cmp = { λ v w. Some (precedence v w) };
+
+    ghost laws = { precedence_partial };
+
+    fn partial_cmp(&self, other: &Ver) -> Option<Ordering> {
+        Some(self.cmp(other))
+    }
+}
+
+/// By precedence (SemVer 2.0.0, item 11), which ties no two versions.
+impl Ord for Ver {
+    ghost cmp = { precedence };
+
+    ghost total = { precedence_total };
+
+    ghost matches_partial_cmp = { λ v w. refl };
+
+    ghost matches_eq = { same_version_ties };
+
+    fn cmp(&self, other: &Ver) -> Ordering {
         self.version.cmp_precedence(&other.version)
+    }
+}
+
+/// As its text.
+impl Hash for Ver {
+    ghost hash_input = { λ v. fed.str (text_of_version v) };
+
+    ghost respects_eq = { λ v w e. ap (λ x. fed.str (text_of_version x)) ((same_version_decides v w).0 e) };
+
+    fn hash<H: Hasher>(&self, state: &mut H) {
+        self.text().hash(state);
+    }
+}
+
+impl fmt::Display for Ver {
+    ghost output = { λ v. Some (text_of_version v) };
+
+    fn fmt<W: fmt::Write>(&self, f: &mut fmt::Formatter<W>) -> fmt::Result {
+        f.pad(self.text())
     }
 }

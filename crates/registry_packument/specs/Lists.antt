@@ -1,26 +1,14 @@
 -- The lists that the registry answers with, as values.
-use Rattle.std.specs.Prelude.{ℕ, List, codes}
+use Rattle.std.specs.Prelude.{ℕ, List}
 use Rattle.serde_json.specs.Data.{Data, array, object}
 use Rattle.serde_json.specs.Written.{compact_text}
-use Rattle.registry_access.specs.declared.role.Role.{Role}
-use Rattle.registry_access.specs.declared.role.Role.TheVariants.{Developer, Admin, Owner}
-use Rattle.registry_access.specs.declared.grant.Grant.{Grant}
-use Rattle.registry_access.specs.declared.grant.Grant.TheVariants.{ReadOnly, ReadWrite}
+use Rattle.registry_access.specs.Spellings.{role_text, grant_text}
 use Rattle.registry_packument.specs.TextValues.{text_items, text_members}
 use Rattle.registry_packument.specs.declared.list.Member.{Member}
 use Rattle.registry_packument.specs.declared.list.Granted.{Granted}
 use Rattle.registry_packument.specs.declared.list.List.{List as Answered}
 use Rattle.registry_packument.specs.declared.list.List.TheVariants.{Tags, Members, Names, Grants}
 use Rattle.registry_names.specs.declared.dist_tag.DistTag.{DistTag}
-
-abbrev pub role_text : Role → List ℕ
-role_text Developer = codes "developer"
-role_text Admin = codes "admin"
-role_text Owner = codes "owner"
-
-abbrev pub grant_text : Grant → List ℕ
-grant_text ReadOnly = codes "read-only"
-grant_text ReadWrite = codes "read-write"
 
 -- a tag, and the version that it names
 abbrev pub tag_texts : DistTag → List ℕ × List ℕ

@@ -2,7 +2,7 @@
 
 ghost use Rattle.std.specs.Prelude.{◌≡◌, IfOk, IfErr};
 ghost use Rattle.serde_json.specs.Written.{compact_text};
-ghost use Rattle.registry_packument.specs.Lists.{role_text, grant_text, tag_texts, member_texts, grant_texts, list_value};
+ghost use Rattle.registry_packument.specs.Lists.{tag_texts, member_texts, grant_texts, list_value};
 
 use crate::json_text::{TextMember, push_array, push_object};
 use registry_access::{Grant, Role};
@@ -61,7 +61,7 @@ impl TextMember for Member {
     }
 
     fn text(&self) -> &str {
-        role_word(self.role)
+        self.role.text()
     }
 }
 
@@ -73,28 +73,7 @@ impl TextMember for Granted {
     }
 
     fn text(&self) -> &str {
-        grant_word(self.grant)
-    }
-}
-
-// The word for a role.
-fn role_word(role: Role) -> &'static str
-    ensures { result.now ≡ role_text role }
-{
-    match role {
-        Role::Developer => "developer",
-        Role::Admin => "admin",
-        Role::Owner => "owner",
-    }
-}
-
-// The word for a grant.
-fn grant_word(grant: Grant) -> &'static str
-    ensures { result.now ≡ grant_text grant }
-{
-    match grant {
-        Grant::ReadOnly => "read-only",
-        Grant::ReadWrite => "read-write",
+        self.grant.text()
     }
 }
 

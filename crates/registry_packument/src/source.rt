@@ -24,10 +24,11 @@ pub trait VersionSource {
 
     /// The next version. None where none is left.
     ///
-    /// After a fault it answers that fault again.
+    /// After a fault it answers that fault again, and it stops at a fault alone.
     fn next(&mut self, alloc: Global) -> Result<Option<VersionRow>, Fault>
         ensures gives { IfOk result (λ row. Gives (rows self.old) row (rows self.new)) }
         ensures stops { IfErr result (λ fault. stopped self.new ≡ Some fault) }
+        ensures goes_on { IfOk result (λ _. stopped self.new ≡ None) }
         ensures again { IfSome (stopped self.old) (λ fault. result ≡ Err fault) };
 
     // The rows are in byte order of their versions, each once.

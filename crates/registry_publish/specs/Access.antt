@@ -1,14 +1,9 @@
 -- The status that a publish body asks for.
-use Rattle.std.specs.Prelude.{ℕ, unwrap_or, List, codes, Option, Some, None, option_map, if◌then◌else◌}
-use Rattle.std.specs.Str.{bytes_eq}
+use Rattle.std.specs.Prelude.{unwrap_or, codes, Option, Some, None, option_map}
 use Rattle.serde_json.specs.Data.{Data, null, boolean, number, string, array, object}
 use Rattle.serde_json.specs.Find.{get}
+use Rattle.registry_names.specs.Spellings.{status_named}
 use Rattle.registry_names.specs.declared.status.Status.{Status}
-use Rattle.registry_names.specs.declared.status.Status.TheVariants.{Public, Restricted}
-
--- the status of this name
-abbrev pub status_named : List ℕ → Option Status
-status_named t = if bytes_eq t (codes "public") then Some Public else (if bytes_eq t (codes "restricted") then Some Restricted else None)
 
 -- no status for null, or the one that the text names; None for another value
 abbrev pub status_in : Data → Option (Option Status)

@@ -7,22 +7,12 @@ ghost use Rattle.registry_publish.specs.Access as spec;
 use registry_names::Status;
 use serde_json::Value;
 
-fn status_named(text: &str) -> Option<Status>
-    ensures { result ≡ spec.status_named text.now }
-{
-    match text {
-        "public" => Some(Status::Public),
-        "restricted" => Some(Status::Restricted),
-        _ => None,
-    }
-}
-
 fn status_in(value: &Value) -> Option<Option<Status>>
     ensures { result ≡ spec.status_in (view value.now) }
 {
     match value {
         Value::Null => Some(None),
-        Value::String(text) => status_named(text.as_str()).map(Some),
+        Value::String(text) => Status::parse(text.as_str()).map(Some),
         _ => None,
     }
 }

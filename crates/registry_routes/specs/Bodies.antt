@@ -1,19 +1,13 @@
 -- What the body of a request says, where the route asks for one, and why it isn't read.
-use Rattle.std.specs.Prelude.{◌≡◌, ◌⊎◌, true, codes, Option, Some, None, option_and_then, bytes_eq, if◌then◌else◌, IsUtf8}
+use Rattle.std.specs.Prelude.{◌≡◌, ◌⊎◌, true, codes, Option, Some, None, option_and_then, IsUtf8}
 use Rattle.serde_json.specs.Data.{Data, string}
 use Rattle.serde_json.specs.Find.{get, as_str}
 use Rattle.serde_json.specs.Read.{read}
-use Rattle.registry_access.specs.declared.grant.Grant.{Grant}
-use Rattle.registry_access.specs.declared.grant.Grant.TheVariants.{ReadOnly, ReadWrite}
-use Rattle.registry_access.specs.declared.role.Role.{Role}
-use Rattle.registry_access.specs.declared.role.Role.TheVariants.{Developer, Admin, Owner}
 use Rattle.registry_names.specs.Faults.{IsMemoryOr}
 use Rattle.registry_names.specs.Messages.{is_message}
 use Rattle.registry_names.specs.Texts.{Text}
 use Rattle.registry_names.specs.Versions.{VersionParts, IsVersion, IsVersionOf}
 use Rattle.registry_names.specs.declared.refusal.Refusal.TheVariants.{BadBody, BadVersion, BadSelector}
-use Rattle.registry_names.specs.declared.status.Status.{Status}
-use Rattle.registry_names.specs.declared.status.Status.TheVariants.{Public, Restricted}
 use Rattle.registry_names.specs.declared.stop.Stop.{Stop}
 use Rattle.registry_names.specs.declared.stop.Stop.TheVariants.{Refused}
 use Rattle.registry_ranges.specs.Selectors.{IsSelector}
@@ -43,19 +37,6 @@ StopsVersion body stop = IsMemoryOr BadBody (IsNoString body) stop
     ⊎ ((stop ≡ Refused BadVersion) × ((text : Text) × IsString body text × ¬ (IsVersion text)))
 
 -- ---- one word of a few
-
-abbrev pub status_named : Text → Option Status
-status_named word = if bytes_eq word (codes "public") then Some Public
-    else (if bytes_eq word (codes "restricted") then Some Restricted else None)
-
-abbrev pub role_named : Text → Option Role
-role_named word = if bytes_eq word (codes "developer") then Some Developer
-    else (if bytes_eq word (codes "admin") then Some Admin
-    else (if bytes_eq word (codes "owner") then Some Owner else None))
-
-abbrev pub grant_named : Text → Option Grant
-grant_named word = if bytes_eq word (codes "read-only") then Some ReadOnly
-    else (if bytes_eq word (codes "read-write") then Some ReadWrite else None)
 
 -- the body is the string of a word that names this value
 abbrev pub IsWordOf : {T : Type 0} → (Text → Option T) → Text → T → Type 0

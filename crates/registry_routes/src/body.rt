@@ -4,7 +4,9 @@ ghost use Rattle.std.specs.Prelude.{◌≡◌, string_bytes, option_and_then, op
 ghost use Rattle.serde_json.specs.Find.{as_str, get};
 ghost use Rattle.serde_json.specs.View.{view};
 ghost use Rattle.registry_names.specs.Faults.{IsMemoryOr};
+ghost use Rattle.registry_names.specs.Spellings.{status_named};
 ghost use Rattle.registry_names.specs.Texts.{Text};
+ghost use Rattle.registry_access.specs.Spellings.{grant_named, role_named};
 ghost use Rattle.registry_ranges.specs.Selectors.{HasConditions};
 ghost use Rattle.registry_routes.specs.Bodies as spec;
 ghost use Rattle.registry_routes.specs.Bodies.{IsDeprecationBody, IsJson, IsNoString, IsNoWord};
@@ -74,46 +76,15 @@ pub fn version_of_body(alloc: Global, body: &[u8]) -> Result<Ver, Stop>
     Ver::parse(alloc, text.as_str())
 }
 
-fn status_named(word: &str) -> Option<Status>
-    ensures { result ≡ spec.status_named word.now }
-{
-    match word {
-        "public" => Some(Status::Public),
-        "restricted" => Some(Status::Restricted),
-        _ => None,
-    }
-}
-
-fn role_named(word: &str) -> Option<Role>
-    ensures { result ≡ spec.role_named word.now }
-{
-    match word {
-        "developer" => Some(Role::Developer),
-        "admin" => Some(Role::Admin),
-        "owner" => Some(Role::Owner),
-        _ => None,
-    }
-}
-
-fn grant_named(word: &str) -> Option<Grant>
-    ensures { result ≡ spec.grant_named word.now }
-{
-    match word {
-        "read-only" => Some(Grant::ReadOnly),
-        "read-write" => Some(Grant::ReadWrite),
-        _ => None,
-    }
-}
-
 /// The status that a body says: the JSON string `"public"` or `"restricted"`.
 ///
 /// `BadBody` comes for no other body than another one, and `Memory` where no memory is left.
 pub fn status_of_body(alloc: Global, body: &[u8]) -> Result<Status, Stop>
-    ensures ok { IfOk result (IsWordOf spec.status_named body.now) }
-    ensures err { IfErr result (IsMemoryOr Refusal.BadBody (IsNoWord spec.status_named body.now)) }
+    ensures ok { IfOk result (IsWordOf status_named body.now) }
+    ensures err { IfErr result (IsMemoryOr Refusal.BadBody (IsNoWord status_named body.now)) }
 {
     let word = string_of(alloc, body)?;
-    match status_named(word.as_str()) {
+    match Status::parse(word.as_str()) {
         Some(status) => Ok(status),
         None => Err(BAD_BODY),
     }
@@ -123,11 +94,11 @@ pub fn status_of_body(alloc: Global, body: &[u8]) -> Result<Status, Stop>
 ///
 /// `BadBody` comes for no other body than another one, and `Memory` where no memory is left.
 pub fn role_of_body(alloc: Global, body: &[u8]) -> Result<Role, Stop>
-    ensures ok { IfOk result (IsWordOf spec.role_named body.now) }
-    ensures err { IfErr result (IsMemoryOr Refusal.BadBody (IsNoWord spec.role_named body.now)) }
+    ensures ok { IfOk result (IsWordOf role_named body.now) }
+    ensures err { IfErr result (IsMemoryOr Refusal.BadBody (IsNoWord role_named body.now)) }
 {
     let word = string_of(alloc, body)?;
-    match role_named(word.as_str()) {
+    match Role::parse(word.as_str()) {
         Some(role) => Ok(role),
         None => Err(BAD_BODY),
     }
@@ -137,11 +108,11 @@ pub fn role_of_body(alloc: Global, body: &[u8]) -> Result<Role, Stop>
 ///
 /// `BadBody` comes for no other body than another one, and `Memory` where no memory is left.
 pub fn grant_of_body(alloc: Global, body: &[u8]) -> Result<Grant, Stop>
-    ensures ok { IfOk result (IsWordOf spec.grant_named body.now) }
-    ensures err { IfErr result (IsMemoryOr Refusal.BadBody (IsNoWord spec.grant_named body.now)) }
+    ensures ok { IfOk result (IsWordOf grant_named body.now) }
+    ensures err { IfErr result (IsMemoryOr Refusal.BadBody (IsNoWord grant_named body.now)) }
 {
     let word = string_of(alloc, body)?;
-    match grant_named(word.as_str()) {
+    match Grant::parse(word.as_str()) {
         Some(grant) => Ok(grant),
         None => Err(BAD_BODY),
     }

@@ -571,34 +571,34 @@ apart_from_deprecation S q selector message p other =
       grants = λ o t. refl;
     })
 
-pub packages_stand_apart : PackagesStandApart
-packages_stand_apart S now who (UserAdd u) p other = apart_in_access S _ (UserAdd u) p refl (λ w. refl) (λ o t. refl)
-packages_stand_apart S now who (TokenAdd u digest) p other = apart_in_access S _ (TokenAdd u digest) p refl (λ w. refl) (λ o t. refl)
-packages_stand_apart S now who (OrgCreate o u) p other = apart_in_access S _ (OrgCreate o u) p refl (λ w. refl) (λ o t. refl)
-packages_stand_apart S now who (OrgSet o u role) p other = apart_from_role S o u role (at S.access.roles (o, u)) refl p
-packages_stand_apart S now who (OrgRemove o u) p other = apart_in_access S _ (OrgRemove o u) p refl (λ w. refl) (λ o t. refl)
-packages_stand_apart S now who (TeamCreate o t) p other = apart_in_access S _ (TeamCreate o t) p refl (λ w. refl) (λ o t. refl)
-packages_stand_apart S now who (TeamDestroy o t) p other = apart_from_destroying S o t p
-packages_stand_apart S now who (TeamAdd o t u) p other = apart_from_joining S o t u (is_in_team S o t u) p
-packages_stand_apart S now who (TeamRemove o t u) p other = apart_in_access S _ (TeamRemove o t u) p refl (λ w. refl) (λ o t. refl)
-packages_stand_apart S now who (asked.Grant o t q grant) p other =
+pub commands_leave_other_packages : PackagesStandApart
+commands_leave_other_packages S now who (UserAdd u) p other = apart_in_access S _ (UserAdd u) p refl (λ w. refl) (λ o t. refl)
+commands_leave_other_packages S now who (TokenAdd u digest) p other = apart_in_access S _ (TokenAdd u digest) p refl (λ w. refl) (λ o t. refl)
+commands_leave_other_packages S now who (OrgCreate o u) p other = apart_in_access S _ (OrgCreate o u) p refl (λ w. refl) (λ o t. refl)
+commands_leave_other_packages S now who (OrgSet o u role) p other = apart_from_role S o u role (at S.access.roles (o, u)) refl p
+commands_leave_other_packages S now who (OrgRemove o u) p other = apart_in_access S _ (OrgRemove o u) p refl (λ w. refl) (λ o t. refl)
+commands_leave_other_packages S now who (TeamCreate o t) p other = apart_in_access S _ (TeamCreate o t) p refl (λ w. refl) (λ o t. refl)
+commands_leave_other_packages S now who (TeamDestroy o t) p other = apart_from_destroying S o t p
+commands_leave_other_packages S now who (TeamAdd o t u) p other = apart_from_joining S o t u (is_in_team S o t u) p
+commands_leave_other_packages S now who (TeamRemove o t u) p other = apart_in_access S _ (TeamRemove o t u) p refl (λ w. refl) (λ o t. refl)
+commands_leave_other_packages S now who (asked.Grant o t q grant) p other =
     subst (λ T. IsApart S T (asked.Grant o t q grant) p) (sym (grant_put S o t q grant (has_grant S o t q) (λ there. there)))
     (apart_in_access S _ (asked.Grant o t q grant) p refl (λ w. refl) (λ r s. at-put_other triple_key S.access.grants (o, (t, q)) grant (r, (s, p)) (granted_elsewhere o t q r s p other)))
-packages_stand_apart S now who (Revoke o t q) p other =
+commands_leave_other_packages S now who (Revoke o t q) p other =
     apart_in_access S _ (Revoke o t q) p refl (λ w. refl) (λ r s. at-erase_other triple_key S.access.grants (o, (t, q)) (r, (s, p)) (granted_elsewhere o t q r s p other))
-packages_stand_apart S now who (SetAccess q status) p other =
+commands_leave_other_packages S now who (SetAccess q status) p other =
     subst (λ T. IsApart S T (SetAccess q status) p) (sym (status_put S q status (is_published S q) (λ there. there)))
     (apart_in_access S _ (SetAccess q status) p (at-put_other text_key S.access.statuses q status p other) (λ w. refl) (λ o t. refl))
-packages_stand_apart S now who (OwnerAdd q u) p other = apart_from_owning S q u (has_maintainer S q u) p other
-packages_stand_apart S now who (OwnerRemove q u) p other =
+commands_leave_other_packages S now who (OwnerAdd q u) p other = apart_from_owning S q u (has_maintainer S q u) p other
+commands_leave_other_packages S now who (OwnerRemove q u) p other =
     apart_in_access S _ (OwnerRemove q u) p refl (λ w. at-erase_other pair_key S.access.maintainers (q, u) (p, w) (elsewhere q p u w other)) (λ o t. refl)
-packages_stand_apart S now who (Publish f) p other = subst (λ T. IsApart S T (Publish f) p) (sym (published_is S who f now)) (apart_from_publish S now who f p other)
-packages_stand_apart S now who (TagSet q t v) p other =
+commands_leave_other_packages S now who (Publish f) p other = subst (λ T. IsApart S T (Publish f) p) (sym (published_is S who f now)) (apart_from_publish S now who f p other)
+commands_leave_other_packages S now who (TagSet q t v) p other =
     subst (λ T. IsApart S T (TagSet q t v) p) (sym (tag_put S q t (text_of_version v) (stands S q t) (λ there. there)))
     (apart_from_tag S (with_tag S q t (text_of_version v)) (TagSet q t v) p refl refl refl
     (λ u. at-put_other pair_key S.tags (q, t) (text_of_version v) (p, u) (elsewhere q p t u other)) (λ o s. refl))
-packages_stand_apart S now who (TagRemove q t) p other =
+commands_leave_other_packages S now who (TagRemove q t) p other =
     apart_from_tag S (without_tag S q t) (TagRemove q t) p refl refl refl (λ u. at-erase_other pair_key S.tags (q, t) (p, u) (elsewhere q p t u other)) (λ o s. refl)
-packages_stand_apart S now who (Withdraw q v) p other = apart_from_withdrawal S now q v (at S.live (q, text_of_version v)) p other
-packages_stand_apart S now who (Deprecate q selector message) p other = apart_from_deprecation S q selector message p other
-packages_stand_apart S now who _ p other = same_of_itself S _ p (λ o t. refl)
+commands_leave_other_packages S now who (Withdraw q v) p other = apart_from_withdrawal S now q v (at S.live (q, text_of_version v)) p other
+commands_leave_other_packages S now who (Deprecate q selector message) p other = apart_from_deprecation S q selector message p other
+commands_leave_other_packages S now who _ p other = same_of_itself S _ p (λ o t. refl)

@@ -1,5 +1,6 @@
 pub mod AllowedFacts
 pub mod CallerFacts
+pub mod DependentFacts
 pub mod KeptFacts
 pub mod ListedFacts
 pub mod LawFacts

@@ -1,9 +1,10 @@
 -- What a test finds in the part of a map, and so who else is an owner.
-use Rattle.std.proofs.Common.{◌≡◌, ◌≢◌, Bool, true, false, cond, not, ◌&&◌, ◌||◌, List, [], ◌∷◌, Option, Some, None, is_some, refl, sym, ap, ◌∙◌, true≢false, All}
+use Rattle.std.proofs.Common.{◌≡◌, ◌≢◌, Bool, true, false, cond, not, ◌&&◌, ◌||◌, List, [], ◌∷◌, Option, Some, None, is_some, refl, sym, ap, ◌∙◌, true≢false, All, Ordering}
 use Rattle.std.specs.Prelude.{IsSome}
 use Rattle.std.specs.List.{list_any}
 use Rattle.std.proofs.lemmas.Bool.{and_parts, and_from}
 use Rattle.std.proofs.lemmas.List.Elements.{All-head, All-tail}
+use Rattle.registry_names.specs.Keys.{IsKey}
 use Rattle.registry_names.specs.Maps.{PairMap, at, of, first_at}
 use Rattle.registry_names.specs.Texts.{Text, is}
 use Rattle.registry_names.proofs.KeyFacts.{text_key, same_true, same_self, same_sym}
@@ -22,7 +23,7 @@ module _ {X : Type 0} (P : X → Type 0) (test : X → Bool) where
   first_or x xs false e p h more = more h
 
   -- one that passes is among those of which all this holds
-  passes : (xs : List X) → All P xs → list_any test xs ≡ true → (y : X) × P y × (test y ≡ true)
+  pub passes : (xs : List X) → All P xs → list_any test xs ≡ true → (y : X) × P y × (test y ≡ true)
   passes [] all h = absurd (true≢false (sym h))
   passes (x ∷ xs) all h = first_or x xs (test x) refl (All-head P x xs all) h (passes xs (All-tail P x xs all))
 
@@ -30,22 +31,22 @@ or_true : (b : Bool) → (b || true) ≡ true
 or_true true = refl
 or_true false = refl
 
-module _ {X : Type 0} (test : Text × X → Bool) (w : Text) (x : X) (passed : test (w, x) ≡ true) where
-  found_or : (e : Text × X) (es : List (Text × X)) (b : Bool) → is e.0 w ≡ b → cond b (Some e.1) (first_at is es w) ≡ Some x → (first_at is es w ≡ Some x → list_any test es ≡ true) → (test e || list_any test es) ≡ true
-  found_or e es true s h more = let same : e.1 ≡ x = cc in ap (λ b. b || list_any test es) (ap test (λ i. (same_true text_key e.0 w s i, same i)) ∙ passed)
+module _ {K X : Type 0} {cmp : K → K → Ordering} {same : K → K → Bool} (key : IsKey cmp same) (test : K × X → Bool) (k : K) (x : X) (passed : test (k, x) ≡ true) where
+  found_or : (e : K × X) (es : List (K × X)) (b : Bool) → same e.0 k ≡ b → cond b (Some e.1) (first_at same es k) ≡ Some x → (first_at same es k ≡ Some x → list_any test es ≡ true) → (test e || list_any test es) ≡ true
+  found_or e es true s h more = let value : e.1 ≡ x = cc in ap (λ b. b || list_any test es) (ap test (λ i. (same_true key e.0 k s i, value i)) ∙ passed)
   found_or e es false s h more = ap (λ b. test e || b) (more h) ∙ or_true (test e)
 
   -- what comes first at a key, and passes, is found
-  found_passes : (es : List (Text × X)) → first_at is es w ≡ Some x → list_any test es ≡ true
+  pub found_passes : (es : List (K × X)) → first_at same es k ≡ Some x → list_any test es ≡ true
   found_passes [] h = cc
-  found_passes (e ∷ es) h = found_or e es (is e.0 w) refl h (found_passes es)
+  found_passes (e ∷ es) h = found_or e es (same e.0 k) refl h (found_passes es)
 
 module _ {X : Type 0} (m : PairMap X) (p : Text) (test : Text × X → Bool) where
   pub any_of : list_any test (of m p) ≡ true → (e : Text × X) × (at m (p, e.0) ≡ Some e.1) × (test e ≡ true)
   any_of h = passes (λ (e : Text × X). at m (p, e.0) ≡ Some e.1) test (of m p) (part_found text_key m p) h
 
   pub of_any : (w : Text) (x : X) → at m (p, w) ≡ Some x → test (w, x) ≡ true → list_any test (of m p) ≡ true
-  of_any w x e passed = found_passes test w x passed (of m p) (at-part text_key m p w ∙ e)
+  of_any w x e passed = found_passes text_key test w x passed (of m p) (at-part text_key m p w ∙ e)
 
 -- ---- owners
 
@@ -54,7 +55,7 @@ owner_is Owner h = refl
 owner_is Admin h = absurd (true≢false (sym h))
 owner_is Developer h = absurd (true≢false (sym h))
 
-not_true : (b : Bool) → not b ≡ true → b ≡ false
+pub not_true : (b : Bool) → not b ≡ true → b ≡ false
 not_true true h = absurd (true≢false (sym h))
 not_true false h = refl
 
@@ -68,7 +69,7 @@ other_owner S o u h =
     let parts = and_parts (not (is found.0.0 u)) (is_owner (Some found.0.1)) found.2 in
     (found.0.0, same_sym text_key u found.0.0 ∙ not_true _ parts.0, found.1 ∙ owner_is found.0.1 parts.1)
 
-unlike : (a b : Text) → a ≢ b → is a b ≡ false
+pub unlike : (a b : Text) → a ≢ b → is a b ≡ false
 unlike a b differ = by_test (is a b) refl
   where
     by_test : (t : Bool) → is a b ≡ t → is a b ≡ false

@@ -1,5 +1,5 @@
 -- What commands make of what the registry holds, said of each map apart.
-use Rattle.std.specs.Prelude.{◌≡◌, ◌≢◌, ◌↔◌, ℕ, List, true, false, [], Some, None, IsSome, if◌then◌else◌}
+use Rattle.std.specs.Prelude.{◌≡◌, ◌≢◌, ◌↔◌, ◌⊎◌, ℕ, List, true, false, [], Some, None, IsSome, Any, if◌then◌else◌}
 use Rattle.registry_names.specs.Keys.{Pair, Triple}
 use Rattle.registry_names.specs.Maps.{at}
 use Rattle.registry_names.specs.Greatest.{greatest}
@@ -16,11 +16,14 @@ use Rattle.registry_access.specs.declared.grant.Grant.TheVariants.{ReadWrite}
 use Rattle.registry_access.specs.declared.role.Role.{Role}
 use Rattle.registry_access.specs.declared.role.Role.TheVariants.{Owner}
 use Rattle.registry_publish.specs.Form.{FormParts}
+use Rattle.registry_publish.specs.declared.need.Need.{Need}
 use Rattle.registry_rules.specs.Actions.{is_command, version_of, names_package, ends_team}
 use Rattle.registry_rules.specs.Effects.{step_by}
 use Rattle.registry_rules.specs.Kept.{IsSound}
 use Rattle.registry_rules.specs.State.{State, Release, developers, has_other_owner, has_other_maintainer}
-use Rattle.registry_rules.specs.Withdrawals.{live_versions, others, selects}
+use Rattle.registry_rules.specs.Withdrawals.{is_depended, live_versions, needs_in, others, selects}
+use Rattle.registry_ranges.specs.Comparators.{Allows}
+use Rattle.registry_ranges.specs.Grammar.{IsRangeText}
 use Rattle.registry_ranges.specs.Selectors.{Condition}
 use Rattle.registry_rules.specs.declared.request.Action.{Action}
 use Rattle.registry_rules.specs.declared.request.Action.TheVariants.{UserAdd, TokenAdd, OrgCreate, OrgSet, OrgRemove, TeamCreate, TeamDestroy, TeamAdd, TeamRemove, Grant, Revoke, SetAccess, OwnerAdd, OwnerRemove, Publish, TagSet, TagRemove, Withdraw, Deprecate}
@@ -307,3 +310,20 @@ pub record IsApart (S T : State) (what : Action) (p : Text) : Type 0 where
 -- an action changes nothing of a package that it doesn't name
 abbrev pub PackagesStandApart : Type 0
 PackagesStandApart = (S : State) (now : ℕ) (who : Caller) (what : Action) (p : Text) → names_package what p ≡ false → IsApart S (step_by S now who what) what p
+
+-- ---- who needs a version
+
+-- the need is of the package, with a text that is no range, or that allows the version
+pub record IsNeedOf (p : Text) (v : VersionParts) (need : Need) : Type 0 where
+  pub target : need.target ≡ p
+  pub range : (¬ IsRangeText need.range) ⊎ Allows need.range v
+
+-- the release of another package lives, and its manifest has such a need
+pub record IsDependent (S : State) (p : Text) (v : VersionParts) (k : Pair) (release : Release) : Type 0 where
+  pub other : k.0 ≢ p
+  pub lives : at S.live k ≡ Some release
+  pub needs : Any (IsNeedOf p v) (needs_in release)
+
+-- a version is needed where there is such a release, and nowhere else
+abbrev pub NeededHaveDependents : Type 0
+NeededHaveDependents = (S : State) (p : Text) (v : VersionParts) → (is_depended S p v ≡ true) ↔ ((k : Pair) × (release : Release) × IsDependent S p v k release)

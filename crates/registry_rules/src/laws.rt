@@ -3,7 +3,7 @@
 
 ghost use Rattle.std.specs.Prelude.{◌≡◌, None};
 ghost use Rattle.registry_rules.specs.Kept.{IsKept};
-ghost use Rattle.registry_rules.specs.Laws.{GrantsAreGiven, GrantsAreRevoked, MaintainersAreAdded, MaintainersAreRemoved, OtherMaintainersAreMaintainers, PublishesGiveFirstRights, StatusesAreSet, NewTeamsAreEmpty, TeamMembersAreAdded, TeamMembersAreRemoved, TeamsAreCreated, TeamsAreDestroyed, MembersAreRemoved, OrganisationsAreCreated, OtherOwnersAreOwners, RolesAreSet, PackagesStandApart, PublishesAddVersions, PublishesSetStatuses, PublishesSetTags, QueriesChangeNothing, RemovedTagsAreGone, SetTagsName, TokensAreAdded, UsersAreAdded, WithdrawalsSpend, WithdrawalsFreeTags, DeprecationsMark};
+ghost use Rattle.registry_rules.specs.Laws.{GrantsAreGiven, GrantsAreRevoked, MaintainersAreAdded, MaintainersAreRemoved, OtherMaintainersAreMaintainers, PublishesGiveFirstRights, StatusesAreSet, NewTeamsAreEmpty, TeamMembersAreAdded, TeamMembersAreRemoved, TeamsAreCreated, TeamsAreDestroyed, MembersAreRemoved, NeededHaveDependents, OrganisationsAreCreated, OtherOwnersAreOwners, RolesAreSet, PackagesStandApart, PublishesAddVersions, PublishesSetStatuses, PublishesSetTags, QueriesChangeNothing, RemovedTagsAreGone, SetTagsName, TokensAreAdded, UsersAreAdded, WithdrawalsSpend, WithdrawalsFreeTags, DeprecationsMark};
 ghost use Rattle.registry_rules.specs.Refusals.{refusal};
 ghost use Rattle.registry_rules.specs.Requests.{ArePartsInForm, IsActionInForm, IsAskedInForm, IsInForm};
 ghost use Rattle.registry_rules.specs.State.{State, nothing};
@@ -14,7 +14,7 @@ use crate::request::{Action, Asked, Request};
 use registry_publish::PublishForm;
 
 /// A user who is added is there, and a token that is added is theirs. Nothing else changes.
-pub fn users_and_tokens_are_added()
+pub fn added_users_and_tokens_are_there()
     ensures users { UsersAreAdded }
     ensures tokens { TokensAreAdded }
 {}
@@ -77,6 +77,12 @@ pub fn tags_are_set_and_removed()
     ensures removed { RemovedTagsAreGone }
 {}
 
+/// A version is needed exactly where another package has a live version whose manifest has a need
+/// of its package, with a text that is no range, or a range that allows the version.
+pub fn needed_versions_have_dependents()
+    ensures { NeededHaveDependents }
+{}
+
 /// A version that is withdrawn lives no more and is spent, with the moments of its publish and of
 /// its withdrawal. No tag names it then: `latest` names the greatest other live version, or is gone
 /// where there is none. Nothing else changes.
@@ -93,7 +99,7 @@ pub fn deprecations_mark()
 
 /// A query changes nothing, and a command nothing of a package that it doesn't name, but that a
 /// team that is destroyed is granted nothing on it.
-pub fn packages_stand_apart()
+pub fn commands_leave_other_packages()
     ensures queries { QueriesChangeNothing }
     ensures packages { PackagesStandApart }
 {}

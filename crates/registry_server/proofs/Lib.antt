@@ -1,2 +1,4 @@
+mod SocketFacts
 mod StateFacts
+mod VisitFacts
 mod WorldFacts

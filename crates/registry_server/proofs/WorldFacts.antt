@@ -1,5 +1,5 @@
 -- What the calls of one connection make of all of them.
-use Rattle.std.proofs.Common.{◌≡◌, ◌==◌, ◌<◌, ◌-◌, ◌+◌, ◌++◌, ◌∷◌, ◌∙◌, ℕ, Bool, true, false, List, None, cond, length, take, drop, refl, sym, ap, subst, arith, append_assoc, append-nil, is_some}
+use Rattle.std.proofs.Common.{◌≡◌, ◌==◌, ◌<◌, ◌-◌, ◌+◌, ◌++◌, ◌∷◌, ◌∙◌, [], ℕ, Bool, true, false, List, Option, None, cond, length, take, drop, refl, sym, ap, subst, arith, append_assoc, append-nil, is_some}
 use Rattle.std.proofs.lemmas.Bool.Decides.{nat_tests}
 use Rattle.std.proofs.lemmas.List.{take-append-drop}
 use Rattle.registry_wire.specs.Reading.{TakenOf}
@@ -7,7 +7,7 @@ use Rattle.registry_service.specs.Courses.{count_of, taken_for}
 use Rattle.registry_service.specs.Histories.{Transcript, Reached, World, at_end, comes, is_last, on_connection, sends, shuts, turned_on, turns, turns_of, with_bytes, with_sent, with_turn}
 use Rattle.registry_service.specs.Turns.{Answering, Cause, IsTurn, IsTurnFor, Turn, bad_input, is_request, no_memory, request, response_of}
 use Rattle.registry_service.proofs.CourseFacts.{bytes-same, on-not_last, on-request}
-use Rattle.registry_server.specs.ConnectionStates.{Pending, holding, sending}
+use Rattle.registry_server.specs.ConnectionStates.{Pending, TakesTurn, holding, sending}
 use Rattle.registry_server.specs.Worlds.{Begins, Comes, LeadsTo, MayHave, Sends, Shuts, StateShows, TakesTurns}
 
 -- ---- one connection of a world
@@ -33,7 +33,7 @@ stands-with w k over p l ts transcript turned held shut outgoing may = record {
   may_have = λ going. subst (λ (us : List Turn). MayHave us p.left) (sym turned) (may going);
 }
 
-stands-still : {D : Type 0} (w v : World D) (j : ℕ) (o : Bool) (q : Pending) → v.transcripts j ≡ w.transcripts j → turns_of j v.log ≡ turns_of j w.log → StateShows w j o q → StateShows v j o q
+pub stands-still : {D : Type 0} (w v : World D) (j : ℕ) (o : Bool) (q : Pending) → v.transcripts j ≡ w.transcripts j → turns_of j v.log ≡ turns_of j w.log → StateShows w j o q → StateShows v j o q
 stands-still w v j o q transcript turned s = stands-with v j o q (w.transcripts j) (turns_of j w.log) transcript turned s.held s.shut s.outgoing s.may_have
 
 same-last : (n left : ℕ) → n + left ≡ 1000 → (left == 1) ≡ (n + 1 == 1000)
@@ -56,19 +56,50 @@ may-more ts t left left2 may going is less =
       all = omega (arith, may.all, may.some, less);
     }
 
+-- another connection is what it was
+pub record IsSame {D : Type 0} (w v : World D) (j : ℕ) : Type 0 where
+  pub transcript : v.transcripts j ≡ w.transcripts j
+  pub turned : turns_of j v.log ≡ turns_of j w.log
+
+pub same-after : {D : Type 0} (u v w : World D) (j : ℕ) → IsSame u v j → IsSame v w j → IsSame u w j
+same-after u v w j first second = record { transcript = second.transcript ∙ first.transcript; turned = second.turned ∙ first.turned }
+
 module _ {D : Type 0} (answers : Answering D) where
-  -- a change of one connection alone
-  leads-on : (M : D) (w : World D) (k : ℕ) (over : Bool) (q : Pending) (change : Transcript → Transcript) → Reached answers M (on_connection w k change)
-      → (change (w.transcripts k)).rest ≡ q.held → (change (w.transcripts k)).shut ≡ over → (change (w.transcripts k)).out ≡ (change (w.transcripts k)).sent ++ q.outgoing
-      → (q.ends ≡ None → MayHave (turns_of k w.log) q.left) → LeadsTo answers M w k over q w.service
-  leads-on M w k over q change reached held shut outgoing may = record {
-    world = on_connection w k change;
-    reached = reached;
-    service = refl;
-    stands = stands-with (on_connection w k change) k over q (change (w.transcripts k)) (turns_of k w.log)
-        (pick-first (k == k) (change (w.transcripts k)) (w.transcripts k) (at-same k)) refl held shut outgoing may;
-    others = λ j o x e s. stands-still w (on_connection w k change) j o x (pick-second (j == k) (change (w.transcripts j)) (w.transcripts j) e) refl s;
+  -- From a world another is reached, at this service, in which this state shows this connection, on
+  -- which so much came and was sent. Each other one is what it was.
+  pub record Goes (M : D) (w : World D) (k : ℕ) (over : Bool) (p : Pending) (came sent : List ℕ) (N : D) : Type 0 where
+    pub world : World D
+    pub reached : Reached answers M world
+    pub service : world.service ≡ N
+    pub stands : StateShows world k over p
+    pub came_so_far : (world.transcripts k).came ≡ came
+    pub sent_so_far : (world.transcripts k).sent ≡ sent
+    pub others : (j : ℕ) → (j == k) ≡ false → IsSame w world j
+
+  pub going-leads : (M : D) (w : World D) (k : ℕ) (over : Bool) (p : Pending) (came sent : List ℕ) (N : D) → Goes M w k over p came sent N → LeadsTo answers M w k over p N
+  going-leads M w k over p came sent N g = record {
+    world = g.world;
+    reached = g.reached;
+    service = g.service;
+    stands = g.stands;
+    others = λ j o q e s. stands-still w g.world j o q (g.others j e).transcript (g.others j e).turned s;
   }
+
+  -- a change of one connection alone
+  goes-on : (M : D) (w : World D) (k : ℕ) (over : Bool) (q : Pending) (change : Transcript → Transcript) → Reached answers M (on_connection w k change)
+      → (change (w.transcripts k)).rest ≡ q.held → (change (w.transcripts k)).shut ≡ over → (change (w.transcripts k)).out ≡ (change (w.transcripts k)).sent ++ q.outgoing
+      → (q.ends ≡ None → MayHave (turns_of k w.log) q.left) → Goes M w k over q (change (w.transcripts k)).came (change (w.transcripts k)).sent w.service
+  goes-on M w k over q change reached held shut outgoing may =
+      let changed = pick-first (k == k) (change (w.transcripts k)) (w.transcripts k) (at-same k) in
+      record {
+        world = on_connection w k change;
+        reached = reached;
+        service = refl;
+        stands = stands-with (on_connection w k change) k over q (change (w.transcripts k)) (turns_of k w.log) changed refl held shut outgoing may;
+        came_so_far = ap (λ (l : Transcript). l.came) changed;
+        sent_so_far = ap (λ (l : Transcript). l.sent) changed;
+        others = λ j e. record { transcript = pick-second (j == k) (change (w.transcripts j)) (w.transcripts j) e; turned = refl };
+      }
 
   pub state-begins : Begins answers
   state-begins M k = record {
@@ -78,23 +109,36 @@ module _ {D : Type 0} (answers : Answering D) where
     may_have = λ going. record { go_on = tt; some = omega arith; all = refl };
   }
 
-  pub state-comes : Comes answers
-  state-comes M w k p bytes r s = leads-on M w k false (holding p (p.held ++ bytes)) (with_bytes bytes) (comes w r k bytes s.shut)
+  pub goes-by-comes : (M : D) (w : World D) (k : ℕ) (p : Pending) (bytes : List ℕ) → Reached answers M w → StateShows w k false p
+      → Goes M w k false (holding p (p.held ++ bytes)) ((w.transcripts k).came ++ bytes) (w.transcripts k).sent w.service
+  goes-by-comes M w k p bytes r s = goes-on M w k false (holding p (p.held ++ bytes)) (with_bytes bytes) (comes w r k bytes s.shut)
       (ap (λ (l : List ℕ). l ++ bytes) s.held) s.shut s.outgoing s.may_have
 
+  pub state-comes : Comes answers
+  state-comes M w k p bytes r s = going-leads M w k false (holding p (p.held ++ bytes)) _ _ w.service (goes-by-comes M w k p bytes r s)
+
+  pub goes-by-shuts : (M : D) (w : World D) (k : ℕ) (over : Bool) (p : Pending) → Reached answers M w → StateShows w k over p
+      → Goes M w k true p (w.transcripts k).came (w.transcripts k).sent w.service
+  goes-by-shuts M w k over p r s = goes-on M w k true p at_end (shuts w r k) s.held refl s.outgoing s.may_have
+
   pub state-shuts : Shuts answers
-  state-shuts M w k over p r s = leads-on M w k true p at_end (shuts w r k) s.held refl s.outgoing s.may_have
+  state-shuts M w k over p r s = going-leads M w k true p _ _ w.service (goes-by-shuts M w k over p r s)
+
+  pub goes-by-sends : (M : D) (w : World D) (k : ℕ) (over : Bool) (p : Pending) (put rest : List ℕ) → Reached answers M w → StateShows w k over p → p.outgoing ≡ put ++ rest
+      → Goes M w k over (sending p rest) (w.transcripts k).came ((w.transcripts k).sent ++ put) w.service
+  goes-by-sends M w k over p put rest r s is =
+      let l = w.transcripts k in
+      let split : l.out ≡ (l.sent ++ put) ++ rest = s.outgoing ∙ ap (λ (u : List ℕ). l.sent ++ u) is ∙ sym (append_assoc l.sent put rest) in
+      goes-on M w k over (sending p rest) (with_sent (l.sent ++ put)) (sends w r k (l.sent ++ put) rest split) s.held s.shut split s.may_have
 
   pub state-sends : Sends answers
   state-sends M w k over p count r s =
-      let l = w.transcripts k in
-      let split : l.out ≡ (l.sent ++ take count p.outgoing) ++ drop count p.outgoing =
-      s.outgoing ∙ ap (λ (u : List ℕ). l.sent ++ u) (sym (take-append-drop count p.outgoing)) ∙ sym (append_assoc l.sent (take count p.outgoing) (drop count p.outgoing)) in
-      leads-on M w k over (sending p (drop count p.outgoing)) (with_sent (l.sent ++ take count p.outgoing))
-      (sends w r k (l.sent ++ take count p.outgoing) (drop count p.outgoing) split) s.held s.shut split s.may_have
+      going-leads M w k over (sending p (drop count p.outgoing)) _ _ w.service
+      (goes-by-sends M w k over p (take count p.outgoing) (drop count p.outgoing) r s (sym (take-append-drop count p.outgoing)))
 
-  pub state-turns : TakesTurns answers
-  state-turns M w k over p q N readings readings2 r s going none t =
+  pub goes-by-turns : (M : D) (w : World D) (k : ℕ) (over : Bool) (p q : Pending) (N : D) (readings readings2 : Option (List ℕ)) → Reached answers M w → StateShows w k over p → p.ends ≡ None → p.outgoing ≡ []
+      → TakesTurn answers p q w.service N readings readings2 over → Goes M w k over q (w.transcripts k).came (w.transcripts k).sent N
+  goes-by-turns M w k over p q N readings readings2 r s going none t =
       let l = w.transcripts k in
       let ts = turns_of k w.log in
       let may = s.may_have going in
@@ -114,12 +158,20 @@ module _ {D : Type 0} (answers : Answering D) where
       let one = count-one t.cause (on-request answers t.cause w.service (p.left == 1) t.turns.outcome t.turned.end N t.turns.is_turn ended) in
       let last = on-not_last answers t.cause w.service (p.left == 1) t.turns.outcome t.turned.end N t.turns.is_turn ended in
       may-more ts turn p.left q.left may ended last (t.left ∙ ap (λ (n : ℕ). p.left - n) one) in
+      let changed = pick-first (k == k) (with_turn turn q.held l) l (at-same k) in
       record {
         world = v;
         reached = turns w r k turn q.held N may.go_on took is_turn;
         service = refl;
-        stands = stands-with v k over q (with_turn turn q.held l) (turn ∷ ts)
-            (pick-first (k == k) (with_turn turn q.held l) l (at-same k)) (pick-first (k == k) (turn ∷ ts) ts (at-same k)) refl s.shut outgoing later;
-        others = λ j o x e still. stands-still w v j o x (pick-second (j == k) (with_turn turn q.held (w.transcripts j)) (w.transcripts j) e)
-            (pick-second (j == k) (turn ∷ turns_of j w.log) (turns_of j w.log) e) still;
+        stands = stands-with v k over q (with_turn turn q.held l) (turn ∷ ts) changed (pick-first (k == k) (turn ∷ ts) ts (at-same k)) refl s.shut outgoing later;
+        came_so_far = ap (λ (m : Transcript). m.came) changed;
+        sent_so_far = ap (λ (m : Transcript). m.sent) changed;
+        others = λ j e. record {
+          transcript = pick-second (j == k) (with_turn turn q.held (w.transcripts j)) (w.transcripts j) e;
+          turned = pick-second (j == k) (turn ∷ turns_of j w.log) (turns_of j w.log) e;
+        };
       }
+
+  pub state-turns : TakesTurns answers
+  state-turns M w k over p q N readings readings2 r s going none t =
+      going-leads M w k over q _ _ N (goes-by-turns M w k over p q N readings readings2 r s going none t)

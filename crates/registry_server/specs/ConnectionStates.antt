@@ -44,6 +44,11 @@ holding p held = pending held p.outgoing p.left p.ends
 abbrev pub sending : Pending → List ℕ → Pending
 sending p outgoing = pending p.held outgoing p.left p.ends
 
+-- a turn may be taken: all of the response before is sent, and the connection goes on
+pub record MayTakeTurn (p : Pending) : Type 0 where
+  pub all_sent : p.outgoing ≡ []
+  pub goes_on : p.ends ≡ None
+
 -- want of memory for what came is answered, and the connection ends
 pub record IsStarved (old new : Pending) : Type 0 where
   pub turned : Turned

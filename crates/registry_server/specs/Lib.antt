@@ -1,3 +1,6 @@
 pub mod ConnectionStates
-pub mod Flows
+pub mod Connections
+pub mod Listening
+pub mod Phases
+pub mod Sockets
 pub mod Worlds

@@ -1,10 +1,12 @@
 -- What a state shows of one of the connections that take turns by a service, and what its calls
 -- make of all of them.
-use Rattle.std.specs.Prelude.{◌≡◌, ◌+◌, ◌==◌, ◌<◌, ◌++◌, [], ℕ, Bool, true, false, List, Option, None, length, drop}
+use Rattle.std.specs.Prelude.{◌≡◌, ◌+◌, ◌==◌, ◌<◌, ◌++◌, [], ℕ, Bool, true, false, List, Option, Some, None, length, drop}
 use Rattle.registry_service.specs.Courses.{GoOn}
-use Rattle.registry_service.specs.Histories.{Reached, World, start, turns_of}
+use Rattle.registry_service.specs.Histories.{Reached, Transcript, World, start, turns_of}
 use Rattle.registry_service.specs.Turns.{Answering, Turn, request_limit}
+use Rattle.registry_service.specs.declared.turning.End.{End}
 use Rattle.registry_server.specs.ConnectionStates.{IsStarved, Pending, TakesTurn, fresh, holding, sending}
+use Rattle.registry_server.specs.Connections.{OpenConnection, Visits}
 
 -- each of the turns went on, and some more may follow, up to the limit
 pub record MayHave (ts : List Turn) (left : ℕ) : Type 0 where
@@ -59,3 +61,39 @@ module _ {D : Type 0} (answers : Answering D) where
   abbrev pub Sends : Type 0
   Sends = (M : D) (w : World D) (k : ℕ) (over : Bool) (p : Pending) (count : ℕ)
       → Reached answers M w → StateShows w k over p → LeadsTo M w k over (sending p (drop count p.outgoing)) w.service
+
+-- ---- with sockets
+
+-- All that was received from the socket came on the connection. Once that has ended, more may have
+-- been received, which is dropped.
+abbrev pub ShowsReceived : Option (List ℕ) → Transcript → Option End → Type 0
+ShowsReceived None l ends = Unit {0}
+ShowsReceived (Some bytes) l ends = (dropped : List ℕ) × (bytes ≡ l.came ++ dropped) × (ends ≡ None → dropped ≡ [])
+
+-- what the socket took to send is what was sent on the connection
+abbrev pub ShowsSent : Option (List ℕ) → Transcript → Type 0
+ShowsSent None l = Unit {0}
+ShowsSent (Some bytes) l = bytes ≡ l.sent
+
+module _ {S : Type 0} (received sent : S → Option (List ℕ)) {D : Type 0} where
+  -- the open connection, with its socket, is the connection of this number
+  pub record SocketShows (w : World D) (k : ℕ) (c : OpenConnection S) : Type 0 where
+    pub state : StateShows w k c.is_over c.state
+    pub received_so_far : ShowsReceived (received c.socket) (w.transcripts k) c.state.ends
+    pub sent_so_far : ShowsSent (sent c.socket) (w.transcripts k)
+
+module _ {S : Type 0} (received sent : S → Option (List ℕ)) {D : Type 0} (answers : Answering D) where
+  -- From a world another is reached, at this service, in which this open connection is that of this
+  -- number. What showed another one still does.
+  pub record VisitLeadsTo (M : D) (w : World D) (k : ℕ) (c : OpenConnection S) (N : D) : Type 0 where
+    pub world : World D
+    pub reached : Reached answers M world
+    pub service : world.service ≡ N
+    pub stands : SocketShows received sent world k c
+    pub others : (j : ℕ) (d : OpenConnection S) → (j == k) ≡ false → SocketShows received sent w j d → SocketShows received sent world j d
+
+  -- a visit
+  abbrev pub VisitsLead : Type 0
+  VisitsLead = (M : D) (w : World D) (k : ℕ) (old new : OpenConnection S) (N : D) (readings readings2 : Option (List ℕ))
+      → Reached answers M w → SocketShows received sent w k old → Visits received sent answers old new w.service N readings readings2
+      → VisitLeadsTo M w k new N

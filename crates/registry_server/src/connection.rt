@@ -1,52 +1,18 @@
 //! One open connection.
 
-ghost use Rattle.std.specs.Prelude.{◌≡◌, ◌≤◌, length};
+ghost use Rattle.std.specs.Prelude.{◌≡◌, [], true, false, IsSome, OnOk, OnErr};
+ghost use Rattle.registry_server.specs.ConnectionStates.{Does, MayTakeTurn, fresh};
+ghost use Rattle.registry_server.specs.Connections.{AnswersOnce, Drops, Receives, SendsDue, StarvesOnce, Visits, connected};
+ghost use Rattle.registry_server.specs.Phases as phases;
+ghost use Rattle.registry_server.specs.declared.phase.Stage.TheVariants as stages;
+ghost use Rattle.registry_server.specs.declared.state.Progress.TheVariants as progress;
 
-use crate::socket::{Flow, receive, send};
+use crate::phase::{Phase, Stage};
+use crate::socket::{Flow, Socket};
 use crate::state::{ConnectionState, Progress};
-use mio::net::TcpStream;
 use registry_service::{Clock, Service};
-use std::alloc::Global;
-use std::net::Shutdown;
-
-/// A connection with nothing begun ends after so many milliseconds.
-pub const IDLE_LIMIT: u64 = 60_000;
-
-/// A request that was begun is whole after so many milliseconds, or its connection ends.
-pub const REQUEST_TIME_LIMIT: u64 = 10_000;
-
-/// A response was taken after so many milliseconds, or its connection ends.
-pub const RESPONSE_LIMIT: u64 = 60_000;
-
-/// For so many milliseconds at most, what comes after the last response is read and dropped.
-pub const DRAIN_LIMIT: u64 = 2_000;
-
-/// What a connection is at.
-#[derive(Clone, Copy, Debug, PartialEq, Eq)]
-enum Stage {
-    /// Nothing is begun.
-    Idle,
-    /// A request was begun and isn't whole.
-    Begun,
-    /// The request before was answered, and more is held, which wasn't looked at.
-    Next,
-    /// A response is being sent.
-    Sends,
-    /// The last response was sent, and what still comes is dropped.
-    Drains,
-}
-
-impl Stage {
-    // How long it may last.
-    fn limit(self) -> u64 {
-        match self {
-            Stage::Idle | Stage::Next => IDLE_LIMIT,
-            Stage::Begun => REQUEST_TIME_LIMIT,
-            Stage::Sends => RESPONSE_LIMIT,
-            Stage::Drains => DRAIN_LIMIT,
-        }
-    }
-}
+use std::alloc::{AllocError, Global};
+use std::marker::Model;
 
 /// How a visit ended.
 #[derive(Clone, Copy, Debug, PartialEq, Eq)]
@@ -59,43 +25,56 @@ pub enum Visit {
     Over,
 }
 
-/// An open connection: its socket, what of it isn't done, and until when it has time.
+/// An open connection: its socket, what of it isn't done, what it is at and until when it has time,
+/// and whether the other side sends no more.
 #[derive(Drop)]
-pub struct Connection {
-    stream: TcpStream,
+pub struct Connection<S: Socket> {
+    socket: S,
     state: ConnectionState,
-    stage: Stage,
-    until: u64,
-    // The other side sends no more.
+    phase: Phase,
     is_over: bool,
 }
 
-impl Connection {
+impl<S: Socket> Model for Connection<S> {
+    ghost use Rattle.std.specs.Prelude.{◌≡◌, true};
+    ghost use Rattle.registry_server.specs.Connections.{IsInOrder, OpenConnection, connected};
+
+    ghost Value = { OpenConnection S };
+
+    ghost view = { λ c. connected c.socket c.state c.phase c.is_over };
+
+    ghost invariant = { λ c. IsInOrder c.phase.stage c.state
+        × (c.is_over ≡ true → S.is_ended c.socket ≡ true) };
+}
+
+impl<S: Socket> Connection<S> {
     /// A new connection, at this time in milliseconds.
-    pub fn new(alloc: Global, stream: TcpStream, now: u64) -> Connection {
+    pub fn new(alloc: Global, socket: S, now: u64) -> Connection<S>
+        ensures { result ≡ connected socket fresh (phases.first_phase now) false }
+    {
         Connection {
-            stream,
+            socket,
             state: ConnectionState::new(alloc),
-            stage: Stage::Idle,
-            until: now.saturating_add(IDLE_LIMIT),
+            phase: Phase::new(now),
             is_over: false,
         }
     }
 
     /// Whether its time is up.
-    pub fn is_late(&self, now: u64) -> bool {
-        self.until <= now
+    pub fn is_late(&self, now: u64) -> bool
+        ensures { result ≡ phases.is_late self.now.phase now }
+    {
+        self.phase.is_late(now)
     }
 
     /// Since when nothing is begun on it. None where something is.
-    pub fn idle_since(&self) -> Option<u64> {
-        match self.stage {
-            Stage::Idle => Some(self.until.saturating_sub(IDLE_LIMIT)),
-            _ => None,
-        }
+    pub fn idle_since(&self) -> Option<u64>
+        ensures { result ≡ phases.idle_since self.now.phase }
+    {
+        self.phase.idle_since()
     }
 
-    /// Goes on with the connection: reads once, answers one request at most, and writes once.
+    /// Goes on with the connection: receives once, answers one request at most, and sends once.
     pub fn visit<D: Service, C: Clock>(
         &mut self,
         alloc: Global,
@@ -103,11 +82,16 @@ impl Connection {
         clock: &mut C,
         buffer: &mut [u8],
         now: u64,
-    ) -> Visit {
-        match self.stage {
-            Stage::Idle | Stage::Begun => match self.read(buffer, now) {
-                Visit::Again => self.answer(alloc, service, clock, now),
-                visit => visit,
+    ) -> Visit
+        ensures visits { Visits S.received S.sent D.answers self.old self.new
+            service.old service.new (C.readings clock.old) (C.readings clock.new) }
+    {
+        match self.phase.stage {
+            Stage::Idle | Stage::Begun => match self.receive(buffer, now) {
+                Ok(Flow::Moved(_) | Flow::Ended) => self.answer(alloc, service, clock, now),
+                Ok(Flow::Waits) => Visit::Rests,
+                Ok(Flow::Broken) => Visit::Over,
+                Err(_) => self.starve(now),
             },
             Stage::Next => self.answer(alloc, service, clock, now),
             Stage::Sends => self.send(now),
@@ -115,20 +99,27 @@ impl Connection {
         }
     }
 
-    // Reads what has come.
-    fn read(&mut self, buffer: &mut [u8], now: u64) -> Visit {
-        match receive(&self.stream, buffer) {
+    // Receives what has come, and holds it. After an error it isn't held.
+    fn receive(&mut self, buffer: &mut [u8], now: u64) -> Result<Flow, AllocError>
+        requires { phases.takes_turns self.old.phase.stage ≡ true }
+        ensures may { MayTakeTurn self.old.state }
+        ensures kept { OnOk result (Receives S.received S.sent self.old self.new true) }
+        ensures lost { OnErr result (Receives S.received S.sent self.old self.new false) }
+        ensures stage { phases.takes_turns self.new.phase.stage ≡ true }
+    {
+        if self.is_over {
+            return Ok(Flow::Ended);
+        }
+        let flow = self.socket.receive(buffer);
+        match flow {
+            Flow::Moved(0) | Flow::Waits | Flow::Broken => {}
             Flow::Moved(count) => {
-                if self.state.came(&buffer[..count]).is_err() {
-                    self.state.starve();
-                    self.enter(Stage::Sends, now);
-                }
+                self.phase.enter(Stage::Begun, now);
+                self.state.came(&buffer[..count])?;
             }
             Flow::Ended => self.is_over = true,
-            Flow::Waits => return Visit::Rests,
-            Flow::Broken => return Visit::Over,
         }
-        Visit::Again
+        Ok(flow)
     }
 
     // Answers the first request that is held, if it is whole, and begins to send the response.
@@ -138,30 +129,64 @@ impl Connection {
         service: &mut D,
         clock: &mut C,
         now: u64,
-    ) -> Visit {
-        if self.stage == Stage::Sends {
-            return self.send(now);
-        }
-        match self.state.take_turn(alloc, service, clock, self.is_over) {
-            Progress::Answered => {
-                self.enter(Stage::Sends, now);
-                self.send(now)
-            }
-            Progress::Waits => {
-                self.wait(now);
-                Visit::Again
-            }
+    ) -> Visit
+        requires { phases.takes_turns self.old.phase.stage ≡ true }
+        ensures may { MayTakeTurn self.old.state }
+        ensures answers { AnswersOnce S.received S.sent D.answers self.old self.new
+            service.old service.new (C.readings clock.old) (C.readings clock.new) }
+    {
+        match self.take_turn(alloc, service, clock, now) {
+            Progress::Answered => self.send(now),
+            Progress::Waits => Visit::Again,
             Progress::Closed => Visit::Over,
         }
     }
 
-    // Writes once.
-    fn send(&mut self, now: u64) -> Visit {
-        match send(&self.stream, self.state.outgoing()) {
+    // Takes the next turn.
+    fn take_turn<D: Service, C: Clock>(
+        &mut self,
+        alloc: Global,
+        service: &mut D,
+        clock: &mut C,
+        now: u64,
+    ) -> Progress
+        requires { phases.takes_turns self.old.phase.stage ≡ true }
+        ensures may { MayTakeTurn self.old.state }
+        ensures does { Does D.answers self.old.state self.new.state service.old service.new
+            (C.readings clock.old) (C.readings clock.new) self.old.is_over result }
+        ensures sends { result ≡ progress.Answered → self.new.phase.stage ≡ stages.Sends }
+        ensures socket { self.new.socket ≡ self.old.socket }
+        ensures over { self.new.is_over ≡ self.old.is_over }
+    {
+        let progress = self.state.take_turn(alloc, service, clock, self.is_over);
+        match progress {
+            Progress::Answered => self.phase.enter(Stage::Sends, now),
+            Progress::Waits if !self.state.is_empty() => self.phase.enter(Stage::Begun, now),
+            Progress::Waits | Progress::Closed => {}
+        }
+        progress
+    }
+
+    // Answers that there was no memory for what came.
+    fn starve(&mut self, now: u64) -> Visit
+        ensures { StarvesOnce S.received S.sent self.old self.new }
+    {
+        self.phase.enter(Stage::Sends, now);
+        self.state.starve();
+        self.send(now)
+    }
+
+    // Sends once.
+    fn send(&mut self, now: u64) -> Visit
+        requires { self.old.phase.stage ≡ stages.Sends }
+        ensures { SendsDue S.received S.sent self.old self.new }
+    {
+        let (head, body) = self.state.outgoing().parts();
+        match self.socket.send(head, body) {
             Flow::Moved(count) => {
                 self.state.sent(count);
                 if self.state.outgoing().is_empty() {
-                    self.sent(now)
+                    self.go_on(now)
                 } else {
                     Visit::Again
                 }
@@ -172,41 +197,36 @@ impl Connection {
     }
 
     // The whole response was sent.
-    fn sent(&mut self, now: u64) -> Visit {
+    fn go_on(&mut self, now: u64) -> Visit
+        requires { self.old.state.outgoing ≡ [] }
+        ensures state { self.new.state ≡ self.old.state }
+        ensures sent { S.sent self.new.socket ≡ S.sent self.old.socket }
+        ensures received { S.received self.new.socket ≡ S.received self.old.socket }
+        ensures over { self.new.is_over ≡ self.old.is_over }
+    {
         if self.state.ends().is_some() {
-            if self.stream.shutdown(Shutdown::Write).is_err() {
+            if !self.socket.shut() {
                 return Visit::Over;
             }
-            self.enter(Stage::Drains, now);
+            self.phase.enter(Stage::Drains, now);
         } else if self.state.is_empty() {
-            self.enter(Stage::Idle, now);
+            self.phase.enter(Stage::Idle, now);
         } else {
-            self.enter(Stage::Next, now);
+            self.phase.enter(Stage::Next, now);
         }
         Visit::Again
     }
 
-    // More has to come.
-    fn wait(&mut self, now: u64) {
-        if !self.state.is_empty() {
-            self.enter(Stage::Begun, now);
-        }
-    }
-
-    // Reads what comes after the last response, and drops it.
-    fn drain(&mut self, buffer: &mut [u8]) -> Visit {
-        match receive(&self.stream, buffer) {
+    // Receives what comes after the last response, and drops it.
+    fn drain(&mut self, buffer: &mut [u8]) -> Visit
+        requires { self.old.phase.stage ≡ stages.Drains }
+        ensures drops { Drops S.received S.sent self.old self.new }
+        ensures ended { IsSome self.new.state.ends }
+    {
+        match self.socket.receive(buffer) {
             Flow::Moved(_) => Visit::Again,
             Flow::Waits => Visit::Rests,
             Flow::Ended | Flow::Broken => Visit::Over,
-        }
-    }
-
-    // The time of a stage begins when it is entered, and not again while it lasts.
-    fn enter(&mut self, stage: Stage, now: u64) {
-        if self.stage != stage {
-            self.stage = stage;
-            self.until = now.saturating_add(stage.limit());
         }
     }
 }

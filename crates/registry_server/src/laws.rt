@@ -1,7 +1,8 @@
-//! A law of connections. It is the contract of a function that does nothing.
+//! Laws of connections. Each is the contract of a function that does nothing.
 
-ghost use Rattle.registry_server.specs.Worlds.{Begins, Comes, Sends, Shuts, Starves, TakesTurns};
+ghost use Rattle.registry_server.specs.Worlds.{Begins, Comes, Sends, Shuts, Starves, TakesTurns, VisitsLead};
 
+use crate::socket::Socket;
 use registry_service::Service;
 
 /// Connections that take turns with one service make one history. Each state shows a connection:
@@ -15,4 +16,12 @@ pub fn connections_make_one_history<D: Service>()
     ensures turns { TakesTurns D.answers }
     ensures starves { Starves D.answers }
     ensures sends { Sends D.answers }
+{}
+
+/// Visits of open connections make one history. In it each connection is the one of its socket: all
+/// that was received from the socket came on it, in this order, and more only once it has ended;
+/// and what the socket took to send is what was sent on it. So no byte of a connection is of
+/// another one's socket, none is lost, and none is there twice.
+pub fn visits_make_one_history<S: Socket, D: Service>()
+    ensures { VisitsLead S.received S.sent D.answers }
 {}

@@ -16,13 +16,16 @@ mod connection;
 pub mod laws;
 mod listener;
 mod outgoing;
+mod phase;
 mod pool;
 mod server;
 mod socket;
 mod state;
 
-pub use crate::connection::{DRAIN_LIMIT, IDLE_LIMIT, REQUEST_TIME_LIMIT, RESPONSE_LIMIT};
+pub use crate::connection::{Connection, Visit};
 pub use crate::outgoing::Outgoing;
+pub use crate::phase::{DRAIN_LIMIT, IDLE_LIMIT, Phase, REQUEST_TIME_LIMIT, RESPONSE_LIMIT, Stage};
 pub use crate::pool::CONNECTION_COUNT;
 pub use crate::server::Server;
+pub use crate::socket::{Flow, Socket};
 pub use crate::state::{ConnectionState, Progress};

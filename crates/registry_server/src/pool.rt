@@ -3,7 +3,7 @@
 ghost use Rattle.std.specs.Prelude.{◌≡◌, ◌≤◌, length};
 
 use crate::connection::{Connection, Visit};
-use mio::net::TcpStream;
+use crate::socket::Socket;
 use registry_service::{Clock, Service};
 use std::alloc::{AllocError, Global};
 use std::collections::VecDeque;
@@ -13,13 +13,13 @@ pub const CONNECTION_COUNT: usize = 512;
 
 /// A place for a connection.
 #[derive(Drop)]
-struct Place {
-    connection: Option<Connection>,
+struct Place<S: Socket> {
+    connection: Option<Connection<S>>,
     // It is in the list of those to visit.
     is_listed: bool,
 }
 
-impl Place {
+impl<S: Socket> Place<S> {
     fn is_free(&self) -> bool {
         self.connection.is_none()
     }
@@ -31,15 +31,15 @@ impl Place {
 
 /// Places for connections, which are numbers below `CONNECTION_COUNT`.
 #[derive(Drop)]
-pub struct ConnectionPool {
-    places: Vec<Place>,
+pub struct ConnectionPool<S: Socket> {
+    places: Vec<Place<S>>,
     // The places to visit, each of them once, in their order.
     ready: VecDeque<usize>,
 }
 
-impl ConnectionPool {
+impl<S: Socket> ConnectionPool<S> {
     /// A pool with every place free.
-    pub fn new(alloc: Global) -> Result<ConnectionPool, AllocError> {
+    pub fn new(alloc: Global) -> Result<ConnectionPool<S>, AllocError> {
         let mut places = Vec::with_capacity(alloc, CONNECTION_COUNT)?;
         for _ in 0..CONNECTION_COUNT {
             places.push(Place {
@@ -87,9 +87,9 @@ impl ConnectionPool {
 
     /// A new connection takes a place, at this time, and is to be visited. The one that was there
     /// ends.
-    pub fn add(&mut self, alloc: Global, number: usize, stream: TcpStream, now: u64) {
+    pub fn add(&mut self, alloc: Global, number: usize, socket: S, now: u64) {
         if let Some(place) = self.places.get_mut(number) {
-            place.connection = Some(Connection::new(alloc, stream, now));
+            place.connection = Some(Connection::new(alloc, socket, now));
         }
         self.wake(number);
     }

@@ -28,7 +28,7 @@ const LOOK_TIME: u64 = 250;
 pub struct Server {
     poll: Poll,
     listener: Listener,
-    pool: ConnectionPool,
+    pool: ConnectionPool<TcpStream>,
     // When to look for connections that are late.
     next_look: u64,
 }

@@ -1,14 +1,16 @@
-//! Reads and writes of a socket that never wait.
+//! Sockets whose calls never wait.
 
-ghost use Rattle.std.specs.Prelude.{length};
-ghost use Rattle.registry_server.specs.Flows.{MovesAtMost};
+ghost use Rattle.std.specs.Prelude.{◌≡◌, ◌++◌, ℕ, List, Option, Bool, true, false, length};
+ghost use Rattle.std.specs.Io.KnownBytes.{append_known};
+ghost use Rattle.registry_server.specs.Sockets.{MovesAtMost, moved};
+ghost use Rattle.registry_server.specs.declared.socket.Flow.TheVariants.{Ended, Broken};
 
-use crate::outgoing::Outgoing;
 use mio::net::TcpStream;
 use std::io;
 use std::io::{ErrorKind, IoSlice, Read};
+use std::net::Shutdown;
 
-/// What a read or a write gave.
+/// What a call of a socket gave.
 #[derive(Clone, Copy, Debug, PartialEq, Eq)]
 pub enum Flow {
     /// So many bytes went through, and none where it was interrupted.
@@ -21,26 +23,82 @@ pub enum Flow {
     Broken,
 }
 
-/// Reads once what has come, into the front of the buffer, which has room.
-pub fn receive(stream: &TcpStream, buffer: &mut [u8]) -> Flow
-    ensures { MovesAtMost (length buffer.new) result }
-{
-    let mut stream = stream;
-    match stream.read(buffer) {
-        Ok(0) => Flow::Ended,
-        Ok(count) => Flow::Moved(count),
-        Err(error) => failed(&error),
-    }
+/// A socket whose calls never wait.
+///
+/// Contracts see the bytes that were received from it so far, and those that it took to send, where
+/// they are known. A `TcpStream` of the system names neither: what is proved for every socket holds
+/// of it, too, since no code can ask a socket for them.
+pub trait Socket: Drop {
+    // The bytes that were received so far, where they are known.
+    ghost received: { Self → Option (List ℕ) };
+
+    // The bytes that it took to send so far, where they are known.
+    ghost sent: { Self → Option (List ℕ) };
+
+    // Whether the other side may have said that it sends no more.
+    ghost is_ended: { Self → Bool };
+
+    // Whether the connection may be broken.
+    ghost is_broken: { Self → Bool };
+
+    /// Receives once what has come, into the front of the buffer, which has room.
+    fn receive(&mut self, buffer: &mut [u8]) -> Flow
+        ensures bound { MovesAtMost (length buffer.new) result }
+        ensures received { received self.new
+            ≡ append_known (received self.old) (moved result buffer.new) }
+        ensures sent { sent self.new ≡ sent self.old }
+        ensures ended { result ≡ Ended → is_ended self.new ≡ true }
+        ensures still_ended { is_ended self.old ≡ true → is_ended self.new ≡ true }
+        ensures broken { result ≡ Broken → is_broken self.new ≡ true };
+
+    /// Takes some of the first bytes of these two to send, once.
+    fn send(&mut self, head: &[u8], body: &[u8]) -> Flow
+        ensures bound { MovesAtMost (length (head.now ++ body.now)) result }
+        ensures sent { sent self.new
+            ≡ append_known (sent self.old) (moved result (head.now ++ body.now)) }
+        ensures received { received self.new ≡ received self.old }
+        ensures ended { result ≡ Ended → is_ended self.new ≡ true }
+        ensures still_ended { is_ended self.old ≡ true → is_ended self.new ≡ true }
+        ensures broken { result ≡ Broken → is_broken self.new ≡ true };
+
+    /// Says to the other side that no more is sent. False where that fails.
+    fn shut(&mut self) -> bool
+        ensures sent { sent self.new ≡ sent self.old }
+        ensures received { received self.new ≡ received self.old }
+        ensures still_ended { is_ended self.old ≡ true → is_ended self.new ≡ true }
+        ensures broken { result ≡ false → is_broken self.new ≡ true };
 }
 
-/// Writes once what is left of a response, its head and its body in one call.
-pub fn send(stream: &TcpStream, outgoing: &Outgoing) -> Flow
-    ensures { MovesAtMost (length outgoing.now) result }
-{
-    let (head, body) = outgoing.parts();
-    match stream.write_vectored(&[IoSlice::new(head), IoSlice::new(body)]) {
-        Ok(count) => Flow::Moved(count),
-        Err(error) => failed(&error),
+impl Socket for TcpStream {
+    ghost use Rattle.std.specs.Prelude.{None, true};
+
+    ghost received = { λ _. None };
+
+    ghost sent = { λ _. None };
+
+    ghost is_ended = { λ _. true };
+
+    ghost is_broken = { λ _. true };
+
+    fn receive(&mut self, buffer: &mut [u8]) -> Flow {
+        match self.read(buffer) {
+            Ok(0) => Flow::Ended,
+            Ok(count) => Flow::Moved(count),
+            Err(error) => failed(&error),
+        }
+    }
+
+    // Both pieces go out in one call of the system.
+    fn send(&mut self, head: &[u8], body: &[u8]) -> Flow {
+        let stream: &TcpStream = self;
+        match stream.write_vectored(&[IoSlice::new(head), IoSlice::new(body)]) {
+            Ok(count) => Flow::Moved(count),
+            Err(error) => failed(&error),
+        }
+    }
+
+    fn shut(&mut self) -> bool {
+        self.shutdown(Shutdown::Write).is_ok()
     }
 }
 

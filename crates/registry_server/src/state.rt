@@ -1,14 +1,16 @@
 //! One connection, apart from its socket.
 
-ghost use Rattle.std.specs.Prelude.{◌≡◌, ◌≤◌, ◌-◌, ◌==◌, ◌++◌, ◌∷◌, [], ℕ, length, drop, OnOk, OnErr};
+ghost use Rattle.std.specs.Prelude.{◌≡◌, ◌≤◌, ◌-◌, ◌==◌, ◌++◌, ◌∷◌, ◌↔◌, [], ℕ, length, drop, IsTrue, OnOk, OnErr};
 ghost use Rattle.registry_service.specs.Courses.{Gave};
 ghost use Rattle.registry_service.specs.Servings.{bytes_of};
 ghost use Rattle.registry_service.specs.Turns.{Turns, request};
 ghost use Rattle.registry_server.specs.declared.state.Progress.TheVariants.{Answered};
-ghost use Rattle.registry_server.specs.ConnectionStates.{Does, IsStarved, fresh, holding, pending, sending};
+ghost use Rattle.registry_server.specs.ConnectionStates.{Does, IsStarved, MayTakeTurn, fresh, holding, pending, sending};
 
 use crate::outgoing::Outgoing;
-use registry_service::{Clock, End, REQUEST_LIMIT, Service, Turned, turn, turn_away, turn_starved};
+use registry_service::{
+    Clock, End, REQUESTS_PER_CONNECTION, Service, Turned, turn, turn_away, turn_starved,
+};
 use registry_wire::{Ending, First, Wanted, ending_of, first_in};
 use std::alloc::{AllocError, Global};
 use std::marker::Model;
@@ -53,7 +55,7 @@ impl ConnectionState {
         ConnectionState {
             held: Vec::new(alloc),
             outgoing: Outgoing::none(),
-            left: REQUEST_LIMIT,
+            left: REQUESTS_PER_CONNECTION,
             ends: None,
         }
     }
@@ -79,6 +81,13 @@ impl ConnectionState {
         &self.outgoing
     }
 
+    /// Whether a turn may be taken: all of the response before is sent, and the connection goes on.
+    pub fn may_take_turn(&self) -> bool
+        ensures { IsTrue result ↔ MayTakeTurn self.now }
+    {
+        self.outgoing.is_empty() && self.ends.is_none()
+    }
+
     /// These bytes came. After an error none of them is held.
     pub fn came(&mut self, bytes: &[u8]) -> Result<(), AllocError>
         ensures ok { OnOk result (self.new ≡ holding self.old (self.old.held ++ bytes.now)) }
@@ -100,7 +109,7 @@ impl ConnectionState {
     /// memory to read one; after these, after a fault, after the last request and after one that
     /// asks for it the connection ends. `is_over` says that no more bytes come.
     ///
-    /// The response takes the place of the one before, which the caller has sent.
+    /// All of the response before is sent, and the connection goes on.
     pub fn take_turn<D: Service, C: Clock>(
         &mut self,
         alloc: Global,
@@ -108,6 +117,7 @@ impl ConnectionState {
         clock: &mut C,
         is_over: bool,
     ) -> Progress
+        requires { MayTakeTurn self.old }
         ensures { Does D.answers self.old self.new service.old service.new
             (C.readings clock.old) (C.readings clock.new) is_over result }
     {

@@ -1,6 +1,7 @@
 -- What each route asks for.
+use Rattle.registry_names.specs.Spellings.{status_named}
 use Rattle.registry_names.specs.Texts.{Text}
-use Rattle.registry_routes.specs.Bodies.{grant_named, role_named, status_named}
+use Rattle.registry_access.specs.Spellings.{grant_named, role_named}
 use Rattle.registry_routes.specs.Routes.{Values}
 use Rattle.registry_routes.specs.declared.endpoint.Endpoint.{Endpoint}
 use Rattle.registry_routes.specs.declared.endpoint.Endpoint.TheVariants as endpoint

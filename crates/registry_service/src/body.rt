@@ -1,7 +1,8 @@
 //! What bodies are read as, and the name of an archive's file.
 
 ghost use Rattle.std.specs.Prelude.{◌≡◌, ◌↔◌, IsTrue};
-ghost use Rattle.registry_routes.specs.Bodies.{grant_named, role_named, status_named};
+ghost use Rattle.registry_names.specs.Spellings.{status_named};
+ghost use Rattle.registry_access.specs.Spellings.{grant_named, role_named};
 ghost use Rattle.registry_service.specs.Bodies as spec;
 
 use registry_access::{Grant, Role};

@@ -6,7 +6,9 @@ ghost use Rattle.registry_wire.specs.Reading.{CountsInterrupted};
 ghost use Rattle.registry_service.specs.Courses.{Gave, GoesTo, IsServed, ReadsFail, Rests, side};
 ghost use Rattle.registry_service.specs.Servings.{bytes_of, written_failures};
 
-use crate::turning::{End, REQUEST_LIMIT, Service, Turned, turn, turn_away, turn_starved};
+use crate::turning::{
+    End, REQUESTS_PER_CONNECTION, Service, Turned, turn, turn_away, turn_starved,
+};
 use registry_names::{ByteIn, ByteOut, Fault, Moment, WriteFailed};
 use registry_wire::{Inbox, Taken, write_response};
 use std::alloc::Global;
@@ -58,7 +60,7 @@ pub fn serve<D: Service, R: ByteIn, W: ByteOut, C: Clock>(
 {
     let mut requests = 0;
     'turns: loop {
-        let is_last = requests + 1 == REQUEST_LIMIT;
+        let is_last = requests + 1 == REQUESTS_PER_CONNECTION;
         let turned = match next_turn(alloc, service, inbox, clock, is_last) {
             Ok(turned) => turned,
             Err(end) => return Served { requests, end },

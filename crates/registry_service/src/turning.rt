@@ -15,7 +15,7 @@ use registry_wire::Wanted;
 use std::alloc::Global;
 
 /// The most requests of one connection.
-pub const REQUEST_LIMIT: u32 = 1000;
+pub const REQUESTS_PER_CONNECTION: u32 = 1000;
 
 /// Where requests are answered, one after the other.
 pub trait Service {
@@ -32,7 +32,7 @@ pub trait Service {
 pub enum End {
     /// The other side ended it after a whole request, or a request asked for it.
     Closed,
-    /// It had `REQUEST_LIMIT` requests.
+    /// It had `REQUESTS_PER_CONNECTION` requests.
     Limit,
     /// What came was no request that is served.
     BadInput,

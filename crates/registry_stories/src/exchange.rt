@@ -9,7 +9,7 @@ use registry_http::RegistryService;
 use registry_names::{Fault, Moment};
 use registry_program::let_go;
 use registry_server::{ConnectionState, Progress};
-use registry_service::{End, REQUEST_LIMIT, Service};
+use registry_service::{End, REQUESTS_PER_CONNECTION, Service};
 use sqlite::FileStore;
 use sqlite_disk::Disk;
 use std::alloc::{AllocError, Global};
@@ -145,7 +145,10 @@ impl Exchange {
         service: &mut D,
         is_over: bool,
     ) -> Result<Option<End>, AllocError> {
-        for _ in 0..=REQUEST_LIMIT {
+        for _ in 0..=REQUESTS_PER_CONNECTION {
+            if !self.state.may_take_turn() {
+                break;
+            }
             match self
                 .state
                 .take_turn(alloc, service, &mut self.clock, is_over)
@@ -154,11 +157,8 @@ impl Exchange {
                 Progress::Waits => return Ok(None),
                 Progress::Closed => return Ok(Some(End::Closed)),
             }
-            if let Some(end) = self.state.ends() {
-                return Ok(Some(end));
-            }
         }
-        Ok(None)
+        Ok(self.state.ends())
     }
 
     // Sends all that isn't sent.

@@ -18,7 +18,7 @@ ghost use Rattle.registry_tables.specs.Withdrawals as withdrawals;
 use crate::versions::has_version;
 use registry_names::{Blob, Fault, Name};
 use registry_publish::PublishForm;
-use registry_rows::{RowKind, first_in, read, value_in, write};
+use registry_rows::{RowKind, read, value_of_first_row, value_of_row, write};
 use sqlite::types::ValueRef;
 use sqlite::{Alter, Error, Row, Transaction, params};
 
@@ -61,7 +61,7 @@ pub(crate) fn held_archive<S: Alter>(
         "SELECT archive FROM held WHERE package = ?1 AND version = ?2",
         params![name.text(), version],
     )?;
-    first_in::<NumberRow>(&rows)
+    value_of_first_row::<NumberRow>(&rows)
 }
 
 // The bytes of the archive with this number. Where none has it that is a fault.
@@ -82,7 +82,7 @@ fn load_bytes<S: Alter>(tx: &mut Transaction<'_, S>, number: i64) -> Result<Blob
 fn bytes_in(rows: &[Row]) -> Result<Blob, Fault>
     ensures { IfOk result (λ bytes. option_map bytes_spelled (slice_get rows.now 0) ≡ Some bytes) }
 {
-    match first_in::<BytesRow>(rows)? {
+    match value_of_first_row::<BytesRow>(rows)? {
         Some(bytes) => Ok(bytes),
         None => Err(Fault::Database),
     }
@@ -141,7 +141,7 @@ fn first_with(rows: &[Row], bytes: &[u8]) -> Result<Option<i64>, Fault>
 {
     for row in rows {
         if has_bytes(row, bytes)? {
-            return Ok(Some(value_in::<NumberRow>(row)?));
+            return Ok(Some(value_of_row::<NumberRow>(row)?));
         }
     }
     Ok(None)

@@ -13,7 +13,7 @@ ghost use Rattle.registry_tables.specs.Teams.{AreGranted, grant_spelled, granted
 use registry_access::Grant;
 use registry_names::{Fault, Name, Text};
 use registry_packument::Granted;
-use registry_rows::{RowKind, read, values_in, write};
+use registry_rows::{RowKind, read, values_of_rows, write};
 use sqlite::{Alter, Error, Row, Transaction, params};
 use std::alloc::Global;
 
@@ -147,7 +147,7 @@ pub fn load_grants<S: Alter>(
         "SELECT grants.level FROM team_members, grants WHERE team_members.org = ?1 AND team_members.user = ?2 AND grants.org = ?1 AND grants.team = team_members.team AND grants.package = ?3",
         params![organisation, user, name.text()],
     )?;
-    values_in::<GrantRow>(alloc, &rows)
+    values_of_rows::<GrantRow>(alloc, &rows)
 }
 
 /// What a team is granted, in byte order of the packages.
@@ -167,7 +167,7 @@ pub(crate) fn load_team_grants<S: Alter>(
         "SELECT package, level FROM grants WHERE org = ?1 AND team = ?2 ORDER BY package",
         params![organisation, team],
     )?;
-    values_in::<ListedGrant>(alloc, &rows)
+    values_of_rows::<ListedGrant>(alloc, &rows)
 }
 
 // A package and what is granted on it.

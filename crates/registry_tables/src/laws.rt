@@ -70,6 +70,6 @@ pub fn grants_stay_in_scope()
 
 /// Where references hold, a team has members of its organisation alone, and
 /// grants on packages of its scope.
-pub fn teams_stay_sound()
+pub fn teams_are_within_their_organisation()
     ensures { TeamsStaySound }
 {}

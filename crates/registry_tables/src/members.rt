@@ -17,7 +17,7 @@ ghost use Rattle.registry_tables.specs.Teams.{without_member};
 use registry_access::Role;
 use registry_names::{Fault, Text};
 use registry_packument::Member;
-use registry_rows::{RowKind, first_in, read, values_in, write};
+use registry_rows::{RowKind, read, value_of_first_row, values_of_rows, write};
 use sqlite::{Alter, Error, Row, Transaction, params};
 use std::alloc::Global;
 
@@ -37,7 +37,7 @@ pub fn load_role<S: Alter>(
         "SELECT role FROM members WHERE org = ?1 AND user = ?2",
         params![organisation, user],
     )?;
-    first_in::<RoleRow>(&rows)
+    value_of_first_row::<RoleRow>(&rows)
 }
 
 /// The members of an organisation with their roles, in byte order of their names.
@@ -56,7 +56,7 @@ pub fn load_members<S: Alter>(
         "SELECT user, role FROM members WHERE org = ?1 ORDER BY user",
         params![organisation],
     )?;
-    values_in::<ListedMember>(alloc, &rows)
+    values_of_rows::<ListedMember>(alloc, &rows)
 }
 
 /// Whether another member of the organisation than this user is an owner.

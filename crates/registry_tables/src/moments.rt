@@ -5,7 +5,7 @@ ghost use Rattle.registry_tables.specs.Spelled.{number_spelled};
 ghost use Rattle.registry_tables.specs.Withdrawals.{last_number};
 
 use registry_names::{Fault, Moment};
-use registry_rows::{RowKind, value_in};
+use registry_rows::{RowKind, value_of_row};
 use sqlite::{Error, Row};
 
 /// The last of the moments that the rows spell, if there is a row.
@@ -14,7 +14,7 @@ pub(crate) fn last_moment(rows: &[Row]) -> Result<Option<Moment>, Fault>
 {
     let mut last = None;
     for row in rows {
-        let moment = value_in::<MomentRow>(row)?;
+        let moment = value_of_row::<MomentRow>(row)?;
         last = Some(later(moment, last));
     }
     Ok(last)

@@ -9,7 +9,7 @@ ghost use Rattle.registry_tables.specs.Effects.{InForm, Makes, Tells};
 ghost use Rattle.registry_tables.specs.Spelled.{status_number, status_spelled};
 
 use registry_names::{Fault, Name, Status};
-use registry_rows::{RowKind, first_in, read, write};
+use registry_rows::{RowKind, read, value_of_first_row, write};
 use sqlite::{Alter, Error, Row, Transaction, params};
 
 /// The status of a package. None where it was never published.
@@ -27,7 +27,7 @@ pub fn load_status<S: Alter>(
         "SELECT status FROM packages WHERE name = ?1",
         params![name.text()],
     )?;
-    first_in::<StatusRow>(&rows)
+    value_of_first_row::<StatusRow>(&rows)
 }
 
 /// Gives a package this status. `stands` says whether it has one already.

@@ -12,7 +12,7 @@ ghost use Rattle.registry_tables.specs.Spelled.{tag_entry, tag_spelled};
 
 use crate::texts::{TextRow, texts_in};
 use registry_names::{DistTag, Fault, Name, Text};
-use registry_rows::{RowKind, first_in, read, values_in, write};
+use registry_rows::{RowKind, read, value_of_first_row, values_of_rows, write};
 use sqlite::{Alter, Error, Row, Transaction, params};
 use std::alloc::Global;
 
@@ -47,7 +47,7 @@ pub fn load_tag<S: Alter>(
         "SELECT version FROM tags WHERE package = ?1 AND tag = ?2",
         params![name.text(), tag],
     )?;
-    first_in::<TextRow>(&rows)
+    value_of_first_row::<TextRow>(&rows)
 }
 
 /// The tags of a package, in byte order.
@@ -66,7 +66,7 @@ pub fn load_tags<S: Alter>(
         "SELECT tag, version FROM tags WHERE package = ?1 ORDER BY tag",
         params![name.text()],
     )?;
-    values_in::<ListedTag>(alloc, &rows)
+    values_of_rows::<ListedTag>(alloc, &rows)
 }
 
 /// The tags of a package that name this version, in byte order.

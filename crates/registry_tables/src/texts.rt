@@ -5,7 +5,7 @@ ghost use Rattle.registry_names.specs.Texts.{Text as Bytes};
 ghost use Rattle.registry_tables.specs.Teams.{text_spelled};
 
 use registry_names::{Fault, Stop, Text};
-use registry_rows::{RowKind, values_in};
+use registry_rows::{RowKind, values_of_rows};
 use sqlite::{Error, Row};
 use std::alloc::Global;
 
@@ -13,7 +13,7 @@ use std::alloc::Global;
 pub(crate) fn texts_in(alloc: Global, rows: &[Row]) -> Result<Vec<Text>, Fault>
     ensures { IfOk result (λ texts. texts.items ≡ map text_spelled rows.now) }
 {
-    values_in::<TextRow>(alloc, rows)
+    values_of_rows::<TextRow>(alloc, rows)
 }
 
 /// What was parsed of a text that is read from the tables. Its refusal is the fault `Database`,

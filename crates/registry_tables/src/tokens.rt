@@ -9,7 +9,7 @@ ghost use Rattle.registry_tables.specs.Spelled.{named_spelled};
 use crate::texts::{TextRow, read_back};
 use registry_names::{Fault, Ident};
 use registry_publish::TokenDigest;
-use registry_rows::{first_in, read, write};
+use registry_rows::{read, value_of_first_row, write};
 use sqlite::{Alter, Row, Transaction, params};
 use std::alloc::Global;
 
@@ -34,7 +34,7 @@ pub fn load_token_user<S: Alter>(
 fn user_in(alloc: Global, rows: &[Row]) -> Result<Option<Ident>, Fault>
     ensures { IfOk result (λ user. user ≡ option_map named_spelled (slice_get rows.now 0)) }
 {
-    match first_in::<TextRow>(rows)? {
+    match value_of_first_row::<TextRow>(rows)? {
         Some(user) => Ok(Some(read_back(Ident::parse(alloc, user.as_str()))?)),
         None => Ok(None),
     }

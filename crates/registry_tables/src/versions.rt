@@ -24,7 +24,7 @@ use crate::texts::{read_back, texts_in};
 use registry_names::{Fault, Moment, Name, Text, Ver};
 use registry_packument::VersionRow;
 use registry_publish::PublishForm;
-use registry_rows::{RowKind, first_in, read, values_in, write};
+use registry_rows::{RowKind, read, value_of_first_row, values_of_rows, write};
 use sqlite::{Alter, Error, Row, Transaction, params};
 use std::alloc::Global;
 
@@ -63,7 +63,7 @@ pub fn load_published<S: Alter>(
         "SELECT published FROM versions WHERE package = ?1 AND version = ?2",
         params![name.text(), version],
     )?;
-    first_in::<MomentRow>(&rows)
+    value_of_first_row::<MomentRow>(&rows)
 }
 
 /// The live versions of a package, in byte order of their texts.
@@ -144,7 +144,7 @@ pub fn load_versions<S: Alter>(
         "SELECT version, manifest, deprecated FROM versions WHERE package = ?1 ORDER BY version",
         params![name.text()],
     )?;
-    values_in::<ListedVersion>(alloc, &rows)
+    values_of_rows::<ListedVersion>(alloc, &rows)
 }
 
 /// What the document of a live version is made of.
@@ -173,7 +173,7 @@ pub fn load_document<S: Alter>(
         "SELECT manifest, deprecated FROM versions WHERE package = ?1 AND version = ?2",
         params![name.text(), version],
     )?;
-    first_in::<DocumentRow>(&rows)
+    value_of_first_row::<DocumentRow>(&rows)
 }
 
 /// Puts the version of a form, published at this moment and not deprecated, with its archive and

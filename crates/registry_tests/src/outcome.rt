@@ -4,8 +4,7 @@
 
 use registry_names::{Refusal, Stop};
 use std::alloc::Global;
-use std::error::Error;
-use std::fmt::Debug;
+use std::fmt::{Debug, Display};
 use std::process::Abort;
 
 /// Sees that a case comes out as it is wanted. Else the test shows the case and both.
@@ -20,9 +19,9 @@ pub fn same<C: Copy + Debug, T: Copy + Debug + PartialEq>(
     }
 }
 
-/// Sees that an error is displayed so.
-pub fn is_displayed<E: Error>(rt: &impl Abort, alloc: Global, error: &E, wanted: &str) {
-    let came_out = format!(in alloc; "{error}").expect(rt, "memory");
+/// Sees that a value is displayed so.
+pub fn is_displayed<T: Display>(rt: &impl Abort, alloc: Global, value: &T, wanted: &str) {
+    let came_out = format!(in alloc; "{value}").expect(rt, "memory");
     same(rt, wanted, came_out.as_str(), wanted);
 }
 

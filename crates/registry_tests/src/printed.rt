@@ -1,10 +1,9 @@
-//! What is printed of answers, and how roles, levels and statuses are spelled.
+//! What is printed of answers, and how roles, grants and statuses are spelled.
 
-use crate::outcome::same;
+use crate::outcome::{is_displayed, same};
 use crate::parts::{blob, shared};
 use registry_access::{Grant, Role};
 use registry_cli::render;
-use registry_cli::spelling::{level, role, status};
 use registry_names::{Refusal, Rule, Status};
 use registry_rules::Reply;
 use std::alloc::Global;
@@ -56,38 +55,46 @@ fn refusals_are_printed(rt: HostRuntime) {
     }
 }
 
-static ROLES: [(&'static str, Result<Role, Refusal>); 6] = [
-    ("developer", Ok(Role::Developer)),
-    ("admin", Ok(Role::Admin)),
-    ("owner", Ok(Role::Owner)),
-    ("Owner", Err(Refusal::BadBody)),
-    ("owner ", Err(Refusal::BadBody)),
-    ("", Err(Refusal::BadBody)),
+static ROLES: [(&'static str, Option<Role>); 6] = [
+    ("developer", Some(Role::Developer)),
+    ("admin", Some(Role::Admin)),
+    ("owner", Some(Role::Owner)),
+    ("Owner", None),
+    ("owner ", None),
+    ("", None),
 ];
 
-static LEVELS: [(&'static str, Result<Grant, Refusal>); 4] = [
-    ("read-only", Ok(Grant::ReadOnly)),
-    ("read-write", Ok(Grant::ReadWrite)),
-    ("read_only", Err(Refusal::BadBody)),
-    ("nothing", Err(Refusal::BadBody)),
+static GRANTS: [(&'static str, Option<Grant>); 4] = [
+    ("read-only", Some(Grant::ReadOnly)),
+    ("read-write", Some(Grant::ReadWrite)),
+    ("read_only", None),
+    ("nothing", None),
 ];
 
-static STATUSES: [(&'static str, Result<Status, Refusal>); 4] = [
-    ("public", Ok(Status::Public)),
-    ("restricted", Ok(Status::Restricted)),
-    ("private", Err(Refusal::BadBody)),
-    ("PUBLIC", Err(Refusal::BadBody)),
+static STATUSES: [(&'static str, Option<Status>); 4] = [
+    ("public", Some(Status::Public)),
+    ("restricted", Some(Status::Restricted)),
+    ("private", None),
+    ("PUBLIC", None),
 ];
 
 #[test]
-fn roles_levels_and_statuses_are_spelled(rt: HostRuntime) {
+fn roles_grants_and_statuses_are_spelled(rt: HostRuntime) {
     for (text, wanted) in &ROLES {
-        same(&rt, *text, &role(text), wanted);
+        same(&rt, *text, &Role::parse(text), wanted);
     }
-    for (text, wanted) in &LEVELS {
-        same(&rt, *text, &level(text), wanted);
+    for (text, wanted) in &GRANTS {
+        same(&rt, *text, &Grant::parse(text), wanted);
     }
     for (text, wanted) in &STATUSES {
-        same(&rt, *text, &status(text), wanted);
+        same(&rt, *text, &Status::parse(text), wanted);
     }
+}
+
+#[test]
+fn roles_grants_and_statuses_are_displayed(rt: HostRuntime) {
+    let alloc = rt.alloc();
+    is_displayed(&rt, alloc, &Role::Owner, "owner");
+    is_displayed(&rt, alloc, &Grant::ReadWrite, "read-write");
+    is_displayed(&rt, alloc, &Status::Restricted, "restricted");
 }

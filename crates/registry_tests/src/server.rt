@@ -44,25 +44,21 @@ fn answers(
     let mut clock = Steps { next: 0 };
     let mut state = ConnectionState::new(alloc);
     let mut rest = input;
-    let mut end = None;
     for _ in 0..10_000 {
+        if !state.may_take_turn() {
+            break;
+        }
         match state.take_turn(alloc, &mut service, &mut clock, rest.is_empty()) {
-            Progress::Answered => {
-                take_all(rt, &mut state, out);
-                end = state.ends();
-            }
+            Progress::Answered => take_all(rt, &mut state, out),
             Progress::Waits => {
                 let (piece, after) = rest.split_at(rest.len().min(piece_len));
                 state.came(piece).expect(rt, "memory");
                 rest = after;
             }
-            Progress::Closed => end = Some(End::Closed),
-        }
-        if end.is_some() {
-            break;
+            Progress::Closed => return Some(End::Closed),
         }
     }
-    end
+    state.ends()
 }
 
 fn is_answered(rt: &impl Abort, alloc: Global, case: &Case, piece_len: usize) {

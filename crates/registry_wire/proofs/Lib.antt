@@ -1,5 +1,6 @@
 pub mod FieldFacts
 pub mod HeadFacts
+pub mod LengthFacts
 pub mod RequestFacts
 pub mod InboxFacts
 pub mod ReadingFacts

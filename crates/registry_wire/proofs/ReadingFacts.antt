@@ -12,14 +12,15 @@ use Rattle.registry_names.specs.declared.refusal.Refusal.{Refusal}
 use Rattle.registry_names.specs.declared.refusal.Refusal.TheVariants.{BadBody}
 use Rattle.registry_wire.specs.Fields.{body_len, fields_of}
 use Rattle.registry_wire.specs.Asked.{wanted_of}
-use Rattle.registry_wire.specs.Spelling.{HasHead, HasRequest, IsBad, IsUnfinished, NeverHasHead, EndsWith, Spells}
+use Rattle.registry_wire.specs.Spelling.{HasHead, HasRequest, IsBad, IsRefused, IsUnfinished, NeverHasHead, EndsWith, Spells}
 use Rattle.registry_wire.specs.Reading.{Takes, TakenOfAll}
 use Rattle.registry_wire.specs.declared.first.Ending.{Ending}
 use Rattle.registry_wire.specs.declared.first.Ending.TheVariants.{Closed, BadInput}
 use Rattle.registry_wire.specs.declared.inbox.Taken.{Taken}
 use Rattle.registry_wire.specs.declared.inbox.Taken.TheVariants as taken
 use Rattle.registry_wire.specs.declared.wanted.Wanted.{Wanted}
-use Rattle.registry_wire.proofs.RequestFacts.{request-more, bad-more}
+use Rattle.registry_wire.proofs.LengthFacts.{ok-not_err, same-err, same-ok}
+use Rattle.registry_wire.proofs.RequestFacts.{request-more, refused-more, bad-more}
 
 -- ---- no bytes are no request, and may become one
 
@@ -70,29 +71,6 @@ bad-some bytes r none (inr never) = may-begin bytes none never.1
 
 -- ---- the first request is one, or none
 
--- two lengths, or refusals, are the same
-abbrev Is : Result ℕ Refusal → Result ℕ Refusal → Type 0
-Is a b = a ≡ b
-
-ok-of : Result ℕ Refusal → ℕ
-ok-of (Ok n) = n
-ok-of (Err r) = 0
-
-same-ok : (m n : ℕ) → Is (Ok m) (Ok n) → m ≡ n
-unfolding ok-of
-same-ok m n e = ap ok-of e
-
-err-of : Result ℕ Refusal → Refusal
-err-of (Ok n) = BadBody
-err-of (Err r) = r
-
-same-err : (r q : Refusal) → Is (Err r) (Err q) → r ≡ q
-unfolding err-of
-same-err r q e = ap err-of e
-
-ok-not_err : (n : ℕ) (r : Refusal) → ¬ (Is (Ok n) (Err r))
-ok-not_err n r e = cc
-
 pub requests-same : (bytes : List ℕ) (w v : Wanted) (rest rest2 : List ℕ) → HasRequest bytes w rest → HasRequest bytes v rest2 → (w ≡ v) × (rest ≡ rest2)
 requests-same bytes w v rest rest2 x y =
     let same = request_unique bytes x.head y.head (w.body ++ rest) (v.body ++ rest2) x.begins.reads y.begins.reads in
@@ -123,13 +101,16 @@ bad-same bytes r q (inl x) (inr never) = absurd (never.1 [] x.head x.after (subs
 bad-same bytes r q (inr never) (inl y) = absurd (never.1 [] y.head y.after (subst (λ (l : List ℕ). HasHead l y.head y.after) (sym (append-nil bytes)) y.begins))
 bad-same bytes r q (inr x) (inr y) = x.0 ∙ sym y.0
 
+refused-not_unfinished : (bytes : List ℕ) (r : Refusal) → IsRefused bytes r → ¬ (IsUnfinished bytes)
+refused-not_unfinished bytes r x (inl lacks) = lacks.none x.head x.after x.begins.reads
+refused-not_unfinished bytes r x (inr lacks) =
+    let same = request_unique bytes lacks.head x.head lacks.after x.after lacks.begins.reads x.begins.reads in
+    ok-not_err _ _ (sym lacks.len ∙ ap (λ (h : RequestHead). body_len (fields_of h)) same.0 ∙ x.len)
+
 -- bad bytes that might yet become a request are none by their head
 bad-unfinished : (bytes : List ℕ) (r : Refusal) → IsBad bytes r → IsUnfinished bytes → r ≡ BadBody
 bad-unfinished bytes r (inr never) lacks = never.0
-bad-unfinished bytes r (inl x) (inl lacks) = absurd (lacks.none x.head x.after x.begins.reads)
-bad-unfinished bytes r (inl x) (inr lacks) =
-    let same = request_unique bytes lacks.head x.head lacks.after x.after lacks.begins.reads x.begins.reads in
-    absurd (ok-not_err _ _ (sym lacks.len ∙ ap (λ (h : RequestHead). body_len (fields_of h)) same.0 ∙ x.len))
+bad-unfinished bytes r (inl x) lacks = absurd (refused-not_unfinished bytes r x lacks)
 
 -- ---- all bytes
 
@@ -184,3 +165,11 @@ takes-of_all held left held2 left2 (taken.Bad r) t = elim t.took.1 [
 ]
 takes-of_all held left held2 left2 taken.ReadFault t = kept-of_all held left held2 left2 t.got (t.gave.told refl) t.took.0
 takes-of_all held left held2 left2 (taken.Faulted fault) t = kept-of_all held left held2 left2 t.got (t.gave.told refl) t.took.0
+
+-- ---- what unfinished bytes held before
+
+pub held-no_request : (bytes more : List ℕ) (w : Wanted) (rest : List ℕ) → IsUnfinished (bytes ++ more) → ¬ (HasRequest bytes w rest)
+held-no_request bytes more w rest unfinished x = request-not_unfinished (bytes ++ more) w (rest ++ more) (request-more bytes more w rest x) unfinished
+
+pub held-no_refusal : (bytes more : List ℕ) (r : Refusal) → IsUnfinished (bytes ++ more) → ¬ (IsRefused bytes r)
+held-no_refusal bytes more r unfinished x = refused-not_unfinished (bytes ++ more) r (refused-more bytes more r x) unfinished

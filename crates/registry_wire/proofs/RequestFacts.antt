@@ -5,7 +5,7 @@ use Rattle.httparse.specs.Grammar.{RequestHead}
 use Rattle.registry_names.specs.declared.refusal.Refusal.{Refusal}
 use Rattle.registry_wire.specs.Fields.{body_len, fields_of}
 use Rattle.registry_wire.specs.Asked.{wanted_of}
-use Rattle.registry_wire.specs.Spelling.{HasHead, HasRequest, IsBad}
+use Rattle.registry_wire.specs.Spelling.{HasHead, HasRequest, IsBad, IsRefused}
 use Rattle.registry_wire.specs.declared.wanted.Wanted.{Wanted}
 use Rattle.registry_wire.proofs.HeadFacts.{head-more}
 
@@ -33,9 +33,13 @@ request-more bytes more w rest x = record {
   asked = x.asked;
 }
 
+-- nor about one that is refused by its head
+pub refused-more : (bytes more : List ℕ) (r : Refusal) → IsRefused bytes r → IsRefused (bytes ++ more) r
+refused-more bytes more r x = record { head = x.head; after = x.after ++ more; begins = head-more bytes more x.head x.after x.begins; len = x.len }
+
 -- nor about a bad one
 pub bad-more : (bytes more : List ℕ) (r : Refusal) → IsBad bytes r → IsBad (bytes ++ more) r
-bad-more bytes more r (inl x) = inl (record { head = x.head; after = x.after ++ more; begins = head-more bytes more x.head x.after x.begins; len = x.len })
+bad-more bytes more r (inl x) = inl (refused-more bytes more r x)
 bad-more bytes more r (inr never) = inr (
   never.0,
   λ later h rest x.

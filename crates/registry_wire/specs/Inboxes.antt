@@ -1,6 +1,7 @@
 -- What a contract sees of an inbox.
-use Rattle.std.specs.Prelude.{ℕ, ◌-◌, max, List, refl}
+use Rattle.std.specs.Prelude.{ℕ, ◌+◌, ◌-◌, ◌<◌, ◌≤◌, max, List, length, refl}
 use Rattle.std.specs.Coded.{Coded, code_by, coded×, coded_list, coded_ℕ}
+use Rattle.registry_wire.specs.Spelling.{request_limit}
 
 -- the number of interrupted reads at which an inbox gives up
 abbrev pub interruption_limit : ℕ
@@ -10,6 +11,19 @@ interruption_limit = 1000
 -- bring the count to the limit, and one at least
 abbrev pub failures_admitted : ℕ → ℕ
 failures_admitted count = max 1 (interruption_limit - count)
+
+-- the most bytes of one read
+abbrev pub piece_limit : ℕ
+piece_limit = 4096
+
+-- more bytes than are ever held: those of a request, and of the read that makes it whole
+abbrev pub held_limit : ℕ
+held_limit = request_limit + piece_limit
+
+-- what is true of every inbox
+pub record IsWithin (held : List ℕ) (interruptions : ℕ) : Type 0 where
+  pub bounded : length held < held_limit
+  pub counted : interruptions ≤ interruption_limit
 
 -- a reader, the bytes that it gave and that are not used yet, and how many of its reads were
 -- interrupted

@@ -1,14 +1,24 @@
 -- What one more read gives an inbox.
-use Rattle.std.specs.Prelude.{◌≡◌, ◌<◌, ◌+◌, ◌⊎◌, ℕ, Bool, List, ◌++◌, Option, length}
+use Rattle.std.specs.Prelude.{◌≡◌, ◌<◌, ◌≤◌, ◌+◌, ◌⊎◌, ℕ, Bool, List, ◌++◌, Option, length}
 use Rattle.registry_names.specs.ByteStreams.{Reads, raised}
-use Rattle.registry_wire.specs.Inboxes.{Unread, interruption_limit}
+use Rattle.registry_wire.specs.Inboxes.{Unread, interruption_limit, piece_limit}
+use Rattle.registry_wire.specs.Reading.{ReadsNoMoreThanNeeded}
 use Rattle.registry_wire.specs.declared.inbox.Piece.{Piece}
 use Rattle.registry_wire.specs.declared.inbox.Piece.TheVariants.{More, End, Broken, Memory}
 
--- the reader gave some bytes, and they are held after the others
+-- the reader gave a piece, and it is held after the other bytes
 pub record Moves (held : List ℕ) (left : Option (List ℕ)) (held2 : List ℕ) (left2 : Option (List ℕ)) (unknown : Bool) : Type 0 where
+  pub piece : List ℕ
+  pub few : length piece ≤ piece_limit
+  pub gave : Reads left left2 unknown piece
+  pub holds : held2 ≡ held ++ piece
+
+-- reads in a row gave some bytes, no more than the request needed, and they are held after the
+-- others
+pub record Gathers (held : List ℕ) (left : Option (List ℕ)) (held2 : List ℕ) (left2 : Option (List ℕ)) (unknown : Bool) : Type 0 where
   pub got : List ℕ
   pub gave : Reads left left2 unknown got
+  pub lean : ReadsNoMoreThanNeeded held got
   pub holds : held2 ≡ held ++ got
 
 -- nothing more is held, and nothing was interrupted

@@ -1,9 +1,9 @@
 -- What a read of a request takes from an inbox.
-use Rattle.std.specs.Prelude.{◌≡◌, ◌<◌, ◌⊎◌, ◌+◌, ℕ, Bool, false, List, ◌++◌, Option}
+use Rattle.std.specs.Prelude.{◌≡◌, ◌<◌, ◌≤◌, ◌⊎◌, ◌+◌, ℕ, Bool, false, List, [], ◌++◌, length, Option}
 use Rattle.std.specs.Io.KnownBytes.{IsAtEnd}
 use Rattle.registry_names.specs.ByteStreams.{Reads, raised_by}
 use Rattle.registry_names.specs.declared.stop.Fault.TheVariants.{Memory}
-use Rattle.registry_wire.specs.Inboxes.{interruption_limit}
+use Rattle.registry_wire.specs.Inboxes.{held_limit, interruption_limit, piece_limit}
 use Rattle.registry_wire.specs.Spelling.{EndsWith, HasRequest, IsBad, IsUnfinished}
 use Rattle.registry_wire.specs.declared.first.Ending.TheVariants.{Closed, BadInput}
 use Rattle.registry_wire.specs.declared.inbox.Taken.{Taken}
@@ -26,10 +26,19 @@ IsEndOf all (taken.Bad r) = EndsWith all (BadInput r)
 IsEndOf all taken.ReadFault = ⊥
 IsEndOf all (taken.Faulted fault) = ⊥
 
--- The reader gave some bytes, which are held after those that were held before.
+-- Reads gave these bytes. Each read gave a piece of them, and was made where what was held did not
+-- decide the request: it was neither whole nor refused yet.
+pub data ReadsNoMoreThanNeeded (held : List ℕ) : List ℕ → Type 0 where
+  nothing : ReadsNoMoreThanNeeded held []
+  one_more : (got piece : List ℕ) → ReadsNoMoreThanNeeded held got → IsUnfinished (held ++ got) → length piece ≤ piece_limit → ReadsNoMoreThanNeeded held (got ++ piece)
+
+-- The reader gave some bytes, no more than the request needed, and they are held after those that
+-- were held before.
 pub record Takes (held : List ℕ) (left : Option (List ℕ)) (held2 : List ℕ) (left2 : Option (List ℕ)) (unknown : Bool) (r : Taken) : Type 0 where
   pub got : List ℕ
   pub gave : Reads left left2 unknown got
+  pub lean : ReadsNoMoreThanNeeded held got
+  pub bounded : length held2 < held_limit
   pub took : TakenOf (held ++ got) held2 (unknown ≡ false → IsAtEnd left2) r
 
 -- Some reads failed: all of them were interrupted, and are counted. None of them brought the count

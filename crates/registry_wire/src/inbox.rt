@@ -4,7 +4,7 @@ ghost use Rattle.std.specs.Prelude.{◌≡◌, ◌≢◌, ◌≤◌, ◌<◌, []
 ghost use Rattle.std.specs.Io.KnownBytes.{IsAtEnd};
 ghost use Rattle.registry_names.specs.ByteStreams.{RisesBetween};
 ghost use Rattle.registry_names.specs.declared.stop.Fault.TheVariants.{Memory};
-ghost use Rattle.registry_wire.specs.Inboxes.{failures_admitted, unread};
+ghost use Rattle.registry_wire.specs.Inboxes.{failures_admitted, held_limit, unread};
 ghost use Rattle.registry_wire.specs.Pieces.{Gives, Moves};
 ghost use Rattle.registry_wire.specs.Reading.{CountsInterrupted, IsEndOf, Takes};
 ghost use Rattle.registry_wire.specs.Spelling.{IsUnfinished, Says, request_limit};
@@ -33,8 +33,7 @@ pub struct Inbox<R: ByteIn> {
 }
 
 impl<R: ByteIn> Model for Inbox<R> {
-    ghost use Rattle.std.specs.Prelude.{◌≤◌};
-    ghost use Rattle.registry_wire.specs.Inboxes.{Unread, interruption_limit, unread, unread_code};
+    ghost use Rattle.registry_wire.specs.Inboxes.{IsWithin, Unread, unread, unread_code};
 
     ghost Value = { Unread R };
 
@@ -42,7 +41,7 @@ impl<R: ByteIn> Model for Inbox<R> {
 
     ghost view = { λ inbox. unread inbox.reader inbox.held.items inbox.interruptions };
 
-    ghost invariant = { λ inbox. inbox.interruptions ≤ interruption_limit };
+    ghost invariant = { λ inbox. IsWithin inbox.held.items inbox.interruptions };
 }
 
 /// How a read of a request ended.
@@ -89,6 +88,10 @@ impl<R: ByteIn> Inbox<R> {
     /// there is none. Where none was taken all that was read is held, so that after a fault the
     /// call can be made again.
     ///
+    /// It doesn't read where what is held decides the answer: a request that is held whole is
+    /// taken at once, and the body of one that is refused by its head isn't read. So fewer bytes
+    /// are ever held than a request and one read of 4,096 bytes may have.
+    ///
     /// A read that is interrupted is tried again, up to the one that makes their number
     /// `INTERRUPTION_LIMIT`, which is a failure.
     pub fn read_request(&mut self, alloc: Global) -> Taken
@@ -130,6 +133,7 @@ impl<R: ByteIn> Inbox<R> {
         ensures says { IfOk result (Says self.now.held) }
         ensures fault { IfErr result (λ fault. fault ≡ Memory) }
         ensures short { result ≡ Ok Unfinished → length self.now.held < request_limit }
+        ensures bounded { length self.now.held < held_limit }
     {
         first_in(alloc, self.held.as_slice())
     }
@@ -137,12 +141,14 @@ impl<R: ByteIn> Inbox<R> {
     // Reads once, and holds what came. The memory for it is taken first, so that nothing is lost.
     #[tactic(auto, using(crate::proofs::InboxFacts::moving))]
     fn read_more(&mut self) -> Piece
+        requires { IsUnfinished self.old.held }
         ensures moves { Moves self.old.held (R.bytes self.old.reader)
             self.new.held (R.bytes self.new.reader) (R.is_unknown self.new.reader) }
         ensures gives { Gives result self.old self.new
             (R.failures self.old.reader) (R.failures self.new.reader)
             (R.is_unknown self.new.reader ≡ false → IsAtEnd (R.bytes self.new.reader)) }
         ensures unknown { R.is_unknown self.old.reader ≡ true → R.is_unknown self.new.reader ≡ true }
+        ensures bounded { length self.new.held < held_limit }
     {
         if self.held.reserve(PIECE_LEN).is_err() {
             return Piece::Memory;

@@ -1,7 +1,7 @@
 //! Laws of what bytes spell. Each function does nothing: what it ensures holds of the definitions
 //! themselves, and its proof is the law's.
 
-ghost use Rattle.registry_wire.specs.Laws.{BadStays, OneReading, RequestStays, TakesOfAll};
+ghost use Rattle.registry_wire.specs.Laws.{BadStays, HeldNoRefusal, HeldNoRequest, OneReading, RequestStays, TakesOfAll};
 
 /// All the bytes of a connection spell one list of requests, and end in one way.
 pub fn bytes_have_one_reading()
@@ -12,6 +12,13 @@ pub fn bytes_have_one_reading()
 pub fn later_bytes_change_nothing()
     ensures request { RequestStays }
     ensures bad { BadStays }
+{}
+
+/// Bytes that are unfinished held no whole request before, and none that its head refuses. So an
+/// inbox that reads on, since what it holds is unfinished, held no request that could be answered.
+pub fn unfinished_bytes_never_held_a_request()
+    ensures request { HeldNoRequest }
+    ensures refused { HeldNoRefusal }
 {}
 
 /// What an inbox takes over a reader whose bytes are known is the first request that all the bytes

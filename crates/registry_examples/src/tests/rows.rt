@@ -7,7 +7,7 @@ ghost use Rattle.registry_rows.specs.Columns.{text_in, number_in};
 
 use crate::tests::outcome::same;
 use registry_names::Fault;
-use registry_rows::{RowKind, fault_of, first_in, read, values_in, write};
+use registry_rows::{RowKind, fault_of, read, value_of_first_row, values_of_rows, write};
 use sqlite::{Alter, Connection, Constraint, Error, ErrorCode, Row, Transaction, params};
 use std::alloc::Global;
 use std::test::Fail;
@@ -134,7 +134,7 @@ fn told<S: Alter>(alloc: Global, tx: &mut Transaction<'_, S>, call: Call) -> Res
 }
 
 fn all_text(alloc: Global, rows: &[Row]) -> Result<String, Fault> {
-    let counts = values_in::<Count>(alloc, rows)?;
+    let counts = values_of_rows::<Count>(alloc, rows)?;
     let mut text = String::new(alloc);
     for count in &counts {
         push_count(alloc, &mut text, count)?;
@@ -143,7 +143,7 @@ fn all_text(alloc: Global, rows: &[Row]) -> Result<String, Fault> {
 }
 
 fn first_text(alloc: Global, rows: &[Row]) -> Result<String, Fault> {
-    let first = first_in::<Count>(rows)?;
+    let first = value_of_first_row::<Count>(rows)?;
     let mut text = String::new(alloc);
     if let Some(count) = &first {
         push_count(alloc, &mut text, count)?;

@@ -1,6 +1,6 @@
 //! Packuments from sources in memory, to writers that take all, or fail somewhere.
 
-ghost use Rattle.std.specs.Prelude.{◌==◌, Some, if◌then◌else◌};
+ghost use Rattle.std.specs.Prelude.{Some, if◌then◌else◌};
 ghost use Rattle.registry_names.specs.declared.stop.Fault.TheVariants.{Database};
 
 use crate::outcome::{is_displayed, same};
@@ -20,21 +20,26 @@ use std::process::Abort;
 struct Failing<S> {
     source: S,
     answers: u32,
+    failed: bool,
 }
 
 impl<S: VersionSource> VersionSource for Failing<S> {
     ghost rows = { λ failing. S.rows failing.source };
 
     ghost stopped = { λ failing.
-        if failing.answers == 0 then Some Database else S.stopped failing.source };
+        if failing.failed then Some Database else S.stopped failing.source };
 
     ghost ordered = { λ failing. S.ordered failing.source };
 
     fn next(&mut self, alloc: Global) -> Result<Option<VersionRow>, Fault> {
-        if self.answers == 0 {
+        if self.failed {
             return Err(Fault::Database);
         }
         let row = self.source.next(alloc)?;
+        if self.answers == 0 {
+            self.failed = true;
+            return Err(Fault::Database);
+        }
         self.answers -= 1;
         Ok(row)
     }
@@ -92,6 +97,7 @@ fn source_of(rt: &impl Abort, alloc: Global, case: &Case) -> Failing<VersionRows
     Failing {
         source: source(rt, alloc, case.versions),
         answers: case.answers,
+        failed: false,
     }
 }
 

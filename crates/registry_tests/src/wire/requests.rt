@@ -152,6 +152,39 @@ fn a_failed_read_loses_nothing(rt: HostRuntime) {
     }
 }
 
+// What comes at once, and what reads of it give, where the next call of the reader fails: what is
+// whole or refused is answered before that call.
+static ANSWERED_AT_ONCE: [Case; 4] = [
+    (
+        "GET /kit HTTP/1.1\r\n\r\n",
+        &["Get|/kit|||", "a read failed", "closed"],
+    ),
+    (
+        "PUT /a HTTP/1.1\r\ncontent-length: 2\r\n\r\nab",
+        &["Put|/a||ab|", "a read failed", "closed"],
+    ),
+    (
+        "GET /kit HTTP/1.1\r\n\r\nGET",
+        &["Get|/kit|||", "a read failed", "BadBody"],
+    ),
+    (
+        "PUT /a HTTP/1.1\r\ncontent-length: 4194305\r\n\r\n",
+        &["TooLarge", "TooLarge"],
+    ),
+];
+
+#[test]
+fn nothing_is_read_after_a_whole_request(rt: HostRuntime) {
+    for (front, wanted) in &ANSWERED_AT_ONCE {
+        let reader = FromRead::new(Halting {
+            front: front.as_bytes(),
+            rest: b"",
+            halted: false,
+        });
+        all_read(&rt, rt.alloc(), front, reader, wanted);
+    }
+}
+
 // What bytes that have come say of the first request, in a line with its length.
 fn said(rt: &impl Abort, alloc: Global, bytes: &[u8]) -> String {
     match first_in(alloc, bytes).expect(rt, "memory") {

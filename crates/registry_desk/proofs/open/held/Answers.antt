@@ -2,13 +2,13 @@ use Rattle.std.proofs.Common.{◌∙◌, arith, ap, inl, inr, sym}
 use Rattle.sqlite.specs.Effect.{Database}
 use Rattle.sqlite.specs.Held.{state}
 use Rattle.sqlite.specs.State.{HasCleanDisk}
-use Rattle.registry_tables.specs.Contents.{contents}
+use Rattle.registry_desk.proofs.CommitFacts.{rests_sure}
 use Rattle.registry_desk.proofs.open.held.Goals as goal
 
 pub returns-in-Ok-settle-clause-stays : goal.returns-in-Ok-settle-clause-stays
-returns-in-Ok-settle-clause-stays g c clean db left =
+returns-in-Ok-settle-clause-stays g c clean =
     let on = c.in-Ok-settle.ensures.served clean in
-    ap contents (g.met.S.Store.settled c.settle.new.conn.store db on left) ∙ ap (λ (d : Database). contents d.trees) (sym (c.in-Ok-settle.ensures.rests.settled clean on))
+    rests_sure g.S.Store c.settle.new.conn (λ db. g.met.S.Store.settled c.settle.new.conn.store db on) c.in-Ok-settle.ensures.rests clean on
 
 -- what a crash could leave before is what was found
 pub returns-in-Err-settle-clause-left : goal.returns-in-Err-settle-clause-left

@@ -9,7 +9,7 @@ use Rattle.sqlite_std_file.specs.File.{IsFresh}
 use Rattle.sqlite_std_file.specs.declared.host.Host.{Host}
 use Rattle.sqlite_wal.specs.Files.{image_at}
 use Rattle.sqlite_wal.specs.Recovery.{Image}
-use Rattle.registry_desk.specs.Opened.{HoldsEach, HoldsFound, IsFreshIfEmpty, LeavesAtMost}
+use Rattle.registry_desk.specs.Opened.{HoldsEach, HoldsFound, IsFreshIfEmpty}
 use Rattle.registry_desk.proofs.open.opened_from.Goals as goal
 
 abbrev image : List ℕ → List ℕ → Image
@@ -36,4 +36,4 @@ pub returns-in-Ok-open_files-clause-empty : goal.returns-in-Ok-open_files-clause
 returns-in-Ok-open_files-clause-empty g c = subst (λ i. IsFreshIfEmpty i (file_state c.in-Ok-open_files.registry)) (fresh_image c.in-Ok-files_at.files c.in-Ok-files_at.ensures.fresh.0 c.in-Ok-files_at.ensures.fresh.1) c.in-Ok-open_files.ensures.empty
 
 pub returns-in-Err-open_files-clause-left : goal.returns-in-Err-open_files-clause-left
-returns-in-Err-open_files-clause-left g c = subst (λ i. LeavesAtMost i c.in-Err-open_files.left) (fresh_image c.in-Ok-files_at.files c.in-Ok-files_at.ensures.fresh.0 c.in-Ok-files_at.ensures.fresh.1) c.in-Err-open_files.ensures.left
+returns-in-Err-open_files-clause-left g c = (c.in-Ok-files_at.files, c.in-Ok-files_at.ensures.fresh.0, c.in-Ok-files_at.ensures.fresh.1, c.in-Err-open_files.ensures.left)

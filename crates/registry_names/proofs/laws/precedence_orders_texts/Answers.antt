@@ -1,4 +1,4 @@
-use Rattle.registry_names.proofs.PrecedenceFacts.{text_precedence_total, text_precedence_exact, text_precedence_agrees, text_below}
+use Rattle.registry_names.proofs.PrecedenceFacts.{text_precedence_total, text_precedence_exact, text_precedence_agrees, text_below, version_reads}
 use Rattle.registry_names.proofs.GreatestFacts.{greatest_is, is_greatest, greatest_none, none_greatest, same_greatest}
 use Rattle.registry_names.proofs.laws.precedence_orders_texts.Goals as goal
 
@@ -7,6 +7,9 @@ returns-clause-total c = text_precedence_total
 
 pub returns-clause-exact : goal.returns-clause-exact
 returns-clause-exact c = text_precedence_exact
+
+pub returns-clause-read : goal.returns-clause-read
+returns-clause-read c = version_reads
 
 pub returns-clause-versions : goal.returns-clause-versions
 returns-clause-versions c = text_precedence_agrees

@@ -24,9 +24,9 @@ allowed v cs x all e = rw (list_all-map (holds v) comparator_view cs, list_any-m
 pub returns-then-is_empty : goal.returns-then-is_empty
 returns-then-is_empty c =
     allowed c.args.version.now c.args.range.now _ (sym c.all_hold.ensures ∙ c.if-all_hold.true)
-    (or_left _ _ _ (c.is_empty.ensures ∙ ap (λ v. length v.pre == 0) c.as_semver.ensures) c.if-is_empty.true)
+    (or_left _ _ _ (c.is_empty.ensures ∙ ap (λ v. length v.pre == 0) c.as_semver.ensures.parts) c.if-is_empty.true)
 
 pub returns-else-is_empty : goal.returns-else-is_empty
 returns-else-is_empty c =
     allowed c.args.version.now c.args.range.now _ (sym c.all_hold.ensures ∙ c.if-all_hold.true)
-    (or_right _ _ _ (sym (c.is_empty.ensures ∙ ap (λ v. length v.pre == 0) c.as_semver.ensures) ∙ c.if-is_empty.false) c.any_is_near.ensures)
+    (or_right _ _ _ (sym (c.is_empty.ensures ∙ ap (λ v. length v.pre == 0) c.as_semver.ensures.parts) ∙ c.if-is_empty.false) c.any_is_near.ensures)

@@ -1,4 +1,3 @@
-use Rattle.std.proofs.Common.{refl}
 use Rattle.sqlite.specs.Files.{file_state, image_of}
 use Rattle.registry_desk.proofs.OpenedFacts.{finds_in, fresh_if_empty, holds_each, holds_found, just_opened, leaves_at_most}
 use Rattle.registry_desk.proofs.open.Registry+FileStore+D.open_files.Goals as goal
@@ -17,6 +16,3 @@ returns-in-Ok-held-clause-empty g c = fresh_if_empty (image_of g.D.Disk c.args.f
 
 pub returns-in-Err-held-clause-left : goal.returns-in-Err-held-clause-left
 returns-in-Err-held-clause-left g c = leaves_at_most (image_of g.D.Disk c.args.files) (file_state c.in-Ok.conn) (file_state c.in-Err-held.conn) c.in-Ok.ensures.opened (finds_in c.args.files c.in-Ok.conn c.in-Ok.ensures.found) c.in-Err-held.ensures.left
-
-pub returns-in-Err-clause-left : goal.returns-in-Err-clause-left
-returns-in-Err-clause-left g c = (c.args.files, refl, c.in-Err.ensures.unharmed)

@@ -1,12 +1,13 @@
-use Rattle.std.proofs.Common.{ap, subst, sym}
+use Rattle.std.proofs.Common.{◌∙◌, ap, subst, sym}
 use Rattle.sqlite.proofs.Callers.{memory_is_clean}
 use Rattle.registry_cache.specs.Caches.{AreRight, Cache}
 use Rattle.registry_cache.proofs.RightFacts.{new_right}
 use Rattle.registry_tables.specs.Archives.{HoldsArchives}
-use Rattle.registry_tables.specs.Contents.{Contents, registry_of}
+use Rattle.registry_tables.specs.Contents.{registry_of}
 use Rattle.registry_tables.specs.Needs.{HoldsNeeds}
-use Rattle.registry_rules.specs.Kept.{IsSound}
+use Rattle.registry_rules.specs.Kept.{IsKept, IsSound}
 use Rattle.registry_rules.specs.State.{State}
+use Rattle.registry_rules.proofs.KeptFacts.{nothing_kept}
 use Rattle.registry_rules.proofs.SoundSteps.{nothing_sound}
 use Rattle.registry_tables.proofs.LiveFacts.{fresh_is_nothing}
 use Rattle.registry_tables.proofs.HeldNeedFacts.{fresh_holds}
@@ -29,6 +30,11 @@ returns-clause-needs c = subst HoldsNeeds (sym (c.in_ok-create_tables.ensures.ma
 pub returns-clause-archives : goal.returns-clause-archives
 returns-clause-archives c = subst HoldsArchives (sym (c.in_ok-create_tables.ensures.made (memory_is_clean c.create_tables.new.conn))) fresh_archives
 
+pub returns-clause-empty : goal.returns-clause-empty
+returns-clause-empty c = ap registry_of (c.in_ok-create_tables.ensures.made (memory_is_clean c.create_tables.new.conn)) ∙ fresh_is_nothing
+
 pub returns-clause-sound : goal.returns-clause-sound
-returns-clause-sound c = subst (λ (d : Contents). IsSound (registry_of d).access) (sym (c.in_ok-create_tables.ensures.made (memory_is_clean c.create_tables.new.conn)))
-    (subst (λ (S : State). IsSound S.access) (sym fresh_is_nothing) nothing_sound)
+returns-clause-sound c = subst (λ (S : State). IsSound S.access) (sym (ap registry_of (c.in_ok-create_tables.ensures.made (memory_is_clean c.create_tables.new.conn)) ∙ fresh_is_nothing)) nothing_sound
+
+pub returns-clause-form : goal.returns-clause-form
+returns-clause-form c = subst IsKept (sym (ap registry_of (c.in_ok-create_tables.ensures.made (memory_is_clean c.create_tables.new.conn)) ∙ fresh_is_nothing)) nothing_kept

@@ -1,0 +1,166 @@
+-- What a visit of one connection makes of all of them.
+use Rattle.std.proofs.Common.{◌≡◌, ◌==◌, ◌++◌, ◌∙◌, [], ℕ, Bool, true, false, List, Option, None, Some, IsSome, refl, ap, subst, sym, inl, inr, append-nil, append_assoc}
+use Rattle.std.proofs.lemmas.Bool.{false≢true}
+use Rattle.std.specs.Io.KnownBytes.{append_known}
+use Rattle.registry_service.specs.Histories.{Reached, Transcript, World}
+use Rattle.registry_service.specs.Turns.{Answering}
+use Rattle.registry_service.specs.declared.turning.End.{End}
+use Rattle.registry_server.specs.ConnectionStates.{Pending, TakesTurn, holding, sending}
+use Rattle.registry_server.specs.Connections.{Keeps, OpenConnection, TurnsOnce, Visits}
+use Rattle.registry_server.specs.Worlds.{ShowsReceived, ShowsSent, SocketShows, StateShows, VisitLeadsTo, VisitsLead}
+use Rattle.registry_server.proofs.WorldFacts.{Goes, IsSame, goes-by-comes, goes-by-sends, goes-by-shuts, goes-by-turns, same-after, stands-still}
+
+-- ---- what is known of the bytes of a socket
+
+some-not-none : {A : Type 0} (o : Option A) → IsSome o → o ≡ None → ⊥
+some-not-none None h e = cc
+some-not-none (Some x) h e = cc
+
+received-held : (known : Option (List ℕ)) (l m : Transcript) (got : List ℕ) (e f : Option End) → ShowsReceived known l e → e ≡ None → m.came ≡ l.came ++ got → ShowsReceived (append_known known got) m f
+received-held None l m got e f shown goes came = tt
+received-held (Some bytes) l m got e f shown goes came =
+    let all : bytes ≡ l.came = shown.1 ∙ ap (λ (d : List ℕ). l.came ++ d) (shown.2 goes) ∙ append-nil l.came in
+    ([], ap (λ (b : List ℕ). b ++ got) all ∙ sym came ∙ sym (append-nil m.came), λ _. refl)
+
+received-dropped : (known : Option (List ℕ)) (l m : Transcript) (got : List ℕ) (e f : Option End) → ShowsReceived known l e → IsSome f → m.came ≡ l.came → ShowsReceived (append_known known got) m f
+received-dropped None l m got e f shown ended came = tt
+received-dropped (Some bytes) l m got e f shown ended came = (
+  shown.0 ++ got,
+  ap (λ (b : List ℕ). b ++ got) shown.1 ∙ append_assoc l.came shown.0 got ∙ ap (λ (c : List ℕ). c ++ (shown.0 ++ got)) (sym came),
+  λ none. absurd (some-not-none f ended none),
+)
+
+sent-more : (known : Option (List ℕ)) (l m : Transcript) (put : List ℕ) → ShowsSent known l → m.sent ≡ l.sent ++ put → ShowsSent (append_known known put) m
+sent-more None l m put shown sent = tt
+sent-more (Some bytes) l m put shown sent = ap (λ (b : List ℕ). b ++ put) shown ∙ sym sent
+
+-- ---- the steps of a visit, one after the other
+
+module _ {D : Type 0} (answers : Answering D) where
+  chained : (M : D) (w : World D) (k : ℕ) (over over2 : Bool) (p q : Pending) (came sent came2 sent2 came3 sent3 : List ℕ) (N N2 : D)
+      → (g : Goes answers M w k over p came sent N) → Goes answers M g.world k over2 q came2 sent2 N2 → came2 ≡ came3 → sent2 ≡ sent3
+      → Goes answers M w k over2 q came3 sent3 N2
+  chained M w k over over2 p q came sent came2 sent2 came3 sent3 N N2 g h c s = record {
+    world = h.world;
+    reached = h.reached;
+    service = h.service;
+    stands = h.stands;
+    came_so_far = h.came_so_far ∙ c;
+    sent_so_far = h.sent_so_far ∙ s;
+    others = λ j e. same-after w g.world h.world j (g.others j e) (h.others j e);
+  }
+
+  goes-nowhere : (M : D) (w : World D) (k : ℕ) (over : Bool) (p : Pending) → Reached answers M w → StateShows w k over p
+      → Goes answers M w k over p (w.transcripts k).came (w.transcripts k).sent w.service
+  goes-nowhere M w k over p r s = record {
+    world = w;
+    reached = r;
+    service = refl;
+    stands = s;
+    came_so_far = refl;
+    sent_so_far = refl;
+    others = λ j e. record { transcript = refl; turned = refl };
+  }
+
+  with-state : (M : D) (w : World D) (k : ℕ) (over : Bool) (p q : Pending) (came sent : List ℕ) (N : D) → p ≡ q → Goes answers M w k over p came sent N → Goes answers M w k over q came sent N
+  with-state M w k over p q came sent N same g = subst (λ (x : Pending). Goes answers M w k over x came sent N) same g
+
+  -- bytes come, and none once the other side sends no more
+  reads : (M : D) (w : World D) (k : ℕ) (over : Bool) (p q : Pending) (got : List ℕ) → Reached answers M w → StateShows w k over p → q ≡ holding p (p.held ++ got) → (over ≡ true → got ≡ [])
+      → Goes answers M w k over q ((w.transcripts k).came ++ got) (w.transcripts k).sent w.service
+  reads M w k false p q got r s held none = with-state M w k false (holding p (p.held ++ got)) q _ _ w.service (sym held) (goes-by-comes answers M w k p got r s)
+  reads M w k true p q got r s held none =
+      let l = w.transcripts k in
+      let nothing = none refl in
+      let same : p ≡ q = sym (held ∙ ap (λ (b : List ℕ). holding p (p.held ++ b)) nothing ∙ ap (holding p) (append-nil p.held)) in
+      let came : l.came ≡ l.came ++ got = sym (ap (λ (b : List ℕ). l.came ++ b) nothing ∙ append-nil l.came) in
+      with-state M w k true p q _ _ w.service same
+      (subst (λ (c : List ℕ). Goes answers M w k true p c l.sent w.service) came (goes-nowhere M w k true p r s))
+
+  -- the other side may send no more
+  then-shuts : (M : D) (w : World D) (k : ℕ) (over over2 : Bool) (p : Pending) (came sent : List ℕ) (N : D) → (over ≡ true → over2 ≡ true)
+      → Goes answers M w k over p came sent N → Goes answers M w k over2 p came sent N
+  then-shuts M w k over true p came sent N stays g =
+      subst (λ (n : D). Goes answers M w k true p came sent n) g.service
+      (chained M w k over true p p came sent _ _ came sent N g.world.service g (goes-by-shuts answers M g.world k over p g.reached g.stands) g.came_so_far g.sent_so_far)
+  then-shuts M w k false false p came sent N stays g = g
+  then-shuts M w k true false p came sent N stays g = absurd (false≢true (stays refl))
+
+  -- a turn is taken, or none
+  then-turns : (M : D) (w : World D) (k : ℕ) (over : Bool) (p q : Pending) (came sent : List ℕ) (N N2 : D) (readings readings2 : Option (List ℕ))
+      → TurnsOnce answers p q N N2 readings readings2 over → Goes answers M w k over p came sent N → Goes answers M w k over q came sent N2
+  then-turns M w k over p q came sent N N2 readings readings2 (inl t) g =
+      chained M w k over over p q came sent _ _ came sent N N2 g
+      (goes-by-turns answers M g.world k over p q N2 readings readings2 g.reached g.stands t.0.goes_on t.0.all_sent
+      (subst (λ (n : D). TakesTurn answers p q n N2 readings readings2 over) (sym g.service) t.1))
+      g.came_so_far g.sent_so_far
+  then-turns M w k over p q came sent N N2 readings readings2 (inr t) g =
+      subst (λ (n : D). Goes answers M w k over q came sent n) (sym t.service) (with-state M w k over p q came sent N (sym t.state) g)
+
+  -- some of what is due is sent
+  then-sends : (M : D) (w : World D) (k : ℕ) (over : Bool) (p q : Pending) (put came sent : List ℕ) (N : D) → p ≡ sending q (put ++ q.outgoing)
+      → Goes answers M w k over p came sent N → Goes answers M w k over q came (sent ++ put) N
+  then-sends M w k over p q put came sent N due g =
+      let gone = goes-by-sends answers M g.world k over p put q.outgoing g.reached g.stands (ap (λ (x : Pending). x.outgoing) due) in
+      subst (λ (n : D). Goes answers M w k over q came (sent ++ put) n) g.service
+      (with-state M w k over (sending p q.outgoing) q _ _ g.world.service (ap (λ (x : Pending). sending x q.outgoing) due)
+      (chained M w k over over p (sending p q.outgoing) came sent _ _ came (sent ++ put) N g.world.service g gone
+      g.came_so_far (ap (λ (b : List ℕ). b ++ put) g.sent_so_far)))
+
+  -- all of them but the first
+  goes-after : (M : D) (w : World D) (k : ℕ) (over over2 : Bool) (read due new : Pending) (put came sent : List ℕ) (N N2 : D) (readings readings2 : Option (List ℕ))
+      → (over ≡ true → over2 ≡ true) → TurnsOnce answers read due N N2 readings readings2 over2 → due ≡ sending new (put ++ new.outgoing)
+      → Goes answers M w k over read came sent N → Goes answers M w k over2 new came (sent ++ put) N2
+  goes-after M w k over over2 read due new put came sent N N2 readings readings2 stays turned sends g =
+      then-sends M w k over2 due new put came sent N2 sends
+      (then-turns M w k over2 read due came sent N N2 readings readings2 turned
+      (then-shuts M w k over over2 read came sent N stays g))
+
+module _ {S : Type 0} (received sent : S → Option (List ℕ)) {D : Type 0} (answers : Answering D) where
+  shows-still : (w v : World D) (j : ℕ) (c : OpenConnection S) → IsSame w v j → SocketShows received sent w j c → SocketShows received sent v j c
+  shows-still w v j c same s = record {
+    state = stands-still w v j c.is_over c.state same.transcript same.turned s.state;
+    received_so_far = subst (λ (l : Transcript). ShowsReceived (received c.socket) l c.state.ends) (sym same.transcript) s.received_so_far;
+    sent_so_far = subst (λ (l : Transcript). ShowsSent (sent c.socket) l) (sym same.transcript) s.sent_so_far;
+  }
+
+  leads-as : (M : D) (w : World D) (k : ℕ) (old new : OpenConnection S) (N : D) (put came : List ℕ) → SocketShows received sent w k old
+      → sent new.socket ≡ append_known (sent old.socket) put
+      → (g : Goes answers M w k new.is_over new.state came ((w.transcripts k).sent ++ put) N)
+      → ShowsReceived (received new.socket) (g.world.transcripts k) new.state.ends
+      → VisitLeadsTo received sent answers M w k new N
+  leads-as M w k old new N put came s took g shown = record {
+    world = g.world;
+    reached = g.reached;
+    service = g.service;
+    stands = record {
+      state = g.stands;
+      received_so_far = shown;
+      sent_so_far = subst (λ (known : Option (List ℕ)). ShowsSent known (g.world.transcripts k)) (sym took)
+          (sent-more (sent old.socket) (w.transcripts k) (g.world.transcripts k) put s.sent_so_far g.sent_so_far);
+    };
+    others = λ j c e shows. shows-still w g.world j c (g.others j e) shows;
+  }
+
+  keeps-leads : (M : D) (w : World D) (k : ℕ) (old new : OpenConnection S) (N : D) (readings readings2 : Option (List ℕ)) → Reached answers M w → SocketShows received sent w k old
+      → (v : Visits received sent answers old new w.service N readings readings2) → Keeps v.got old.state old.is_over v.read new.state.ends
+      → VisitLeadsTo received sent answers M w k new N
+  keeps-leads M w k old new N readings readings2 r s v (inl held) =
+      let l = w.transcripts k in
+      let g : Goes answers M w k new.is_over new.state (l.came ++ v.got) (l.sent ++ v.put) N =
+      goes-after answers M w k old.is_over new.is_over v.read v.due new.state v.put (l.came ++ v.got) l.sent w.service N readings readings2 v.over v.turns v.sends
+      (reads answers M w k old.is_over old.state v.read v.got r s.state held.1 held.2) in
+      leads-as M w k old new N v.put (l.came ++ v.got) s v.took g
+      (subst (λ (known : Option (List ℕ)). ShowsReceived known (g.world.transcripts k) new.state.ends) (sym v.gave)
+      (received-held (received old.socket) l (g.world.transcripts k) v.got old.state.ends new.state.ends s.received_so_far held.0 g.came_so_far))
+  keeps-leads M w k old new N readings readings2 r s v (inr dropped) =
+      let l = w.transcripts k in
+      let g : Goes answers M w k new.is_over new.state l.came (l.sent ++ v.put) N =
+      goes-after answers M w k old.is_over new.is_over v.read v.due new.state v.put l.came l.sent w.service N readings readings2 v.over v.turns v.sends
+      (goes-nowhere answers M w k old.is_over v.read r (subst (λ (p : Pending). StateShows w k old.is_over p) (sym dropped.1) s.state)) in
+      leads-as M w k old new N v.put l.came s v.took g
+      (subst (λ (known : Option (List ℕ)). ShowsReceived known (g.world.transcripts k) new.state.ends) (sym v.gave)
+      (received-dropped (received old.socket) l (g.world.transcripts k) v.got old.state.ends new.state.ends s.received_so_far dropped.0 g.came_so_far))
+
+  pub visits-lead : VisitsLead received sent answers
+  visits-lead M w k old new N readings readings2 r s v = keeps-leads M w k old new N readings readings2 r s v v.keeps

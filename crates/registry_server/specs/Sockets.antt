@@ -1,0 +1,17 @@
+-- What a call of a socket moved.
+use Rattle.std.specs.Prelude.{◌≤◌, [], ℕ, List, take, ⊤}
+use Rattle.registry_server.specs.declared.socket.Flow.{Flow}
+use Rattle.registry_server.specs.declared.socket.Flow.TheVariants.{Moved, Waits, Ended, Broken}
+
+abbrev pub MovesAtMost : ℕ → Flow → Type 0
+MovesAtMost most (Moved count) = count ≤ most
+MovesAtMost most Waits = ⊤
+MovesAtMost most Ended = ⊤
+MovesAtMost most Broken = ⊤
+
+-- what it moved of these bytes, which are the first
+abbrev pub moved : Flow → List ℕ → List ℕ
+moved (Moved count) bytes = take count bytes
+moved Waits bytes = []
+moved Ended bytes = []
+moved Broken bytes = []

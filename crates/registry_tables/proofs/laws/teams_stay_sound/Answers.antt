@@ -1,5 +1,0 @@
-use Rattle.registry_tables.proofs.TeamFacts.{sound_teams}
-use Rattle.registry_tables.proofs.laws.teams_stay_sound.Goals as goal
-
-pub returns : goal.returns
-returns c = λ stored sound. sound_teams stored sound
