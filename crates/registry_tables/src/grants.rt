@@ -5,8 +5,8 @@ ghost use Rattle.registry_access.specs.declared.grant.Grant.{Grant as Right};
 ghost use Rattle.registry_names.specs.Maps.{at, erase, put};
 ghost use Rattle.registry_names.specs.Texts.{Text as Bytes};
 ghost use Rattle.registry_rows.specs.Frames.{Stays};
-ghost use Rattle.registry_tables.specs.Changes.{amended, with_row};
-ghost use Rattle.registry_tables.specs.Effects.{InForm, Makes, Tells};
+ghost use Rattle.registry_tables.specs.Changes.{IsFree, IsFreeUnless, amended, with_row};
+ghost use Rattle.registry_tables.specs.Effects.{InForm, Makes, OnlyWhere, Tells};
 ghost use Rattle.registry_tables.specs.Spelled.{grant_number};
 ghost use Rattle.registry_tables.specs.Teams.{AreGranted, grant_spelled, granted_entry, granted_spelled, grants_of};
 
@@ -52,6 +52,8 @@ pub(crate) fn put_grant<S: Alter>(
         (λ c. record c {
           grants = with_row c.grants (organisation.now, (team.now, name.now)) grant stands;
         }) }
+    ensures was_new { OnlyWhere S.Store tx.old tx.new result
+        (λ c. IsFreeUnless c.grants (organisation.now, (team.now, name.now)) stands) }
 {
     if stands {
         update_grant(tx, organisation, team, name, grant)
@@ -71,6 +73,8 @@ fn insert_grant<S: Alter>(
     ensures stays { Stays S.Store tx.old tx.new }
     ensures makes { Makes S.Store tx.old tx.new result
         (λ c. record c { grants = put c.grants (organisation.now, (team.now, name.now)) grant }) }
+    ensures was_new { OnlyWhere S.Store tx.old tx.new result
+        (λ c. IsFree c.grants (organisation.now, (team.now, name.now))) }
 {
     write(
         tx,

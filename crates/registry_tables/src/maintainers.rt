@@ -6,8 +6,9 @@ ghost use Rattle.registry_names.specs.Maps.{at, erase, keys, of, put};
 ghost use Rattle.registry_names.specs.Texts.{is};
 ghost use Rattle.registry_rows.specs.Frames.{Stays};
 ghost use Rattle.registry_rules.specs.State as spec;
+ghost use Rattle.registry_tables.specs.Changes.{IsFree};
 ghost use Rattle.registry_tables.specs.Contents.{registry_of};
-ghost use Rattle.registry_tables.specs.Effects.{InForm, Makes, Tells};
+ghost use Rattle.registry_tables.specs.Effects.{InForm, Makes, OnlyWhere, Tells};
 
 use crate::texts::texts_in;
 use registry_names::{Fault, Name, Text};
@@ -95,6 +96,8 @@ pub(crate) fn put_owner<S: Alter>(
     ensures stays { Stays S.Store tx.old tx.new }
     ensures makes { Makes S.Store tx.old tx.new result
         (λ c. record c { owners = put c.owners (name.now, user.now) tt }) }
+    ensures was_new { OnlyWhere S.Store tx.old tx.new result
+        (λ c. IsFree c.owners (name.now, user.now)) }
 {
     write(
         tx,

@@ -8,9 +8,9 @@ ghost use Rattle.registry_names.specs.Maps.{at, of, put};
 ghost use Rattle.registry_names.specs.Texts.{Text as Bytes, is};
 ghost use Rattle.registry_rows.specs.Frames.{Stays};
 ghost use Rattle.registry_rules.specs.State as spec;
-ghost use Rattle.registry_tables.specs.Changes.{amended, with_row};
+ghost use Rattle.registry_tables.specs.Changes.{IsFree, IsFreeUnless, amended, with_row};
 ghost use Rattle.registry_tables.specs.Contents.{registry_of};
-ghost use Rattle.registry_tables.specs.Effects.{InForm, Makes, Tells};
+ghost use Rattle.registry_tables.specs.Effects.{InForm, Makes, OnlyWhere, Tells};
 ghost use Rattle.registry_tables.specs.Spelled.{member_entry, member_spelled, role_number, role_spelled};
 ghost use Rattle.registry_tables.specs.Teams.{without_member};
 
@@ -101,6 +101,8 @@ pub(crate) fn put_member<S: Alter>(
     ensures stays { Stays S.Store tx.old tx.new }
     ensures makes { Makes S.Store tx.old tx.new result
         (λ c. record c { members = with_row c.members (organisation.now, user.now) role stands }) }
+    ensures was_new { OnlyWhere S.Store tx.old tx.new result
+        (λ c. IsFreeUnless c.members (organisation.now, user.now) stands) }
 {
     if stands {
         update_member(tx, organisation, user, role)
@@ -119,6 +121,8 @@ fn insert_member<S: Alter>(
     ensures stays { Stays S.Store tx.old tx.new }
     ensures makes { Makes S.Store tx.old tx.new result
         (λ c. record c { members = put c.members (organisation.now, user.now) role }) }
+    ensures was_new { OnlyWhere S.Store tx.old tx.new result
+        (λ c. IsFree c.members (organisation.now, user.now)) }
 {
     write(
         tx,

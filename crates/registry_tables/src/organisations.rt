@@ -3,7 +3,8 @@
 ghost use Rattle.std.specs.Prelude.{◌≡◌, is_some};
 ghost use Rattle.registry_names.specs.Maps.{at, put};
 ghost use Rattle.registry_rows.specs.Frames.{Stays};
-ghost use Rattle.registry_tables.specs.Effects.{InForm, Makes, Tells};
+ghost use Rattle.registry_tables.specs.Changes.{IsFree};
+ghost use Rattle.registry_tables.specs.Effects.{InForm, Makes, OnlyWhere, Tells};
 
 use registry_names::Fault;
 use registry_rows::{read, write};
@@ -36,6 +37,8 @@ pub(crate) fn add_organisation<S: Alter>(
     ensures stays { Stays S.Store tx.old tx.new }
     ensures makes { Makes S.Store tx.old tx.new result
         (λ c. record c { organisations = put c.organisations organisation.now tt }) }
+    ensures was_new { OnlyWhere S.Store tx.old tx.new result
+        (λ c. IsFree c.organisations organisation.now) }
 {
     write(tx, "INSERT INTO orgs VALUES (?1)", params![organisation])
 }

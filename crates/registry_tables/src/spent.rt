@@ -4,8 +4,9 @@ ghost use Rattle.std.specs.Prelude.{◌≡◌, is_some};
 ghost use Rattle.registry_names.specs.Maps.{at, put};
 ghost use Rattle.registry_rows.specs.Frames.{Stays};
 ghost use Rattle.registry_rules.specs.Withdrawals.{last_withdrawal};
+ghost use Rattle.registry_tables.specs.Changes.{IsFree};
 ghost use Rattle.registry_tables.specs.Contents.{registry_of};
-ghost use Rattle.registry_tables.specs.Effects.{InForm, Makes, Tells};
+ghost use Rattle.registry_tables.specs.Effects.{InForm, Makes, OnlyWhere, Tells};
 
 use crate::moments::last_moment;
 use registry_names::{Fault, Moment, Name};
@@ -67,6 +68,8 @@ pub(crate) fn put_withdrawal<S: Alter>(
           spent = put c.spent (name.now, version.now)
               (record { published = published; withdrawn = withdrawn });
         }) }
+    ensures was_new { OnlyWhere S.Store tx.old tx.new result
+        (λ c. IsFree c.spent (name.now, version.now)) }
 {
     write(
         tx,

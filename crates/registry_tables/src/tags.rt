@@ -5,9 +5,9 @@ ghost use Rattle.registry_names.specs.Maps.{at, erase, of, put};
 ghost use Rattle.registry_names.specs.Texts.{Text as Bytes};
 ghost use Rattle.registry_rows.specs.Frames.{Stays};
 ghost use Rattle.registry_rules.specs.Withdrawals.{tags_of};
-ghost use Rattle.registry_tables.specs.Changes.{amended, with_row};
+ghost use Rattle.registry_tables.specs.Changes.{IsFree, IsFreeUnless, amended, with_row};
 ghost use Rattle.registry_tables.specs.Contents.{registry_of};
-ghost use Rattle.registry_tables.specs.Effects.{InForm, Makes, Tells};
+ghost use Rattle.registry_tables.specs.Effects.{InForm, Makes, OnlyWhere, Tells};
 ghost use Rattle.registry_tables.specs.Spelled.{tag_entry, tag_spelled};
 
 use crate::texts::{TextRow, texts_in};
@@ -101,6 +101,8 @@ pub(crate) fn put_tag<S: Alter>(
     ensures stays { Stays S.Store tx.old tx.new }
     ensures makes { Makes S.Store tx.old tx.new result
         (λ c. record c { tags = with_row c.tags (name.now, tag.now) version.now stands }) }
+    ensures was_new { OnlyWhere S.Store tx.old tx.new result
+        (λ c. IsFreeUnless c.tags (name.now, tag.now) stands) }
 {
     if stands {
         update_tag(tx, name, tag, version)
@@ -119,6 +121,8 @@ fn insert_tag<S: Alter>(
     ensures stays { Stays S.Store tx.old tx.new }
     ensures makes { Makes S.Store tx.old tx.new result
         (λ c. record c { tags = put c.tags (name.now, tag.now) version.now }) }
+    ensures was_new { OnlyWhere S.Store tx.old tx.new result
+        (λ c. IsFree c.tags (name.now, tag.now)) }
 {
     write(
         tx,

@@ -4,7 +4,8 @@
 ghost use Rattle.std.specs.Prelude.{◌≡◌, is_some};
 ghost use Rattle.registry_names.specs.Maps.{at, erase, put};
 ghost use Rattle.registry_rows.specs.Frames.{Stays};
-ghost use Rattle.registry_tables.specs.Effects.{InForm, Makes, Tells};
+ghost use Rattle.registry_tables.specs.Changes.{IsFree};
+ghost use Rattle.registry_tables.specs.Effects.{InForm, Makes, OnlyWhere, Tells};
 ghost use Rattle.registry_tables.specs.Teams.{teams_of, users_of};
 
 use crate::texts::texts_in;
@@ -47,6 +48,8 @@ pub(crate) fn put_team_member<S: Alter>(
         (λ c. record c {
           team_members = put c.team_members (organisation.now, (team.now, user.now)) tt;
         }) }
+    ensures was_new { OnlyWhere S.Store tx.old tx.new result
+        (λ c. IsFree c.team_members (organisation.now, (team.now, user.now))) }
 {
     write(
         tx,

@@ -1,7 +1,6 @@
 //! The table `versions`: the live versions of every package.
 
-ghost use Rattle.std.specs.Prelude.{◌≡◌, IfOk, None, OnOk, is_some, map, option_map};
-ghost use Rattle.sqlite.specs.State.{HasCleanDisk};
+ghost use Rattle.std.specs.Prelude.{◌≡◌, IfOk, is_some, map, option_map};
 ghost use Rattle.registry_names.specs.Maps.{at, of, put, seen};
 ghost use Rattle.registry_names.specs.Texts.{Text as Bytes};
 ghost use Rattle.registry_names.specs.Versions.{text_of_version};
@@ -9,9 +8,9 @@ ghost use Rattle.registry_rows.specs.Frames.{Stays};
 ghost use Rattle.registry_rules.specs.Actions as actions;
 ghost use Rattle.registry_rules.specs.State as state;
 ghost use Rattle.registry_rules.specs.Withdrawals.{live_versions, published_at};
-ghost use Rattle.registry_tables.specs.Changes.{IsNew, is_unspent, row_of, version_put};
+ghost use Rattle.registry_tables.specs.Changes.{IsFree, IsNew, is_unspent, row_of, version_put};
 ghost use Rattle.registry_tables.specs.Contents.{live_of, registry_of};
-ghost use Rattle.registry_tables.specs.Effects.{InForm, Makes, Tells, shown, stored_in};
+ghost use Rattle.registry_tables.specs.Effects.{InForm, Makes, OnlyWhere, Tells};
 ghost use Rattle.registry_tables.specs.Spelled.{document, document_entry, document_spelled, row_entry, row_spelled};
 ghost use Rattle.registry_tables.specs.Withdrawals.{with_message};
 
@@ -188,8 +187,7 @@ pub fn put_version<S: Alter>(
     requires in_form { InForm S.Store tx.old }
     ensures stays { Stays S.Store tx.old tx.new }
     ensures makes { Makes S.Store tx.old tx.new result (version_put form.now published) }
-    ensures was_new { HasCleanDisk (shown S.Store tx.new)
-        → OnOk result (IsNew form.now (stored_in S.Store tx.old)) }
+    ensures was_new { OnlyWhere S.Store tx.old tx.new result (IsNew form.now) }
 {
     if !may_be_put(tx, form)? {
         return Err(Fault::Database);
@@ -221,9 +219,8 @@ fn insert_version<S: Alter>(
       versions = put c.versions
           (form.now.name, actions.version_of form.now) (row_of form.now published);
     }) }
-    ensures was_new { HasCleanDisk (shown S.Store tx.new) → OnOk result
-        (at (stored_in S.Store tx.old).versions (form.now.name, actions.version_of form.now)
-        ≡ None) }
+    ensures was_new { OnlyWhere S.Store tx.old tx.new result
+        (λ c. IsFree c.versions (form.now.name, actions.version_of form.now)) }
 {
     write(
         tx,
