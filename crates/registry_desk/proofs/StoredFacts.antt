@@ -9,8 +9,9 @@ use Rattle.registry_tables.specs.Contents.{Contents}
 use Rattle.registry_tables.specs.Effects.{registry_in, stored}
 use Rattle.registry_tables.specs.Archives.{HoldsArchives}
 use Rattle.registry_tables.specs.Needs.{HoldsNeeds}
+use Rattle.registry_tables.proofs.TeamFacts.{sound_teams}
 use Rattle.registry_rows.proofs.QuietFacts.{on_answer}
-use Rattle.registry_desk.specs.Promises.{Answered, HoldsSound, Keeps, KeepsForm, KeepsSound, KeepsSure, Moves, RanTo, Served, ServedRun, ShutByFaults, StaysSure, Stepped, Stored, SurvivesOne, SurvivesRun, WasOpen}
+use Rattle.registry_desk.specs.Promises.{Answered, HoldsReferences, HoldsSound, Keeps, KeepsForm, KeepsSound, KeepsSure, Moves, RanTo, Served, ServedRun, ShutByFaults, StaysSure, Stepped, Stored, SurvivesOne, SurvivesRun, WasOpen}
 use Rattle.registry_desk.specs.Resting.{IsRegistryOf, Serves, end_stored, left_by, next_stored, settled_by}
 use Rattle.registry_desk.proofs.SettlingFacts.{faulted_next}
 use Rattle.registry_history.specs.Runs.{Outcome, HaveOutcomes, IsAnswer, next}
@@ -76,6 +77,7 @@ pub record HasAnswered (old new : Shown) (r : Request) (o : Outcome) : Type 0 wh
   pub step : Stepped old new r o
   pub moves : Moves old new r o
   pub sound : KeepsSound old new
+  pub refers : Keeps old new HoldsReferences
   pub form : KeepsForm old new
   pub needs : Keeps old new HoldsNeeds
   pub archives : Keeps old new HoldsArchives
@@ -88,6 +90,7 @@ pub record HasRun (old new : Shown) (rs : List Request) (os : List Outcome) : Ty
   pub served : ServedRun old new os
   pub opened : WasOpen old new
   pub sound : KeepsSound old new
+  pub refers : Keeps old new HoldsReferences
   pub form : KeepsForm old new
   pub needs : Keeps old new HoldsNeeds
   pub archives : Keeps old new HoldsArchives
@@ -102,6 +105,7 @@ has_run_none s = record {
   served = λ clean. refl;
   opened = λ clean on. on;
   sound = λ sound clean on. sound;
+  refers = λ sound clean on holds. holds;
   form = λ needs clean on kept. kept;
   needs = λ sound clean on holds. holds;
   archives = λ sound clean on holds. holds;
@@ -126,8 +130,9 @@ has_run_more old mid new rs os r o run made =
       served = λ clean. served_push old.is_open mid.is_open new.is_open os o (run.served (before clean)) (served_one mid.is_open new.is_open o (made.served clean) (made.opened clean));
       opened = λ clean on. run.opened (before clean) (made.opened clean on);
       sound = λ sound clean on. made.sound (still sound clean (made.opened clean on)) clean on;
+      refers = λ sound clean on holds. made.refers (still sound clean (made.opened clean on)) clean on (run.refers sound (before clean) (made.opened clean on) holds);
       form = λ needs clean on kept.
-          made.form (still (record { refers = kept.sound; needs = needs }) clean (made.opened clean on)).needs clean on (run.form needs (before clean) (made.opened clean on) kept);
+          made.form (still (record { grants = (sound_teams _ kept.sound).grants; needs = needs }) clean (made.opened clean on)).needs clean on (run.form needs (before clean) (made.opened clean on) kept);
       needs = λ sound clean on holds. made.needs (still sound clean (made.opened clean on)) clean on (run.needs sound (before clean) (made.opened clean on) holds);
       archives = λ sound clean on holds. made.archives (still sound clean (made.opened clean on)) clean on (run.archives sound (before clean) (made.opened clean on) holds);
       survives = λ sound clean db left. left_by_push (registry_in old) old.may_leave rs os r o (stored old) db (run.ran sound (before clean)).answers

@@ -12,7 +12,8 @@
 -- | moves     | a   | so is the registry's state                                      | S, open   |
 -- | history   | a r | a legal history of what was held goes on                        | N, open   |
 -- | headline  | r   | the theorem, of a registry of which nothing was asked           | N, open   |
--- | sound     | a r | references, and the needs that are stored, stay right           | S, open   |
+-- | sound     | a r | so grants stay in scope, and needs those of live versions       | S, open   |
+-- | refers    | a r | references go on to hold                                        | S, open   |
 -- | needs     | a r | the needs that are stored stay those of live versions           | S, open   |
 -- | archives  | a r | so do the archives                                              | S, open   |
 -- | form      | a r | each text that is held stays in form                            | N, open   |
@@ -23,11 +24,12 @@
 --
 -- Of: a is `Registry::apply`, and r is `Registry::run`. Needs: each clause supposes a clean disk at
 -- the exit (`HasCleanDisk`), and also
---   S     references hold at the entry, and the needs that are stored are those of live versions
---         (`HoldsSound`): what decides a request is read from them;
+--   S     at the entry each grant is on a package of its organisation's scope, and the needs that
+--         are stored are those of live versions (`HoldsSound`): what decides a request is read from
+--         them;
 --   N     the needs that are stored at the entry are those of live versions (`HoldsNeeds`), and
---         a legal history led to the state, nothing was asked, or it is in form, each of which
---         gives the references;
+--         a legal history led to the state, nothing was asked, or it is in form, of each of which
+--         grants are in scope;
 --   open  the registry is open at the exit: a fault of the disk may have shut it.
 -- A new registry has S and N, and every request keeps them.
 use Rattle.std.specs.Prelude.{◌≡◌, List, OnOk, IsTrue}
@@ -36,9 +38,10 @@ use Rattle.sqlite.specs.State.{State as Shown, HasCleanDisk, Survives}
 use Rattle.registry_rules.specs.Kept.{IsKept, IsSound}
 use Rattle.registry_rules.specs.State.{nothing}
 use Rattle.registry_rules.specs.declared.request.Request.{Request}
-use Rattle.registry_tables.specs.Contents.{Contents}
+use Rattle.registry_tables.specs.Contents.{Contents, registry_of}
 use Rattle.registry_tables.specs.Effects.{registry_in, stored}
 use Rattle.registry_tables.specs.Needs.{HoldsNeeds}
+use Rattle.registry_tables.specs.Teams.{GrantsInScope}
 use Rattle.registry_history.specs.Headline.{Headline}
 use Rattle.registry_history.specs.History.{Entry, Legal, after}
 use Rattle.registry_history.specs.Says.{Says}
@@ -53,18 +56,22 @@ IsSure s = (db : Trees) → s.may_leave db → IsRegistryOf db (stored s)
 abbrev pub StaysSure : Shown → Type 0
 StaysSure s = HasCleanDisk s → IsTrue s.is_open → IsSure s
 
--- references hold, and the needs that are stored are those of live versions
+-- each grant is on a package of its organisation's scope, and the needs that are stored are those of
+-- live versions
 pub record HoldsSound (s : Shown) : Type 0 where
-  pub refers : IsSound (registry_in s).access
+  pub grants : GrantsInScope (stored s)
   pub needs : HoldsNeeds (stored s)
+
+-- what an entry refers to is there, and what each organisation and each package needs
+abbrev pub HoldsReferences : Contents → Type 0
+HoldsReferences c = IsSound (registry_of c).access
 
 module _ (old new : Shown) where
   -- it was open where it is open
   abbrev pub WasOpen : Type 0
   WasOpen = HasCleanDisk new → IsTrue new.is_open → IsTrue old.is_open
 
-  -- references go on to hold, and the needs that are stored go on to be those
-  -- of live versions
+  -- grants stay in scope, and the needs that are stored go on to be those of live versions
   abbrev pub KeepsSound : Type 0
   KeepsSound = HoldsSound old → HasCleanDisk new → IsTrue new.is_open → HoldsSound new
 

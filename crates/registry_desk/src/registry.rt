@@ -12,7 +12,7 @@ ghost use Rattle.registry_tables.specs.Effects.{registry_in, stored};
 ghost use Rattle.registry_tables.specs.Fresh.{fresh};
 ghost use Rattle.registry_tables.specs.Needs.{HoldsNeeds};
 ghost use Rattle.registry_history.specs.Headline.{Headline};
-ghost use Rattle.registry_desk.specs.Promises.{Answered, GrowsHistory, HasHeadline, Keeps, KeepsForm, KeepsSound, KeepsSure, Moves, RanTo, Served, ServedRun, ShutByFaults, StaysSure, Stepped, Stored, SurvivesOne, SurvivesRun, WasOpen, WritesHistory};
+ghost use Rattle.registry_desk.specs.Promises.{Answered, GrowsHistory, HasHeadline, HoldsReferences, Keeps, KeepsForm, KeepsSound, KeepsSure, Moves, RanTo, Served, ServedRun, ShutByFaults, StaysSure, Stepped, Stored, SurvivesOne, SurvivesRun, WasOpen, WritesHistory};
 ghost use Rattle.registry_desk.specs.Resting.{Rests, end_stored};
 ghost use Rattle.registry_desk.specs.Caches.{HasPackuments};
 
@@ -109,8 +109,9 @@ impl<S: Alter> Registry<S> {
     /// has changed.
     ///
     /// What is said here holds as long as the disk returns what was written to it, which memory
-    /// always does; and of a registry where references hold, and the needs that are stored are
-    /// those of live versions, as in a new one: every request keeps that. A crash leaves what is
+    /// always does; and of a registry where each grant is on a package of its organisation's scope,
+    /// and the needs that are stored are those of live versions, as in a new one: every request
+    /// keeps that. A crash leaves what is
     /// stored, as long as the registry is open, as it is after a reply. Where a fault of the disk
     /// has shut it, a crash leaves what it could have left before, or what the request makes.
     pub fn apply(&mut self, alloc: Global, request: &Request) -> Result<Reply, Fault>
@@ -125,6 +126,7 @@ impl<S: Alter> Registry<S> {
         ensures history { GrowsHistory (state S.Store self.old) (state S.Store self.new)
             request.now result }
         ensures sound { KeepsSound (state S.Store self.old) (state S.Store self.new) }
+        ensures refers { Keeps (state S.Store self.old) (state S.Store self.new) HoldsReferences }
         ensures form { KeepsForm (state S.Store self.old) (state S.Store self.new) }
         ensures needs { Keeps (state S.Store self.old) (state S.Store self.new) HoldsNeeds }
         ensures archives { Keeps (state S.Store self.old) (state S.Store self.new) HoldsArchives }
@@ -160,6 +162,7 @@ impl<S: Alter> Registry<S> {
             (state S.Store self.new) outcomes.items) }
         ensures opened { WasOpen (state S.Store self.old) (state S.Store self.new) }
         ensures sound { KeepsSound (state S.Store self.old) (state S.Store self.new) }
+        ensures refers { Keeps (state S.Store self.old) (state S.Store self.new) HoldsReferences }
         ensures form { KeepsForm (state S.Store self.old) (state S.Store self.new) }
         ensures needs { Keeps (state S.Store self.old) (state S.Store self.new) HoldsNeeds }
         ensures archives { Keeps (state S.Store self.old) (state S.Store self.new) HoldsArchives }

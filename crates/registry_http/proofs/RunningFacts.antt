@@ -5,6 +5,7 @@ use Rattle.registry_rules.proofs.SoundSteps.{nothing_sound}
 use Rattle.registry_rules.specs.Kept.{IsSound}
 use Rattle.registry_rules.specs.State.{State}
 use Rattle.registry_rules.specs.declared.request.Request.{Request}
+use Rattle.registry_tables.proofs.TeamFacts.{sound_teams}
 use Rattle.registry_history.specs.Runs.{Outcome}
 use Rattle.registry_history.proofs.RunFacts.{headline_from, history_says, run_says}
 use Rattle.registry_desk.specs.Promises.{HoldsSound}
@@ -24,6 +25,7 @@ answered-of old new r o a = record {
   step = a.step;
   moves = a.moves;
   sound = a.sound;
+  refers = a.refers;
   form = a.form;
   needs = a.needs;
   archives = a.archives;
@@ -95,14 +97,15 @@ one-run old new ts runs = record {
   ran = runs.run.ran;
   stored = runs.run.stored;
   headline = λ needs clean on empty.
-      let sound : HoldsSound old = record { refers = subst (λ (S : State). IsSound S.access) (sym empty) nothing_sound; needs = needs } in
+      let sound : HoldsSound old = record { grants = (sound_teams _ (subst (λ (S : State). IsSound S.access) (sym empty) nothing_sound)).grants; needs = needs } in
       headline_from _ runs.requests runs.outcomes _ _ empty (runs.run.ran sound clean) on;
   history = λ needs clean on h legal is.
-      let sound : HoldsSound old = record { refers = subst (λ (S : State). IsSound S.access) (sym is) (history_says h legal).sound; needs = needs } in
+      let sound : HoldsSound old = record { grants = (sound_teams _ (subst (λ (S : State). IsSound S.access) (sym is) (history_says h legal).sound)).grants; needs = needs } in
       run_says h _ runs.requests runs.outcomes _ _ (runs.run.ran sound clean) on legal is;
   served = runs.run.served;
   opened = runs.run.opened;
   sound = runs.run.sound;
+  refers = runs.run.refers;
   form = runs.run.form;
   needs = runs.run.needs;
   archives = runs.run.archives;

@@ -6,7 +6,7 @@ use Rattle.registry_rules.specs.declared.request.Request.{Request}
 use Rattle.registry_tables.specs.Archives.{HoldsArchives}
 use Rattle.registry_tables.specs.Needs.{HoldsNeeds}
 use Rattle.registry_history.specs.Runs.{Outcome}
-use Rattle.registry_desk.specs.Promises.{Answered, GrowsHistory, HasHeadline, Keeps, KeepsForm, KeepsSound, KeepsSure, Moves, RanTo, Served, ServedRun, ShutByFaults, StaysSure, Stepped, Stored, SurvivesOne, SurvivesRun, WasOpen, WritesHistory}
+use Rattle.registry_desk.specs.Promises.{Answered, GrowsHistory, HasHeadline, HoldsReferences, Keeps, KeepsForm, KeepsSound, KeepsSure, Moves, RanTo, Served, ServedRun, ShutByFaults, StaysSure, Stepped, Stored, SurvivesOne, SurvivesRun, WasOpen, WritesHistory}
 use Rattle.registry_service.specs.Courses.{Follow}
 use Rattle.registry_service.specs.Histories.{LogEntry, FollowAll}
 use Rattle.registry_service.specs.Requests.{reads_request}
@@ -21,6 +21,7 @@ pub record Applies (old new : Shown) (r : Request) (o : Outcome) : Type 0 where
   pub moves : Moves old new r o
   pub history : GrowsHistory old new r o
   pub sound : KeepsSound old new
+  pub refers : Keeps old new HoldsReferences
   pub form : KeepsForm old new
   pub needs : Keeps old new HoldsNeeds
   pub archives : Keeps old new HoldsArchives
@@ -63,6 +64,7 @@ pub record IsOneRun (old new : Shown) (ts : List Turn) : Type 0 where
   pub served : ServedRun old new outcomes
   pub opened : WasOpen old new
   pub sound : KeepsSound old new
+  pub refers : Keeps old new HoldsReferences
   pub form : KeepsForm old new
   pub needs : Keeps old new HoldsNeeds
   pub archives : Keeps old new HoldsArchives

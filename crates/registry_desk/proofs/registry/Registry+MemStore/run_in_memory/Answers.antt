@@ -1,5 +1,6 @@
 use Rattle.std.proofs.Common.{◌∙◌, ap}
 use Rattle.sqlite.proofs.Callers.{memory_is_clean}
+use Rattle.registry_tables.proofs.TeamFacts.{sound_teams}
 use Rattle.registry_desk.specs.Resting.{end_stored}
 use Rattle.registry_desk.proofs.CommitFacts.{stays_open}
 use Rattle.registry_desk.proofs.registry.Registry+MemStore.run_in_memory.Goals as goal
@@ -12,9 +13,9 @@ returns c =
     let on = stays_open _ (ran.closes.closes clean made.served) in
     record {
       headline = ran.headline made.needs clean on made.empty;
-      stored = ran.stored (record { refers = made.sound; needs = made.needs }) clean on ∙ ap (end_stored c.args.requests.now c.in_ok-outcomes.outcomes.items) made.fresh;
-      needs = ran.needs (record { refers = made.sound; needs = made.needs }) clean on made.needs;
-      archives = ran.archives (record { refers = made.sound; needs = made.needs }) clean on made.archives;
+      stored = ran.stored (record { grants = (sound_teams _ made.sound).grants; needs = made.needs }) clean on ∙ ap (end_stored c.args.requests.now c.in_ok-outcomes.outcomes.items) made.fresh;
+      needs = ran.needs (record { grants = (sound_teams _ made.sound).grants; needs = made.needs }) clean on made.needs;
+      archives = ran.archives (record { grants = (sound_teams _ made.sound).grants; needs = made.needs }) clean on made.archives;
       form = ran.form made.needs clean on made.form;
       served = on;
     }

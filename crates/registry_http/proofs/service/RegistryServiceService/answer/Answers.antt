@@ -12,6 +12,7 @@ returns g c = subst (λ was. Applies (state g.S.Store was) (state g.S.Store c.ap
   moves = c.apply.ensures.moves;
   history = c.apply.ensures.history;
   sound = c.apply.ensures.sound;
+  refers = c.apply.ensures.refers;
   form = c.apply.ensures.form;
   needs = c.apply.ensures.needs;
   archives = c.apply.ensures.archives;
