@@ -5,7 +5,7 @@ use Rattle.std.specs.Io.KnownBytes.{IsAtEnd}
 use Rattle.registry_names.specs.ByteStreams.{Reads, RisesBetween, Writes}
 use Rattle.registry_names.specs.declared.stop.Fault.TheVariants.{Memory}
 use Rattle.registry_wire.specs.Inboxes.{failures_admitted}
-use Rattle.registry_wire.specs.Reading.{CountsInterrupted, TakenOf}
+use Rattle.registry_wire.specs.Reading.{CountsInterrupted, ReadsNoMoreThanNeeded, TakenOf}
 use Rattle.registry_wire.specs.Spelling.{EndsWith, IsUnfinished}
 use Rattle.registry_wire.specs.declared.first.Ending.TheVariants as ending
 use Rattle.registry_wire.specs.declared.inbox.Taken.{Taken}
@@ -58,6 +58,26 @@ taken_for no_memory = taken.Faulted Memory
 abbrev pub Took : List ℕ → List Turn → List ℕ → Type 0 → Type 0
 Took came [] held AtEnd = held ≡ came
 Took came (t ∷ ts) held AtEnd = (rest : List ℕ) × Took came ts rest ⊥ × TakenOf rest held AtEnd (taken_for t.cause)
+
+-- What was read for turns, and then newer bytes: no more of these than the next request needed,
+-- after what the turns left of all that had come.
+pub record ReadsAfter (held : List ℕ) (ts : List Turn) (got : List ℕ) (ForTurns : List ℕ → Type 0) : Type 0 where
+  pub older : List ℕ
+  pub newer : List ℕ
+  pub both : got ≡ older ++ newer
+  pub before : ForTurns older
+  pub rest : List ℕ
+  pub left : Took (held ++ older) ts rest ⊥
+  pub lean : ReadsNoMoreThanNeeded rest newer
+
+-- What was read for the turns, one after the other: for each of them no more than it needed.
+abbrev pub ReadsFor : List ℕ → List Turn → List ℕ → Type 0
+ReadsFor held [] got = got ≡ []
+ReadsFor held (t ∷ ts) got = ReadsAfter held ts got (ReadsFor held ts)
+
+-- What was read for the turns, and for a request after them that never came whole.
+abbrev pub ReadsOn : List ℕ → List Turn → List ℕ → Type 0
+ReadsOn held ts got = ReadsAfter held ts got (ReadsFor held ts)
 
 -- The clock gave these moments, the first of its readings, where so many are known
 abbrev pub Gave : Option (List ℕ) → Option (List ℕ) → List ℕ → Type 0
@@ -129,6 +149,7 @@ module _ {D : Type 0} (answers : Answering D) where
     pub cause : Cause
     pub got : List ℕ
     pub gave : Reads old.left new.left new.unknown got
+    pub lean : ReadsNoMoreThanNeeded old.held got
     pub took : TakenOf (old.held ++ got) new.held (AtEndOf new) (taken_for cause)
     pub turns : Turns answers old.service cause last t new.service
     pub asked : Gave old.readings new.readings (moment_of cause)
@@ -137,6 +158,7 @@ module _ {D : Type 0} (answers : Answering D) where
   pub record Rests (old new : Side D) (e : End) : Type 0 where
     pub got : List ℕ
     pub gave : Reads old.left new.left new.unknown got
+    pub lean : ReadsNoMoreThanNeeded old.held got
     pub held : new.held ≡ old.held ++ got
     pub service : new.service ≡ old.service
     pub readings : new.readings ≡ old.readings
@@ -148,6 +170,7 @@ module _ {D : Type 0} (answers : Answering D) where
   pub record Completes (old new : Side D) (out out2 : Option (List ℕ)) (out_unknown : Bool) (s : Served) : Type 0 where
     pub turns : List Turn
     pub course : Course old new turns
+    pub lean : ReadsFor old.held turns course.got ⊎ ReadsOn old.held turns course.got
     pub wrote : Writes out out2 out_unknown (written turns)
     pub ends : EndsAs new turns s.end
     pub count : s.requests ≡ requests turns
@@ -157,6 +180,7 @@ module _ {D : Type 0} (answers : Answering D) where
     pub newest : Turn
     pub older : List Turn
     pub course : Course old new (newest ∷ older)
+    pub lean : ReadsFor old.held (newest ∷ older) course.got
     pub go_on : GoOn older
     pub sent : ℕ
     pub is_less : sent < length (response_of newest)
