@@ -1,3 +1,4 @@
+mod PoolFacts
 mod SocketFacts
 mod StateFacts
 mod VisitFacts

@@ -1,6 +1,9 @@
 //! The open connections, and who of them can go on.
 
-ghost use Rattle.std.specs.Prelude.{◌≡◌, ◌≤◌, length};
+ghost use Rattle.std.specs.Prelude.{◌≡◌, length, position};
+ghost use Rattle.std.specs.List.{list_all};
+ghost use Rattle.registry_server.specs.Pools as spec;
+ghost use Rattle.registry_server.specs.Pools.{IsIdleLongest, IsPlaceFor, idle_times};
 
 use crate::connection::{Connection, Visit};
 use crate::socket::Socket;
@@ -20,12 +23,19 @@ struct Place<S: Socket> {
 }
 
 impl<S: Socket> Place<S> {
-    fn is_free(&self) -> bool {
+    fn is_free(&self) -> bool
+        ensures { result ≡ spec.is_free self.now }
+    {
         self.connection.is_none()
     }
 
-    fn idle_since(&self) -> Option<u64> {
-        self.connection.as_ref()?.idle_since()
+    fn idle_since(&self) -> Option<u64>
+        ensures { result ≡ spec.idle_with self.now.connection }
+    {
+        match &self.connection {
+            Some(connection) => connection.idle_since(),
+            None => None,
+        }
     }
 }
 
@@ -54,7 +64,9 @@ impl<S: Socket> ConnectionPool<S> {
     }
 
     /// Whether every place is free.
-    pub fn is_empty(&self) -> bool {
+    pub fn is_empty(&self) -> bool
+        ensures { result ≡ list_all spec.is_free self.now.places.items }
+    {
         self.places.iter().all(|place| place.is_free())
     }
 
@@ -65,24 +77,20 @@ impl<S: Socket> ConnectionPool<S> {
 
     /// Where a new connection can be put: a place that is free, or else that of the connection
     /// on which nothing was begun for longest. None where something is begun on each.
-    pub fn place(&self) -> Option<usize> {
-        let free = self.places.iter().position(|place| place.is_free());
-        free.or_else(|| self.longest_idle())
+    pub fn place(&self) -> Option<usize>
+        ensures { IsPlaceFor self.now.places.items result }
+    {
+        match self.free_place() {
+            Some(number) => Some(number),
+            None => longest_idle(&self.places),
+        }
     }
 
-    fn longest_idle(&self) -> Option<usize> {
-        let mut longest = None;
-        let mut least = u64::MAX;
-        for (number, place) in self.places.iter().enumerate() {
-            match place.idle_since() {
-                Some(since) if since < least => {
-                    least = since;
-                    longest = Some(number);
-                }
-                _ => {}
-            }
-        }
-        longest
+    // The first free place.
+    fn free_place(&self) -> Option<usize>
+        ensures { result ≡ position spec.is_free self.now.places.items }
+    {
+        self.places.iter().position(|place| place.is_free())
     }
 
     /// A new connection takes a place, at this time, and is to be visited. The one that was there
@@ -157,5 +165,30 @@ impl<S: Socket> ConnectionPool<S> {
                 place.connection = None;
             }
         }
+    }
+}
+
+// The first place of those on which nothing was begun for longest.
+fn longest_idle<S: Socket>(places: &[Place<S>]) -> Option<usize>
+    ensures { IsIdleLongest (idle_times places.now) (length places.now) result }
+{
+    let mut longest = None;
+    for (number, place) in places.iter().enumerate() {
+        longest = earlier(longest, number, place.idle_since());
+    }
+    match longest {
+        Some((number, _)) => Some(number),
+        None => None,
+    }
+}
+
+// The best place so far, unless nothing was begun for longer at one more.
+fn earlier(best: Option<(usize, u64)>, number: usize, since: Option<u64>) -> Option<(usize, u64)>
+    ensures { result ≡ spec.earlier best number since }
+{
+    match (best, since) {
+        (_, None) => best,
+        (Some((_, least)), Some(since)) if least <= since => best,
+        (_, Some(since)) => Some((number, since)),
     }
 }
