@@ -91,12 +91,15 @@ module _ (S : State) (p : Text) (v : VersionParts) where
   dependent h =
       let found = passes (IsFoundIn pair_key (entries S.live)) depends (entries S.live) (rows_found pair_key (entries S.live) (entries_rise S.live)) h in
       let k : Pair = found.0.0 in
-      let parts = and_parts (not (is k.0 p)) (list_any (is_need_of p v) (needs_in found.0.1)) found.2 in
-      (k, found.0.1, record {
-        other = λ same. true≢false (sym (is_same k.0 p same) ∙ not_true _ parts.0);
-        lives = at-entries pair_key S.live k ∙ found.1;
-        needs = needs_said p v (needs_in found.0.1) parts.1;
-      })
+      let parts = and_parts (not (is k.0 p)) (list_any (is_need_of p v) (needs_in found.0.1)) found.2 in (
+        k,
+        found.0.1,
+        record {
+          other = λ same. true≢false (sym (is_same k.0 p same) ∙ not_true _ parts.0);
+          lives = at-entries pair_key S.live k ∙ found.1;
+          needs = needs_said p v (needs_in found.0.1) parts.1;
+        },
+      )
 
   depended : (k : Pair) (release : Release) → IsDependent S p v k release → is_depended S p v ≡ true
   depended k release d =

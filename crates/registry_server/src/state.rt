@@ -8,7 +8,9 @@ ghost use Rattle.registry_server.specs.declared.state.Progress.TheVariants.{Answ
 ghost use Rattle.registry_server.specs.ConnectionStates.{Does, IsStarved, MayTakeTurn, fresh, holding, pending, sending};
 
 use crate::outgoing::Outgoing;
-use registry_service::{Clock, End, REQUESTS_PER_CONNECTION, Service, Turned, turn, turn_away, turn_starved};
+use registry_service::{
+    Clock, End, REQUESTS_PER_CONNECTION, Service, Turned, turn, turn_away, turn_starved,
+};
 use registry_wire::{Ending, First, Wanted, ending_of, first_in};
 use std::alloc::{AllocError, Global};
 use std::marker::Model;

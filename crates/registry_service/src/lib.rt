@@ -19,4 +19,6 @@ mod turning;
 pub use crate::answer::{Answer, Body};
 pub use crate::request::request_of;
 pub use crate::serving::{Clock, Served, serve};
-pub use crate::turning::{End, REQUESTS_PER_CONNECTION, Service, Turned, turn, turn_away, turn_starved};
+pub use crate::turning::{
+    End, REQUESTS_PER_CONNECTION, Service, Turned, turn, turn_away, turn_starved,
+};

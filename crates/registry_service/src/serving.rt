@@ -6,7 +6,9 @@ ghost use Rattle.registry_wire.specs.Reading.{CountsInterrupted};
 ghost use Rattle.registry_service.specs.Courses.{Gave, GoesTo, IsServed, ReadsFail, Rests, side};
 ghost use Rattle.registry_service.specs.Servings.{bytes_of, written_failures};
 
-use crate::turning::{End, REQUESTS_PER_CONNECTION, Service, Turned, turn, turn_away, turn_starved};
+use crate::turning::{
+    End, REQUESTS_PER_CONNECTION, Service, Turned, turn, turn_away, turn_starved,
+};
 use registry_names::{ByteIn, ByteOut, Fault, Moment, WriteFailed};
 use registry_wire::{Inbox, Taken, write_response};
 use std::alloc::Global;

@@ -18,7 +18,7 @@ ghost use Rattle.registry_tables.specs.Withdrawals as withdrawals;
 use crate::versions::has_version;
 use registry_names::{Blob, Fault, Name};
 use registry_publish::PublishForm;
-use registry_rows::{RowKind, value_of_first_row, read, value_of_row, write};
+use registry_rows::{RowKind, read, value_of_first_row, value_of_row, write};
 use sqlite::types::ValueRef;
 use sqlite::{Alter, Error, Row, Transaction, params};
 

@@ -17,7 +17,7 @@ ghost use Rattle.registry_tables.specs.Teams.{without_member};
 use registry_access::Role;
 use registry_names::{Fault, Text};
 use registry_packument::Member;
-use registry_rows::{RowKind, value_of_first_row, read, values_of_rows, write};
+use registry_rows::{RowKind, read, value_of_first_row, values_of_rows, write};
 use sqlite::{Alter, Error, Row, Transaction, params};
 use std::alloc::Global;
 

@@ -9,7 +9,7 @@ ghost use Rattle.registry_tables.specs.Effects.{InForm, Makes, OnlyWhere, Tells}
 ghost use Rattle.registry_tables.specs.Spelled.{status_number, status_spelled};
 
 use registry_names::{Fault, Name, Status};
-use registry_rows::{RowKind, value_of_first_row, read, write};
+use registry_rows::{RowKind, read, value_of_first_row, write};
 use sqlite::{Alter, Error, Row, Transaction, params};
 
 /// The status of a package. None where it was never published.

@@ -12,7 +12,7 @@ ghost use Rattle.registry_tables.specs.Spelled.{tag_entry, tag_spelled};
 
 use crate::texts::{TextRow, texts_in};
 use registry_names::{DistTag, Fault, Name, Text};
-use registry_rows::{RowKind, value_of_first_row, read, values_of_rows, write};
+use registry_rows::{RowKind, read, value_of_first_row, values_of_rows, write};
 use sqlite::{Alter, Error, Row, Transaction, params};
 use std::alloc::Global;
 

@@ -10,7 +10,7 @@ ghost use Rattle.registry_tables.specs.Spelled.{named_spelled};
 use crate::texts::{TextRow, read_back};
 use registry_names::{Fault, Ident};
 use registry_publish::TokenDigest;
-use registry_rows::{value_of_first_row, read, write};
+use registry_rows::{read, value_of_first_row, write};
 use sqlite::{Alter, Row, Transaction, params};
 use std::alloc::Global;
 

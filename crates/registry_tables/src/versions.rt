@@ -23,7 +23,7 @@ use crate::texts::{read_back, texts_in};
 use registry_names::{Fault, Moment, Name, Text, Ver};
 use registry_packument::VersionRow;
 use registry_publish::PublishForm;
-use registry_rows::{RowKind, value_of_first_row, read, values_of_rows, write};
+use registry_rows::{RowKind, read, value_of_first_row, values_of_rows, write};
 use sqlite::{Alter, Error, Row, Transaction, params};
 use std::alloc::Global;
 

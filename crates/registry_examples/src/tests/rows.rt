@@ -7,7 +7,7 @@ ghost use Rattle.registry_rows.specs.Columns.{text_in, number_in};
 
 use crate::tests::outcome::same;
 use registry_names::Fault;
-use registry_rows::{RowKind, fault_of, value_of_first_row, read, values_of_rows, write};
+use registry_rows::{RowKind, fault_of, read, value_of_first_row, values_of_rows, write};
 use sqlite::{Alter, Connection, Constraint, Error, ErrorCode, Row, Transaction, params};
 use std::alloc::Global;
 use std::test::Fail;
