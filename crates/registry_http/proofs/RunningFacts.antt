@@ -8,7 +8,7 @@ use Rattle.registry_rules.specs.declared.request.Request.{Request}
 use Rattle.registry_tables.proofs.TeamFacts.{sound_teams}
 use Rattle.registry_history.specs.Runs.{Outcome}
 use Rattle.registry_history.proofs.RunFacts.{headline_from, history_says, run_says}
-use Rattle.registry_desk.specs.Promises.{HoldsSound}
+use Rattle.registry_desk.specs.Promises.{HoldsSoundForEach}
 use Rattle.registry_desk.proofs.StoredFacts.{HasAnswered, HasRun, has_run_more, has_run_none}
 use Rattle.registry_wire.specs.declared.wanted.Wanted.{Wanted}
 use Rattle.registry_service.specs.Courses.{Follow}
@@ -24,11 +24,11 @@ answered-of old new r o a = record {
   opened = a.opened;
   step = a.step;
   moves = a.moves;
-  sound = a.sound;
-  refers = a.refers;
-  form = a.form;
+  grants = a.grants;
   needs = a.needs;
+  refers = a.refers;
   archives = a.archives;
+  form = a.form;
   survives = a.survives;
   stays = a.stays;
 }
@@ -97,18 +97,18 @@ one-run old new ts runs = record {
   ran = runs.run.ran;
   stored = runs.run.stored;
   headline = λ needs clean on empty.
-      let sound : HoldsSound old = record { grants = (sound_teams _ (subst (λ (S : State). IsSound S.access) (sym empty) nothing_sound)).grants; needs = needs } in
+      let sound : HoldsSoundForEach runs.requests old = record { grants = (sound_teams _ (subst (λ (S : State). IsSound S.access) (sym empty) nothing_sound)).grants; needs = needs } in
       headline_from _ runs.requests runs.outcomes _ _ empty (runs.run.ran sound clean) on;
   history = λ needs clean on h legal is.
-      let sound : HoldsSound old = record { grants = (sound_teams _ (subst (λ (S : State). IsSound S.access) (sym is) (history_says h legal).sound)).grants; needs = needs } in
+      let sound : HoldsSoundForEach runs.requests old = record { grants = (sound_teams _ (subst (λ (S : State). IsSound S.access) (sym is) (history_says h legal).sound)).grants; needs = needs } in
       run_says h _ runs.requests runs.outcomes _ _ (runs.run.ran sound clean) on legal is;
   served = runs.run.served;
   opened = runs.run.opened;
-  sound = runs.run.sound;
-  refers = runs.run.refers;
-  form = runs.run.form;
+  grants = runs.run.grants;
   needs = runs.run.needs;
+  refers = runs.run.refers;
   archives = runs.run.archives;
+  form = runs.run.form;
   survives = runs.run.survives;
   stays = runs.run.stays;
   closes = runs.run.closes;

@@ -20,6 +20,7 @@ answered_by-requires g c = record {
   under_way = λ clean.
       let reads = (c.in_ok-about.ensures.tells clean).0 in
       record { holds = refl; ready = reads.ready; mode = reads.mode ∙ c.requires.begun (omega (arith, c.facts.ensures.stays.survives.clean, clean)) };
+  known = refl;
 }
 
 pub returns-clause-stays : goal.returns-clause-stays
@@ -51,6 +52,12 @@ pub returns-clause-served : goal.returns-clause-served
 returns-clause-served g c clean =
     let were : HasCleanDisk (shown g.S.Store c.facts.new.tx) = omega (arith, c.answered_by.ensures.stays.survives.clean, clean) in
     on_answer c.answered_by.result (λ _. (c.in_ok-about.ensures.tells were).0.was_open) (c.answered_by.ensures.goes_on clean)
+
+pub returns-clause-unchanged : goal.returns-clause-unchanged
+returns-clause-unchanged g c clean =
+    let were : HasCleanDisk (shown g.S.Store c.facts.new.tx) = omega (arith, c.answered_by.ensures.stays.survives.clean, clean) in
+    let same : stored_in g.S.Store c.facts.new.tx ≡ stored_in g.S.Store c.args.tx.now = ap (λ (d : Database). contents d.trees) (c.in_ok-about.ensures.tells were).0.same in
+    IfOk-weaker c.answered_by.result _ _ (λ _ stay none. stay none ∙ same) (c.answered_by.ensures.unchanged clean)
 
 pub returns-clause-right : goal.returns-clause-right
 returns-clause-right g c clean =

@@ -12,6 +12,7 @@ use Rattle.registry_rules.proofs.SoundSteps.{nothing_sound}
 use Rattle.registry_tables.proofs.LiveFacts.{fresh_is_nothing}
 use Rattle.registry_tables.proofs.HeldNeedFacts.{fresh_holds}
 use Rattle.registry_tables.proofs.KeptArchiveFacts.{fresh_archives}
+use Rattle.registry_tables.proofs.TeamFacts.{sound_teams}
 use Rattle.registry_desk.proofs.registry.Registry+MemStore.in_memory.Goals as goal
 
 pub invariant_of-result : goal.invariant_of-result
@@ -24,8 +25,14 @@ invariant_of-result c = record {
 pub returns-clause-fresh : goal.returns-clause-fresh
 returns-clause-fresh c = c.in_ok-create_tables.ensures.made (memory_is_clean c.create_tables.new.conn)
 
-pub returns-clause-needs : goal.returns-clause-needs
-returns-clause-needs c = subst HoldsNeeds (sym (c.in_ok-create_tables.ensures.made (memory_is_clean c.create_tables.new.conn))) fresh_holds
+-- nobody is granted anything
+pub returns-clause-sound : goal.returns-clause-sound
+returns-clause-sound c =
+    let made = c.in_ok-create_tables.ensures.made (memory_is_clean c.create_tables.new.conn) in
+    record {
+      grants = (sound_teams _ (subst (λ (S : State). IsSound S.access) (sym (ap registry_of made ∙ fresh_is_nothing)) nothing_sound)).grants;
+      needs = subst HoldsNeeds (sym made) fresh_holds;
+    }
 
 pub returns-clause-archives : goal.returns-clause-archives
 returns-clause-archives c = subst HoldsArchives (sym (c.in_ok-create_tables.ensures.made (memory_is_clean c.create_tables.new.conn))) fresh_archives
@@ -33,8 +40,8 @@ returns-clause-archives c = subst HoldsArchives (sym (c.in_ok-create_tables.ensu
 pub returns-clause-empty : goal.returns-clause-empty
 returns-clause-empty c = ap registry_of (c.in_ok-create_tables.ensures.made (memory_is_clean c.create_tables.new.conn)) ∙ fresh_is_nothing
 
-pub returns-clause-sound : goal.returns-clause-sound
-returns-clause-sound c = subst (λ (S : State). IsSound S.access) (sym (ap registry_of (c.in_ok-create_tables.ensures.made (memory_is_clean c.create_tables.new.conn)) ∙ fresh_is_nothing)) nothing_sound
+pub returns-clause-refers : goal.returns-clause-refers
+returns-clause-refers c = subst (λ (S : State). IsSound S.access) (sym (ap registry_of (c.in_ok-create_tables.ensures.made (memory_is_clean c.create_tables.new.conn)) ∙ fresh_is_nothing)) nothing_sound
 
 pub returns-clause-form : goal.returns-clause-form
 returns-clause-form c = subst IsKept (sym (ap registry_of (c.in_ok-create_tables.ensures.made (memory_is_clean c.create_tables.new.conn)) ∙ fresh_is_nothing)) nothing_kept
