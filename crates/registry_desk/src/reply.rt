@@ -118,10 +118,13 @@ fn packument(
         → text ≡ packument_in S name.now) }
 {
     let name = Text::from_str(alloc, name.text())?;
+    let Some(head) = PackHead::new(name, tags) else {
+        return Err(Fault::Database);
+    };
     let Some(mut source) = VersionRows::new(versions) else {
         return Err(Fault::Database);
     };
-    packument_text(alloc, &PackHead { name, tags }, &mut source)
+    packument_text(alloc, &head, &mut source)
 }
 
 // The document of a version, with its message where it has one.
