@@ -54,23 +54,20 @@ kept_there : {X : Type 0} (b : Bool) (old : Option X) → IsSome (cond b old Non
 kept_there true old h = h
 kept_there false old h = absurd (true≢false (sym h))
 
-granted_keeps : (c d : Contents) → ((o t p : Text) → IsSome (at d.grants (o, (t, p))) → IsSome (at c.grants (o, (t, p)))) → GrantsInScope c → GrantsInScope d
-granted_keeps c d before scoped o t p there = scoped o t p (before o t p there)
-
 put_keeps : (c : Contents) (o t p : Text) (grant : _) → scope_of p ≡ Some o → GrantsInScope c → GrantsInScope (record c { grants = put c.grants (o, (t, p)) grant })
-put_keeps c o t p grant is scoped r s q there =
-    some_before triple_key c.grants (o, (t, p)) grant (λ k. scope_of k.1.1 ≡ Some k.0) (λ k h. scoped k.0 k.1.0 k.1.1 h) is (r, (s, q)) there
+put_keeps c o t p grant within scoped r s q there =
+    some_before triple_key c.grants (o, (t, p)) grant (λ k. scope_of k.1.1 ≡ Some k.0) (λ k h. scoped k.0 k.1.0 k.1.1 h) within (r, (s, q)) there
 
 change_keeps : (change : Change) (c : Contents) → IsInScope change → GrantsInScope c → GrantsInScope (stored_by change c)
-change_keeps (PutGrant o t p grant true) c is scoped = amended_keeps (is_some (at c.grants (o, (t, p))))
+change_keeps (PutGrant o t p grant true) c within scoped = amended_keeps (is_some (at c.grants (o, (t, p))))
   where
     amended_keeps : (b : Bool) → GrantsInScope (record c { grants = cond b (put c.grants (o, (t, p)) grant) c.grants })
-    amended_keeps true = put_keeps c o t p grant is scoped
+    amended_keeps true = put_keeps c o t p grant within scoped
     amended_keeps false = scoped
-change_keeps (PutGrant o t p grant false) c is scoped = put_keeps c o t p grant is scoped
-change_keeps (DropGrant o t p) c is scoped r s q there = scoped r s q (left_there _ _ (sym (ap is_some (at-erase triple_key c.grants (o, (t, p)) (r, (s, q)))) ∙ there))
-change_keeps (DropTeam o t) c is scoped r s q there = scoped r s q (kept_there _ _ (sym (ap is_some (at-keep triple_key c.grants _ (r, (s, q)))) ∙ there))
-change_keeps _ c is scoped = scoped
+change_keeps (PutGrant o t p grant false) c within scoped = put_keeps c o t p grant within scoped
+change_keeps (DropGrant o t p) c within scoped = λ r s q there. scoped r s q (left_there _ _ (sym (ap is_some (at-erase triple_key c.grants (o, (t, p)) (r, (s, q)))) ∙ there))
+change_keeps (DropTeam o t) c within scoped = λ r s q there. scoped r s q (kept_there _ _ (sym (ap is_some (at-keep triple_key c.grants _ (r, (s, q)))) ∙ there))
+change_keeps _ c within scoped = scoped
 
 changes_keep : (changes : List Change) (c : Contents) → AreInScope changes → GrantsInScope c → GrantsInScope (all_stored changes c)
 changes_keep [] c are scoped = scoped
@@ -103,7 +100,10 @@ tags_in_scope p t v false stood = (tt, (tt, tt))
 publication_in_scope : (who : Caller) (f : FormParts) (now : ℕ) (status old : Option Status) (kept stood : Bool)
     → AreInScope (put_status f.name status old ++ option_to_list (first_right who f.name old) ++ AddVersion f now ∷ (cond kept [] (PutTag f.name latest (version_of f) false ∷ []) ++ PutTag f.name f.tag (version_of f) stood ∷ []))
 publication_in_scope who f now status old kept stood =
-    both_in_scope _ _ (status_in_scope f.name status old) (both_in_scope _ _ (first_in_scope who f.name old) (tt, tags_in_scope f.name f.tag (version_of f) kept stood))
+    let status_put = put_status f.name status old in
+    let right = option_to_list (first_right who f.name old) in
+    let tags = cond kept [] (PutTag f.name latest (version_of f) false ∷ []) ++ PutTag f.name f.tag (version_of f) stood ∷ [] in
+    both_in_scope (status_put ++ right) (AddVersion f now ∷ tags) (both_in_scope status_put right (status_in_scope f.name status old) (first_in_scope who f.name old)) (tt, tags_in_scope f.name f.tag (version_of f) kept stood)
 
 membership_in_scope : (o u : Text) (role : Role) (old : Option Role) → AreInScope (membership o u role old)
 membership_in_scope o u role (Some was) = (tt, tt)

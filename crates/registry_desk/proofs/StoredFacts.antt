@@ -39,6 +39,13 @@ sound_for_one r s sound = record { grants = sound.grants; needs = needs_for r.wh
 pub sound_for_each : (rs : List Request) (s : Shown) → HoldsSound s → HoldsSoundForEach rs s
 sound_for_each rs s sound = record { grants = sound.grants; needs = needs_for_each rs (stored s) sound.needs }
 
+-- where references hold, grants are in scope
+pub refers_for_one : (r : Request) (s : Shown) → HoldsReferences (stored s) → NeedsFor r.what (stored s) → HoldsSoundFor r s
+refers_for_one r s refers needs = record { grants = (sound_teams (stored s) refers).grants; needs = needs }
+
+pub refers_for_each : (rs : List Request) (s : Shown) → HoldsReferences (stored s) → NeedsForEach rs (stored s) → HoldsSoundForEach rs s
+refers_for_each rs s refers needs = record { grants = (sound_teams (stored s) refers).grants; needs = needs }
+
 -- where a withdrawal's needs stay, those for the request do
 needs_stay : (what : Action) (c d : Contents) → (HoldsNeeds c → HoldsNeeds d) → NeedsFor what c → NeedsFor what d
 needs_stay (Withdraw p v) c d stay needs = stay needs
@@ -183,7 +190,7 @@ has_run_more old mid new rs os r o run made =
       refers = λ sound clean on holds. made.refers (still sound clean (made.opened clean on)) clean on (run.refers (first sound) (before clean) (made.opened clean on) holds);
       archives = λ sound clean on holds. made.archives (still sound clean (made.opened clean on)) clean on (run.archives (first sound) (before clean) (made.opened clean on) holds);
       form = λ needs clean on kept.
-          let sound : Sound = record { grants = (sound_teams _ kept.sound).grants; needs = needs } in
+          let sound : Sound = refers_for_each (rs ++ r ∷ []) old kept.sound needs in
           made.form (still sound clean (made.opened clean on)).needs clean on (run.form (first sound).needs (before clean) (made.opened clean on) kept);
       survives = λ sound clean db left. left_by_push (IsTrue old.is_open) (registry_in old) old.may_leave rs os r o (stored old) db (run.ran (first sound) (before clean)).answers
           (left_by_one (IsTrue old.is_open) _ r o _ db

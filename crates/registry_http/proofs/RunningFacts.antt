@@ -5,11 +5,9 @@ use Rattle.registry_rules.proofs.SoundSteps.{nothing_sound}
 use Rattle.registry_rules.specs.Kept.{IsSound}
 use Rattle.registry_rules.specs.State.{State}
 use Rattle.registry_rules.specs.declared.request.Request.{Request}
-use Rattle.registry_tables.proofs.TeamFacts.{sound_teams}
 use Rattle.registry_history.specs.Runs.{Outcome}
 use Rattle.registry_history.proofs.RunFacts.{headline_from, history_says, run_says}
-use Rattle.registry_desk.specs.Promises.{HoldsSoundForEach}
-use Rattle.registry_desk.proofs.StoredFacts.{HasAnswered, HasRun, has_run_more, has_run_none}
+use Rattle.registry_desk.proofs.StoredFacts.{HasAnswered, HasRun, has_run_more, has_run_none, refers_for_each}
 use Rattle.registry_wire.specs.declared.wanted.Wanted.{Wanted}
 use Rattle.registry_service.specs.Courses.{Follow}
 use Rattle.registry_service.specs.Histories.{LogEntry, FollowAll}
@@ -97,10 +95,10 @@ one-run old new ts runs = record {
   ran = runs.run.ran;
   stored = runs.run.stored;
   headline = λ needs clean on empty.
-      let sound : HoldsSoundForEach runs.requests old = record { grants = (sound_teams _ (subst (λ (S : State). IsSound S.access) (sym empty) nothing_sound)).grants; needs = needs } in
+      let sound = refers_for_each runs.requests old (subst (λ (S : State). IsSound S.access) (sym empty) nothing_sound) needs in
       headline_from _ runs.requests runs.outcomes _ _ empty (runs.run.ran sound clean) on;
   history = λ needs clean on h legal is.
-      let sound : HoldsSoundForEach runs.requests old = record { grants = (sound_teams _ (subst (λ (S : State). IsSound S.access) (sym is) (history_says h legal).sound)).grants; needs = needs } in
+      let sound = refers_for_each runs.requests old (subst (λ (S : State). IsSound S.access) (sym is) (history_says h legal).sound) needs in
       run_says h _ runs.requests runs.outcomes _ _ (runs.run.ran sound clean) on legal is;
   served = runs.run.served;
   opened = runs.run.opened;

@@ -9,23 +9,23 @@ use Rattle.registry_rules.specs.declared.request.Action.{Action}
 use Rattle.registry_rules.specs.declared.request.Action.TheVariants as asked
 use Rattle.registry_tables.specs.Contents.{Contents, registry_of}
 use Rattle.registry_tables.specs.Effects.{shown, stored_in}
-use Rattle.registry_tables.specs.Needs.{HoldsNeeds}
 use Rattle.registry_tables.specs.Schema.{schema}
 use Rattle.registry_tables.specs.Teams.{AreTeamsSound}
+use Rattle.registry_desk.specs.Found.{NeedsFor}
 use Rattle.registry_desk.proofs.facts.facts.Goals as goal
 
 -- what is said of this action, of which X is left open, is said of the action that is asked, and
--- the more so where the needs that are stored are those of live versions
+-- the more so where the needs that decide it are those of live versions
 told_each : {X : Type 0} (x : X) (reads : Type 0) (c : Contents) (who : Caller) (what : Action) (this : X → Action) (result : Result About Fault) → what ≡ this x
     → IfOk result (λ about. reads × ((y : X) → AreTeamsSound c → AboutTells about (registry_of c) who (this y)))
-    → IfOk result (λ about. reads × (AreTeamsSound c → HoldsNeeds c → AboutTells about (registry_of c) who what))
+    → IfOk result (λ about. reads × (AreTeamsSound c → NeedsFor what c → AboutTells about (registry_of c) who what))
 told_each x reads c who what this (Ok about) is told =
     (told.0, λ sound needs. subst (λ (action : Action). AboutTells about (registry_of c) who action) (sym is) (told.1 x sound))
 told_each x reads c who what this (Err fault) is told = tt
 
 told_sound : (reads : Type 0) (c : Contents) (who : Caller) (what this : Action) (result : Result About Fault) → what ≡ this
     → IfOk result (λ about. reads × (AreTeamsSound c → AboutTells about (registry_of c) who this))
-    → IfOk result (λ about. reads × (AreTeamsSound c → HoldsNeeds c → AboutTells about (registry_of c) who what))
+    → IfOk result (λ about. reads × (AreTeamsSound c → NeedsFor what c → AboutTells about (registry_of c) who what))
 told_sound reads c who what this (Ok about) is told =
     (told.0, λ sound needs. subst (λ (action : Action). AboutTells about (registry_of c) who action) (sym is) (told.1 sound))
 told_sound reads c who what this (Err fault) is told = tt
@@ -33,20 +33,20 @@ told_sound reads c who what this (Err fault) is told = tt
 told_either : (reads : Type 0) (c : Contents) (who : Caller) (what one other : Action) (result : Result About Fault) → (what ≡ one) ⊎ (what ≡ other)
     → IfOk result (λ about. reads × (AreTeamsSound c → AboutTells about (registry_of c) who one))
     → IfOk result (λ about. reads × (AreTeamsSound c → AboutTells about (registry_of c) who other))
-    → IfOk result (λ about. reads × (AreTeamsSound c → HoldsNeeds c → AboutTells about (registry_of c) who what))
+    → IfOk result (λ about. reads × (AreTeamsSound c → NeedsFor what c → AboutTells about (registry_of c) who what))
 told_either reads c who what one other result (inl is) first second = told_sound reads c who what one result is first
 told_either reads c who what one other result (inr is) first second = told_sound reads c who what other result is second
 
 told_needs : (reads : Type 0) (c : Contents) (who : Caller) (what this : Action) (result : Result About Fault) → what ≡ this
-    → IfOk result (λ about. reads × (AreTeamsSound c → HoldsNeeds c → AboutTells about (registry_of c) who this))
-    → IfOk result (λ about. reads × (AreTeamsSound c → HoldsNeeds c → AboutTells about (registry_of c) who what))
+    → IfOk result (λ about. reads × (AreTeamsSound c → NeedsFor this c → AboutTells about (registry_of c) who this))
+    → IfOk result (λ about. reads × (AreTeamsSound c → NeedsFor what c → AboutTells about (registry_of c) who what))
 told_needs reads c who what this (Ok about) is told =
-    (told.0, λ sound needs. subst (λ (action : Action). AboutTells about (registry_of c) who action) (sym is) (told.1 sound needs))
+    (told.0, subst (λ (action : Action). AreTeamsSound c → NeedsFor action c → AboutTells about (registry_of c) who action) (sym is) told.1)
 told_needs reads c who what this (Err fault) is told = tt
 
 told_messages : {X : Type 0} (x : X) (message : Text) (reads : Type 0) (c : Contents) (who : Caller) (what : Action) (this : X → Text → Action) (result : Result About Fault) → what ≡ this x message
     → IfOk result (λ about. reads × ((y : X) (other : Text) → AreTeamsSound c → AboutTells about (registry_of c) who (this y other)))
-    → IfOk result (λ about. reads × (AreTeamsSound c → HoldsNeeds c → AboutTells about (registry_of c) who what))
+    → IfOk result (λ about. reads × (AreTeamsSound c → NeedsFor what c → AboutTells about (registry_of c) who what))
 told_messages x message reads c who what this (Ok about) is told =
     (told.0, λ sound needs. subst (λ (action : Action). AboutTells about (registry_of c) who action) (sym is) (told.1 x message sound))
 told_messages x message reads c who what this (Err fault) is told = tt

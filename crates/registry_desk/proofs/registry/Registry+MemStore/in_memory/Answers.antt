@@ -4,7 +4,9 @@ use Rattle.registry_cache.specs.Caches.{AreRight, Cache}
 use Rattle.registry_cache.proofs.RightFacts.{new_right}
 use Rattle.registry_tables.specs.Archives.{HoldsArchives}
 use Rattle.registry_tables.specs.Contents.{registry_of}
+use Rattle.registry_tables.specs.Fresh.{fresh}
 use Rattle.registry_tables.specs.Needs.{HoldsNeeds}
+use Rattle.registry_tables.specs.Teams.{GrantsInScope}
 use Rattle.registry_rules.specs.Kept.{IsKept, IsSound}
 use Rattle.registry_rules.specs.State.{State}
 use Rattle.registry_rules.proofs.KeptFacts.{nothing_kept}
@@ -30,7 +32,7 @@ pub returns-clause-sound : goal.returns-clause-sound
 returns-clause-sound c =
     let made = c.in_ok-create_tables.ensures.made (memory_is_clean c.create_tables.new.conn) in
     record {
-      grants = (sound_teams _ (subst (λ (S : State). IsSound S.access) (sym (ap registry_of made ∙ fresh_is_nothing)) nothing_sound)).grants;
+      grants = subst GrantsInScope (sym made) (sound_teams fresh (subst (λ (S : State). IsSound S.access) (sym fresh_is_nothing) nothing_sound)).grants;
       needs = subst HoldsNeeds (sym made) fresh_holds;
     }
 
