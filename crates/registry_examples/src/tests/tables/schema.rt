@@ -41,7 +41,7 @@ const BROKEN_KEY: Error = Error::SqliteFailure(ErrorCode::ConstraintViolation(
 /// What steps on an empty database show, and the steps, one after another.
 static CASES: [(&str, &[Step]); 19] = [
     (
-        "a made database tells the schema",
+        "a new database says which schema it has",
         &[
             Step::Schema(Ok(None)),
             Step::Create(Ok(())),
@@ -49,7 +49,7 @@ static CASES: [(&str, &[Step]); 19] = [
         ],
     ),
     (
-        "another number is told too",
+        "another number is answered, too",
         &[
             Step::Run("CREATE TABLE meta (name TEXT, value INTEGER)"),
             Step::Run("INSERT INTO meta VALUES ('schema', 7)"),
