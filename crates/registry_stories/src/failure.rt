@@ -31,7 +31,8 @@ pub fn failed_with(alloc: Global, said: &str) -> Stop {
     }
 }
 
-/// The failure that shows what was wanted and what came, each from a little before the first difference.
+/// The failure that shows what was wanted and what came, each from a little before the first
+/// difference.
 pub fn differing(alloc: Global, wanted: &[u8], came: &[u8]) -> Stop {
     match difference(alloc, wanted, came) {
         Ok(said) => Stop::Failed(said),
