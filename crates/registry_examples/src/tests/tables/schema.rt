@@ -142,7 +142,7 @@ static CASES: [(&str, &[Step]); 19] = [
         ],
     ),
     (
-        "a member goes from his teams",
+        "a member who leaves is in no team",
         &[
             Step::Create(Ok(())),
             Step::Run("INSERT INTO users VALUES ('ann'), ('bob')"),
