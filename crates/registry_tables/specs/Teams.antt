@@ -41,10 +41,6 @@ without_team o t c = record c {
 abbrev pub users_of : Contents → Text → Text → List Text
 users_of c o t = keys (parts (pairs_of c.team_members o) t)
 
--- the teams of an organisation that a user is in, in byte order
-abbrev pub teams_of : Contents → Text → Text → List Text
-teams_of c o u = map (λ e. e.0.1.0) (filter (λ e. pair_is (o, u) (e.0.0, e.0.1.1)) (entries c.team_members))
-
 -- ---- what is granted
 
 -- whether a team of the organisation that the user is in has this grant on the package

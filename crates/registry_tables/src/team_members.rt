@@ -6,7 +6,7 @@ ghost use Rattle.registry_names.specs.Maps.{at, erase, put};
 ghost use Rattle.registry_rows.specs.Frames.{Stays};
 ghost use Rattle.registry_tables.specs.Changes.{IsFree};
 ghost use Rattle.registry_tables.specs.Effects.{InForm, Makes, OnlyWhere, Tells};
-ghost use Rattle.registry_tables.specs.Teams.{teams_of, users_of};
+ghost use Rattle.registry_tables.specs.Teams.{users_of};
 
 use crate::texts::texts_in;
 use registry_names::{Fault, Text};
@@ -95,26 +95,6 @@ pub fn load_team_users<S: Alter>(
         tx,
         "SELECT user FROM team_members WHERE org = ?1 AND team = ?2 ORDER BY user",
         params![organisation, team],
-    )?;
-    texts_in(alloc, &rows)
-}
-
-/// The teams of an organisation that a user is in, in byte order.
-pub fn load_user_teams<S: Alter>(
-    alloc: Global,
-    tx: &mut Transaction<'_, S>,
-    organisation: &str,
-    user: &str,
-) -> Result<Vec<Text>, Fault>
-    requires in_form { InForm S.Store tx.old }
-    ensures stays { Stays S.Store tx.old tx.new }
-    ensures tells { Tells S.Store tx.old tx.new result
-        (λ teams c. teams.items ≡ teams_of c organisation.now user.now) }
-{
-    let rows = read(
-        tx,
-        "SELECT team FROM team_members WHERE org = ?1 AND user = ?2 ORDER BY org, team, user",
-        params![organisation, user],
     )?;
     texts_in(alloc, &rows)
 }
