@@ -267,7 +267,7 @@ module _ {D : Type 0} (answers : Answering D) where
           follow = subst (λ (M : D). Follow answers old.service ts M) (sym rests.service) c.follow;
           asked = subst (λ (readings : Option (List ℕ)). Gave old.readings readings (moments ts)) (sym rests.readings) c.asked;
         };
-        lean = inr (reads-on old mid ts going.led rests.got going.go_on rests.lean);
+        lean = inr (going.go_on, reads-on old mid ts going.led rests.got going.go_on rests.lean);
         wrote = going.wrote;
         ends = ends-unasked new ts e going.go_on rests.ends;
         count = going.count ∙ sym (requests-all old.service ts mid.service c.follow going.go_on);
@@ -285,7 +285,7 @@ module _ {D : Type 0} (answers : Answering D) where
       inl (record {
         turns = t ∷ ts;
         course = led.course;
-        lean = inl led.lean;
+        lean = inl ((ended, going.go_on), led.lean);
         wrote = Writes-append going.wrote (subst (λ (bs : List ℕ). Writes out2 out3 mute2 bs) (bytes-same goes.turns.outcome turned.answer (is_some turned.end) goes.turns.answer) wrote) still;
         ends = ends-as new t ts e mid.service last new.service goes.turns.is_turn ended going.go_on;
         count = counts-more n k (length ts) (requests ts) turned goes.cause going.count (requests-all old.service ts mid.service going.led.course.follow going.go_on) one goes.turns.counts;
