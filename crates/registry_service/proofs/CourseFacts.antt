@@ -2,7 +2,7 @@
 use Rattle.std.proofs.Common.{◌≡◌, ◌≢◌, ◌≤◌, ◌<◌, ◌+◌, ◌==◌, ◌++◌, ◌∷◌, ◌⊎◌, ◌∙◌, [], ℕ, Bool, true, false, List, length, Option, Some, None, Ok, Err, refl, sym, ap, subst, inl, inr, append_assoc, append-nil, arith, length-append, is_some, if◌then◌else◌}
 use Rattle.std.specs.Int.{from_bool}
 use Rattle.std.proofs.lemmas.Bool.{eqb-false}
-use Rattle.registry_names.specs.ByteStreams.{Reads, Writes, WritesPrefix}
+use Rattle.registry_names.specs.ByteStreams.{Writes, WritesPrefix}
 use Rattle.registry_names.specs.declared.refusal.Refusal.{Refusal}
 use Rattle.registry_names.proofs.ByteStreamFacts.{Reads-append, Reads-nothing, Writes-append, Writes-nothing}
 use Rattle.registry_wire.specs.Reading.{ReadsNoMoreThanNeeded, TakenOf}
@@ -10,7 +10,7 @@ use Rattle.registry_wire.specs.Spelling.{EndsWith, IsBad}
 use Rattle.registry_wire.specs.declared.first.Ending.TheVariants as ending
 use Rattle.registry_wire.proofs.RequestFacts.{request-more, bad-more}
 use Rattle.registry_service.specs.HttpAnswers.{AnswersSo, Outcome, answer_bytes, response_to}
-use Rattle.registry_service.specs.Courses.{AtEndOf, BreaksOff, Completes, Course, EndsAs, EndsUnasked, Follow, Gave, GoOn, GoesTo, IsServed, ReadsFor, ReadsOn, Rests, Side, Took, count_of, moments, requests, taken_for, written}
+use Rattle.registry_service.specs.Courses.{AtEndOf, Course, EndsAs, EndsUnasked, Follow, Gave, GoOn, GoesTo, IsServed, ReadsFor, ReadsOn, Rests, Side, Took, count_of, moments, requests, taken_for, written}
 use Rattle.registry_service.specs.Servings.{bytes_of}
 use Rattle.registry_service.specs.Turns.{Answering, Cause, IsTurn, IsTurnFor, Turn, bad_input, end_of, is_request, no_memory, request}
 use Rattle.registry_service.specs.declared.answer.Answer.{Answer}
