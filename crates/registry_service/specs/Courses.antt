@@ -180,7 +180,8 @@ module _ {D : Type 0} (answers : Answering D) where
     pub ends : EndsAs new turns s.end
     pub count : s.requests ≡ requests turns
 
-  -- a write failed: the older responses were written whole, and a part of the newest
+  -- A write failed: the older responses were written whole, and a part of the newest. After this
+  -- turn nothing was asked or read.
   pub record BreaksOff (old new : Side D) (out out2 : Option (List ℕ)) (out_unknown : Bool) (s : Served) : Type 0 where
     pub newest : Turn
     pub older : List Turn
