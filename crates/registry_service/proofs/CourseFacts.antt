@@ -2,7 +2,7 @@
 use Rattle.std.proofs.Common.{◌≡◌, ◌≢◌, ◌≤◌, ◌<◌, ◌+◌, ◌==◌, ◌++◌, ◌∷◌, ◌⊎◌, ◌∙◌, [], ℕ, Bool, true, false, List, length, Option, Some, None, Ok, Err, refl, sym, ap, subst, inl, inr, append_assoc, append-nil, arith, length-append, is_some, if◌then◌else◌}
 use Rattle.std.specs.Int.{from_bool}
 use Rattle.std.proofs.lemmas.Bool.{eqb-false}
-use Rattle.registry_names.specs.ByteStreams.{Reads, Writes, WritesPrefix}
+use Rattle.registry_names.specs.ByteStreams.{Writes, WritesPrefix}
 use Rattle.registry_names.specs.declared.refusal.Refusal.{Refusal}
 use Rattle.registry_names.proofs.ByteStreamFacts.{Reads-append, Reads-nothing, Writes-append, Writes-nothing}
 use Rattle.registry_wire.specs.Reading.{ReadsNoMoreThanNeeded, TakenOf}
@@ -10,7 +10,7 @@ use Rattle.registry_wire.specs.Spelling.{EndsWith, IsBad}
 use Rattle.registry_wire.specs.declared.first.Ending.TheVariants as ending
 use Rattle.registry_wire.proofs.RequestFacts.{request-more, bad-more}
 use Rattle.registry_service.specs.HttpAnswers.{AnswersSo, Outcome, answer_bytes, response_to}
-use Rattle.registry_service.specs.Courses.{AtEndOf, BreaksOff, Completes, Course, EndsAs, EndsUnasked, Follow, Gave, GoOn, GoesTo, IsServed, ReadsFor, ReadsOn, Rests, Side, Took, count_of, moments, requests, taken_for, written}
+use Rattle.registry_service.specs.Courses.{AtEndOf, Course, EndsAs, EndsUnasked, Follow, Gave, GoOn, GoesTo, IsServed, ReadsFor, ReadsOn, Rests, Side, Took, count_of, moments, requests, taken_for, written}
 use Rattle.registry_service.specs.Servings.{bytes_of}
 use Rattle.registry_service.specs.Turns.{Answering, Cause, IsTurn, IsTurnFor, Turn, bad_input, end_of, is_request, no_memory, request}
 use Rattle.registry_service.specs.declared.answer.Answer.{Answer}
@@ -267,7 +267,7 @@ module _ {D : Type 0} (answers : Answering D) where
           follow = subst (λ (M : D). Follow answers old.service ts M) (sym rests.service) c.follow;
           asked = subst (λ (readings : Option (List ℕ)). Gave old.readings readings (moments ts)) (sym rests.readings) c.asked;
         };
-        lean = inr (reads-on old mid ts going.led rests.got going.go_on rests.lean);
+        lean = inr (going.go_on, reads-on old mid ts going.led rests.got going.go_on rests.lean);
         wrote = going.wrote;
         ends = ends-unasked new ts e going.go_on rests.ends;
         count = going.count ∙ sym (requests-all old.service ts mid.service c.follow going.go_on);
@@ -285,7 +285,7 @@ module _ {D : Type 0} (answers : Answering D) where
       inl (record {
         turns = t ∷ ts;
         course = led.course;
-        lean = inl led.lean;
+        lean = inl ((ended, going.go_on), led.lean);
         wrote = Writes-append going.wrote (subst (λ (bs : List ℕ). Writes out2 out3 mute2 bs) (bytes-same goes.turns.outcome turned.answer (is_some turned.end) goes.turns.answer) wrote) still;
         ends = ends-as new t ts e mid.service last new.service goes.turns.is_turn ended going.go_on;
         count = counts-more n k (length ts) (requests ts) turned goes.cause going.count (requests-all old.service ts mid.service going.led.course.follow going.go_on) one goes.turns.counts;

@@ -1,6 +1,6 @@
 -- The turns of one connection, one after the other: what they take, what they write, and how it
 -- ends.
-use Rattle.std.specs.Prelude.{◌≡◌, ◌≤◌, ◌<◌, ◌+◌, ◌==◌, ◌++◌, ◌∷◌, ◌⊎◌, [], ℕ, Bool, true, false, List, length, take, Option, Some, None, if◌then◌else◌}
+use Rattle.std.specs.Prelude.{◌≡◌, ◌≤◌, ◌<◌, ◌+◌, ◌==◌, ◌++◌, ◌∷◌, ◌⊎◌, [], ℕ, Bool, false, List, length, take, Option, Some, None, if◌then◌else◌}
 use Rattle.std.specs.Io.KnownBytes.{IsAtEnd}
 use Rattle.registry_names.specs.ByteStreams.{Reads, RisesBetween, Writes}
 use Rattle.registry_names.specs.declared.stop.Fault.TheVariants.{Memory}
@@ -116,6 +116,11 @@ EndsAs s ts ReadFault = GoOn ts × IsUnfinished s.held
 EndsAs s ts WriteFault = ⊥
 EndsAs s ts (Faulted fault) = EndedBy ts (Faulted fault)
 
+-- What was read on a connection that ended so: after a turn that ended it nothing more; and where
+-- it went on after the last turn, what was read for a request that never came whole
+abbrev pub ReadsUntil : List ℕ → List Turn → End → List ℕ → Type 0
+ReadsUntil held ts e got = (EndedBy ts e × ReadsFor held ts got) ⊎ (GoOn ts × ReadsOn held ts got)
+
 -- why no turn is taken: nothing is left after the last one, or a read failed
 abbrev pub EndsUnasked : {D : Type 0} → Side D → End → Type 0
 EndsUnasked s e = ((e ≡ Closed) × EndsWith s.held ending.Closed × AtEndOf s) ⊎ ((e ≡ ReadFault) × IsUnfinished s.held)
@@ -170,12 +175,13 @@ module _ {D : Type 0} (answers : Answering D) where
   pub record Completes (old new : Side D) (out out2 : Option (List ℕ)) (out_unknown : Bool) (s : Served) : Type 0 where
     pub turns : List Turn
     pub course : Course old new turns
-    pub lean : ReadsFor old.held turns course.got ⊎ ReadsOn old.held turns course.got
+    pub lean : ReadsUntil old.held turns s.end course.got
     pub wrote : Writes out out2 out_unknown (written turns)
     pub ends : EndsAs new turns s.end
     pub count : s.requests ≡ requests turns
 
-  -- a write failed: the older responses were written whole, and a part of the newest
+  -- A write failed: the older responses were written whole, and a part of the newest. After this
+  -- turn nothing was asked or read.
   pub record BreaksOff (old new : Side D) (out out2 : Option (List ℕ)) (out_unknown : Bool) (s : Served) : Type 0 where
     pub newest : Turn
     pub older : List Turn
