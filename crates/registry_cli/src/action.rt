@@ -6,6 +6,7 @@ ghost use Rattle.registry_cli.specs.Lines.{IsWhole, asks_to_serve, argument_at};
 ghost use Rattle.registry_cli.specs.declared.action.Verb.TheVariants as verbs;
 
 use crate::argument_values::{argument_at, four, one, three, two};
+use crate::from_argument::FromArgument;
 use crate::meaning::{Line, Who};
 use registry_names::{Ident, Stop, Text};
 use registry_publish::PublishForm;
@@ -64,7 +65,7 @@ fn credential(alloc: Global, who: &Who) -> Result<Credential, Stop>
 {
     match who {
         Who::Operator => Ok(Credential::Operator),
-        Who::User(name) => Ok(Credential::User(Ident::parse(alloc, name.as_str())?)),
+        Who::User(name) => Ok(Credential::User(Ident::read(alloc, name.as_str())?)),
         Who::Anonymous => Ok(Credential::Anonymous),
     }
 }
