@@ -133,7 +133,7 @@ module _ (S : State) (p q : Text) (other : is q p ≡ false) where
   same_waiting : (now : ℕ) → is_waiting (state_without S p) now q ≡ is_waiting S now q
   same_waiting now = ap₂ (λ (b : Bool) (es : List (Text × Withdrawal)). not b && is_less_than_a_day_ago now (last_of es)) same_has_live (of_other p q other S.spent)
 
-  same_published_at : (v : Text) → published_at (state_without S p) q v ≡ published_at S q v
+  pub same_published_at : (v : Text) → published_at (state_without S p) q v ≡ published_at S q v
   same_published_at v = ap (option_map (λ (r : Release). r.at)) (at_other p q other S.live v)
 
   same_last : (u : Text) → refuse (not (has_maintainer (state_without S p) q u)) NotFound (refuse (not (has_other_maintainer (state_without S p) q u)) LastOwner None)

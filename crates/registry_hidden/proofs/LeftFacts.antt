@@ -1,6 +1,7 @@
 -- What requests leave of two registries that agree in all but a package.
 use Rattle.std.proofs.Common.{◌≡◌, ℕ, Bool, true, false, not, ◌&&◌, ◌||◌, refl, sym, ap, ◌∙◌, subst, true≢false, Some, None, Ok, Err, Option, List, is_none, if◌then◌else◌}
 use Rattle.registry_names.specs.Texts.{Text}
+use Rattle.registry_names.specs.declared.refusal.Refusal.{Refusal}
 use Rattle.registry_access.specs.declared.caller.Caller.{Caller}
 use Rattle.registry_rules.specs.Actions.{is_command, names_package}
 use Rattle.registry_rules.specs.Callers.{caller_of}
@@ -145,7 +146,7 @@ module _ (S T : State) (p : Text) (same : state_without S p ≡ state_without T 
       by None = same
       by (Some who) = steps_by r.at who r.what (names_package r.what p) refl
 
-  both_next : (r : Request) (o q : Outcome) → enters r o ≡ enters r q → state_without (next S r o) p ≡ state_without (next T r q) p
+  pub both_next : (r : Request) (o q : Outcome) → enters r o ≡ enters r q → state_without (next S r o) p ≡ state_without (next T r q) p
   both_next r o q one = ap (λ b. state_without (if b then step S r else S) p) one ∙ by (enters r q)
     where
       by : (b : Bool) → state_without (if b then step S r else S) p ≡ state_without (if b then step T r else T) p

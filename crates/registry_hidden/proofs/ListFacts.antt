@@ -59,11 +59,11 @@ module _ (p : Text) where
   none_left [] [] T b e = record { arrivals = []; requests = refl; outcomes = refl; other_requests = refl; other_outcomes = refl; apart = tt }
   none_left [] (x ∷ ps) T b e = absurd b
   none_left (q ∷ qs) [] T b e = absurd b
-  none_left (q ∷ qs) (x ∷ ps) T b e = by (is_dropped q x) refl e
+  none_left (q ∷ qs) (x ∷ ps) T b e = by (none_left qs ps (next T q x) b.1) (is_dropped q x) refl e
     where
-      by : (d : Bool) → is_dropped q x ≡ d → [] ≡ (if d then except_accepted p qs ps else q ∷ except_accepted p qs ps) → IsMerged [] [] (q ∷ qs) (x ∷ ps)
-      by true dropped e = with_second q x [] [] qs ps dropped (none_left qs ps (next T q x) b.1 e)
-      by false stays e = absurd cc
+      by : ([] ≡ except_accepted p qs ps → IsMerged [] [] qs ps) → (d : Bool) → is_dropped q x ≡ d → [] ≡ (if d then except_accepted p qs ps else q ∷ except_accepted p qs ps) → IsMerged [] [] (q ∷ qs) (x ∷ ps)
+      by later true dropped e = with_second q x [] [] qs ps dropped (later e)
+      by later false stays e = absurd cc
 
   -- the request is found in the second run, behind what is dropped
   found : (r : Request) (o : Outcome) (rs : List Request) (os : List Outcome) → ((qs : List Request) (ps : List Outcome) (T : State) → HaveOutcomes T qs ps → except_accepted p rs os ≡ except_accepted p qs ps → IsMerged rs os qs ps)
@@ -71,11 +71,11 @@ module _ (p : Text) where
   found r o rs os rest [] [] T b e = absurd cc
   found r o rs os rest [] (x ∷ ps) T b e = absurd b
   found r o rs os rest (q ∷ qs) [] T b e = absurd b
-  found r o rs os rest (q ∷ qs) (x ∷ ps) T b e = by (is_dropped q x) refl e
+  found r o rs os rest (q ∷ qs) (x ∷ ps) T b e = by (found r o rs os rest qs ps (next T q x) b.1) (is_dropped q x) refl e
     where
-      by : (d : Bool) → is_dropped q x ≡ d → (r ∷ except_accepted p rs os) ≡ (if d then except_accepted p qs ps else q ∷ except_accepted p qs ps) → IsMerged (r ∷ rs) (o ∷ os) (q ∷ qs) (x ∷ ps)
-      by true dropped e = with_second q x (r ∷ rs) (o ∷ os) qs ps dropped (found r o rs os rest qs ps (next T q x) b.1 e)
-      by false stays e =
+      by : ((r ∷ except_accepted p rs os) ≡ except_accepted p qs ps → IsMerged (r ∷ rs) (o ∷ os) qs ps) → (d : Bool) → is_dropped q x ≡ d → (r ∷ except_accepted p rs os) ≡ (if d then except_accepted p qs ps else q ∷ except_accepted p qs ps) → IsMerged (r ∷ rs) (o ∷ os) (q ∷ qs) (x ∷ ps)
+      by later true dropped e = with_second q x (r ∷ rs) (o ∷ os) qs ps dropped (later e)
+      by later false stays e =
           let one : r ≡ q = cc in
           let others : except_accepted p rs os ≡ except_accepted p qs ps = cc in
           with_both r q o x rs os qs ps one (rest qs ps (next T q x) b.1 others)
@@ -84,11 +84,11 @@ module _ (p : Text) where
   merged [] [] S a qs ps T b e = none_left qs ps T b e
   merged [] (o ∷ os) S a qs ps T b e = absurd a
   merged (r ∷ rs) [] S a qs ps T b e = absurd a
-  merged (r ∷ rs) (o ∷ os) S a qs ps T b e = by (is_dropped r o) refl e
+  merged (r ∷ rs) (o ∷ os) S a qs ps T b e = by (merged rs os (next S r o) a.1) (is_dropped r o) refl e
     where
-      by : (d : Bool) → is_dropped r o ≡ d → (if d then except_accepted p rs os else r ∷ except_accepted p rs os) ≡ except_accepted p qs ps → IsMerged (r ∷ rs) (o ∷ os) qs ps
-      by true dropped e = with_first r o rs os qs ps dropped (merged rs os (next S r o) a.1 qs ps T b e)
-      by false stays e = found r o rs os (merged rs os (next S r o) a.1) qs ps T b e
+      by : ((xs : List Request) (ys : List Outcome) (U : State) → HaveOutcomes U xs ys → except_accepted p rs os ≡ except_accepted p xs ys → IsMerged rs os xs ys) → (d : Bool) → is_dropped r o ≡ d → (if d then except_accepted p rs os else r ∷ except_accepted p rs os) ≡ except_accepted p qs ps → IsMerged (r ∷ rs) (o ∷ os) qs ps
+      by rest true dropped e = with_first r o rs os qs ps dropped (rest qs ps T b e)
+      by rest false stays e = found r o rs os rest qs ps T b e
 
 pub lists_have_arrivals : ListsHaveArrivals
 lists_have_arrivals S T p rs qs os ps a b e =

@@ -62,7 +62,7 @@ module _ (who : Caller) (p : Text) where
   IsOutside S = (o : Text) × (scope_of p ≡ Some o) × (is_owner_or_admin (role_of S.access who o) ≡ false)
 
   outside : (S : State) → IsLeft S → level_in S.access who p ≡ Nothing → is_published S p ≡ true → IsOutside S
-  outside S is nothing status = by (is_apart S who p (left_rests S is) nothing)
+  outside S left nothing status = by (is_apart S who p (left_rests S left) nothing)
     where
       by : (at S.access.statuses p ≡ None) ⊎ IsOutside S → IsOutside S
       by (inl new) = absurd (true≢false (sym status ∙ ap is_some new))
@@ -75,7 +75,7 @@ module _ (who : Caller) (p : Text) where
       λ i. both.0 i && (status i && both.1 i)
   publish_shows S now _ member status = absurd (true≢false (sym member))
 
-  module _ (S T : State) (is : IsLeft S) (is' : IsLeft T) (same : state_without S p ≡ state_without T p) (nothing : level_in S.access who p ≡ Nothing) (nothing' : level_in T.access who p ≡ Nothing)
+  module _ (S T : State) (left : IsLeft S) (left' : IsLeft T) (same : state_without S p ≡ state_without T p) (nothing : level_in S.access who p ≡ Nothing) (nothing' : level_in T.access who p ≡ Nothing)
       (there : (is_published S p ≡ true) ⊎ (is_published T p ≡ true)) where
     roles_alike : (o : Text) → role_of S.access who o ≡ role_of T.access who o
     roles_alike o = sym (same_role S.access p who o) ∙ ap (λ (U : State). role_of U.access who o) same ∙ same_role T.access p who o
@@ -88,15 +88,15 @@ module _ (who : Caller) (p : Text) where
     outside_here = by there
       where
         by : (is_published S p ≡ true) ⊎ (is_published T p ≡ true) → IsOutside S
-        by (inl status) = outside S is nothing status
-        by (inr status) = let x = outside T is' nothing' status in (x.0, x.1, ap is_owner_or_admin (roles_alike x.0) ∙ x.2)
+        by (inl status) = outside S left nothing status
+        by (inr status) = let x = outside T left' nothing' status in (x.0, x.1, ap is_owner_or_admin (roles_alike x.0) ∙ x.2)
 
     members_alike : (what : Action) → is_member_publish S who what p ≡ is_member_publish T who what p
     members_alike (Publish f) = ap (λ x. is f.name p && is_some x) (scopes_alike (scope_of p))
     members_alike _ = refl
 
     refused : (now : ℕ) (what : Action) → shows S now who what p ≡ shows T now who what p → is_member_publish S who what p ≡ true → refusal_by S now who what ≡ Some (why_shown what)
-    refused now what one member = shown_is S now who what p (left_rests S is) nothing (by there)
+    refused now what one member = shown_is S now who what p (left_rests S left) nothing (by there)
       where
         by : (is_published S p ≡ true) ⊎ (is_published T p ≡ true) → shows S now who what p ≡ true
         by (inl status) = publish_shows S now what member status
@@ -108,7 +108,7 @@ module _ (who : Caller) (p : Text) where
         by : (b : Bool) → is_member_publish S who r.what p ≡ b → level_in (all_made S (effects_for S r.at (Some who) r.what)).access who p ≡ Nothing
         by true member = let both : None ≡ Some (why_shown r.what) = sym may ∙ refused r.at r.what one member in absurd cc
         by false stranger =
-            (standing_kept S r.at who r.what p outside_here.0 r.who (left_rests S is).sound outside_here.1 outside_here.2 known nothing stranger may).nothing
+            (standing_kept S r.at who r.what p outside_here.0 r.who (left_rests S left).sound outside_here.1 outside_here.2 known nothing stranger may).nothing
 
     keeps_none : (r : Request) (a : Reply) → a ≡ answer S r → IsTheirs who (caller_of S r.who) → is_shown S r p ≡ is_shown T r p → level_in (next S r (Ok a)).access who p ≡ Nothing
     keeps_none r a answered theirs one = by_entry (enters r (Ok a)) refl
@@ -165,20 +165,20 @@ module _ (who : Caller) (p : Text) where
   near_runs (r ∷ rs) (Err f ∷ os) qs S T near a b = tt
   near_runs (r ∷ rs) (Ok x ∷ os) [] S T near a b = tt
   near_runs (r ∷ rs) (Ok x ∷ os) (Err g ∷ qs) S T near a b = tt
-  near_runs (r ∷ rs) (Ok x ∷ os) (Ok y ∷ qs) S T near a b = by (at S.access.statuses p) (at T.access.statuses p) refl refl
+  near_runs (r ∷ rs) (Ok x ∷ os) (Ok y ∷ qs) S T near a b =
+      by (λ later. near_runs rs os qs (next S r (Ok x)) (next T r (Ok y)) later a.1 b.1) (at S.access.statuses p) (at T.access.statuses p) refl refl
     where
-      goes_on : (is_published S p ≡ true) ⊎ (is_published T p ≡ true) → AreAlikeTo who p S T (r ∷ rs) (Ok x ∷ os) (Ok y ∷ qs)
-      goes_on there theirs one = (
-        a.0 ∙ one_reply S T r near theirs one ∙ sym b.0,
-        near_runs rs os qs (next S r (Ok x)) (next T r (Ok y)) (near_next S T r x y near there theirs one a.0 b.0) a.1 b.1,
-      )
+      goes_on : (AreNear who p (next S r (Ok x)) (next T r (Ok y)) → AreAlikeTo who p (next S r (Ok x)) (next T r (Ok y)) rs os qs)
+          → (is_published S p ≡ true) ⊎ (is_published T p ≡ true) → AreAlikeTo who p S T (r ∷ rs) (Ok x ∷ os) (Ok y ∷ qs)
+      goes_on later there theirs one = (a.0 ∙ one_reply S T r near theirs one ∙ sym b.0, later (near_next S T r x y near there theirs one a.0 b.0))
 
-      by : (s t : Option Status) → at S.access.statuses p ≡ s → at T.access.statuses p ≡ t → AreAlikeTo who p S T (r ∷ rs) (Ok x ∷ os) (Ok y ∷ qs)
-      by None None new new' =
+      by : (AreNear who p (next S r (Ok x)) (next T r (Ok y)) → AreAlikeTo who p (next S r (Ok x)) (next T r (Ok y)) rs os qs)
+          → (s t : Option Status) → at S.access.statuses p ≡ s → at T.access.statuses p ≡ t → AreAlikeTo who p S T (r ∷ rs) (Ok x ∷ os) (Ok y ∷ qs)
+      by later None None new new' =
           let one : S ≡ T = sym (without_new S p (left_rests S near.left) new) ∙ near.same ∙ without_new T p (left_rests T near.other_left) new' in
           subst (λ U. HaveOutcomes U (r ∷ rs) (Ok y ∷ qs) → AreAlikeTo who p S U (r ∷ rs) (Ok x ∷ os) (Ok y ∷ qs)) one (same_runs who p S (r ∷ rs) (Ok x ∷ os) (Ok y ∷ qs) a) b
-      by (Some s) t here there = goes_on (inl (ap is_some here))
-      by None (Some t) here there = goes_on (inr (ap is_some there))
+      by later (Some s) t here there = goes_on later (inl (ap is_some here))
+      by later None (Some t) here there = goes_on later (inr (ap is_some there))
 
 pub runs_are_alike : RunsAreAlike
 runs_are_alike g h p who differ nothing nothing' rs os qs a b =

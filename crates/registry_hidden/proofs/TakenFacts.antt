@@ -16,12 +16,11 @@ use Rattle.registry_access.specs.Callers.{role_of}
 use Rattle.registry_access.specs.Hiding as access
 use Rattle.registry_access.specs.Levels.{writes}
 use Rattle.registry_access.specs.Policy.{Verdict, by_rule, may_publish, where_found}
-use Rattle.registry_access.specs.Positions.{has_organisation, has_scope, level_at, level_in, position_in, scope_role}
+use Rattle.registry_access.specs.Positions.{has_scope, level_in, position_in, scope_role}
 use Rattle.registry_access.specs.declared.caller.Caller.{Caller}
 use Rattle.registry_access.specs.declared.caller.Caller.TheVariants.{Operator, User, Anonymous}
 use Rattle.registry_access.specs.declared.levels.Level.{Level}
 use Rattle.registry_access.specs.declared.levels.Level.TheVariants.{Nothing}
-use Rattle.registry_access.specs.declared.position.Position.{Position}
 use Rattle.registry_publish.specs.Form.{FormParts}
 use Rattle.registry_rules.specs.Actions.{version_of}
 use Rattle.registry_rules.specs.Kept.{IsSound}
@@ -42,12 +41,12 @@ use Rattle.registry_hidden.proofs.NamedFacts.{other_pair}
 abbrev member_publishes : Bool → Bool → Bool → Level → Verdict
 member_publishes there member status level = where_found there (if member then (if status then by_rule A6 (writes level) else Ok A4) else Err (Denied A4))
 
-module _ (u : Text) (Q : Position) (there : Q.organisation ≡ true) (member : is_some Q.role ≡ true) where
-  denied : is_some Q.status ≡ true → level_at Q ≡ Nothing → may_publish (User u) true Q ≡ Err (Denied A6)
+module _ (A : Access) (p u : Text) (there : has_scope A (scope_of p) ≡ true) (member : is_some (scope_role A (User u) (scope_of p)) ≡ true) where
+  denied : is_some (at A.statuses p) ≡ true → level_in A (User u) p ≡ Nothing → may_publish (User u) true (position_in A (User u) p) ≡ Err (Denied A6)
   denied status nothing = λ i. member_publishes (there i) (member i) (status i) (nothing i)
 
-  free : is_some Q.status ≡ false → may_publish (User u) true Q ≡ Ok A4
-  free status = λ i. member_publishes (there i) (member i) (status i) (level_at Q)
+  free : is_some (at A.statuses p) ≡ false → may_publish (User u) true (position_in A (User u) p) ≡ Ok A4
+  free status = λ i. member_publishes (there i) (member i) (status i) (level_in A (User u) p)
 
 -- ---- what is left of the package
 
@@ -100,12 +99,12 @@ module _ (S : State) (now : ℕ) (f : FormParts) (p o u : Text) (sound : IsSound
 
   denied_here : is_published S p ≡ true → level_in S.access (User u) p ≡ Nothing → refusal_by S now (User u) (Publish f) ≡ Some (Denied A6)
   denied_here status nothing =
-      ap (λ v. option_or (unless_allowed v) (state_refusal S now (Publish f))) (permission_is S ∙ denied u (position_in S.access (User u) p) there (role S member) status nothing)
+      ap (λ v. option_or (unless_allowed v) (state_refusal S now (Publish f))) (permission_is S ∙ denied S.access p u there (role S member) status nothing)
 
   free_without : refusal_by T now (User u) (Publish f) ≡ None
   free_without =
       ap₂ (λ v r. option_or (unless_allowed v) r)
-      (permission_is T ∙ free u (position_in T.access (User u) p) there_without (role T member) (ap is_some (at-erase_same text_key S.access.statuses p)))
+      (permission_is T ∙ free T.access p u there_without (role T member) (ap is_some (at-erase_same text_key S.access.statuses p)))
       (unpublished S now f p o here (ap scope_of name ∙ scoped))
 
 pub taken_is : (S : State) (now : ℕ) (who : Caller) (f : FormParts) (p : Text) → IsSound S.access → is_taken S who (Publish f) p ≡ true → level_in S.access who p ≡ Nothing

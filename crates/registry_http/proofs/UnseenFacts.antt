@@ -1,5 +1,5 @@
 -- What strangers are sent in two worlds whose turns differ in requests on a package.
-use Rattle.std.proofs.Common.{◌≡◌, ◌==◌, ◌++◌, ◌+◌, ◌∙◌, ℕ, Bool, true, false, List, [], ◌∷◌, length, map, Option, Some, None, Ok, Err, is_some, refl, sym, ap, ap₂, arith, subst, true≢false, if◌then◌else◌}
+use Rattle.std.proofs.Common.{◌≡◌, ◌==◌, ◌++◌, ◌+◌, ◌∙◌, ℕ, suc, Bool, true, false, List, [], ◌∷◌, length, map, Option, Some, None, Ok, Err, is_some, refl, sym, ap, ap₂, arith, subst, true≢false, if◌then◌else◌}
 use Rattle.std.proofs.lemmas.Bool.Decides.{nat_tests}
 use Rattle.sqlite.specs.State.{State as Shown}
 use Rattle.registry_names.specs.Texts.{Text}
@@ -157,7 +157,7 @@ module _ {D : Type 0} (answers : Answering D) (p : Text) (S T : State) (start : 
           → AreSame (if b then t ∷ turns_of k (first_log ms) else turns_of k (first_log ms)) (if b then u ∷ turns_of k (second_log ms) else turns_of k (second_log ms))
       by rest near false other = rest
       by rest near true here = record {
-        count = ap (λ n. n + 1) rest.count;
+        count = ap suc rest.count;
         bytes = ap₂ (λ x y. x ++ y) rest.bytes
             (one-turn ms j r t u follow.0 L follow'.0 N first second near differ.0 (strangers.0 here) (is_last (turns_of j (first_log ms))) (is_last (turns_of j (second_log ms)))
             (lasts (turns_of j (first_log ms)) (turns_of j (second_log ms)) (subst (λ i. length (turns_of i (first_log ms)) ≡ length (turns_of i (second_log ms))) (same-number k j here) rest.count)) follow.2 follow'.2);
