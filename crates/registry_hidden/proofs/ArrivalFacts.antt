@@ -3,7 +3,7 @@ use Rattle.std.proofs.Common.{◌≡◌, false, sym, ◌∙◌, Ok, Err, List, [
 use Rattle.registry_names.specs.Texts.{Text}
 use Rattle.registry_rules.specs.State.{State}
 use Rattle.registry_rules.specs.declared.request.Request.{Request}
-use Rattle.registry_history.specs.History.{Entry, after}
+use Rattle.registry_history.specs.History.{after}
 use Rattle.registry_history.specs.Runs.{HaveOutcomes, IsAnswer, Outcome, next}
 use Rattle.registry_hidden.specs.Arrivals.{AreAlike, Arrival, DifferIn, StrangersSeeTheSame, first_outcomes, first_requests, in_both, in_first, in_second, may_change_more, second_outcomes, second_requests}
 use Rattle.registry_hidden.specs.Without.{state_without}

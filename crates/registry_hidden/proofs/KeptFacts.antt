@@ -9,7 +9,7 @@ use Rattle.registry_names.specs.Maps.{entries}
 use Rattle.registry_names.specs.Texts.{Text, is}
 use Rattle.registry_names.specs.Versions.{VersionParts, text_of_version}
 use Rattle.registry_names.specs.declared.refusal.Refusal.{Refusal}
-use Rattle.registry_names.specs.declared.refusal.Refusal.TheVariants.{NotFound, TooLate, Depended}
+use Rattle.registry_names.specs.declared.refusal.Refusal.TheVariants.{TooLate, Depended}
 use Rattle.registry_names.proofs.EntryFacts.{entries-keep}
 use Rattle.registry_names.proofs.KeyFacts.{pair_key, text_key, same_true}
 use Rattle.registry_names.proofs.TextFacts.{is_sym}

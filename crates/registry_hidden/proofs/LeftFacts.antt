@@ -1,5 +1,5 @@
 -- What requests leave of two registries that agree in all but a package.
-use Rattle.std.proofs.Common.{◌≡◌, ℕ, Bool, true, false, not, ◌&&◌, ◌||◌, refl, sym, ap, ◌∙◌, subst, true≢false, Some, None, Ok, Err, Option, List, is_none, if◌then◌else◌}
+use Rattle.std.proofs.Common.{◌≡◌, ℕ, Bool, true, false, not, ◌&&◌, ◌||◌, refl, sym, ap, ◌∙◌, subst, true≢false, Some, None, Ok, Option, List, is_none, if◌then◌else◌}
 use Rattle.registry_names.specs.Texts.{Text}
 use Rattle.registry_names.specs.declared.refusal.Refusal.{Refusal}
 use Rattle.registry_access.specs.declared.caller.Caller.{Caller}
@@ -10,7 +10,6 @@ use Rattle.registry_rules.specs.Effects.{effects_for, step, step_by}
 use Rattle.registry_rules.specs.Refusals.{refusal, refusal_by, refusal_for}
 use Rattle.registry_rules.specs.State.{State}
 use Rattle.registry_rules.specs.declared.reply.Reply.{Reply}
-use Rattle.registry_rules.specs.declared.reply.Reply.TheVariants.{Created, Done, Count, Doc, Bytes, Refused}
 use Rattle.registry_rules.specs.declared.request.Action.{Action}
 use Rattle.registry_rules.specs.declared.request.Action.TheVariants as command
 use Rattle.registry_rules.specs.declared.request.Action.TheVariants.{UserAdd, TokenAdd, OrgCreate, OrgSet, OrgRemove, TeamCreate, TeamDestroy, TeamAdd, TeamRemove, Revoke, SetAccess, OwnerAdd, OwnerRemove, Publish, TagSet, TagRemove, Withdraw, Deprecate, Packument, VersionDoc, Archive, Tags, Members, Teams, TeamMembers, TeamPackages}

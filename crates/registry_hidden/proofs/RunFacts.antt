@@ -1,6 +1,6 @@
 -- Two runs of the requests of one caller alone, after histories that differ in what named a package
 -- that they don't read.
-use Rattle.std.proofs.Common.{◌≡◌, ◌⊎◌, inl, inr, ℕ, Bool, true, false, ◌&&◌, ◌||◌, if◌then◌else◌, refl, sym, ap, ap₂, ◌∙◌, subst, true≢false, Some, None, Option, Ok, Err, List, [], ◌∷◌, is_some}
+use Rattle.std.proofs.Common.{◌≡◌, ◌⊎◌, inl, inr, ℕ, Bool, true, false, ◌&&◌, if◌then◌else◌, refl, sym, ap, ◌∙◌, subst, true≢false, Some, None, Option, Ok, Err, List, [], ◌∷◌, is_some}
 use Rattle.std.proofs.lemmas.Bool.{and_parts}
 use Rattle.registry_names.specs.Maps.{at}
 use Rattle.registry_names.specs.Names.{scope_of}
@@ -14,24 +14,24 @@ use Rattle.registry_access.specs.declared.levels.Level.TheVariants.{Nothing}
 use Rattle.registry_rules.specs.Callers.{caller_of}
 use Rattle.registry_rules.specs.Changes.{all_made}
 use Rattle.registry_rules.specs.Effects.{effects_for, step}
-use Rattle.registry_rules.specs.Refusals.{refusal, refusal_by, refusal_for}
+use Rattle.registry_rules.specs.Refusals.{refusal_by, refusal_for}
 use Rattle.registry_rules.specs.State.{State, is_published}
 use Rattle.registry_rules.specs.declared.reply.Reply.{Reply}
 use Rattle.registry_rules.specs.declared.request.Action.{Action}
 use Rattle.registry_rules.specs.declared.request.Action.TheVariants.{Publish}
 use Rattle.registry_rules.specs.declared.request.Request.{Request}
 use Rattle.registry_history.specs.Answers.{answer}
-use Rattle.registry_history.specs.History.{Entry, after}
-use Rattle.registry_history.specs.Runs.{HaveOutcomes, IsAnswer, Outcome, enters, next}
+use Rattle.registry_history.specs.History.{after}
+use Rattle.registry_history.specs.Runs.{HaveOutcomes, Outcome, enters, next}
 use Rattle.registry_history.proofs.RunFacts.{accepted}
-use Rattle.registry_hidden.specs.Concerns.{is_held, is_shown, is_taken, shows, shows_to}
-use Rattle.registry_hidden.specs.Levels.{HasNoLevel, IsStranger}
-use Rattle.registry_hidden.specs.Runs.{AreAlikeTo, DifferInPackage, IsTheirs, RunsAreAlike}
+use Rattle.registry_hidden.specs.Concerns.{is_shown, shows, shows_to}
+use Rattle.registry_hidden.specs.Levels.{HasNoLevel}
+use Rattle.registry_hidden.specs.Runs.{AreAlikeTo, IsTheirs, RunsAreAlike}
 use Rattle.registry_hidden.specs.Without.{state_without}
 use Rattle.registry_hidden.proofs.AcceptedFacts.{same_role}
 use Rattle.registry_hidden.proofs.LeftFacts.{IsLeft, answers_alike, both_next, left_next, left_rests, left_start, same_callers, same_rest}
 use Rattle.registry_hidden.proofs.RefusedFacts.{is_member_publish}
-use Rattle.registry_hidden.proofs.RestFacts.{Rests, without_new}
+use Rattle.registry_hidden.proofs.RestFacts.{without_new}
 use Rattle.registry_hidden.proofs.StandingFacts.{standing_kept}
 use Rattle.registry_hidden.proofs.UnheardFacts.{is_apart, shown_is, why_shown}
 

@@ -1,19 +1,17 @@
 -- A publish of the package by a member of its scope who doesn't read it: its name is taken.
-use Rattle.std.proofs.Common.{◌≡◌, ℕ, Bool, true, false, not, ◌&&◌, ◌||◌, refl, sym, ap, ap₂, ◌∙◌, true≢false, Some, None, Ok, Err, Option, List, [], is_some, is_none, if◌then◌else◌}
+use Rattle.std.proofs.Common.{◌≡◌, ℕ, Bool, true, false, not, ◌&&◌, refl, sym, ap, ap₂, ◌∙◌, true≢false, Some, None, Ok, Err, Option, [], is_some, is_none, if◌then◌else◌}
 use Rattle.std.proofs.lemmas.Bool.{and_parts}
 use Rattle.std.specs.Option.{option_or}
 use Rattle.registry_names.specs.Maps.{PairMap, at, of}
 use Rattle.registry_names.specs.Names.{scope_of}
 use Rattle.registry_names.specs.Texts.{Text, is}
-use Rattle.registry_names.specs.declared.refusal.Refusal.{Refusal}
-use Rattle.registry_names.specs.declared.refusal.Refusal.TheVariants.{NotFound, Denied, Published, Spent, AlwaysPublic, Waiting}
+use Rattle.registry_names.specs.declared.refusal.Refusal.TheVariants.{Denied, Published, Spent, AlwaysPublic, Waiting}
 use Rattle.registry_names.specs.declared.refusal.Rule.TheVariants.{A4, A6}
 use Rattle.registry_names.proofs.KeyFacts.{text_key, pair_key, same_true}
 use Rattle.registry_names.proofs.MapFacts.{at-erase_same}
 use Rattle.registry_names.proofs.PartFacts.{part_is}
 use Rattle.registry_access.specs.Access.{Access}
 use Rattle.registry_access.specs.Callers.{role_of}
-use Rattle.registry_access.specs.Hiding as access
 use Rattle.registry_access.specs.Levels.{writes}
 use Rattle.registry_access.specs.Policy.{Verdict, by_rule, may_publish, where_found}
 use Rattle.registry_access.specs.Positions.{has_scope, level_in, position_in, scope_role}
@@ -28,7 +26,6 @@ use Rattle.registry_rules.specs.Permissions.{permission}
 use Rattle.registry_rules.specs.Refusals.{is_restricted, publish_refusal, refuse, refusal_by, state_refusal, unless_allowed}
 use Rattle.registry_rules.specs.State.{State, has_live, is_live, is_published, is_spent}
 use Rattle.registry_rules.specs.Withdrawals.{is_less_than_a_day_ago, is_waiting, last_of}
-use Rattle.registry_rules.specs.declared.request.Action.{Action}
 use Rattle.registry_rules.specs.declared.request.Action.TheVariants.{Publish}
 use Rattle.registry_hidden.specs.Concerns.{is_taken}
 use Rattle.registry_hidden.specs.Without.{of_others, state_without}

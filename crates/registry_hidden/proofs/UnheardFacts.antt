@@ -1,6 +1,6 @@
 -- To one who doesn't read a package the registry replies as if the package had never been
 -- published, except to the two requests that show it.
-use Rattle.std.proofs.Common.{◌≡◌, ◌⊎◌, inl, inr, ℕ, Bool, true, false, ◌&&◌, ◌||◌, refl, sym, ap, ap₂, ◌∙◌, true≢false, Some, None, Ok, Option, is_some, if◌then◌else◌}
+use Rattle.std.proofs.Common.{◌≡◌, ◌⊎◌, inl, inr, ℕ, Bool, true, false, ◌&&◌, ◌||◌, refl, sym, ap, ap₂, ◌∙◌, true≢false, Some, None, Option, is_some}
 use Rattle.registry_names.specs.Maps.{at}
 use Rattle.registry_names.specs.Names.{scope_of}
 use Rattle.registry_names.specs.Texts.{Text, is}
@@ -19,7 +19,6 @@ use Rattle.registry_access.proofs.LevelFacts.{never_published}
 use Rattle.registry_rules.specs.Callers.{caller_of}
 use Rattle.registry_rules.specs.Refusals.{refusal_by, refusal_for}
 use Rattle.registry_rules.specs.State.{State}
-use Rattle.registry_rules.specs.declared.reply.Reply.{Reply}
 use Rattle.registry_rules.specs.declared.reply.Reply.TheVariants.{Created, Done, Refused}
 use Rattle.registry_rules.specs.declared.request.Action.{Action}
 use Rattle.registry_rules.specs.declared.request.Action.TheVariants.{Publish, Withdraw}
@@ -28,7 +27,7 @@ use Rattle.registry_rules.specs.declared.request.Credential.TheVariants as crede
 use Rattle.registry_rules.specs.declared.request.Request.{Request}
 use Rattle.registry_history.specs.Answers.{answer, reply, reply_to, unless_refused}
 use Rattle.registry_history.specs.History.{after}
-use Rattle.registry_hidden.specs.Concerns.{concerns, is_held, is_kept_by, is_shown, is_taken, keeps_from, shows, shows_to}
+use Rattle.registry_hidden.specs.Concerns.{concerns, is_kept_by, is_shown, is_taken, keeps_from, shows, shows_to}
 use Rattle.registry_hidden.specs.Laws.{KeptIsDepended, RepliesAreAlike, TakenIsDenied}
 use Rattle.registry_hidden.specs.Levels.{HasNoLevel, IsStranger}
 use Rattle.registry_hidden.specs.Without.{state_without}

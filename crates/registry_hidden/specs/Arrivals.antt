@@ -1,6 +1,6 @@
 -- Two runs in which many callers take turns, and which differ in requests on one package: what
 -- arrives in both, and what arrives in one of them alone.
-use Rattle.std.specs.Prelude.{◌≡◌, Bool, true, false, not, ◌&&◌, ◌||◌, List, [], ◌∷◌, Ok, Err, if◌then◌else◌}
+use Rattle.std.specs.Prelude.{◌≡◌, Bool, true, false, not, ◌&&◌, ◌||◌, List, [], ◌∷◌, Ok, if◌then◌else◌}
 use Rattle.registry_names.specs.Texts.{Text}
 use Rattle.registry_rules.specs.Actions.{is_command, names_package}
 use Rattle.registry_rules.specs.State.{State}

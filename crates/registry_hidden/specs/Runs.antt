@@ -1,6 +1,6 @@
 -- Two runs of one caller's requests, of whom nobody else asks anything meanwhile, after histories
 -- that differ in what named a package.
-use Rattle.std.specs.Prelude.{◌≡◌, List, [], ◌∷◌, Option, Some, None, Ok, Err}
+use Rattle.std.specs.Prelude.{◌≡◌, List, ◌∷◌, Option, Some, None, Ok}
 use Rattle.registry_names.specs.Texts.{Text}
 use Rattle.registry_access.specs.Positions.{level_in}
 use Rattle.registry_access.specs.declared.caller.Caller.{Caller}
