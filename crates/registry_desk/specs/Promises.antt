@@ -12,6 +12,7 @@
 -- | stored    | r   | and as all outcomes say                                         | S, open   |
 -- | moves     | a   | so is the registry's state                                      | S, open   |
 -- | history   | a r | a legal history of what was held goes on                        | N, open   |
+-- | hidden    | a   | who may not read a package is answered as if it weren't there   | N         |
 -- | headline  | r   | the theorem, of a registry of which nothing was asked           | N, open   |
 -- | grants    | a r | grants stay in scope                                            | S, open   |
 -- | needs     | a r | the needs that are stored stay those of live versions           | S, open   |
@@ -37,6 +38,7 @@ use Rattle.std.specs.Prelude.{◌≡◌, false, List, OnOk, IsTrue}
 use Rattle.std.specs.List.{AllByRecursion}
 use Rattle.sqlite_trees.specs.Tree.{Trees}
 use Rattle.sqlite.specs.State.{State as Shown, HasCleanDisk, Survives}
+use Rattle.registry_names.specs.Texts.{Text}
 use Rattle.registry_rules.specs.Kept.{IsKept, IsSound}
 use Rattle.registry_rules.specs.State.{nothing}
 use Rattle.registry_rules.specs.declared.request.Request.{Request}
@@ -48,6 +50,9 @@ use Rattle.registry_history.specs.Headline.{Headline}
 use Rattle.registry_history.specs.History.{Entry, Legal, after}
 use Rattle.registry_history.specs.Says.{Says}
 use Rattle.registry_history.specs.Runs.{Outcome, IsAnswer, Ran, enters, grown, history, next}
+use Rattle.registry_hidden.specs.Concerns.{is_shown}
+use Rattle.registry_hidden.specs.Levels.{IsStranger}
+use Rattle.registry_hidden.specs.Without.{state_without}
 use Rattle.registry_desk.specs.Found.{NeedsFor}
 use Rattle.registry_desk.specs.Resting.{IsRegistryOf, Serves, end_stored, left_by, next_stored, settled_by}
 
@@ -116,6 +121,12 @@ module _ (old new : Shown) where
   abbrev pub GrowsHistory : Request → Outcome → Type 0
   GrowsHistory r o = NeedsFor r.what (stored old) → HasCleanDisk new → IsTrue new.is_open → (h : List Entry) → Legal h → registry_in old ≡ after h
       → Says (grown h (registry_in old) r o) (registry_in new)
+
+  -- of what a legal history led to: who has no level on a package, and nobody, is answered as on the
+  -- registry without it, except by the two replies that show it
+  abbrev pub HidesUnread : Request → Outcome → Type 0
+  HidesUnread r o = NeedsFor r.what (stored old) → HasCleanDisk new → (h : List Entry) → Legal h → registry_in old ≡ after h
+      → (p : Text) → IsStranger (after h) r.who p → is_shown (after h) r p ≡ false → IsAnswer (state_without (after h) p) r o
 
   -- where this held of all that was stored, it still does
   abbrev pub Keeps : Request → (Contents → Type 0) → Type 0

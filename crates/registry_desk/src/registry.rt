@@ -12,13 +12,14 @@ ghost use Rattle.registry_tables.specs.Fresh.{fresh};
 ghost use Rattle.registry_tables.specs.Needs.{HoldsNeeds};
 ghost use Rattle.registry_tables.specs.Teams.{GrantsInScope};
 ghost use Rattle.registry_history.specs.Headline.{Headline};
-ghost use Rattle.registry_desk.specs.Promises.{Answered, GrowsHistory, HasHeadline, HoldsReferences, HoldsSound, Keeps, KeepsForm, KeepsFormRun, KeepsRun, KeepsSure, Moves, RanTo, Served, ServedRun, ShutByFaults, StaysSure, Stepped, Stored, SurvivesOne, SurvivesRun, Unchanged, WasOpen, WritesHistory};
+ghost use Rattle.registry_desk.specs.Promises.{Answered, GrowsHistory, HasHeadline, HidesUnread, HoldsReferences, HoldsSound, Keeps, KeepsForm, KeepsFormRun, KeepsRun, KeepsSure, Moves, RanTo, Served, ServedRun, ShutByFaults, StaysSure, Stepped, Stored, SurvivesOne, SurvivesRun, Unchanged, WasOpen, WritesHistory};
 ghost use Rattle.registry_desk.specs.Resting.{IsRegistryOf, Rests, end_stored};
 ghost use Rattle.registry_desk.specs.Caches.{HasPackuments, KeepsAnswer, KeepsNoMore};
 
 use crate::answer::answered_inside;
 use crate::cache::keep_reply;
 use registry_cache::TextCache;
+use registry_hidden::laws::unread_packages_are_unheard_of;
 use registry_names::Fault;
 use registry_rows::commit;
 use registry_rules::laws::requests_are_in_form;
@@ -130,6 +131,8 @@ impl<S: Alter> Registry<S> {
             request.now result }
         ensures history { GrowsHistory (state S.Store self.old) (state S.Store self.new)
             request.now result }
+        ensures hidden { HidesUnread (state S.Store self.old) (state S.Store self.new)
+            request.now result }
         ensures grants { Keeps (state S.Store self.old) (state S.Store self.new)
             request.now GrantsInScope }
         ensures needs { Keeps (state S.Store self.old) (state S.Store self.new)
@@ -144,6 +147,7 @@ impl<S: Alter> Registry<S> {
         ensures stays { StaysSure (state S.Store self.new) }
     {
         requests_are_in_form(request);
+        unread_packages_are_unheard_of();
         answered(alloc, &mut self.conn, &mut self.cache, request)
     }
 
