@@ -49,7 +49,8 @@ pub(crate) enum Verb {
 /// which `publish` alone reads. `serve` asks for no action.
 ///
 /// The texts are read from left to right, the user's name first, and the first that isn't in form
-/// gives its refusal. `Memory` comes where no memory is left.
+/// gives its refusal. `Memory` comes where no memory is left, and for no text out of form, except a
+/// version or the body.
 pub fn action_of(alloc: Global, line: &Line, body: &[u8]) -> Result<(Credential, Action), Stop>
     requires whole { IsWhole line.now.what }
     requires asks { asks_to_serve line.now.what ≡ false }

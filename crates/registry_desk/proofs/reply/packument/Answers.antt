@@ -11,6 +11,7 @@ returns c =
     let same = c.in_ok-name.ensures ∙ c.text.ensures.text in
     IfOk-weaker c.packument_text.result _ _
     (λ text written S shown named. packument_is S c.args.name.now c.args.tags.items c.args.versions.items text
-    (ap (λ (p : Text). packument_of p c.args.tags.items c.args.versions.items) (sym same) ∙ ap (packument_of c.in_ok-name.name c.args.tags.items) (sym c.in-Some-2.ensures)
-    ∙ ap (λ (head : HeadParts). pack_text head _) (sym c.in-Some.ensures.parts) ∙ written) shown named)
+    (ap (λ (p : Text). packument_of p c.args.tags.items c.args.versions.items) (sym same)
+    ∙ ap (λ (head : HeadParts). pack_text head c.args.versions.items) (sym c.in-Some.ensures.parts)
+    ∙ ap (pack_text c.in-Some.head) (sym c.in-Some-new.ensures) ∙ written) shown named)
     c.packument_text.ensures.ok
