@@ -65,7 +65,7 @@ module _ (p : Text) where
       by later true dropped e = with_second q x [] [] qs ps dropped (later e)
       by later false stays e = absurd cc
 
-  -- the request is found in the second run, behind what is dropped
+  -- the request is found in the second run, after what is dropped
   found : (r : Request) (o : Outcome) (rs : List Request) (os : List Outcome) → ((qs : List Request) (ps : List Outcome) (T : State) → HaveOutcomes T qs ps → except_accepted p rs os ≡ except_accepted p qs ps → IsMerged rs os qs ps)
       → (qs : List Request) (ps : List Outcome) (T : State) → HaveOutcomes T qs ps → (r ∷ except_accepted p rs os) ≡ except_accepted p qs ps → IsMerged (r ∷ rs) (o ∷ os) qs ps
   found r o rs os rest [] [] T b e = absurd cc

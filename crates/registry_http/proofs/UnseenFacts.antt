@@ -1,27 +1,24 @@
 -- What strangers are sent in two worlds whose turns differ in requests on a package.
-use Rattle.std.proofs.Common.{◌≡◌, ◌==◌, ◌++◌, ◌+◌, ◌∙◌, ℕ, suc, Bool, true, false, List, [], ◌∷◌, length, map, Option, Some, None, Ok, Err, is_some, refl, sym, ap, ap₂, arith, subst, true≢false, if◌then◌else◌}
+use Rattle.std.proofs.Common.{◌≡◌, ◌==◌, ◌++◌, ◌+◌, ◌∙◌, ℕ, suc, Bool, true, false, List, [], ◌∷◌, length, Option, Some, None, Ok, Err, is_some, refl, sym, ap, ap₂, arith, subst, if◌then◌else◌}
 use Rattle.std.proofs.lemmas.Bool.Decides.{nat_tests}
 use Rattle.sqlite.specs.State.{State as Shown}
 use Rattle.registry_names.specs.Texts.{Text}
 use Rattle.registry_rules.specs.State.{State}
-use Rattle.registry_rules.specs.declared.reply.Reply.{Reply}
 use Rattle.registry_rules.specs.declared.request.Request.{Request}
-use Rattle.registry_tables.specs.Effects.{registry_in}
 use Rattle.registry_history.specs.History.{Entry, after}
 use Rattle.registry_history.specs.Runs.{HaveOutcomes, IsAnswer, Outcome, end_of, next}
 use Rattle.registry_history.proofs.RunFacts.{end_push}
 use Rattle.registry_hidden.specs.Arrivals.{may_change_more}
-use Rattle.registry_hidden.specs.Runs.{DifferInPackage}
 use Rattle.registry_hidden.specs.Without.{state_without}
 use Rattle.registry_hidden.proofs.LeftFacts.{IsLeft, answers_alike, left_next, left_rests, left_start, leaves_rest, next_alike, rest_stays, same_rest}
 use Rattle.registry_service.specs.Courses.{written}
-use Rattle.registry_service.specs.Histories.{FollowAll, IsOneHistory, LogEntry, Reached, World, is_last, turns_of}
+use Rattle.registry_service.specs.Histories.{FollowAll, IsOneHistory, LogEntry, World, is_last, turns_of}
 use Rattle.registry_service.specs.HttpAnswers.{response_to}
 use Rattle.registry_service.specs.Turns.{Answering, Cause, IsTurn, IsTurnFor, Turn, bad_input, no_memory, request, request_limit, response_of, end_of as turn_end}
 use Rattle.registry_service.specs.declared.turning.End.{End}
 use Rattle.registry_service.proofs.HistoryFacts.{one-history}
 use Rattle.registry_http.specs.Services.{applied}
-use Rattle.registry_http.specs.Unseen.{AreReplies, DifferIn, IsSameTurn, IsStrangers, IsUnseen, IsWorldOf, LeavesRest, Meeting, StaysClose, StrangersAreAnsweredTheSame, and_outcome, and_request, first_left, first_log, first_outcomes, first_requests, in_both, in_first, in_second, second_left, second_log, second_outcomes, second_requests}
+use Rattle.registry_http.specs.Unseen.{DifferIn, IsSameTurn, IsStrangers, IsUnseen, IsWorldOf, LeavesRest, Meeting, StaysClose, StrangersAreAnsweredTheSame, and_outcome, and_request, first_left, first_log, first_outcomes, first_requests, in_both, in_first, in_second, second_left, second_log, second_outcomes, second_requests}
 
 same-number : (k j : ℕ) → (k == j) ≡ true → k ≡ j
 same-number k j here = grind (arith, nat_tests, here)
