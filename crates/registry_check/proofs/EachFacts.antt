@@ -68,11 +68,11 @@ module _ {K X : Type 0} {cmp : K → K → Ordering} {same : K → K → Bool} (
   module _ (P : K × X → Type 0) where
     each_at : (es : List (K × X)) → AllByRecursion P es → (k : K) (x : X) → first_at same es k ≡ Some x → P (k, x)
     each_at [] all k x h = absurd cc
-    each_at (e ∷ es) all k x h = each (same e.0 k) refl h
+    each_at (e ∷ es) all k x h = each (each_at es all.1 k x) (same e.0 k) refl h
       where
-        each : (b : Bool) → same e.0 k ≡ b → cond b (Some e.1) (first_at same es k) ≡ Some x → P (k, x)
-        each true t i = subst (λ q. P (q, x)) (same_true key e.0 k t) (subst (λ y. P (e.0, y)) (some_is e.1 x i) all.0)
-        each false t i = each_at es all.1 k x i
+        each : (first_at same es k ≡ Some x → P (k, x)) → (b : Bool) → same e.0 k ≡ b → cond b (Some e.1) (first_at same es k) ≡ Some x → P (k, x)
+        each next true t i = subst (λ q. P (q, x)) (same_true key e.0 k t) (subst (λ y. P (e.0, y)) (some_is e.1 x i) all.0)
+        each next false t i = next i
 
     at_each : (whole es : List (K × X)) → All (IsFoundIn key whole) es → ((k : K) (x : X) → first_at same whole k ≡ Some x → P (k, x)) → AllByRecursion P es
     at_each whole [] found f = tt
@@ -100,23 +100,23 @@ module _ {K X : Type 0} {cmp : K → K → Ordering} {same : K → K → Bool} (
   module _ (f : K × X → Bool) where
     some_found : (whole es : List (K × X)) → All (IsFoundIn key whole) es → list_any f es ≡ true → (k : K) × ((x : X) × (first_at same whole k ≡ Some x) × (f (k, x) ≡ true))
     some_found whole [] found h = absurd (true≢false (sym h))
-    some_found whole (e ∷ es) found h = each (f e) refl h
+    some_found whole (e ∷ es) found h = each (some_found whole es (All-tail (IsFoundIn key whole) e es found)) (f e) refl h
       where
-        each : (b : Bool) → f e ≡ b → (b || list_any f es) ≡ true → (k : K) × ((x : X) × (first_at same whole k ≡ Some x) × (f (k, x) ≡ true))
-        each true t i = (e.0, (e.1, (All-head (IsFoundIn key whole) e es found, t)))
-        each false t i = some_found whole es (All-tail (IsFoundIn key whole) e es found) i
+        each : (list_any f es ≡ true → (k : K) × ((x : X) × (first_at same whole k ≡ Some x) × (f (k, x) ≡ true))) → (b : Bool) → f e ≡ b → (b || list_any f es) ≡ true → (k : K) × ((x : X) × (first_at same whole k ≡ Some x) × (f (k, x) ≡ true))
+        each next true t i = (e.0, (e.1, All-head (IsFoundIn key whole) e es found, t))
+        each next false t i = next i
 
     found_some : (es : List (K × X)) (k : K) (x : X) → first_at same es k ≡ Some x → f (k, x) ≡ true → list_any f es ≡ true
     found_some [] k x h t = absurd cc
-    found_some (e ∷ es) k x h t = each (same e.0 k) refl h
+    found_some (e ∷ es) k x h t = each (λ i. found_some es k x i t) (same e.0 k) refl h
       where
-        each : (b : Bool) → same e.0 k ≡ b → cond b (Some e.1) (first_at same es k) ≡ Some x → (f e || list_any f es) ≡ true
-        each true s i = or_left (f e) (list_any f es) (ap f (ap₂ (λ (q : K) (y : X). (q, y)) (same_true key e.0 k s) (some_is e.1 x i)) ∙ t)
-        each false s i = or_right (f e) (list_any f es) (found_some es k x i t)
+        each : (first_at same es k ≡ Some x → list_any f es ≡ true) → (b : Bool) → same e.0 k ≡ b → cond b (Some e.1) (first_at same es k) ≡ Some x → (f e || list_any f es) ≡ true
+        each next true s i = or_left (f e) (list_any f es) (ap f (ap₂ (λ (q : K) (y : X). (q, y)) (same_true key e.0 k s) (some_is e.1 x i)) ∙ t)
+        each next false s i = or_right (f e) (list_any f es) (next i)
 
     -- a test that some row passes is one of a key and its value
     pub any_at : (m : MapBy cmp X) → list_any f (entries m) ≡ true → (k : K) × ((x : X) × (at m k ≡ Some x) × (f (k, x) ≡ true))
-    any_at m h = let it = some_found (entries m) (entries m) (found_in m) h in (it.0, (it.1.0, (at-entries key m it.0 ∙ it.1.1.0, it.1.1.1)))
+    any_at m h = let it = some_found (entries m) (entries m) (found_in m) h in (it.0, (it.1.0, at-entries key m it.0 ∙ it.1.1, it.1.2))
 
     pub at_any : (m : MapBy cmp X) (k : K) (x : X) → at m k ≡ Some x → f (k, x) ≡ true → list_any f (entries m) ≡ true
     at_any m k x h t = found_some (entries m) k x (sym (at-entries key m k) ∙ h) t
@@ -126,12 +126,12 @@ module _ {K X : Type 0} {cmp : K → K → Ordering} {same : K → K → Bool} (
     first_found : (whole es : List (K × X)) → All (IsFoundIn key whole) es → list_any f es ≡ true
         → (k : K) × ((x : X) × (find f es ≡ Some (k, x)) × ((first_at same whole k ≡ Some x) × (f (k, x) ≡ true)))
     first_found whole [] found h = absurd (true≢false (sym h))
-    first_found whole (e ∷ es) found h = each (f e) refl h
+    first_found whole (e ∷ es) found h = each (first_found whole es (All-tail (IsFoundIn key whole) e es found)) (f e) refl h
       where
-        each : (b : Bool) → f e ≡ b → (b || list_any f es) ≡ true
+        each : (list_any f es ≡ true → (k : K) × ((x : X) × (find f es ≡ Some (k, x)) × ((first_at same whole k ≡ Some x) × (f (k, x) ≡ true)))) → (b : Bool) → f e ≡ b → (b || list_any f es) ≡ true
             → (k : K) × ((x : X) × (cond b (Some e) (find f es) ≡ Some (k, x)) × ((first_at same whole k ≡ Some x) × (f (k, x) ≡ true)))
-        each true t i = (e.0, (e.1, (refl, (All-head (IsFoundIn key whole) e es found, t))))
-        each false t i = first_found whole es (All-tail (IsFoundIn key whole) e es found) i
+        each next true t i = (e.0, (e.1, refl, (All-head (IsFoundIn key whole) e es found, t)))
+        each next false t i = next i
 
     pub first_passes : (m : MapBy cmp X) → list_any f (entries m) ≡ true → (k : K) × ((x : X) × (find f (entries m) ≡ Some (k, x)) × ((at m k ≡ Some x) × (f (k, x) ≡ true)))
-    first_passes m h = let it = first_found (entries m) (entries m) (found_in m) h in (it.0, (it.1.0, (it.1.1.0, (at-entries key m it.0 ∙ it.1.1.1.0, it.1.1.1.1))))
+    first_passes m h = let it = first_found (entries m) (entries m) (found_in m) h in (it.0, (it.1.0, it.1.1, (at-entries key m it.0 ∙ it.1.2.0, it.1.2.1)))

@@ -1,9 +1,9 @@
 -- No row breaks a rule exactly where the premises hold.
-use Rattle.std.proofs.Common.{◌≡◌, ◌∙◌, ◌==◌, ℕ, ℤ, Bool, true, false, cond, not, ◌&&◌, ◌||◌, List, [], ◌∷◌, ◌++◌, find, length, is_none, is_some, option_and_then, option_map, refl, sym, ap, ap₂, subst, true≢false, Some, None, Option, IsSome}
+use Rattle.std.proofs.Common.{◌≡◌, ◌∙◌, ◌==◌, ℕ, suc, ℤ, Bool, true, false, cond, not, ◌&&◌, ◌||◌, List, [], ◌∷◌, ◌++◌, find, length, is_none, is_some, option_and_then, option_map, arith, refl, sym, ap, ap₂, subst, true≢false, Some, None, Option, IsSome}
 use Rattle.std.specs.Cmp.{both_ways}
 use Rattle.std.specs.List.{list_all, list_any}
 use Rattle.std.specs.Ordering.{int_cmp, int_eq}
-use Rattle.std.proofs.lemmas.Bool.{and_from, and_parts, or_left, or_right}
+use Rattle.std.proofs.lemmas.Bool.{and_from, and_parts, eqb-true, or_left, or_right}
 use Rattle.registry_names.specs.Keys.{Pair, pair_is}
 use Rattle.registry_names.specs.Maps.{at, entries}
 use Rattle.registry_names.specs.Names.{scope_of}
@@ -29,7 +29,7 @@ use Rattle.registry_tables.specs.Needs.{HoldsNeeds, is_needed, names_if_any, nam
 use Rattle.registry_tables.specs.Teams.{GrantsInScope}
 use Rattle.registry_check.specs.Premises.{MeetsPremises, TellsPremises, rows_in}
 use Rattle.registry_check.specs.Problems as spec
-use Rattle.registry_check.specs.Problems.{archive_problems, grant_problems, held_problems, live_problems, maintainer_problems, member_problems, need_problems, organisation_problems, package_problems, people_problems, problems, published_problems, team_member_problems, team_problems, token_problems, version_problems}
+use Rattle.registry_check.specs.Problems.{archive_problems, grant_problems, held_problems, live_problems, maintainer_problems, member_problems, need_problems, organisation_problems, problems, published_problems, team_member_problems, team_problems, token_problems}
 use Rattle.registry_check.specs.Rules.{archive_tests, are_stored, grant_tests, has, has_maintainer, has_owner, held_tests, is_first, is_held, is_named, is_public, live_tests, maintainer_tests, member_tests, need_is, need_tests, numbered, organisation_tests, package_tests, team_member_tests, team_tests, token_tests}
 use Rattle.registry_check.specs.declared.problem.Problem.{Problem}
 use Rattle.registry_check.specs.declared.problem.Test.{Test}
@@ -69,7 +69,7 @@ some_inside x y e = cc
 
 nothing_there : (bytes : List ℕ) → (length bytes == 0) ≡ true → bytes ≡ []
 nothing_there [] h = refl
-nothing_there (b ∷ bytes) h = absurd (true≢false (sym h))
+nothing_there (b ∷ bytes) h = let none : suc (length bytes) ≡ 0 = eqb-true (length (b ∷ bytes)) 0 h in absurd (omega (arith, none))
 
 its_number : (n : ℤ) (o : Option ℤ) → numbered n o ≡ true → o ≡ Some n
 its_number n None h = absurd (true≢false (sym h))
@@ -78,16 +78,19 @@ its_number n (Some m) h = ap (λ (z : ℤ). Some z) (same_true number_key m n h)
 -- ---- lists of problems
 
 nil_three : {X : Type 0} (a b c : List X) → a ++ b ++ c ≡ [] → (a ≡ []) × ((b ≡ []) × (c ≡ []))
-nil_three a b c h = let it = nil_parts a (b ++ c) h in (it.0, nil_parts b c it.1)
+nil_three a b c h =
+    let last = nil_parts (a ++ b) c h in
+    let two = nil_parts a b last.0 in
+    (two.0, (two.1, last.1))
 
 nil_four : {X : Type 0} (a b c d : List X) → a ++ b ++ c ++ d ≡ [] → (a ≡ []) × ((b ≡ []) × ((c ≡ []) × (d ≡ [])))
-nil_four a b c d h = let it = nil_parts a (b ++ c ++ d) h in (it.0, nil_three b c d it.1)
+nil_four a b c d h =
+    let last = nil_parts (a ++ b ++ c) d h in
+    let three = nil_three a b c last.0 in
+    (three.0, (three.1.0, (three.1.1, last.1)))
 
-nil_five : {X : Type 0} (a b c d e : List X) → a ++ b ++ c ++ d ++ e ≡ [] → (a ≡ []) × ((b ≡ []) × ((c ≡ []) × ((d ≡ []) × (e ≡ []))))
-nil_five a b c d e h = let it = nil_parts a (b ++ c ++ d ++ e) h in (it.0, nil_four b c d e it.1)
-
-nils : {X : Type 0} (a b : List X) → a ≡ [] → b ≡ [] → a ++ b ≡ []
-nils a b p q = ap₂ (λ x y. x ++ y) p q
+four_nil : {X : Type 0} (a b c d : List X) → a ≡ [] → b ≡ [] → c ≡ [] → d ≡ [] → a ++ b ++ c ++ d ≡ []
+four_nil a b c d p q r s = ap₂ (λ x y. x ++ y) (ap₂ (λ x y. x ++ y) (ap₂ (λ x y. x ++ y) p q) r) s
 
 -- ---- needs
 
@@ -95,17 +98,15 @@ nils a b p q = ap₂ (λ x y. x ++ y) p q
 stored_all : (test : Need → Bool) (needs : List Need) → list_all test needs ≡ true → (target range : Text) → names_range target range needs ≡ true
     → (need : Need) × ((test need ≡ true) × ((need.target ≡ target) × (need.range ≡ range)))
 stored_all test [] all target range h = absurd (true≢false (sym h))
-stored_all test (need ∷ needs) all target range h = each (is need.target target && is need.range range) refl h
+stored_all test (need ∷ needs) all target range h =
+    each (stored_all test needs (and_parts (test need) (list_all test needs) all).1 target range) (is need.target target && is need.range range) refl h
   where
-    both : (test need ≡ true) × (list_all test needs ≡ true)
-    both = and_parts (test need) (list_all test needs) all
-
-    each : (b : Bool) → (is need.target target && is need.range range) ≡ b → (b || names_range target range needs) ≡ true
+    each : (names_range target range needs ≡ true → (n : Need) × ((test n ≡ true) × ((n.target ≡ target) × (n.range ≡ range)))) → (b : Bool) → (is need.target target && is need.range range) ≡ b → (b || names_range target range needs) ≡ true
         → (n : Need) × ((test n ≡ true) × ((n.target ≡ target) × (n.range ≡ range)))
-    each true t i =
+    each next true t i =
         let same = and_parts (is need.target target) (is need.range range) t in
-        (need, (both.0, (same_true text_key need.target target same.0, same_true text_key need.range range same.1)))
-    each false t i = stored_all test needs both.1 target range i
+        (need, ((and_parts (test need) (list_all test needs) all).0, (same_true text_key need.target target same.0, same_true text_key need.range range same.1)))
+    each next false t i = next i
 
 -- all pass where each that is named does
 all_stored : (test : Need → Bool) (needs : List Need) → ((need : Need) → names_range need.target need.range needs ≡ true → test need ≡ true) → list_all test needs ≡ true
@@ -119,37 +120,37 @@ module _ (c : Contents) where
   -- ---- where no row breaks a rule
 
   module _ (none : problems (rows_in c) ≡ []) where
-    parts : (people_problems (rows_in c) ≡ []) × ((package_problems (rows_in c) ≡ []) × (version_problems (rows_in c) ≡ []))
-    parts = nil_three (people_problems (rows_in c)) (package_problems (rows_in c)) (version_problems (rows_in c)) none
+    versions : (token_problems (rows_in c) ++ organisation_problems (rows_in c) ++ member_problems (rows_in c) ++ team_problems (rows_in c) ++ team_member_problems (rows_in c) ++ published_problems (rows_in c) ++ grant_problems (rows_in c) ++ maintainer_problems (rows_in c) ++ live_problems (rows_in c) ≡ []) × ((need_problems (rows_in c) ≡ []) × ((held_problems (rows_in c) ≡ []) × (archive_problems (rows_in c) ≡ [])))
+    versions = nil_four (token_problems (rows_in c) ++ organisation_problems (rows_in c) ++ member_problems (rows_in c) ++ team_problems (rows_in c) ++ team_member_problems (rows_in c) ++ published_problems (rows_in c) ++ grant_problems (rows_in c) ++ maintainer_problems (rows_in c) ++ live_problems (rows_in c)) (need_problems (rows_in c)) (held_problems (rows_in c)) (archive_problems (rows_in c)) none
 
-    people : (token_problems (rows_in c) ≡ []) × ((organisation_problems (rows_in c) ≡ []) × ((member_problems (rows_in c) ≡ []) × ((team_problems (rows_in c) ≡ []) × (team_member_problems (rows_in c) ≡ []))))
-    people = nil_five (token_problems (rows_in c)) (organisation_problems (rows_in c)) (member_problems (rows_in c)) (team_problems (rows_in c)) (team_member_problems (rows_in c)) parts.0
+    packages : (token_problems (rows_in c) ++ organisation_problems (rows_in c) ++ member_problems (rows_in c) ++ team_problems (rows_in c) ++ team_member_problems (rows_in c) ++ published_problems (rows_in c) ≡ []) × ((grant_problems (rows_in c) ≡ []) × ((maintainer_problems (rows_in c) ≡ []) × (live_problems (rows_in c) ≡ [])))
+    packages = nil_four (token_problems (rows_in c) ++ organisation_problems (rows_in c) ++ member_problems (rows_in c) ++ team_problems (rows_in c) ++ team_member_problems (rows_in c) ++ published_problems (rows_in c)) (grant_problems (rows_in c)) (maintainer_problems (rows_in c)) (live_problems (rows_in c)) versions.0
 
-    packages : (published_problems (rows_in c) ≡ []) × ((grant_problems (rows_in c) ≡ []) × (maintainer_problems (rows_in c) ≡ []))
-    packages = nil_three (published_problems (rows_in c)) (grant_problems (rows_in c)) (maintainer_problems (rows_in c)) parts.1.0
+    groups : (token_problems (rows_in c) ++ organisation_problems (rows_in c) ++ member_problems (rows_in c) ≡ []) × ((team_problems (rows_in c) ≡ []) × ((team_member_problems (rows_in c) ≡ []) × (published_problems (rows_in c) ≡ [])))
+    groups = nil_four (token_problems (rows_in c) ++ organisation_problems (rows_in c) ++ member_problems (rows_in c)) (team_problems (rows_in c)) (team_member_problems (rows_in c)) (published_problems (rows_in c)) packages.0
 
-    versions : (live_problems (rows_in c) ≡ []) × ((need_problems (rows_in c) ≡ []) × ((held_problems (rows_in c) ≡ []) × (archive_problems (rows_in c) ≡ [])))
-    versions = nil_four (live_problems (rows_in c)) (need_problems (rows_in c)) (held_problems (rows_in c)) (archive_problems (rows_in c)) parts.1.1
+    accounts : (token_problems (rows_in c) ≡ []) × ((organisation_problems (rows_in c) ≡ []) × (member_problems (rows_in c) ≡ []))
+    accounts = nil_three (token_problems (rows_in c)) (organisation_problems (rows_in c)) (member_problems (rows_in c)) groups.0
 
     -- what the rules say of each key and its value
 
     tokens_hold : (d u : Text) → at c.tokens d ≡ Some u → all_hold (token_tests (rows_in c) (d, u)) ≡ true
-    tokens_hold = none_means text_key c.tokens spec.token (token_tests (rows_in c)) people.0
+    tokens_hold = none_means text_key c.tokens spec.token (token_tests (rows_in c)) accounts.0
 
     organisations_hold : (o : Text) (v : Unit {0}) → at c.organisations o ≡ Some v → all_hold (organisation_tests (rows_in c) (o, v)) ≡ true
-    organisations_hold = none_means text_key c.organisations spec.organisation (organisation_tests (rows_in c)) people.1.0
+    organisations_hold = none_means text_key c.organisations spec.organisation (organisation_tests (rows_in c)) accounts.1.0
 
     members_hold : (k : Pair) (v : Role) → at c.members k ≡ Some v → all_hold (member_tests (rows_in c) (k, v)) ≡ true
-    members_hold = none_means pair_key c.members spec.member (member_tests (rows_in c)) people.1.1.0
+    members_hold = none_means pair_key c.members spec.member (member_tests (rows_in c)) accounts.1.1
 
     teams_hold : (k : Pair) (v : Unit {0}) → at c.teams k ≡ Some v → all_hold (team_tests (rows_in c) (k, v)) ≡ true
-    teams_hold = none_means pair_key c.teams spec.team (team_tests (rows_in c)) people.1.1.1.0
+    teams_hold = none_means pair_key c.teams spec.team (team_tests (rows_in c)) groups.1.0
 
     team_members_hold : (o t u : Text) (v : Unit {0}) → at c.team_members (o, (t, u)) ≡ Some v → all_hold (team_member_tests (rows_in c) ((o, (t, u)), v)) ≡ true
-    team_members_hold o t u = none_means triple_key c.team_members spec.team_member (team_member_tests (rows_in c)) people.1.1.1.1 (o, (t, u))
+    team_members_hold o t u = none_means triple_key c.team_members spec.team_member (team_member_tests (rows_in c)) groups.1.1.0 (o, (t, u))
 
     packages_hold : (p : Text) (v : Status) → at c.packages p ≡ Some v → all_hold (package_tests (rows_in c) (p, v)) ≡ true
-    packages_hold = none_means text_key c.packages spec.package_of (package_tests (rows_in c)) packages.0
+    packages_hold = none_means text_key c.packages spec.package_of (package_tests (rows_in c)) groups.1.1.1
 
     grants_hold : (o t p : Text) → IsSome (at c.grants (o, (t, p))) → IsGrant (access_of c) o t p
     grants_hold o t p h =
@@ -165,10 +166,10 @@ module _ (c : Contents) where
         }
 
     maintainers_hold : (k : Pair) (v : Unit {0}) → at c.owners k ≡ Some v → all_hold (maintainer_tests (rows_in c) (k, v)) ≡ true
-    maintainers_hold = none_means pair_key c.owners spec.maintainer (maintainer_tests (rows_in c)) packages.1.1
+    maintainers_hold = none_means pair_key c.owners spec.maintainer (maintainer_tests (rows_in c)) packages.1.1.0
 
     live_hold : (k : Pair) (v : Release) → at c.versions k ≡ Some v → all_hold (live_tests (rows_in c) (k, v)) ≡ true
-    live_hold = none_means pair_key c.versions spec.version (live_tests (rows_in c)) versions.0
+    live_hold = none_means pair_key c.versions spec.version (live_tests (rows_in c)) packages.1.1.1
 
     needs_hold : (k : Texts 3) (v : Unit {0}) → at c.need_ranges k ≡ Some v → all_hold (need_tests (rows_in c) (k, v)) ≡ true
     needs_hold = none_means (texts_key 3) c.need_ranges spec.need (need_tests (rows_in c)) versions.1.0
@@ -190,9 +191,11 @@ module _ (c : Contents) where
         let value = value_of (at c.organisations o) h in
         let one = and_parts (has_owner (rows_in c) o) _ (organisations_hold o value.0 value.1) in
         let some = any_at pair_key (λ (e : Pair × Role). is e.0.0 o && is_owner (Some e.1)) c.members one.0 in
-        let both = and_parts (is some.0.0 o) (is_owner (Some some.1.0)) some.1.1.1 in
-        (some.0.1, subst (λ (q : Text). at c.members (q, some.0.1) ≡ Some Owner) (same_true text_key some.0.0 o both.0)
-        (some.1.1.0 ∙ ap (λ (r : Role). Some r) (is_its_owner some.1.0 both.1)))
+        let both = and_parts (is some.0.0 o) (is_owner (Some some.1.0)) some.1.2 in (
+          some.0.1,
+          subst (λ (q : Text). at c.members (q, some.0.1) ≡ Some Owner) (same_true text_key some.0.0 o both.0)
+              (some.1.1 ∙ ap (λ (r : Role). Some r) (is_its_owner some.1.0 both.1)),
+        )
 
     first_team : (o : Text) → IsSome (at c.organisations o) → IsSome (at c.teams (o, developers))
     first_team o h =
@@ -232,7 +235,7 @@ module _ (c : Contents) where
     maintained p h bare =
         let value = value_of (at c.packages p) h in
         let some = any_at pair_key (λ (e : Pair × Unit {0}). is e.0.0 p) c.owners (package_keeps p value.0 value.1 bare).1 in
-        (some.0.1, subst (λ (q : Text). IsSome (at c.owners (q, some.0.1))) (same_true text_key some.0.0 p some.1.1.1) (there _ some.1.0 some.1.1.0))
+        (some.0.1, subst (λ (q : Text). IsSome (at c.owners (q, some.0.1))) (same_true text_key some.0.0 p some.1.2) (there _ some.1.0 some.1.1))
 
     references_hold : IsSound (access_of c)
     references_hold = record {
@@ -255,8 +258,8 @@ module _ (c : Contents) where
         let value = value_of (at c.need_ranges (p, (v, (target, range)))) h in
         let holds = (and_parts (is_named (rows_in c) (p, (v, (target, range)))) true (needs_hold (p, (v, (target, range))) value.0 value.1)).0 in
         let some = any_at pair_key (λ (e : Pair × Release). pair_is e.0 (p, v) && names_if_any target range (needs_of e.1.manifest)) c.versions holds in
-        let both = and_parts (pair_is some.0 (p, v)) (names_if_any target range (needs_of some.1.0.manifest)) some.1.1.1 in
-        let found : at c.versions (p, v) ≡ Some some.1.0 = subst (λ (k : Pair). at c.versions k ≡ Some some.1.0) (same_true pair_key some.0 (p, v) both.0) some.1.1.0 in
+        let both = and_parts (pair_is some.0 (p, v)) (names_if_any target range (needs_of some.1.0.manifest)) some.1.2 in
+        let found : at c.versions (p, v) ≡ Some some.1.0 = subst (λ (k : Pair). at c.versions k ≡ Some some.1.0) (same_true pair_key some.0 (p, v) both.0) some.1.1 in
         ap (λ o. names_if_any target range (option_and_then (λ (release : Release). needs_of release.manifest) o)) found ∙ both.1
 
     stored_if_named : (p v target range : Text) (release : Release) (needs : Option (List Need)) → are_stored (rows_in c) (p, v) needs ≡ true → names_if_any target range needs ≡ true
@@ -292,12 +295,12 @@ module _ (c : Contents) where
     archive_had : (n : ℤ) (a : Archive) → at c.archives n ≡ Some a → (k : Pair) × (at c.held k ≡ Some n)
     archive_had n a h =
         let some = any_at pair_key (λ (e : Pair × ℤ). int_eq e.1 n) c.held (archives_hold n a h).0 in
-        (some.0, some.1.1.0 ∙ ap (λ (z : ℤ). Some z) (same_true number_key some.1.0 n some.1.1.1))
+        (some.0, some.1.1 ∙ ap (λ (z : ℤ). Some z) (same_true number_key some.1.0 n some.1.2))
 
     archive_integrity : (n : ℤ) (a : Archive) → at c.archives n ≡ Some a → a.integrity ≡ integrity_text a.bytes
     archive_integrity n a h = same_true text_key a.integrity (integrity_text a.bytes) (archives_hold n a h).1.0
 
-    first_number : Archive → Option ℤ
+    abbrev first_number : Archive → Option ℤ
     first_number a = option_map (λ (e : ℤ × Archive). e.0) (find (λ (e : ℤ × Archive). is_archive a.integrity a.bytes e.1) (entries c.archives))
 
     archive_once : (m n : ℤ) (a b : Archive) → at c.archives m ≡ Some a → at c.archives n ≡ Some b → a.bytes ≡ b.bytes → m ≡ n
@@ -422,9 +425,9 @@ module _ (c : Contents) where
         let like : ℤ × Archive → Bool = λ e. is_archive a.integrity a.bytes e.1 in
         let here = at_any number_key like c.archives n a h (and_from _ _ (same_self text_key a.integrity) (same_self text_key a.bytes)) in
         let it = first_passes number_key like c.archives here in
-        let bytes : a.bytes ≡ it.1.0.bytes = same_true text_key a.bytes it.1.0.bytes (and_parts (is a.integrity it.1.0.integrity) _ it.1.1.1.1).1 in
-        ap (λ o. numbered n (option_map (λ (e : ℤ × Archive). e.0) o)) it.1.1.0
-        ∙ ap (λ (m : ℤ). int_eq m n) (met.archives.once it.0 n it.1.0 a it.1.1.1.0 h (sym bytes)) ∙ same_self number_key n
+        let bytes : a.bytes ≡ it.1.0.bytes = same_true text_key a.bytes it.1.0.bytes (and_parts (is a.integrity it.1.0.integrity) _ it.1.2.1).1 in
+        ap (λ o. numbered n (option_map (λ (e : ℤ × Archive). e.0) o)) it.1.1
+        ∙ ap (λ (m : ℤ). int_eq m n) (met.archives.once it.0 n it.1.0 a it.1.2.0 h (sym bytes)) ∙ same_self number_key n
 
     archives_fine : archive_problems (rows_in c) ≡ []
     archives_fine = means_none number_key c.archives spec.archive (archive_tests (rows_in c)) (λ n a h.
@@ -432,9 +435,11 @@ module _ (c : Contents) where
 
     none_broken : problems (rows_in c) ≡ []
     none_broken =
-        nils (people_problems (rows_in c)) _ (nils (token_problems (rows_in c)) _ tokens_fine (nils (organisation_problems (rows_in c)) _ organisations_fine (nils (member_problems (rows_in c)) _ members_fine (nils (team_problems (rows_in c)) _ teams_fine team_members_fine))))
-        (nils (package_problems (rows_in c)) _ (nils (published_problems (rows_in c)) _ published_fine (nils (grant_problems (rows_in c)) _ grants_fine maintainers_fine))
-        (nils (live_problems (rows_in c)) _ live_fine (nils (need_problems (rows_in c)) _ needs_fine (nils (held_problems (rows_in c)) _ held_fine archives_fine))))
+        four_nil (token_problems (rows_in c) ++ organisation_problems (rows_in c) ++ member_problems (rows_in c) ++ team_problems (rows_in c) ++ team_member_problems (rows_in c) ++ published_problems (rows_in c) ++ grant_problems (rows_in c) ++ maintainer_problems (rows_in c) ++ live_problems (rows_in c)) (need_problems (rows_in c)) (held_problems (rows_in c)) (archive_problems (rows_in c))
+        (four_nil (token_problems (rows_in c) ++ organisation_problems (rows_in c) ++ member_problems (rows_in c) ++ team_problems (rows_in c) ++ team_member_problems (rows_in c) ++ published_problems (rows_in c)) (grant_problems (rows_in c)) (maintainer_problems (rows_in c)) (live_problems (rows_in c))
+        (four_nil (token_problems (rows_in c) ++ organisation_problems (rows_in c) ++ member_problems (rows_in c)) (team_problems (rows_in c)) (team_member_problems (rows_in c)) (published_problems (rows_in c))
+        (ap₂ (λ x y. x ++ y) (ap₂ (λ x y. x ++ y) tokens_fine organisations_fine) members_fine) teams_fine team_members_fine published_fine)
+        grants_fine maintainers_fine live_fine) needs_fine held_fine archives_fine
 
 -- no row breaks a rule exactly where the premises hold
 pub none_means_premises : (c : Contents) → TellsPremises (problems (rows_in c)) c

@@ -103,16 +103,7 @@ held_problems R = problems_of held (held_tests R) R.held
 abbrev pub archive_problems : Rows → List Problem
 archive_problems R = problems_of archive (archive_tests R) R.archives
 
--- ---- all of them
-
-abbrev pub people_problems : Rows → List Problem
-people_problems R = token_problems R ++ organisation_problems R ++ member_problems R ++ team_problems R ++ team_member_problems R
-
-abbrev pub package_problems : Rows → List Problem
-package_problems R = published_problems R ++ grant_problems R ++ maintainer_problems R
-
-abbrev pub version_problems : Rows → List Problem
-version_problems R = live_problems R ++ need_problems R ++ held_problems R ++ archive_problems R
-
+-- of all of them
 abbrev pub problems : Rows → List Problem
-problems R = people_problems R ++ package_problems R ++ version_problems R
+problems R = token_problems R ++ organisation_problems R ++ member_problems R ++ team_problems R ++ team_member_problems R
+    ++ published_problems R ++ grant_problems R ++ maintainer_problems R ++ live_problems R ++ need_problems R ++ held_problems R ++ archive_problems R

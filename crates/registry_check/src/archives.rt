@@ -41,8 +41,14 @@ impl Checked for Held {
 
     fn tests(alloc: Global, row: &HeldRow, all: &Tables) -> Result<Vec<Test>, Fault> {
         Ok(vec![in alloc;
-            Test { rule: Rule::Lives, holds: all.lives(row.package.as_str(), row.version.as_str()) },
-            Test { rule: Rule::IsStored, holds: all.is_stored(row.archive) }
+            Test {
+                rule: Rule::Lives,
+                holds: all.lives(row.package.as_str(), row.version.as_str())
+            },
+            Test {
+                rule: Rule::IsStored,
+                holds: all.is_stored(row.archive)
+            },
         ]?)
     }
 }
@@ -62,17 +68,24 @@ impl Checked for Archives {
     ghost tried = { archive_tests };
 
     fn thing(_alloc: Global, row: &ArchiveRow) -> Result<Thing, Fault> {
-        Ok(Thing::Archive {
-            number: row.number,
-        })
+        Ok(Thing::Archive { number: row.number })
     }
 
     fn tests(alloc: Global, row: &ArchiveRow, all: &Tables) -> Result<Vec<Test>, Fault> {
         let has_integrity = has_integrity(alloc, row)?;
         Ok(vec![in alloc;
-            Test { rule: Rule::IsHeld, holds: all.is_held(row.number) },
-            Test { rule: Rule::HasIntegrity, holds: has_integrity },
-            Test { rule: Rule::IsFirst, holds: all.is_first(row) }
+            Test {
+                rule: Rule::IsHeld,
+                holds: all.is_held(row.number)
+            },
+            Test {
+                rule: Rule::HasIntegrity,
+                holds: has_integrity
+            },
+            Test {
+                rule: Rule::IsFirst,
+                holds: all.is_first(row)
+            },
         ]?)
     }
 }

@@ -18,7 +18,9 @@ use crate::packages::{Grants, Maintainers, Published};
 use crate::people::{Members, Organisations, TeamMembers, Teams, Tokens, Users};
 use crate::tables::{ArchiveRow, HeldRow, LiveRow, NeedRow, TokenRow};
 use crate::versions::{Live, Needs};
-use registry_access::{Grant, GrantRow, MaintainerRow, MemberRow, PackageRow, Role, TeamMemberRow, TeamRow};
+use registry_access::{
+    Grant, GrantRow, MaintainerRow, MemberRow, PackageRow, Role, TeamMemberRow, TeamRow,
+};
 use registry_names::{Blob, Status, Text};
 use registry_rows::RowKind;
 use sqlite::{Error, Row};

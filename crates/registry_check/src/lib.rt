@@ -19,6 +19,8 @@ mod rule;
 mod scope;
 mod search;
 mod tables;
+#[cfg(test)]
+mod tests;
 mod versions;
 mod whole;
 

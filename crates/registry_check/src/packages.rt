@@ -44,8 +44,14 @@ impl Checked for Published {
 
     fn tests(alloc: Global, row: &PackageRow, all: &Tables) -> Result<Vec<Test>, Fault> {
         Ok(vec![in alloc;
-            Test { rule: Rule::IsPublic, holds: is_scoped_or_public(row) },
-            Test { rule: Rule::HasMaintainer, holds: is_scoped_or_maintained(row, all) }
+            Test {
+                rule: Rule::IsPublic,
+                holds: is_scoped_or_public(row)
+            },
+            Test {
+                rule: Rule::HasMaintainer,
+                holds: is_scoped_or_maintained(row, all)
+            },
         ]?)
     }
 }
@@ -93,9 +99,18 @@ impl Checked for Grants {
 
     fn tests(alloc: Global, row: &GrantRow, all: &Tables) -> Result<Vec<Test>, Fault> {
         Ok(vec![in alloc;
-            Test { rule: Rule::HasTeam, holds: all.has_team(row.organisation.as_str(), row.team.as_str()) },
-            Test { rule: Rule::HasPackage, holds: all.has_package(row.package.as_str()) },
-            Test { rule: Rule::IsInScope, holds: is_in_scope(row.organisation.as_str(), row.package.as_str()) }
+            Test {
+                rule: Rule::HasTeam,
+                holds: all.has_team(row.organisation.as_str(), row.team.as_str())
+            },
+            Test {
+                rule: Rule::HasPackage,
+                holds: all.has_package(row.package.as_str())
+            },
+            Test {
+                rule: Rule::IsInScope,
+                holds: is_in_scope(row.organisation.as_str(), row.package.as_str())
+            },
         ]?)
     }
 }
@@ -123,8 +138,14 @@ impl Checked for Maintainers {
 
     fn tests(alloc: Global, row: &MaintainerRow, all: &Tables) -> Result<Vec<Test>, Fault> {
         Ok(vec![in alloc;
-            Test { rule: Rule::HasPackage, holds: all.has_package(row.package.as_str()) },
-            Test { rule: Rule::HasUser, holds: all.has_user(row.user.as_str()) }
+            Test {
+                rule: Rule::HasPackage,
+                holds: all.has_package(row.package.as_str())
+            },
+            Test {
+                rule: Rule::HasUser,
+                holds: all.has_user(row.user.as_str())
+            },
         ]?)
     }
 }

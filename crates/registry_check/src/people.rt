@@ -44,7 +44,10 @@ impl Checked for Tokens {
 
     fn tests(alloc: Global, row: &TokenRow, all: &Tables) -> Result<Vec<Test>, Fault> {
         Ok(vec![in alloc;
-            Test { rule: Rule::HasUser, holds: all.has_user(row.user.as_str()) }
+            Test {
+                rule: Rule::HasUser,
+                holds: all.has_user(row.user.as_str())
+            },
         ]?)
     }
 }
@@ -71,8 +74,14 @@ impl Checked for Organisations {
 
     fn tests(alloc: Global, row: &Text, all: &Tables) -> Result<Vec<Test>, Fault> {
         Ok(vec![in alloc;
-            Test { rule: Rule::HasOwner, holds: all.has_owner(row.as_str()) },
-            Test { rule: Rule::HasFirstTeam, holds: all.has_team(row.as_str(), DEVELOPERS) }
+            Test {
+                rule: Rule::HasOwner,
+                holds: all.has_owner(row.as_str())
+            },
+            Test {
+                rule: Rule::HasFirstTeam,
+                holds: all.has_team(row.as_str(), DEVELOPERS)
+            },
         ]?)
     }
 }
@@ -100,8 +109,14 @@ impl Checked for Members {
 
     fn tests(alloc: Global, row: &MemberRow, all: &Tables) -> Result<Vec<Test>, Fault> {
         Ok(vec![in alloc;
-            Test { rule: Rule::HasOrganisation, holds: all.has_organisation(row.organisation.as_str()) },
-            Test { rule: Rule::HasUser, holds: all.has_user(row.user.as_str()) }
+            Test {
+                rule: Rule::HasOrganisation,
+                holds: all.has_organisation(row.organisation.as_str())
+            },
+            Test {
+                rule: Rule::HasUser,
+                holds: all.has_user(row.user.as_str())
+            },
         ]?)
     }
 }
@@ -129,7 +144,10 @@ impl Checked for Teams {
 
     fn tests(alloc: Global, row: &TeamRow, all: &Tables) -> Result<Vec<Test>, Fault> {
         Ok(vec![in alloc;
-            Test { rule: Rule::HasOrganisation, holds: all.has_organisation(row.organisation.as_str()) }
+            Test {
+                rule: Rule::HasOrganisation,
+                holds: all.has_organisation(row.organisation.as_str())
+            },
         ]?)
     }
 }
@@ -158,8 +176,14 @@ impl Checked for TeamMembers {
 
     fn tests(alloc: Global, row: &TeamMemberRow, all: &Tables) -> Result<Vec<Test>, Fault> {
         Ok(vec![in alloc;
-            Test { rule: Rule::HasTeam, holds: all.has_team(row.organisation.as_str(), row.team.as_str()) },
-            Test { rule: Rule::IsMember, holds: all.is_member(row.organisation.as_str(), row.user.as_str()) }
+            Test {
+                rule: Rule::HasTeam,
+                holds: all.has_team(row.organisation.as_str(), row.team.as_str())
+            },
+            Test {
+                rule: Rule::IsMember,
+                holds: all.is_member(row.organisation.as_str(), row.user.as_str())
+            },
         ]?)
     }
 }

@@ -27,11 +27,7 @@ pub(crate) fn load_users<S: Alter>(
     ensures tells { Tells S.Store tx.old tx.new result
         (λ rows c. map user_entry rows.items ≡ entries c.users) }
 {
-    let rows = read(
-        tx,
-        "SELECT name FROM users ORDER BY name",
-        params![],
-    )?;
+    let rows = read(tx, "SELECT name FROM users ORDER BY name", params![])?;
     values_of_rows::<Users>(alloc, &rows)
 }
 
@@ -61,11 +57,7 @@ pub(crate) fn load_organisations<S: Alter>(
     ensures tells { Tells S.Store tx.old tx.new result
         (λ rows c. map organisation_entry rows.items ≡ entries c.organisations) }
 {
-    let rows = read(
-        tx,
-        "SELECT name FROM orgs ORDER BY name",
-        params![],
-    )?;
+    let rows = read(tx, "SELECT name FROM orgs ORDER BY name", params![])?;
     values_of_rows::<Organisations>(alloc, &rows)
 }
 

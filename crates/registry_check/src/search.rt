@@ -81,13 +81,15 @@ fn any_maintainer(rows: &[MaintainerRow], name: &str) -> bool
 fn any_live(rows: &[LiveRow], name: &str, version: &str) -> bool
     ensures { result ≡ list_any (λ r. texts.is r.package name.now && texts.is r.version version.now) rows.now }
 {
-    rows.iter().any(|row| is(&row.package, name) && is(&row.version, version))
+    rows.iter()
+        .any(|row| is(&row.package, name) && is(&row.version, version))
 }
 
 fn any_held(rows: &[HeldRow], name: &str, version: &str) -> bool
     ensures { result ≡ list_any (λ r. texts.is r.package name.now && texts.is r.version version.now) rows.now }
 {
-    rows.iter().any(|row| is(&row.package, name) && is(&row.version, version))
+    rows.iter()
+        .any(|row| is(&row.package, name) && is(&row.version, version))
 }
 
 fn any_holding(rows: &[HeldRow], number: i64) -> bool

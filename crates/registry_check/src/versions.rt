@@ -45,9 +45,18 @@ impl Checked for Live {
     fn tests(alloc: Global, row: &LiveRow, all: &Tables) -> Result<Vec<Test>, Fault> {
         let has_needs = has_needs(alloc, row, all)?;
         Ok(vec![in alloc;
-            Test { rule: Rule::HasNeeds, holds: has_needs },
-            Test { rule: Rule::HasArchive, holds: all.has_archive(row.package.as_str(), row.version.as_str()) },
-            Test { rule: Rule::IsBare, holds: row.archive.as_slice().is_empty() }
+            Test {
+                rule: Rule::HasNeeds,
+                holds: has_needs
+            },
+            Test {
+                rule: Rule::HasArchive,
+                holds: all.has_archive(row.package.as_str(), row.version.as_str())
+            },
+            Test {
+                rule: Rule::IsBare,
+                holds: row.archive.as_slice().is_empty()
+            },
         ]?)
     }
 }
@@ -78,7 +87,10 @@ impl Checked for Needs {
     fn tests(alloc: Global, row: &NeedRow, all: &Tables) -> Result<Vec<Test>, Fault> {
         let is_named = is_named(alloc, row, all)?;
         Ok(vec![in alloc;
-            Test { rule: Rule::IsNamed, holds: is_named }
+            Test {
+                rule: Rule::IsNamed,
+                holds: is_named
+            },
         ]?)
     }
 }
@@ -110,9 +122,7 @@ fn has_all(row: &LiveRow, needs: &[Need], all: &Tables) -> bool
     ensures { result ≡ list_all (λ need. rules.has need_is (rows_of all.now).needs
         (row.now.package, (row.now.version, (need.target, need.range)))) needs.now }
 {
-    needs
-        .iter()
-        .all(|need| all.has_need(row.package.as_str(), row.version.as_str(), need))
+    needs.iter().all(|need| all.has_need(row.package.as_str(), row.version.as_str(), need))
 }
 
 // Whether the manifest of the live version names the need.

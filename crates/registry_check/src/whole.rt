@@ -47,7 +47,9 @@ fn problems_in(alloc: Global, all: &Tables) -> Result<Vec<Problem>, Fault>
 
 fn push_people(alloc: Global, problems: &mut Vec<Problem>, all: &Tables) -> Result<(), Fault>
     ensures { OnOk result (problems.new.items
-        ≡ problems.old.items ++ spec.people_problems (rows_of all.now)) }
+        ≡ problems.old.items ++ spec.token_problems (rows_of all.now)
+        ++ spec.organisation_problems (rows_of all.now) ++ spec.member_problems (rows_of all.now)
+        ++ spec.team_problems (rows_of all.now) ++ spec.team_member_problems (rows_of all.now)) }
 {
     push_problems::<Tokens>(alloc, problems, &all.accounts.tokens, all)?;
     push_problems::<Organisations>(alloc, problems, &all.accounts.organisations, all)?;
@@ -58,7 +60,8 @@ fn push_people(alloc: Global, problems: &mut Vec<Problem>, all: &Tables) -> Resu
 
 fn push_packages(alloc: Global, problems: &mut Vec<Problem>, all: &Tables) -> Result<(), Fault>
     ensures { OnOk result (problems.new.items
-        ≡ problems.old.items ++ spec.package_problems (rows_of all.now)) }
+        ≡ problems.old.items ++ spec.published_problems (rows_of all.now)
+        ++ spec.grant_problems (rows_of all.now) ++ spec.maintainer_problems (rows_of all.now)) }
 {
     push_problems::<Published>(alloc, problems, &all.packages.published, all)?;
     push_problems::<Grants>(alloc, problems, &all.packages.grants, all)?;
@@ -67,7 +70,9 @@ fn push_packages(alloc: Global, problems: &mut Vec<Problem>, all: &Tables) -> Re
 
 fn push_versions(alloc: Global, problems: &mut Vec<Problem>, all: &Tables) -> Result<(), Fault>
     ensures { OnOk result (problems.new.items
-        ≡ problems.old.items ++ spec.version_problems (rows_of all.now)) }
+        ≡ problems.old.items ++ spec.live_problems (rows_of all.now)
+        ++ spec.need_problems (rows_of all.now) ++ spec.held_problems (rows_of all.now)
+        ++ spec.archive_problems (rows_of all.now)) }
 {
     push_problems::<Live>(alloc, problems, &all.versions.live, all)?;
     push_problems::<Needs>(alloc, problems, &all.versions.needs, all)?;
