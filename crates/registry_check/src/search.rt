@@ -49,19 +49,22 @@ fn any_text(rows: &[Text], text: &str) -> bool
 }
 
 fn any_member(rows: &[MemberRow], organisation: &str, user: &str) -> bool
-    ensures { result ≡ list_any (λ r. texts.is r.organisation organisation.now && texts.is r.user user.now) rows.now }
+    ensures { result ≡ list_any (λ r. texts.is r.organisation organisation.now
+        && texts.is r.user user.now) rows.now }
 {
     rows.iter().any(|row| is(&row.organisation, organisation) && is(&row.user, user))
 }
 
 fn any_owner(rows: &[MemberRow], organisation: &str) -> bool
-    ensures { result ≡ list_any (λ r. texts.is r.organisation organisation.now && levels.is_owner (Some r.role)) rows.now }
+    ensures { result ≡ list_any (λ r. texts.is r.organisation organisation.now
+        && levels.is_owner (Some r.role)) rows.now }
 {
     rows.iter().any(|row| is(&row.organisation, organisation) && is_owner(row.role))
 }
 
 fn any_team(rows: &[TeamRow], organisation: &str, team: &str) -> bool
-    ensures { result ≡ list_any (λ r. texts.is r.organisation organisation.now && texts.is r.team team.now) rows.now }
+    ensures { result ≡ list_any (λ r. texts.is r.organisation organisation.now
+        && texts.is r.team team.now) rows.now }
 {
     rows.iter().any(|row| is(&row.organisation, organisation) && is(&row.team, team))
 }
@@ -79,14 +82,16 @@ fn any_maintainer(rows: &[MaintainerRow], name: &str) -> bool
 }
 
 fn any_live(rows: &[LiveRow], name: &str, version: &str) -> bool
-    ensures { result ≡ list_any (λ r. texts.is r.package name.now && texts.is r.version version.now) rows.now }
+    ensures { result ≡ list_any (λ r. texts.is r.package name.now
+        && texts.is r.version version.now) rows.now }
 {
     rows.iter()
         .any(|row| is(&row.package, name) && is(&row.version, version))
 }
 
 fn any_held(rows: &[HeldRow], name: &str, version: &str) -> bool
-    ensures { result ≡ list_any (λ r. texts.is r.package name.now && texts.is r.version version.now) rows.now }
+    ensures { result ≡ list_any (λ r. texts.is r.package name.now
+        && texts.is r.version version.now) rows.now }
 {
     rows.iter()
         .any(|row| is(&row.package, name) && is(&row.version, version))
