@@ -17,7 +17,7 @@ use Rattle.registry_tables.specs.Contents.{Archive, Contents}
 abbrev pub is_archive : Text → List ℕ → Archive → Bool
 is_archive integrity bytes a = is integrity a.integrity && is bytes a.bytes
 
--- the lowest number of an archive that is
+-- the lowest number of an archive with this integrity and these bytes, if there is one
 abbrev pub number_of : Text → List ℕ → NumberMap Archive → Option ℤ
 number_of integrity bytes m = option_map (λ (e : ℤ × Archive). e.0) (find (λ (e : ℤ × Archive). is_archive integrity bytes e.1) (entries m))
 

@@ -90,12 +90,14 @@ pub record IsNew (f : FormParts) (c : Contents) : Type 0 where
 abbrev pub IsUntagged : Text → Text → Contents → Type 0
 IsUntagged p v c = (t : Text) → ¬ (at c.tags (p, t) ≡ Some v)
 
--- of a withdrawal: the version wasn't withdrawn before, and no tag names it
+-- of a withdrawal: the version lives, it wasn't withdrawn before, and no tag names it
 pub record MayRetire (p v : Text) (c : Contents) : Type 0 where
+  pub lives : is_some (at c.versions (p, v)) ≡ true
   pub not_spent : IsFree c.spent (p, v)
   pub untagged : IsUntagged p v c
 
--- nothing is under the key of a new row
+-- What must be so of what is stored, or the change is not answered. A new row has a key under
+-- which nothing is. Other changes ask for nothing, except those of versions
 abbrev pub Asks : Change → Contents → Type 0
 Asks (AddUser u) c = IsFree c.users u
 Asks (AddToken digest u) c = IsFree c.tokens digest

@@ -71,8 +71,8 @@ pub record AreTeamsSound (c : Contents) : Type 0 where
 
 -- the list has what the caller is granted on the package, where the role that it is given is right
 -- in the organisation of its scope. Of an owner or admin nothing is said
-abbrev pub AreHis : Contents → Caller → Text → Option Role → List Grant → Type 0
-AreHis c who p role gs = AreTeamsSound c → role ≡ scope_role (access_of c) who (scope_of p)
+abbrev pub AreGrantedTo : Contents → Caller → Text → Option Role → List Grant → Type 0
+AreGrantedTo c who p role gs = AreTeamsSound c → role ≡ scope_role (access_of c) who (scope_of p)
     → is_owner_or_admin role ≡ false → (g : Grant) → is_listed gs g ≡ granted (access_of c) who p g
 
 -- what a team is granted, in byte order of the packages

@@ -193,18 +193,12 @@ fn hold<S: Alter>(
 }
 
 /// Drops the archive of this number, unless a version has it.
-pub(crate) fn free_archive<S: Alter>(
-    tx: &mut Transaction<'_, S>,
-    number: Option<i64>,
-) -> Result<(), Fault>
+pub(crate) fn free_archive<S: Alter>(tx: &mut Transaction<'_, S>, number: i64) -> Result<(), Fault>
     requires under_way { IsUnderWay S.Store tx.old }
     ensures stays { Stays S.Store tx.old tx.new }
     ensures makes { Makes S.Store tx.old tx.new result
-        (λ c. record c { archives = withdrawals.archives_left number c }) }
+        (λ c. record c { archives = withdrawals.archives_left (Some number) c }) }
 {
-    let Some(number) = number else {
-        return Ok(());
-    };
     if is_held(tx, number)? {
         return Ok(());
     }

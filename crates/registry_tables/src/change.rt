@@ -23,9 +23,9 @@ use sqlite::{Alter, Transaction};
 
 /// Makes one change. Nothing else that is stored is changed.
 ///
-/// A new row of a key that is there already is a fault, and so are a version that was withdrawn
-/// already and one of a package without a status. A version doesn't go while a tag names it, and
-/// doesn't go twice.
+/// A new row of a key that is there already is a fault. So are a version that is published after it
+/// was withdrawn, or in a package without a status, and one that is withdrawn although it doesn't
+/// live, was withdrawn already, or has a tag.
 ///
 /// No clause says so, but a row of which the tables lack what it refers to is a fault, too: a tag
 /// of a version that doesn't live. A grant refers to its team and its package's status, a

@@ -14,7 +14,8 @@ use sqlite::{Alter, Transaction, params};
 /// Ends the life of a version, which was published and is withdrawn at these moments, with what it
 /// depends on. Its archive goes with it, unless another version has it.
 ///
-/// A tag that names it is a fault, and so is a version that was withdrawn already.
+/// A version that doesn't live is a fault, and so is one that a tag names, or that was withdrawn
+/// already.
 pub(crate) fn retire_version<S: Alter>(
     tx: &mut Transaction<'_, S>,
     name: &Name,
@@ -28,7 +29,9 @@ pub(crate) fn retire_version<S: Alter>(
         (version_retired name.now version.now published withdrawn) }
     ensures may_retire { OnlyWhere S.Store tx.old tx.new result (MayRetire name.now version.now) }
 {
-    let number = held_archive(tx, name, version)?;
+    let Some(number) = held_archive(tx, name, version)? else {
+        return Err(Fault::Database);
+    };
     drop_version(tx, name.text(), version)?;
     free_archive(tx, number)?;
     put_withdrawal(tx, name.text(), version, published, withdrawn)
