@@ -1,6 +1,8 @@
 //! The rules on rows: those of a registry break none, and each one that is broken in a row is
 //! named, with the thing that breaks it.
 
+mod stored;
+
 use crate::problem::{Problem, Thing};
 use crate::rule::Rule;
 use crate::tables::{
