@@ -1,4 +1,4 @@
--- One look-up after another tells of what was stored at first.
+-- One look-up after another loads of what was stored at first.
 use Rattle.std.proofs.Common.{◌≡◌, map, refl, subst}
 use Rattle.sqlite.specs.Effect.{Database}
 use Rattle.sqlite.specs.State.{State as Shown}

@@ -1,7 +1,7 @@
 //! All rows of all tables.
 
 ghost use Rattle.registry_rows.specs.Frames.{Stays};
-ghost use Rattle.registry_tables.specs.Effects.{InForm, Tells};
+ghost use Rattle.registry_tables.specs.Effects.{InForm, Loads};
 ghost use Rattle.registry_check.specs.Loaded.{AreAccounts, AreGroups, ArePackages, AreTables, AreVersions};
 
 use crate::reads::{
@@ -20,7 +20,7 @@ pub(crate) fn load_tables<S: Alter>(
 ) -> Result<Tables, Fault>
     requires in_form { InForm S.Store tx.old }
     ensures stays { Stays S.Store tx.old tx.new }
-    ensures tells { Tells S.Store tx.old tx.new result AreTables }
+    ensures loads { Loads S.Store tx.old tx.new result AreTables }
 {
     let accounts = load_accounts(alloc, tx)?;
     let groups = load_groups(alloc, tx)?;
@@ -37,7 +37,7 @@ pub(crate) fn load_tables<S: Alter>(
 fn load_accounts<S: Alter>(alloc: Global, tx: &mut Transaction<'_, S>) -> Result<Accounts, Fault>
     requires in_form { InForm S.Store tx.old }
     ensures stays { Stays S.Store tx.old tx.new }
-    ensures tells { Tells S.Store tx.old tx.new result AreAccounts }
+    ensures loads { Loads S.Store tx.old tx.new result AreAccounts }
 {
     let users = load_users(alloc, tx)?;
     let tokens = load_tokens(alloc, tx)?;
@@ -52,7 +52,7 @@ fn load_accounts<S: Alter>(alloc: Global, tx: &mut Transaction<'_, S>) -> Result
 fn load_groups<S: Alter>(alloc: Global, tx: &mut Transaction<'_, S>) -> Result<Groups, Fault>
     requires in_form { InForm S.Store tx.old }
     ensures stays { Stays S.Store tx.old tx.new }
-    ensures tells { Tells S.Store tx.old tx.new result AreGroups }
+    ensures loads { Loads S.Store tx.old tx.new result AreGroups }
 {
     let members = load_members(alloc, tx)?;
     let teams = load_teams(alloc, tx)?;
@@ -67,7 +67,7 @@ fn load_groups<S: Alter>(alloc: Global, tx: &mut Transaction<'_, S>) -> Result<G
 fn load_packages<S: Alter>(alloc: Global, tx: &mut Transaction<'_, S>) -> Result<Packages, Fault>
     requires in_form { InForm S.Store tx.old }
     ensures stays { Stays S.Store tx.old tx.new }
-    ensures tells { Tells S.Store tx.old tx.new result ArePackages }
+    ensures loads { Loads S.Store tx.old tx.new result ArePackages }
 {
     let published = load_published(alloc, tx)?;
     let grants = load_grants(alloc, tx)?;
@@ -82,7 +82,7 @@ fn load_packages<S: Alter>(alloc: Global, tx: &mut Transaction<'_, S>) -> Result
 fn load_versions<S: Alter>(alloc: Global, tx: &mut Transaction<'_, S>) -> Result<Versions, Fault>
     requires in_form { InForm S.Store tx.old }
     ensures stays { Stays S.Store tx.old tx.new }
-    ensures tells { Tells S.Store tx.old tx.new result AreVersions }
+    ensures loads { Loads S.Store tx.old tx.new result AreVersions }
 {
     let live = load_live(alloc, tx)?;
     let needs = load_needs(alloc, tx)?;

@@ -4,7 +4,7 @@ ghost use Rattle.std.specs.Prelude.{◌≡◌, map};
 ghost use Rattle.registry_access.specs.RowMaps.{grant_entry, maintainer_entry, member_entry, organisation_entry, package_entry, team_entry, team_member_entry};
 ghost use Rattle.registry_names.specs.Maps.{entries};
 ghost use Rattle.registry_rows.specs.Frames.{Stays};
-ghost use Rattle.registry_tables.specs.Effects.{InForm, Tells};
+ghost use Rattle.registry_tables.specs.Effects.{InForm, Loads};
 ghost use Rattle.registry_check.specs.Rows.{archive_entry, held_entry, live_entry, need_entry, token_entry, user_entry};
 
 use crate::archives::{Archives, Held};
@@ -24,7 +24,7 @@ pub(crate) fn load_users<S: Alter>(
 ) -> Result<Vec<Text>, Fault>
     requires in_form { InForm S.Store tx.old }
     ensures stays { Stays S.Store tx.old tx.new }
-    ensures tells { Tells S.Store tx.old tx.new result
+    ensures loads { Loads S.Store tx.old tx.new result
         (λ rows c. map user_entry rows.items ≡ entries c.users) }
 {
     let rows = read(tx, "SELECT name FROM users ORDER BY name", params![])?;
@@ -37,7 +37,7 @@ pub(crate) fn load_tokens<S: Alter>(
 ) -> Result<Vec<TokenRow>, Fault>
     requires in_form { InForm S.Store tx.old }
     ensures stays { Stays S.Store tx.old tx.new }
-    ensures tells { Tells S.Store tx.old tx.new result
+    ensures loads { Loads S.Store tx.old tx.new result
         (λ rows c. map token_entry rows.items ≡ entries c.tokens) }
 {
     let rows = read(
@@ -54,7 +54,7 @@ pub(crate) fn load_organisations<S: Alter>(
 ) -> Result<Vec<Text>, Fault>
     requires in_form { InForm S.Store tx.old }
     ensures stays { Stays S.Store tx.old tx.new }
-    ensures tells { Tells S.Store tx.old tx.new result
+    ensures loads { Loads S.Store tx.old tx.new result
         (λ rows c. map organisation_entry rows.items ≡ entries c.organisations) }
 {
     let rows = read(tx, "SELECT name FROM orgs ORDER BY name", params![])?;
@@ -67,7 +67,7 @@ pub(crate) fn load_members<S: Alter>(
 ) -> Result<Vec<MemberRow>, Fault>
     requires in_form { InForm S.Store tx.old }
     ensures stays { Stays S.Store tx.old tx.new }
-    ensures tells { Tells S.Store tx.old tx.new result
+    ensures loads { Loads S.Store tx.old tx.new result
         (λ rows c. map member_entry rows.items ≡ entries c.members) }
 {
     let rows = read(
@@ -84,7 +84,7 @@ pub(crate) fn load_teams<S: Alter>(
 ) -> Result<Vec<TeamRow>, Fault>
     requires in_form { InForm S.Store tx.old }
     ensures stays { Stays S.Store tx.old tx.new }
-    ensures tells { Tells S.Store tx.old tx.new result
+    ensures loads { Loads S.Store tx.old tx.new result
         (λ rows c. map team_entry rows.items ≡ entries c.teams) }
 {
     let rows = read(
@@ -101,7 +101,7 @@ pub(crate) fn load_team_members<S: Alter>(
 ) -> Result<Vec<TeamMemberRow>, Fault>
     requires in_form { InForm S.Store tx.old }
     ensures stays { Stays S.Store tx.old tx.new }
-    ensures tells { Tells S.Store tx.old tx.new result
+    ensures loads { Loads S.Store tx.old tx.new result
         (λ rows c. map team_member_entry rows.items ≡ entries c.team_members) }
 {
     let rows = read(
@@ -118,7 +118,7 @@ pub(crate) fn load_published<S: Alter>(
 ) -> Result<Vec<PackageRow>, Fault>
     requires in_form { InForm S.Store tx.old }
     ensures stays { Stays S.Store tx.old tx.new }
-    ensures tells { Tells S.Store tx.old tx.new result
+    ensures loads { Loads S.Store tx.old tx.new result
         (λ rows c. map package_entry rows.items ≡ entries c.packages) }
 {
     let rows = read(
@@ -135,7 +135,7 @@ pub(crate) fn load_grants<S: Alter>(
 ) -> Result<Vec<GrantRow>, Fault>
     requires in_form { InForm S.Store tx.old }
     ensures stays { Stays S.Store tx.old tx.new }
-    ensures tells { Tells S.Store tx.old tx.new result
+    ensures loads { Loads S.Store tx.old tx.new result
         (λ rows c. map grant_entry rows.items ≡ entries c.grants) }
 {
     let rows = read(
@@ -152,7 +152,7 @@ pub(crate) fn load_maintainers<S: Alter>(
 ) -> Result<Vec<MaintainerRow>, Fault>
     requires in_form { InForm S.Store tx.old }
     ensures stays { Stays S.Store tx.old tx.new }
-    ensures tells { Tells S.Store tx.old tx.new result
+    ensures loads { Loads S.Store tx.old tx.new result
         (λ rows c. map maintainer_entry rows.items ≡ entries c.owners) }
 {
     let rows = read(
@@ -169,7 +169,7 @@ pub(crate) fn load_live<S: Alter>(
 ) -> Result<Vec<LiveRow>, Fault>
     requires in_form { InForm S.Store tx.old }
     ensures stays { Stays S.Store tx.old tx.new }
-    ensures tells { Tells S.Store tx.old tx.new result
+    ensures loads { Loads S.Store tx.old tx.new result
         (λ rows c. map live_entry rows.items ≡ entries c.versions) }
 {
     let rows = read(
@@ -186,7 +186,7 @@ pub(crate) fn load_needs<S: Alter>(
 ) -> Result<Vec<NeedRow>, Fault>
     requires in_form { InForm S.Store tx.old }
     ensures stays { Stays S.Store tx.old tx.new }
-    ensures tells { Tells S.Store tx.old tx.new result
+    ensures loads { Loads S.Store tx.old tx.new result
         (λ rows c. map need_entry rows.items ≡ entries c.need_ranges) }
 {
     let rows = read(
@@ -203,7 +203,7 @@ pub(crate) fn load_held<S: Alter>(
 ) -> Result<Vec<HeldRow>, Fault>
     requires in_form { InForm S.Store tx.old }
     ensures stays { Stays S.Store tx.old tx.new }
-    ensures tells { Tells S.Store tx.old tx.new result
+    ensures loads { Loads S.Store tx.old tx.new result
         (λ rows c. map held_entry rows.items ≡ entries c.held) }
 {
     let rows = read(
@@ -220,7 +220,7 @@ pub(crate) fn load_archives<S: Alter>(
 ) -> Result<Vec<ArchiveRow>, Fault>
     requires in_form { InForm S.Store tx.old }
     ensures stays { Stays S.Store tx.old tx.new }
-    ensures tells { Tells S.Store tx.old tx.new result
+    ensures loads { Loads S.Store tx.old tx.new result
         (λ rows c. map archive_entry rows.items ≡ entries c.archives) }
 {
     let rows = read(

@@ -2,7 +2,7 @@
 
 ghost use Rattle.std.specs.Prelude.{◌≡◌, ◌++◌, IfOk, OnOk};
 ghost use Rattle.registry_rows.specs.Frames.{Stays};
-ghost use Rattle.registry_tables.specs.Effects.{InForm, Tells};
+ghost use Rattle.registry_tables.specs.Effects.{InForm, Loads};
 ghost use Rattle.registry_check.specs.Premises.{AreProblems, TellsPremises};
 ghost use Rattle.registry_check.specs.Problems as spec;
 ghost use Rattle.registry_check.specs.Rows.{rows_of};
@@ -27,8 +27,8 @@ use std::alloc::Global;
 pub fn check<S: Alter>(alloc: Global, tx: &mut Transaction<'_, S>) -> Result<Vec<Problem>, Fault>
     requires in_form { InForm S.Store tx.old }
     ensures stays { Stays S.Store tx.old tx.new }
-    ensures tells { Tells S.Store tx.old tx.new result (λ found c. AreProblems found.items c) }
-    ensures met { Tells S.Store tx.old tx.new result (λ found c. TellsPremises found.items c) }
+    ensures loads { Loads S.Store tx.old tx.new result (λ found c. AreProblems found.items c) }
+    ensures met { Loads S.Store tx.old tx.new result (λ found c. TellsPremises found.items c) }
 {
     let tables = load_tables(alloc, tx)?;
     problems_in(alloc, &tables)

@@ -6,7 +6,7 @@ ghost use Rattle.registry_names.specs.Maps.{at, erase, put};
 ghost use Rattle.registry_names.specs.Texts.{Text as Bytes};
 ghost use Rattle.registry_rows.specs.Frames.{Stays};
 ghost use Rattle.registry_tables.specs.Changes.{IsFree, IsFreeUnless, amended, with_row};
-ghost use Rattle.registry_tables.specs.Effects.{InForm, Makes, OnlyWhere, Tells};
+ghost use Rattle.registry_tables.specs.Effects.{InForm, Makes, OnlyWhere, Loads};
 ghost use Rattle.registry_tables.specs.Spelled.{grant_number};
 ghost use Rattle.registry_tables.specs.Teams.{AreGranted, grant_spelled, granted_entry, granted_spelled, grants_of};
 
@@ -26,7 +26,7 @@ pub fn has_grant<S: Alter>(
 ) -> Result<bool, Fault>
     requires in_form { InForm S.Store tx.old }
     ensures stays { Stays S.Store tx.old tx.new }
-    ensures tells { Tells S.Store tx.old tx.new result
+    ensures loads { Loads S.Store tx.old tx.new result
         (λ has c. has ≡ is_some (at c.grants (organisation.now, (team.now, name.now)))) }
 {
     let rows = read(
@@ -143,7 +143,7 @@ pub fn load_grants<S: Alter>(
 ) -> Result<Vec<Grant>, Fault>
     requires in_form { InForm S.Store tx.old }
     ensures stays { Stays S.Store tx.old tx.new }
-    ensures tells { Tells S.Store tx.old tx.new result
+    ensures loads { Loads S.Store tx.old tx.new result
         (λ grants c. AreGranted c organisation.now user.now name.now grants.items) }
 {
     let rows = read(
@@ -163,7 +163,7 @@ pub(crate) fn load_team_grants<S: Alter>(
 ) -> Result<Vec<Granted>, Fault>
     requires in_form { InForm S.Store tx.old }
     ensures stays { Stays S.Store tx.old tx.new }
-    ensures tells { Tells S.Store tx.old tx.new result
+    ensures loads { Loads S.Store tx.old tx.new result
         (λ granted c. map granted_entry granted.items ≡ grants_of c organisation.now team.now) }
 {
     let rows = read(

@@ -10,7 +10,7 @@ ghost use Rattle.registry_rows.specs.Frames.{Stays};
 ghost use Rattle.registry_rules.specs.State as spec;
 ghost use Rattle.registry_tables.specs.Changes.{IsFree, IsFreeUnless, amended, with_row};
 ghost use Rattle.registry_tables.specs.Contents.{registry_of};
-ghost use Rattle.registry_tables.specs.Effects.{InForm, Makes, OnlyWhere, Tells};
+ghost use Rattle.registry_tables.specs.Effects.{InForm, Makes, OnlyWhere, Loads};
 ghost use Rattle.registry_tables.specs.Spelled.{member_entry, member_spelled, role_number, role_spelled};
 ghost use Rattle.registry_tables.specs.Teams.{without_member};
 
@@ -29,7 +29,7 @@ pub fn load_role<S: Alter>(
 ) -> Result<Option<Role>, Fault>
     requires in_form { InForm S.Store tx.old }
     ensures stays { Stays S.Store tx.old tx.new }
-    ensures tells { Tells S.Store tx.old tx.new result
+    ensures loads { Loads S.Store tx.old tx.new result
         (λ role c. role ≡ at c.members (organisation.now, user.now)) }
 {
     let rows = read(
@@ -48,7 +48,7 @@ pub fn load_members<S: Alter>(
 ) -> Result<Vec<Member>, Fault>
     requires in_form { InForm S.Store tx.old }
     ensures stays { Stays S.Store tx.old tx.new }
-    ensures tells { Tells S.Store tx.old tx.new result
+    ensures loads { Loads S.Store tx.old tx.new result
         (λ members c. map member_entry members.items ≡ of c.members organisation.now) }
 {
     let rows = read(
@@ -68,7 +68,7 @@ pub fn has_other_owner<S: Alter>(
 ) -> Result<bool, Fault>
     requires in_form { InForm S.Store tx.old }
     ensures stays { Stays S.Store tx.old tx.new }
-    ensures tells { Tells S.Store tx.old tx.new result
+    ensures loads { Loads S.Store tx.old tx.new result
         (λ has c. has ≡ spec.has_other_owner (registry_of c) organisation.now user.now) }
 {
     let members = load_members(alloc, tx, organisation)?;

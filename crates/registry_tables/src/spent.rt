@@ -6,7 +6,7 @@ ghost use Rattle.registry_rows.specs.Frames.{Stays};
 ghost use Rattle.registry_rules.specs.Withdrawals.{last_withdrawal};
 ghost use Rattle.registry_tables.specs.Changes.{IsFree};
 ghost use Rattle.registry_tables.specs.Contents.{registry_of};
-ghost use Rattle.registry_tables.specs.Effects.{InForm, Makes, OnlyWhere, Tells};
+ghost use Rattle.registry_tables.specs.Effects.{InForm, Makes, OnlyWhere, Loads};
 
 use crate::moments::last_moment;
 use registry_names::{Fault, Moment, Name};
@@ -21,7 +21,7 @@ pub fn is_spent<S: Alter>(
 ) -> Result<bool, Fault>
     requires in_form { InForm S.Store tx.old }
     ensures stays { Stays S.Store tx.old tx.new }
-    ensures tells { Tells S.Store tx.old tx.new result
+    ensures loads { Loads S.Store tx.old tx.new result
         (λ spent c. spent ≡ is_some (at c.spent (name.now, version.now))) }
 {
     let rows = read(
@@ -39,7 +39,7 @@ pub fn load_last_withdrawal<S: Alter>(
 ) -> Result<Option<Moment>, Fault>
     requires in_form { InForm S.Store tx.old }
     ensures stays { Stays S.Store tx.old tx.new }
-    ensures tells { Tells S.Store tx.old tx.new result
+    ensures loads { Loads S.Store tx.old tx.new result
         (λ last c. last ≡ last_withdrawal (registry_of c) name.now) }
 {
     let rows = read(

@@ -5,7 +5,7 @@ ghost use Rattle.registry_names.specs.Maps.{at, put};
 ghost use Rattle.registry_names.specs.declared.status.Status.{Status as Readers};
 ghost use Rattle.registry_rows.specs.Frames.{Stays};
 ghost use Rattle.registry_tables.specs.Changes.{IsFree, IsFreeUnless, amended, with_row};
-ghost use Rattle.registry_tables.specs.Effects.{InForm, Makes, OnlyWhere, Tells};
+ghost use Rattle.registry_tables.specs.Effects.{InForm, Makes, OnlyWhere, Loads};
 ghost use Rattle.registry_tables.specs.Spelled.{status_number, status_spelled};
 
 use registry_names::{Fault, Name, Status};
@@ -19,7 +19,7 @@ pub fn load_status<S: Alter>(
 ) -> Result<Option<Status>, Fault>
     requires in_form { InForm S.Store tx.old }
     ensures stays { Stays S.Store tx.old tx.new }
-    ensures tells { Tells S.Store tx.old tx.new result
+    ensures loads { Loads S.Store tx.old tx.new result
         (λ status c. status ≡ at c.packages name.now) }
 {
     let rows = read(

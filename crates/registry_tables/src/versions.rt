@@ -10,7 +10,7 @@ ghost use Rattle.registry_rules.specs.State as state;
 ghost use Rattle.registry_rules.specs.Withdrawals.{live_versions, published_at};
 ghost use Rattle.registry_tables.specs.Changes.{IsFree, IsNew, is_unspent, row_of, version_put};
 ghost use Rattle.registry_tables.specs.Contents.{live_of, registry_of};
-ghost use Rattle.registry_tables.specs.Effects.{InForm, Makes, OnlyWhere, Tells};
+ghost use Rattle.registry_tables.specs.Effects.{InForm, Makes, OnlyWhere, Loads};
 ghost use Rattle.registry_tables.specs.Spelled.{document, document_entry, document_spelled, row_entry, row_spelled};
 ghost use Rattle.registry_tables.specs.Withdrawals.{with_message};
 
@@ -35,7 +35,7 @@ pub fn has_version<S: Alter>(
 ) -> Result<bool, Fault>
     requires in_form { InForm S.Store tx.old }
     ensures stays { Stays S.Store tx.old tx.new }
-    ensures tells { Tells S.Store tx.old tx.new result
+    ensures loads { Loads S.Store tx.old tx.new result
         (λ lives c. lives ≡ is_some (at (live_of c) (name.now, version.now))) }
 {
     let rows = read(
@@ -54,7 +54,7 @@ pub fn load_published<S: Alter>(
 ) -> Result<Option<Moment>, Fault>
     requires in_form { InForm S.Store tx.old }
     ensures stays { Stays S.Store tx.old tx.new }
-    ensures tells { Tells S.Store tx.old tx.new result
+    ensures loads { Loads S.Store tx.old tx.new result
         (λ published c. published ≡ published_at (registry_of c) name.now version.now) }
 {
     let rows = read(
@@ -73,7 +73,7 @@ pub fn load_live<S: Alter>(
 ) -> Result<Vec<Ver>, Fault>
     requires in_form { InForm S.Store tx.old }
     ensures stays { Stays S.Store tx.old tx.new }
-    ensures tells { Tells S.Store tx.old tx.new result
+    ensures loads { Loads S.Store tx.old tx.new result
         (λ live c. map text_of_version live.items ≡ live_versions (registry_of c) name.now) }
 {
     let texts = load_live_texts(alloc, tx, name)?;
@@ -87,7 +87,7 @@ fn load_live_texts<S: Alter>(
 ) -> Result<Vec<Text>, Fault>
     requires in_form { InForm S.Store tx.old }
     ensures stays { Stays S.Store tx.old tx.new }
-    ensures tells { Tells S.Store tx.old tx.new result
+    ensures loads { Loads S.Store tx.old tx.new result
         (λ live c. live.items ≡ live_versions (registry_of c) name.now) }
 {
     let rows = read(
@@ -114,7 +114,7 @@ fn all_parsed(alloc: Global, texts: &[Text]) -> Result<Vec<Ver>, Fault>
 pub fn has_live<S: Alter>(tx: &mut Transaction<'_, S>, name: &Name) -> Result<bool, Fault>
     requires in_form { InForm S.Store tx.old }
     ensures stays { Stays S.Store tx.old tx.new }
-    ensures tells { Tells S.Store tx.old tx.new result
+    ensures loads { Loads S.Store tx.old tx.new result
         (λ lives c. lives ≡ state.has_live (registry_of c) name.now) }
 {
     let rows = read(
@@ -134,7 +134,7 @@ pub fn load_versions<S: Alter>(
 ) -> Result<Vec<VersionRow>, Fault>
     requires in_form { InForm S.Store tx.old }
     ensures stays { Stays S.Store tx.old tx.new }
-    ensures tells { Tells S.Store tx.old tx.new result
+    ensures loads { Loads S.Store tx.old tx.new result
         (λ versions c. map row_entry versions.items
         ≡ map (seen document) (of (live_of c) name.now)) }
 {
@@ -163,7 +163,7 @@ pub fn load_document<S: Alter>(
 ) -> Result<Option<DocumentRow>, Fault>
     requires in_form { InForm S.Store tx.old }
     ensures stays { Stays S.Store tx.old tx.new }
-    ensures tells { Tells S.Store tx.old tx.new result
+    ensures loads { Loads S.Store tx.old tx.new result
         (λ found c. option_map document_entry found
         ≡ option_map document (at (live_of c) (name.now, version.now))) }
 {
@@ -201,7 +201,7 @@ pub fn put_version<S: Alter>(
 fn may_be_put<S: Alter>(tx: &mut Transaction<'_, S>, form: &PublishForm) -> Result<bool, Fault>
     requires in_form { InForm S.Store tx.old }
     ensures stays { Stays S.Store tx.old tx.new }
-    ensures tells { Tells S.Store tx.old tx.new result (λ may c. may ≡ is_unspent form.now c) }
+    ensures loads { Loads S.Store tx.old tx.new result (λ may c. may ≡ is_unspent form.now c) }
 {
     let status = load_status(tx, form.name())?;
     let spent = is_spent(tx, form.name(), form.version().text())?;

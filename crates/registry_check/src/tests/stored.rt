@@ -55,19 +55,19 @@ fn organisations_are_tried<S: Alter>(alloc: Global, tx: &mut Transaction<'_, S>)
     let ann = Ident::parse(alloc, "ann")?;
     let organisation = "lab";
     made(tx, &Change::AddUser { user: &ann })?;
-    tells(alloc, tx, NONE)?;
+    loads(alloc, tx, NONE)?;
     made(tx, &Change::AddOrg { organisation })?;
     made(tx, &member(&ann, Role::Admin, false))?;
-    tells(
+    loads(
         alloc,
         tx,
         &[(Rule::HasOwner, "lab"), (Rule::HasFirstTeam, "lab")],
     )?;
     made(tx, &member(&ann, Role::Owner, true))?;
-    tells(alloc, tx, &[(Rule::HasFirstTeam, "lab")])?;
+    loads(alloc, tx, &[(Rule::HasFirstTeam, "lab")])?;
     let team = "developers";
     made(tx, &Change::AddTeam { organisation, team })?;
-    tells(alloc, tx, NONE)
+    loads(alloc, tx, NONE)
 }
 
 fn member(user: &Ident, role: Role, stands: bool) -> Change<'_> {
@@ -86,7 +86,7 @@ fn packages_are_tried<S: Alter>(alloc: Global, tx: &mut Transaction<'_, S>) -> R
 {
     let package = Name::parse(alloc, "kit")?;
     made(tx, &status(&package, Status::Restricted, false))?;
-    tells(
+    loads(
         alloc,
         tx,
         &[(Rule::IsPublic, "kit"), (Rule::HasMaintainer, "kit")],
@@ -94,7 +94,7 @@ fn packages_are_tried<S: Alter>(alloc: Global, tx: &mut Transaction<'_, S>) -> R
     made(tx, &status(&package, Status::Public, true))?;
     own(alloc, tx, &package)?;
     publish(alloc, tx)?;
-    tells(alloc, tx, NONE)
+    loads(alloc, tx, NONE)
 }
 
 fn own<S: Alter>(alloc: Global, tx: &mut Transaction<'_, S>, package: &Name) -> Result<(), Stop>
@@ -145,7 +145,7 @@ fn grants_are_tried<S: Alter>(alloc: Global, tx: &mut Transaction<'_, S>) -> Res
             stands: false,
         },
     )?;
-    tells(alloc, tx, &[(Rule::IsInScope, "lab developers kit")])
+    loads(alloc, tx, &[(Rule::IsInScope, "lab developers kit")])
 }
 
 fn made<S: Alter>(tx: &mut Transaction<'_, S>, change: &Change<'_>) -> Result<(), Stop>
@@ -157,7 +157,7 @@ fn made<S: Alter>(tx: &mut Transaction<'_, S>, change: &Change<'_>) -> Result<()
 }
 
 // Whether these are the problems now.
-fn tells<S: Alter>(
+fn loads<S: Alter>(
     alloc: Global,
     tx: &mut Transaction<'_, S>,
     wanted: &[(Rule, &str)],

@@ -370,7 +370,7 @@ static TEAMS: [Case; 3] = [
 // What callers may do with packages.
 static RIGHTS: [Case; 4] = [
     Case {
-        shows: "a standing tells what a user may do",
+        shows: "a standing loads what a user may do",
         calls: &[
             ("@lab/kit", Call::Teams(User("ann")), "done"),
             ("@lab/kit", Call::Teams(User("bob")), "done"),

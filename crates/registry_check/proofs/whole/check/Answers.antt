@@ -7,13 +7,13 @@ use Rattle.registry_check.specs.declared.problem.Problem.{Problem}
 use Rattle.registry_check.proofs.PremiseFacts.{none_means_premises}
 use Rattle.registry_check.proofs.whole.check.Goals as goal
 
-pub returns-clause-tells : goal.returns-clause-tells
-returns-clause-tells g c clean =
-    let it = c.in_ok-tables.ensures.tells clean in
+pub returns-clause-loads : goal.returns-clause-loads
+returns-clause-loads g c clean =
+    let it = c.in_ok-tables.ensures.loads clean in
     IfOk-weaker c.problems_in.result _ _ (λ _ e. (it.0, e ∙ ap problems it.1)) c.problems_in.ensures
 
 pub returns-clause-met : goal.returns-clause-met
 returns-clause-met g c clean =
-    let it = c.in_ok-tables.ensures.tells clean in
+    let it = c.in_ok-tables.ensures.loads clean in
     let now = stored_in g.S.Store c.args.tx.now in
     IfOk-weaker c.problems_in.result _ _ (λ _ e. (it.0, subst (λ (found : List Problem). TellsPremises found now) (sym (e ∙ ap problems it.1)) (none_means_premises now))) c.problems_in.ensures

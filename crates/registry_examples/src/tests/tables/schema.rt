@@ -41,7 +41,7 @@ const BROKEN_KEY: Error = Error::SqliteFailure(ErrorCode::ConstraintViolation(
 /// What steps on an empty database show, and the steps, one after another.
 static CASES: [(&str, &[Step]); 19] = [
     (
-        "a made database tells the schema",
+        "a made database loads the schema",
         &[
             Step::Schema(Ok(None)),
             Step::Create(Ok(())),

@@ -17,7 +17,7 @@ returns-in-User-Some-Developer-Some-clause-knows g c clean =
       reads_nothing_new (shown g.S.Store c.args.tx.now) (shown g.S.Store c.load_grants.new.tx) it.0,
       subst (λ (who : Caller). AreGrantedTo stored who c.args.name.now c.args.role grants.items) (ap User c.text.ensures.text ∙ sym at.is-0)
           (members_grants stored at.organisation.now c.text.result.now c.args.name.now c.args.role grants.items (sym at.ensures.scope) it.1),
-    )) (c.load_grants.ensures.tells clean)
+    )) (c.load_grants.ensures.loads clean)
 
 pub returns-in_default-clause-knows : goal.returns-in_default-clause-knows
 returns-in_default-clause-knows g c clean =
