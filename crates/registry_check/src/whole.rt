@@ -34,8 +34,8 @@ pub fn check<S: Alter>(alloc: Global, tx: &mut Transaction<'_, S>) -> Result<Vec
     problems_in(alloc, &tables)
 }
 
-/// What breaks a rule in these tables.
-pub(crate) fn problems_in(alloc: Global, all: &Tables) -> Result<Vec<Problem>, Fault>
+// What breaks a rule in these tables.
+fn problems_in(alloc: Global, all: &Tables) -> Result<Vec<Problem>, Fault>
     ensures { IfOk result (λ problems. problems.items ≡ spec.problems (rows_of all.now)) }
 {
     let mut problems = Vec::new(alloc);
