@@ -7,7 +7,7 @@ use Rattle.registry_tables.specs.Archives.{HoldsArchives}
 use Rattle.registry_tables.specs.Needs.{HoldsNeeds}
 use Rattle.registry_tables.specs.Teams.{GrantsInScope}
 use Rattle.registry_history.specs.Runs.{Outcome}
-use Rattle.registry_desk.specs.Promises.{Answered, GrowsHistory, HasHeadline, HoldsReferences, Keeps, KeepsForm, KeepsFormRun, KeepsRun, KeepsSure, Moves, RanTo, Served, ServedRun, ShutByFaults, StaysSure, Stepped, Stored, SurvivesOne, SurvivesRun, Unchanged, WasOpen, WritesHistory}
+use Rattle.registry_desk.specs.Promises.{Answered, GrowsHistory, HasHeadline, HidesUnread, HoldsReferences, Keeps, KeepsForm, KeepsFormRun, KeepsRun, KeepsSure, Moves, RanTo, Served, ServedRun, ShutByFaults, StaysSure, Stepped, Stored, SurvivesOne, SurvivesRun, Unchanged, WasOpen, WritesHistory}
 use Rattle.registry_service.specs.Courses.{Follow}
 use Rattle.registry_service.specs.Histories.{LogEntry, FollowAll}
 use Rattle.registry_service.specs.Requests.{reads_request}
@@ -22,6 +22,7 @@ pub record Applies (old new : Shown) (r : Request) (o : Outcome) : Type 0 where
   pub step : Stepped old new r o
   pub moves : Moves old new r o
   pub history : GrowsHistory old new r o
+  pub hidden : HidesUnread old new r o
   pub grants : Keeps old new r GrantsInScope
   pub needs : Keeps old new r HoldsNeeds
   pub refers : Keeps old new r HoldsReferences

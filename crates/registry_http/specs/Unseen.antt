@@ -11,7 +11,7 @@ use Rattle.registry_hidden.specs.Arrivals.{leaves_the_rest, may_change_more}
 use Rattle.registry_hidden.specs.Concerns.{is_held, is_shown}
 use Rattle.registry_hidden.specs.Levels.{IsStranger}
 use Rattle.registry_hidden.specs.Runs.{DifferInPackage}
-use Rattle.registry_desk.specs.Promises.{HoldsSound}
+use Rattle.registry_desk.specs.Promises.{HoldsSoundForEach}
 use Rattle.registry_service.specs.Histories.{LogEntry, Reached, World}
 use Rattle.registry_service.specs.Turns.{Turn}
 use Rattle.registry_http.specs.Services.{IsOneRun, applied}
@@ -110,9 +110,9 @@ pub record IsWorldOf {D : Type 0} (show : D → Shown) (M : D) (w : World D) (h 
   pub reached : Reached (applied show) M w
   pub log : w.log ≡ es
   pub left : registry_in (show M) ≡ after h
-  pub sound : HoldsSound (show M)
   pub clean : HasCleanDisk (show w.service)
   pub run : IsOneRun (show M) (show w.service) (map (λ e. e.turn) w.log)
+  pub sound : HoldsSoundForEach run.requests (show M)
   pub requests : run.requests ≡ rs
   pub outcomes : run.outcomes ≡ os
 

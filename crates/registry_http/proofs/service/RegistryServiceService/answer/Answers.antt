@@ -12,6 +12,7 @@ returns g c = subst (λ was. Applies (state g.S.Store was) (state g.S.Store c.ap
   step = c.apply.ensures.step;
   moves = c.apply.ensures.moves;
   history = c.apply.ensures.history;
+  hidden = c.apply.ensures.hidden;
   grants = c.apply.ensures.grants;
   needs = c.apply.ensures.needs;
   refers = c.apply.ensures.refers;
