@@ -1,5 +1,6 @@
 pub mod ActionFacts
 pub mod ArgumentFacts
 pub mod MomentFacts
+pub mod ReadingFacts
 pub mod RowFacts
 pub mod WholeFacts

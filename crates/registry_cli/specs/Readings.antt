@@ -10,9 +10,11 @@ use Rattle.registry_names.specs.Spellings.{status_named}
 use Rattle.registry_names.specs.Tags.{latest}
 use Rattle.registry_names.specs.declared.status.Status.{Status}
 use Rattle.registry_names.specs.Versions.{IsVersion, IsVersionOf, VersionParts}
+use Rattle.registry_names.specs.declared.refusal.Refusal.{Refusal}
 use Rattle.registry_names.specs.declared.refusal.Refusal.TheVariants.{BadName, BadVersion, RangeTag, BadTag, BadBody, BadSelector}
 use Rattle.registry_names.specs.declared.stop.Stop.{Stop}
-use Rattle.registry_names.specs.declared.stop.Stop.TheVariants.{Refused}
+use Rattle.registry_names.specs.declared.stop.Fault.TheVariants.{Memory}
+use Rattle.registry_names.specs.declared.stop.Stop.TheVariants.{Refused, Fault as Faulted}
 use Rattle.registry_ranges.specs.Grammar.{IsRangeText}
 use Rattle.registry_ranges.specs.Tags.{IsNeither, IsTag}
 use Rattle.registry_ranges.specs.Selectors.{Condition, HasConditions, IsSelector}
@@ -30,13 +32,17 @@ Reading A = Result A Stop → Type 0
 
 -- ---- one argument
 
+-- a text of which this holds is refused so, and of any other no memory is left for its value
+abbrev pub IsRefusedFor : Refusal → Type 0 → Stop → Type 0
+IsRefusedFor refusal P stop = ((stop ≡ Faulted Memory) × ¬ P) ⊎ ((stop ≡ Refused refusal) × P)
+
 abbrev pub reads_ident : Text → Reading Text
 reads_ident t (Ok name) = (name ≡ t) × (is_ident t ≡ true)
-reads_ident t (Err stop) = IsMemoryOr BadName (is_ident t ≡ false) stop
+reads_ident t (Err stop) = IsRefusedFor BadName (is_ident t ≡ false) stop
 
 abbrev pub reads_name : Text → Reading Text
 reads_name t (Ok name) = (name ≡ t) × IsName t
-reads_name t (Err stop) = IsMemoryOr BadName (¬ IsName t) stop
+reads_name t (Err stop) = IsRefusedFor BadName (¬ IsName t) stop
 
 abbrev pub reads_version : Text → Reading VersionParts
 reads_version t (Ok v) = IsVersionOf t v
@@ -44,7 +50,7 @@ reads_version t (Err stop) = IsMemoryOr BadVersion (¬ IsVersion t) stop
 
 abbrev pub reads_tag : Text → Reading Text
 reads_tag t (Ok tag) = (tag ≡ t) × IsTag t
-reads_tag t (Err stop) = IsMemoryOr RangeTag (IsRangeText t) stop ⊎ ((stop ≡ Refused BadTag) × IsNeither t)
+reads_tag t (Err stop) = ((stop ≡ Faulted Memory) × IsTag t) ⊎ ((stop ≡ Refused RangeTag) × IsRangeText t) ⊎ ((stop ≡ Refused BadTag) × IsNeither t)
 
 abbrev pub reads_token : Text → Reading (List ℕ)
 reads_token t (Ok digest) = digest_of t ≡ Some digest
@@ -64,11 +70,11 @@ reads_status t (Err stop) = (stop ≡ Refused BadBody) × (status_named t ≡ No
 
 abbrev pub reads_selector : Text → Reading (List (List Condition))
 reads_selector t (Ok ranges) = HasConditions t ranges
-reads_selector t (Err stop) = IsMemoryOr BadSelector (¬ IsSelector t) stop
+reads_selector t (Err stop) = IsRefusedFor BadSelector (¬ IsSelector t) stop
 
 abbrev pub reads_message : Text → Reading Text
 reads_message t (Ok message) = (message ≡ t) × (is_message t ≡ true)
-reads_message t (Err stop) = IsMemoryOr BadBody (is_message t ≡ false) stop
+reads_message t (Err stop) = IsRefusedFor BadBody (is_message t ≡ false) stop
 
 -- `latest`, or a version
 abbrev pub reads_asked : Text → Reading Asked

@@ -6,6 +6,7 @@ ghost use Rattle.registry_cli.specs.Lines.{IsWhole, asks_to_serve, argument_at};
 ghost use Rattle.registry_cli.specs.declared.action.Verb.TheVariants as verbs;
 
 use crate::argument_values::{argument_at, four, one, three, two};
+use crate::from_argument::FromArgument;
 use crate::meaning::{Line, Who};
 use registry_names::{Ident, Stop, Text};
 use registry_publish::PublishForm;
@@ -48,7 +49,8 @@ pub(crate) enum Verb {
 /// which `publish` alone reads. `serve` asks for no action.
 ///
 /// The texts are read from left to right, the user's name first, and the first that isn't in form
-/// gives its refusal. `Memory` comes where no memory is left.
+/// gives its refusal. `Memory` comes where no memory is left, and for no text out of form, except a
+/// version or the body.
 pub fn action_of(alloc: Global, line: &Line, body: &[u8]) -> Result<(Credential, Action), Stop>
     requires whole { IsWhole line.now.what }
     requires asks { asks_to_serve line.now.what ≡ false }
@@ -64,7 +66,7 @@ fn credential(alloc: Global, who: &Who) -> Result<Credential, Stop>
 {
     match who {
         Who::Operator => Ok(Credential::Operator),
-        Who::User(name) => Ok(Credential::User(Ident::parse(alloc, name.as_str())?)),
+        Who::User(name) => Ok(Credential::User(Ident::read(alloc, name.as_str())?)),
         Who::Anonymous => Ok(Credential::Anonymous),
     }
 }

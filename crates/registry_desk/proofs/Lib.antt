@@ -1,4 +1,5 @@
 mod CommitFacts
+mod GrantFacts
 mod KeepingFacts
 mod LoadedFacts
 mod MakingFacts

@@ -5,13 +5,15 @@ use Rattle.sqlite_catalog.specs.Listing.{IsSound, IsTableRow}
 use Rattle.sqlite_catalog.proofs.LayoutLemmas.{zipped_left, zipped_right}
 use Rattle.sqlite_trees.specs.Tree.{Trees}
 use Rattle.registry_rows.specs.Tables.{no_tables}
-use Rattle.registry_rules.specs.Kept.{IsKept, IsSound as AreSound}
+use Rattle.registry_rules.specs.Kept.{IsKept}
 use Rattle.registry_tables.specs.Archives.{HoldsArchives}
 use Rattle.registry_tables.specs.Contents.{Contents, registry_of}
 use Rattle.registry_tables.specs.Effects.{stored}
 use Rattle.registry_tables.specs.Needs.{HoldsNeeds}
 use Rattle.registry_tables.specs.Schema as ours
+use Rattle.registry_tables.specs.Teams.{GrantsInScope}
 use Rattle.registry_desk.specs.Opened.{GivesFound}
+use Rattle.registry_desk.specs.Promises.{HoldsReferences}
 use Rattle.registry_desk.specs.Resting.{IsRegistryOf}
 use Rattle.registry_desk.specs.Stops.{GoesOn, StopsLoseNothing}
 
@@ -30,9 +32,10 @@ goes_on : (last next : Shown) → stored next ≡ stored last → GoesOn last ne
 goes_on last next same = record {
   same = same;
   sound = λ holds. record {
-    refers = subst (λ (c : Contents). AreSound (registry_of c).access) (sym same) holds.refers;
+    grants = subst GrantsInScope (sym same) holds.grants;
     needs = subst HoldsNeeds (sym same) holds.needs;
   };
+  refers = subst HoldsReferences (sym same);
   archives = subst HoldsArchives (sym same);
   form = subst (λ (c : Contents). IsKept (registry_of c)) (sym same);
   history = λ h is. ap registry_of same ∙ is;

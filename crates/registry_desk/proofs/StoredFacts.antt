@@ -4,17 +4,57 @@ use Rattle.sqlite.specs.State.{State as Shown, HasCleanDisk}
 use Rattle.sqlite.proofs.StateLemmas.{survives_then}
 use Rattle.sqlite_trees.specs.Tree.{Trees}
 use Rattle.registry_rules.specs.State.{State}
+use Rattle.registry_rules.specs.declared.request.Action.{Action}
+use Rattle.registry_rules.specs.declared.request.Action.TheVariants.{Withdraw}
 use Rattle.registry_rules.specs.declared.request.Request.{Request}
 use Rattle.registry_tables.specs.Contents.{Contents}
 use Rattle.registry_tables.specs.Effects.{registry_in, stored}
 use Rattle.registry_tables.specs.Archives.{HoldsArchives}
 use Rattle.registry_tables.specs.Needs.{HoldsNeeds}
+use Rattle.registry_tables.specs.Teams.{GrantsInScope}
+use Rattle.registry_tables.proofs.TeamFacts.{sound_teams}
 use Rattle.registry_rows.proofs.QuietFacts.{on_answer}
-use Rattle.registry_desk.specs.Promises.{Answered, HoldsSound, Keeps, KeepsForm, KeepsSound, KeepsSure, Moves, RanTo, Served, ServedRun, ShutByFaults, StaysSure, Stepped, Stored, SurvivesOne, SurvivesRun, WasOpen}
+use Rattle.registry_desk.specs.Found.{NeedsFor}
+use Rattle.registry_desk.specs.Promises.{Answered, HoldsReferences, HoldsSound, HoldsSoundFor, HoldsSoundForEach, Keeps, KeepsForm, KeepsFormRun, KeepsRun, KeepsSure, Moves, NeedsForEach, RanTo, Served, ServedRun, ShutByFaults, StaysSure, Stepped, Stored, SurvivesOne, SurvivesRun, WasOpen}
 use Rattle.registry_desk.specs.Resting.{IsRegistryOf, Serves, end_stored, left_by, next_stored, settled_by}
 use Rattle.registry_desk.proofs.SettlingFacts.{faulted_next}
 use Rattle.registry_history.specs.Runs.{Outcome, HaveOutcomes, IsAnswer, next}
 use Rattle.registry_history.proofs.RunFacts.{ran_none, ran_push}
+
+-- ---- what decides requests
+
+-- needs that are those of live versions are so for each request
+pub needs_for : (what : Action) (c : Contents) → HoldsNeeds c → NeedsFor what c
+needs_for (Withdraw p v) c holds = holds
+needs_for _ c holds = tt
+
+pub needs_for_each : (rs : List Request) (c : Contents) → HoldsNeeds c → NeedsForEach rs c
+needs_for_each [] c holds = tt
+needs_for_each (r ∷ rs) c holds = (needs_for r.what c holds, needs_for_each rs c holds)
+
+-- what is so for every request is so for one, and for a run
+pub sound_for_one : (r : Request) (s : Shown) → HoldsSound s → HoldsSoundFor r s
+sound_for_one r s sound = record { grants = sound.grants; needs = needs_for r.what (stored s) sound.needs }
+
+pub sound_for_each : (rs : List Request) (s : Shown) → HoldsSound s → HoldsSoundForEach rs s
+sound_for_each rs s sound = record { grants = sound.grants; needs = needs_for_each rs (stored s) sound.needs }
+
+-- where references hold, grants are in scope
+pub refers_for_one : (r : Request) (s : Shown) → HoldsReferences (stored s) → NeedsFor r.what (stored s) → HoldsSoundFor r s
+refers_for_one r s refers needs = record { grants = (sound_teams (stored s) refers).grants; needs = needs }
+
+pub refers_for_each : (rs : List Request) (s : Shown) → HoldsReferences (stored s) → NeedsForEach rs (stored s) → HoldsSoundForEach rs s
+refers_for_each rs s refers needs = record { grants = (sound_teams (stored s) refers).grants; needs = needs }
+
+-- where a withdrawal's needs stay, those for the request do
+needs_stay : (what : Action) (c d : Contents) → (HoldsNeeds c → HoldsNeeds d) → NeedsFor what c → NeedsFor what d
+needs_stay (Withdraw p v) c d stay needs = stay needs
+needs_stay _ c d stay needs = tt
+
+-- the first requests of a run, and the one after them
+needs_split : (rs : List Request) (r : Request) (c : Contents) → NeedsForEach (rs ++ r ∷ []) c → NeedsForEach rs c × NeedsFor r.what c
+needs_split [] r c needs = (tt, needs.0)
+needs_split (q ∷ rs) r c needs = let rest = needs_split rs r c needs.1 in ((needs.0, rest.0), rest.1)
 
 -- ---- one request more
 
@@ -25,24 +65,25 @@ end_stored_push S c (q ∷ rs) (p ∷ os) r o before = end_stored_push (next S q
 end_stored_push S c [] (p ∷ os) r o before = absurd before
 end_stored_push S c (q ∷ rs) [] r o before = absurd before
 
--- what a crash leaves after one outcome more
-left_by_push : (S : State) (may : Trees → Type 0) (rs : List Request) (os : List Outcome) (r : Request) (o : Outcome) (c : Contents) (db : Trees) → HaveOutcomes S rs os
-    → left_by (left_by may rs os c) (r ∷ []) (o ∷ []) (end_stored rs os c) db → left_by may (rs ++ r ∷ []) (os ++ o ∷ []) c db
-left_by_push S may [] [] r o c db before left = left
-left_by_push S may (q ∷ rs) (Ok reply ∷ os) r o c db before left =
-    left_by_push (next S q (Ok reply)) (λ db. IsRegistryOf db (next_stored q (Ok reply) c)) rs os r o (next_stored q (Ok reply) c) db before.1 left
-left_by_push S may (q ∷ rs) (Err fault ∷ os) r o c db before left =
-    let since : Trees → Type 0 = λ db. may db ⊎ IsRegistryOf db (settled_by q c) in
-    left_by_push (next S q (Err fault)) since rs os r o c db before.1
-    (subst (λ d. left_by (left_by since rs os c) (r ∷ []) (o ∷ []) (end_stored rs os d) db) (sym (faulted_next c q fault)) left)
-left_by_push S may [] (p ∷ os) r o c db before left = absurd before
-left_by_push S may (q ∷ rs) [] r o c db before left = absurd before
+module _ (Opened : Type 0) where
+  -- what a crash leaves after one outcome more
+  left_by_push : (S : State) (may : Trees → Type 0) (rs : List Request) (os : List Outcome) (r : Request) (o : Outcome) (c : Contents) (db : Trees) → HaveOutcomes S rs os
+      → left_by Opened (left_by Opened may rs os c) (r ∷ []) (o ∷ []) (end_stored rs os c) db → left_by Opened may (rs ++ r ∷ []) (os ++ o ∷ []) c db
+  left_by_push S may [] [] r o c db before left = left
+  left_by_push S may (q ∷ rs) (Ok reply ∷ os) r o c db before left =
+      left_by_push (next S q (Ok reply)) (λ db. IsRegistryOf db (next_stored q (Ok reply) c)) rs os r o (next_stored q (Ok reply) c) db before.1 left
+  left_by_push S may (q ∷ rs) (Err fault ∷ os) r o c db before left =
+      let since : Trees → Type 0 = λ db. may db ⊎ (Opened × IsRegistryOf db (settled_by q c)) in
+      left_by_push (next S q (Err fault)) since rs os r o c db before.1
+      (subst (λ d. left_by Opened (left_by Opened since rs os c) (r ∷ []) (o ∷ []) (end_stored rs os d) db) (sym (faulted_next c q fault)) left)
+  left_by_push S may [] (p ∷ os) r o c db before left = absurd before
+  left_by_push S may (q ∷ rs) [] r o c db before left = absurd before
 
--- what a crash leaves after one outcome
-left_by_one : (may : Trees → Type 0) (r : Request) (o : Outcome) (c : Contents) (db : Trees) → may db ⊎ IsRegistryOf db (settled_by r c) → OnOk o (IsRegistryOf db (next_stored r o c))
-    → left_by may (r ∷ []) (o ∷ []) c db
-left_by_one may r (Ok reply) c db earlier sure = sure
-left_by_one may r (Err fault) c db earlier sure = earlier
+  -- what a crash leaves after one outcome
+  left_by_one : (may : Trees → Type 0) (r : Request) (o : Outcome) (c : Contents) (db : Trees) → may db ⊎ (Opened × IsRegistryOf db (settled_by r c)) → OnOk o (IsRegistryOf db (next_stored r o c))
+      → left_by Opened may (r ∷ []) (o ∷ []) c db
+  left_by_one may r (Ok reply) c db earlier sure = sure
+  left_by_one may r (Err fault) c db earlier sure = earlier
 
 -- open or shut, after one outcome
 served_one : (was is : Bool) (o : Outcome) → OnOk o (IsTrue was × IsTrue is) → (IsTrue is → IsTrue was) → Serves was (o ∷ []) is
@@ -75,10 +116,11 @@ pub record HasAnswered (old new : Shown) (r : Request) (o : Outcome) : Type 0 wh
   pub opened : WasOpen old new
   pub step : Stepped old new r o
   pub moves : Moves old new r o
-  pub sound : KeepsSound old new
-  pub form : KeepsForm old new
-  pub needs : Keeps old new HoldsNeeds
-  pub archives : Keeps old new HoldsArchives
+  pub grants : Keeps old new r GrantsInScope
+  pub needs : Keeps old new r HoldsNeeds
+  pub refers : Keeps old new r HoldsReferences
+  pub archives : Keeps old new r HoldsArchives
+  pub form : KeepsForm old new r
   pub survives : SurvivesOne old new r
   pub stays : StaysSure new
 
@@ -87,10 +129,11 @@ pub record HasRun (old new : Shown) (rs : List Request) (os : List Outcome) : Ty
   pub stored : Stored old new rs os
   pub served : ServedRun old new os
   pub opened : WasOpen old new
-  pub sound : KeepsSound old new
-  pub form : KeepsForm old new
-  pub needs : Keeps old new HoldsNeeds
-  pub archives : Keeps old new HoldsArchives
+  pub grants : KeepsRun old new rs GrantsInScope
+  pub needs : KeepsRun old new rs HoldsNeeds
+  pub refers : KeepsRun old new rs HoldsReferences
+  pub archives : KeepsRun old new rs HoldsArchives
+  pub form : KeepsFormRun old new rs
   pub survives : SurvivesRun old new rs os
   pub stays : KeepsSure old new
   pub closes : ShutByFaults old new
@@ -101,40 +144,59 @@ has_run_none s = record {
   stored = λ sound clean on. refl;
   served = λ clean. refl;
   opened = λ clean on. on;
-  sound = λ sound clean on. sound;
-  form = λ needs clean on kept. kept;
+  grants = λ sound clean on holds. holds;
   needs = λ sound clean on holds. holds;
+  refers = λ sound clean on holds. holds;
   archives = λ sound clean on holds. holds;
+  form = λ needs clean on kept. kept;
   survives = λ sound clean db left. left;
   stays = λ sure. sure;
   closes = record { clean = omega arith; shield = λ h. h; counts = omega arith; limit = refl; closes = λ _ on. inl on; crash = λ _ db left. inl left };
 }
 
+module _ (old mid : Shown) (rs : List Request) (os : List Outcome) (r : Request) (run : HasRun old mid rs os) where
+  -- what decides the requests so far, and then the next one
+  sound_before : HoldsSoundForEach (rs ++ r ∷ []) old → HoldsSoundForEach rs old
+  sound_before sound = record { grants = sound.grants; needs = (needs_split rs r (stored old) sound.needs).0 }
+
+  sound_still : HoldsSoundForEach (rs ++ r ∷ []) old → HasCleanDisk mid → IsTrue mid.is_open → HoldsSoundFor r mid
+  sound_still sound clean on =
+      let before = sound_before sound in
+      record {
+        grants = run.grants before clean on sound.grants;
+        needs = needs_stay r.what (stored old) (stored mid) (run.needs before clean on) (needs_split rs r (stored old) sound.needs).1;
+      }
+
 pub has_run_more : (old mid new : Shown) (rs : List Request) (os : List Outcome) (r : Request) (o : Outcome)
     → HasRun old mid rs os → HasAnswered mid new r o → HasRun old new (rs ++ r ∷ []) (os ++ o ∷ [])
 has_run_more old mid new rs os r o run made =
+    let Sound : Type 0 = HoldsSoundForEach (rs ++ r ∷ []) old in
     let before : HasCleanDisk new → HasCleanDisk mid = λ clean. omega (arith, made.survives.clean, clean) in
-    let still : HoldsSound old → HasCleanDisk new → IsTrue mid.is_open → HoldsSound mid = λ sound clean on. run.sound sound (before clean) on in
+    let first : Sound → HoldsSoundForEach rs old = sound_before old mid rs os r run in
+    let still : Sound → HasCleanDisk new → IsTrue mid.is_open → HoldsSoundFor r mid = λ sound clean on. sound_still old mid rs os r run sound (before clean) on in
     let was_open : HasCleanDisk new → OnOk o (IsTrue mid.is_open) = λ clean. on_answer o (λ on. on.0) (made.served clean) in
-    let same : HoldsSound old → HasCleanDisk new → IsTrue mid.is_open → stored mid ≡ end_stored rs os (stored old) = λ sound clean on. run.stored sound (before clean) on in
+    let same : Sound → HasCleanDisk new → IsTrue mid.is_open → stored mid ≡ end_stored rs os (stored old) = λ sound clean on. run.stored (first sound) (before clean) on in
+    let opened : HasCleanDisk new → IsTrue mid.is_open → IsTrue old.is_open = λ clean on. run.opened (before clean) on in
     record {
-      ran = λ sound clean. ran_push (registry_in old) (registry_in mid) (registry_in new) mid.is_open new.is_open rs os r o (run.ran sound (before clean))
+      ran = λ sound clean. ran_push (registry_in old) (registry_in mid) (registry_in new) mid.is_open new.is_open rs os r o (run.ran (first sound) (before clean))
           (answer_of (registry_in mid) r o (IsTrue mid.is_open) (was_open clean) (λ on. made.answer (still sound clean on) clean)) (was_open clean) (made.opened clean)
           (λ on. made.moves (still sound clean (made.opened clean on)) clean on);
       stored = λ sound clean on. made.step (still sound clean (made.opened clean on)) clean on ∙ ap (next_stored r o) (same sound clean (made.opened clean on))
-          ∙ sym (end_stored_push (registry_in old) (stored old) rs os r o (run.ran sound (before clean)).answers);
+          ∙ sym (end_stored_push (registry_in old) (stored old) rs os r o (run.ran (first sound) (before clean)).answers);
       served = λ clean. served_push old.is_open mid.is_open new.is_open os o (run.served (before clean)) (served_one mid.is_open new.is_open o (made.served clean) (made.opened clean));
-      opened = λ clean on. run.opened (before clean) (made.opened clean on);
-      sound = λ sound clean on. made.sound (still sound clean (made.opened clean on)) clean on;
+      opened = λ clean on. opened clean (made.opened clean on);
+      grants = λ sound clean on holds. made.grants (still sound clean (made.opened clean on)) clean on (run.grants (first sound) (before clean) (made.opened clean on) holds);
+      needs = λ sound clean on holds. made.needs (still sound clean (made.opened clean on)) clean on (run.needs (first sound) (before clean) (made.opened clean on) holds);
+      refers = λ sound clean on holds. made.refers (still sound clean (made.opened clean on)) clean on (run.refers (first sound) (before clean) (made.opened clean on) holds);
+      archives = λ sound clean on holds. made.archives (still sound clean (made.opened clean on)) clean on (run.archives (first sound) (before clean) (made.opened clean on) holds);
       form = λ needs clean on kept.
-          made.form (still (record { refers = kept.sound; needs = needs }) clean (made.opened clean on)).needs clean on (run.form needs (before clean) (made.opened clean on) kept);
-      needs = λ sound clean on holds. made.needs (still sound clean (made.opened clean on)) clean on (run.needs sound (before clean) (made.opened clean on) holds);
-      archives = λ sound clean on holds. made.archives (still sound clean (made.opened clean on)) clean on (run.archives sound (before clean) (made.opened clean on) holds);
-      survives = λ sound clean db left. left_by_push (registry_in old) old.may_leave rs os r o (stored old) db (run.ran sound (before clean)).answers
-          (left_by_one _ r o _ db
+          let sound : Sound = refers_for_each (rs ++ r ∷ []) old kept.sound needs in
+          made.form (still sound clean (made.opened clean on)).needs clean on (run.form (first sound).needs (before clean) (made.opened clean on) kept);
+      survives = λ sound clean db left. left_by_push (IsTrue old.is_open) (registry_in old) old.may_leave rs os r o (stored old) db (run.ran (first sound) (before clean)).answers
+          (left_by_one (IsTrue old.is_open) _ r o _ db
           (elim (made.survives.crash clean db left) [
-            | inl earlier ↦ inl (run.survives sound (before clean) db earlier)
-            | inr (on, makes) ↦ inr (subst (IsRegistryOf db) (ap (settled_by r) (same sound clean on)) (makes (still sound clean on)))
+            | inl earlier ↦ inl (run.survives (first sound) (before clean) db earlier)
+            | inr (on, makes) ↦ inr (opened clean on, subst (IsRegistryOf db) (ap (settled_by r) (same sound clean on)) (makes (still sound clean on)))
           ])
           (on_answer o (λ on. subst (IsRegistryOf db) (made.step (still sound clean on.0) clean on.1 ∙ ap (next_stored r o) (same sound clean on.0)) (made.stays clean on.1 db left)) (made.served clean)));
       stays = λ sure. made.stays;

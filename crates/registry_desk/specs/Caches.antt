@@ -72,6 +72,10 @@ abbrev pub KeepsReply : Action → Reply → Cache → Cache → Type 0
 KeepsReply (Packument name) (Doc text) old new = KeepsLatest name text old new
 KeepsReply _ _ old new = new ≡ old
 
+-- nothing else is kept of an answered request than what was kept before, and then its reply
+abbrev pub KeepsAnswer : Action → Cache → Cache → Reply → Type 0
+KeepsAnswer what old new given = (still : Cache) × KeepsNoMore old still × KeepsReply what given still new
+
 -- ---- a request
 
 -- What is stored and kept is sound for an action: for a packument the texts that are kept, and for

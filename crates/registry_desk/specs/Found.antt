@@ -14,9 +14,10 @@ use Rattle.registry_rules.specs.Callers.{caller_of}
 use Rattle.registry_rules.specs.State.{State, Release, has_grant, has_live, has_maintainer, has_other_maintainer, has_other_owner, has_team, has_user, is_in_team, is_live, is_member, is_published, is_spent, stands}
 use Rattle.registry_rules.specs.Withdrawals.{is_depended, last_withdrawal, live_versions, published_at, tags_of}
 use Rattle.registry_rules.specs.declared.request.Action.{Action}
-use Rattle.registry_rules.specs.declared.request.Action.TheVariants.{Deprecate, Packument, VersionDoc, Archive, Tags, Members, Teams, TeamMembers, TeamPackages}
+use Rattle.registry_rules.specs.declared.request.Action.TheVariants.{Deprecate, Packument, VersionDoc, Archive, Tags, Members, Teams, TeamMembers, TeamPackages, Withdraw}
 use Rattle.registry_rules.specs.declared.request.Request.{Request}
 use Rattle.registry_tables.specs.Contents.{Contents, registry_of}
+use Rattle.registry_tables.specs.Needs.{HoldsNeeds}
 use Rattle.registry_tables.specs.Spelled.{document, document_entry, member_entry, row_entry, tag_entry}
 use Rattle.registry_tables.specs.Teams.{granted_entry}
 use Rattle.registry_history.specs.Answers.{asked_release, packument_in}
@@ -51,6 +52,12 @@ AreRowsOf _ S who _ = ⊥
 -- this is the caller of the request, by what is stored
 abbrev pub IsCallerIn : Contents → Request → Caller → Type 0
 IsCallerIn c r who = Some who ≡ caller_of (registry_of c) r.who
+
+-- a withdrawal alone is decided by the needs that are stored, so for it they are those of live
+-- versions
+abbrev pub NeedsFor : Action → Contents → Type 0
+NeedsFor (Withdraw p v) c = HoldsNeeds c
+NeedsFor _ c = Unit {0}
 
 -- ---- parts of what decides
 

@@ -17,6 +17,7 @@ use Rattle.registry_tables.specs.Contents.{Contents, contents}
 use Rattle.registry_tables.specs.Effects.{stored}
 use Rattle.registry_tables.specs.Fresh.{fresh, schema_key, schema_number}
 use Rattle.registry_tables.specs.Schema.{schema}
+use Rattle.registry_desk.specs.Resting.{IsRegistryOf}
 use Rattle.registry_desk.specs.declared.open.Unopened.{Unopened}
 use Rattle.registry_desk.specs.declared.open.Unopened.TheVariants as unopened
 
@@ -39,7 +40,7 @@ IsMadeOf db c = ((db.schema ≡ schema) × IsNumbered (contents db.trees) × (c 
 
 -- a crash leaves the database as it was, or, where it had no tables, a fresh registry
 abbrev pub IsLeftOf : Database → Trees → Type 0
-IsLeftOf db left = (left ≡ db.trees) ⊎ ((db.schema ≡ no_tables) × (contents left ≡ fresh))
+IsLeftOf db left = (left ≡ db.trees) ⊎ ((db.schema ≡ no_tables) × IsRegistryOf left fresh)
 
 -- ---- the same of the trees that files held, which list their schema
 
@@ -47,7 +48,7 @@ abbrev pub GivesFound : Trees → Contents → Type 0
 GivesFound db c = (IsSound schema db × IsNumbered (contents db) × (c ≡ contents db)) ⊎ (IsSound no_tables db × (c ≡ fresh))
 
 abbrev pub LeavesFound : Trees → Trees → Type 0
-LeavesFound db left = (left ≡ db) ⊎ (IsSound no_tables db × (contents left ≡ fresh))
+LeavesFound db left = (left ≡ db) ⊎ (IsSound no_tables db × IsRegistryOf left fresh)
 
 -- ---- what is promised of an open of files that held this
 

@@ -9,13 +9,14 @@ use Rattle.registry_tables.specs.Archives.{HoldsArchives}
 use Rattle.registry_tables.specs.Effects.{registry_in, stored}
 use Rattle.registry_history.specs.History.{Entry, after}
 use Rattle.registry_desk.specs.Opened.{HoldsEach}
-use Rattle.registry_desk.specs.Promises.{HoldsSound, IsSure}
+use Rattle.registry_desk.specs.Promises.{HoldsReferences, HoldsSound, IsSure}
 
 -- the next life begins with all that the last one stored. So what a request supposes of a registry
 -- is so again, and the history goes on
 pub record GoesOn (last next : Shown) : Type 0 where
   pub same : stored next ≡ stored last
   pub sound : HoldsSound last → HoldsSound next
+  pub refers : HoldsReferences (stored last) → HoldsReferences (stored next)
   pub archives : HoldsArchives (stored last) → HoldsArchives (stored next)
   pub form : IsKept (registry_in last) → IsKept (registry_in next)
   pub history : (h : List Entry) → registry_in last ≡ after h → registry_in next ≡ after h

@@ -2,10 +2,10 @@
 
 ghost use Rattle.registry_rows.specs.Frames.{Stays};
 ghost use Rattle.registry_tables.specs.Contents.{registry_of};
-ghost use Rattle.registry_tables.specs.Effects.{InForm, Tells};
-ghost use Rattle.registry_tables.specs.Needs.{HoldsNeeds};
+ghost use Rattle.registry_tables.specs.Effects.{InForm, Loads};
 ghost use Rattle.registry_tables.specs.Teams.{AreTeamsSound};
 ghost use Rattle.registry_rules.specs.Facts.{AboutTells};
+ghost use Rattle.registry_desk.specs.Found.{NeedsFor};
 
 use crate::grants::{new_grant, old_grant};
 use crate::maintainers::{new_maintainer, old_maintainer};
@@ -31,8 +31,8 @@ pub(crate) fn facts<S: Alter>(
 ) -> Result<About, Fault>
     requires in_form { InForm S.Store tx.old }
     ensures stays { Stays S.Store tx.old tx.new }
-    ensures tells { Tells S.Store tx.old tx.new result
-        (λ about c. AreTeamsSound c → HoldsNeeds c
+    ensures loads { Loads S.Store tx.old tx.new result
+        (λ about c. AreTeamsSound c → NeedsFor what.now c
         → AboutTells about (registry_of c) caller.now what.now) }
 {
     match what {

@@ -3,7 +3,7 @@
 ghost use Rattle.registry_access.specs.declared.grant.Grant.{Grant};
 ghost use Rattle.registry_rows.specs.Frames.{Stays};
 ghost use Rattle.registry_tables.specs.Contents.{registry_of};
-ghost use Rattle.registry_tables.specs.Effects.{InForm, Tells};
+ghost use Rattle.registry_tables.specs.Effects.{InForm, Loads};
 ghost use Rattle.registry_desk.specs.Found.{IsGrantable};
 ghost use Rattle.registry_rules.specs.Facts.{AboutTells};
 ghost use Rattle.registry_rules.specs.declared.request.Action.TheVariants as asked;
@@ -26,7 +26,7 @@ pub(crate) fn new_grant<S: Alter>(
 ) -> Result<About, Fault>
     requires in_form { InForm S.Store tx.old }
     ensures stays { Stays S.Store tx.old tx.new }
-    ensures tells { Tells S.Store tx.old tx.new result (λ about c. (grant : Grant)
+    ensures loads { Loads S.Store tx.old tx.new result (λ about c. (grant : Grant)
         → AboutTells about (registry_of c) caller.now
         (asked.Grant organisation.now team.now name.now grant)) }
 {
@@ -56,7 +56,7 @@ fn find_grantable<S: Alter>(
 ) -> Result<Grantable, Fault>
     requires in_form { InForm S.Store tx.old }
     ensures stays { Stays S.Store tx.old tx.new }
-    ensures tells { Tells S.Store tx.old tx.new result
+    ensures loads { Loads S.Store tx.old tx.new result
         (λ grantable c. IsGrantable grantable (registry_of c) organisation.now team.now name.now) }
 {
     Ok(Grantable {
@@ -77,7 +77,7 @@ pub(crate) fn old_grant<S: Alter>(
 ) -> Result<About, Fault>
     requires in_form { InForm S.Store tx.old }
     ensures stays { Stays S.Store tx.old tx.new }
-    ensures tells { Tells S.Store tx.old tx.new result (λ about c. AboutTells about
+    ensures loads { Loads S.Store tx.old tx.new result (λ about c. AboutTells about
         (registry_of c) caller.now (asked.Revoke organisation.now team.now name.now)) }
 {
     Ok(About::Revoke {

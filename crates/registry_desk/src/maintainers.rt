@@ -2,7 +2,7 @@
 
 ghost use Rattle.registry_rows.specs.Frames.{Stays};
 ghost use Rattle.registry_tables.specs.Contents.{registry_of};
-ghost use Rattle.registry_tables.specs.Effects.{InForm, Tells};
+ghost use Rattle.registry_tables.specs.Effects.{InForm, Loads};
 ghost use Rattle.registry_tables.specs.Teams.{AreTeamsSound};
 ghost use Rattle.registry_desk.specs.Found.{IsLeaver, IsNewcomer};
 ghost use Rattle.registry_rules.specs.Facts.{AboutTells};
@@ -25,7 +25,7 @@ pub(crate) fn new_maintainer<S: Alter>(
 ) -> Result<About, Fault>
     requires in_form { InForm S.Store tx.old }
     ensures stays { Stays S.Store tx.old tx.new }
-    ensures tells { Tells S.Store tx.old tx.new result (λ about c. AreTeamsSound c
+    ensures loads { Loads S.Store tx.old tx.new result (λ about c. AreTeamsSound c
         → AboutTells about (registry_of c) caller.now (asked.OwnerAdd name.now user.now)) }
 {
     let standing = load_standing(alloc, tx, caller, name)?;
@@ -51,7 +51,7 @@ fn find_newcomer<S: Alter>(
 ) -> Result<Newcomer, Fault>
     requires in_form { InForm S.Store tx.old }
     ensures stays { Stays S.Store tx.old tx.new }
-    ensures tells { Tells S.Store tx.old tx.new result
+    ensures loads { Loads S.Store tx.old tx.new result
         (λ newcomer c. IsNewcomer newcomer (registry_of c) name.now user.now) }
 {
     Ok(Newcomer {
@@ -70,7 +70,7 @@ pub(crate) fn old_maintainer<S: Alter>(
 ) -> Result<About, Fault>
     requires in_form { InForm S.Store tx.old }
     ensures stays { Stays S.Store tx.old tx.new }
-    ensures tells { Tells S.Store tx.old tx.new result (λ about c. AreTeamsSound c
+    ensures loads { Loads S.Store tx.old tx.new result (λ about c. AreTeamsSound c
         → AboutTells about (registry_of c) caller.now (asked.OwnerRemove name.now user.now)) }
 {
     let standing = load_standing(alloc, tx, caller, name)?;
@@ -97,7 +97,7 @@ fn find_leaver<S: Alter>(
 ) -> Result<Leaver, Fault>
     requires in_form { InForm S.Store tx.old }
     ensures stays { Stays S.Store tx.old tx.new }
-    ensures tells { Tells S.Store tx.old tx.new result
+    ensures loads { Loads S.Store tx.old tx.new result
         (λ leaver c. IsLeaver leaver (registry_of c) name.now user.now) }
 {
     Ok(Leaver {

@@ -4,7 +4,7 @@ ghost use Rattle.registry_access.specs.declared.caller.Caller.{Caller};
 ghost use Rattle.registry_access.specs.declared.role.Role.{Role as Rank};
 ghost use Rattle.registry_rows.specs.Frames.{Stays};
 ghost use Rattle.registry_tables.specs.Contents.{registry_of};
-ghost use Rattle.registry_tables.specs.Effects.{InForm, Tells};
+ghost use Rattle.registry_tables.specs.Effects.{InForm, Loads};
 ghost use Rattle.registry_desk.specs.Found.{IsCandidate};
 ghost use Rattle.registry_rules.specs.Facts.{AboutTells};
 ghost use Rattle.registry_rules.specs.declared.request.Action.TheVariants as asked;
@@ -24,7 +24,7 @@ pub(crate) fn new_organisation<S: Alter>(
 ) -> Result<About, Fault>
     requires in_form { InForm S.Store tx.old }
     ensures stays { Stays S.Store tx.old tx.new }
-    ensures tells { Tells S.Store tx.old tx.new result (λ about c. (who : Caller)
+    ensures loads { Loads S.Store tx.old tx.new result (λ about c. (who : Caller)
         → AboutTells about (registry_of c) who (asked.OrgCreate organisation.now owner.now)) }
 {
     Ok(About::OrgCreate {
@@ -43,7 +43,7 @@ pub(crate) fn new_role<S: Alter>(
 ) -> Result<About, Fault>
     requires in_form { InForm S.Store tx.old }
     ensures stays { Stays S.Store tx.old tx.new }
-    ensures tells { Tells S.Store tx.old tx.new result (λ about c. (role : Rank)
+    ensures loads { Loads S.Store tx.old tx.new result (λ about c. (role : Rank)
         → AboutTells about (registry_of c) caller.now
         (asked.OrgSet organisation.now user.now role)) }
 {
@@ -73,7 +73,7 @@ fn find_candidate<S: Alter>(
 ) -> Result<Candidate, Fault>
     requires in_form { InForm S.Store tx.old }
     ensures stays { Stays S.Store tx.old tx.new }
-    ensures tells { Tells S.Store tx.old tx.new result
+    ensures loads { Loads S.Store tx.old tx.new result
         (λ candidate c. IsCandidate candidate (registry_of c) organisation.now user.now) }
 {
     Ok(Candidate {
@@ -93,7 +93,7 @@ pub(crate) fn old_member<S: Alter>(
 ) -> Result<About, Fault>
     requires in_form { InForm S.Store tx.old }
     ensures stays { Stays S.Store tx.old tx.new }
-    ensures tells { Tells S.Store tx.old tx.new result (λ about c.
+    ensures loads { Loads S.Store tx.old tx.new result (λ about c.
         AboutTells about (registry_of c) caller.now (asked.OrgRemove organisation.now user.now)) }
 {
     Ok(About::OrgRemove {
@@ -112,9 +112,9 @@ pub(crate) fn seen_organisation<S: Alter>(
 ) -> Result<About, Fault>
     requires in_form { InForm S.Store tx.old }
     ensures stays { Stays S.Store tx.old tx.new }
-    ensures members { Tells S.Store tx.old tx.new result (λ about c.
+    ensures members { Loads S.Store tx.old tx.new result (λ about c.
         AboutTells about (registry_of c) caller.now (asked.Members organisation.now)) }
-    ensures teams { Tells S.Store tx.old tx.new result (λ about c.
+    ensures teams { Loads S.Store tx.old tx.new result (λ about c.
         AboutTells about (registry_of c) caller.now (asked.Teams organisation.now)) }
 {
     Ok(About::Organisation {

@@ -4,7 +4,7 @@ ghost use Rattle.std.specs.Prelude.{◌≡◌};
 ghost use Rattle.registry_names.specs.declared.status.Status.{Status};
 ghost use Rattle.registry_rows.specs.Frames.{Stays};
 ghost use Rattle.registry_tables.specs.Contents.{registry_of};
-ghost use Rattle.registry_tables.specs.Effects.{InForm, Tells};
+ghost use Rattle.registry_tables.specs.Effects.{InForm, Loads};
 ghost use Rattle.registry_tables.specs.Teams.{AreTeamsSound};
 ghost use Rattle.registry_desk.specs.Found.{AreTaken};
 ghost use Rattle.registry_rules.specs.Facts.{AboutTells};
@@ -31,7 +31,7 @@ pub(crate) fn new_status<S: Alter>(
 ) -> Result<About, Fault>
     requires in_form { InForm S.Store tx.old }
     ensures stays { Stays S.Store tx.old tx.new }
-    ensures tells { Tells S.Store tx.old tx.new result (λ about c. (status : Status)
+    ensures loads { Loads S.Store tx.old tx.new result (λ about c. (status : Status)
         → AreTeamsSound c
         → AboutTells about (registry_of c) caller.now (asked.SetAccess name.now status)) }
 {
@@ -49,7 +49,7 @@ pub(crate) fn new_version<S: Alter>(
 ) -> Result<About, Fault>
     requires in_form { InForm S.Store tx.old }
     ensures stays { Stays S.Store tx.old tx.new }
-    ensures tells { Tells S.Store tx.old tx.new result (λ about c. AreTeamsSound c
+    ensures loads { Loads S.Store tx.old tx.new result (λ about c. AreTeamsSound c
         → AboutTells about (registry_of c) caller.now (asked.Publish form.now)) }
 {
     let standing = load_standing(alloc, tx, caller, form.name())?;
@@ -79,7 +79,7 @@ struct Taken {
 fn find_taken<S: Alter>(tx: &mut Transaction<'_, S>, form: &PublishForm) -> Result<Taken, Fault>
     requires in_form { InForm S.Store tx.old }
     ensures stays { Stays S.Store tx.old tx.new }
-    ensures tells { Tells S.Store tx.old tx.new result
+    ensures loads { Loads S.Store tx.old tx.new result
         (λ taken c. AreTaken taken (registry_of c) form.now) }
 {
     let (name, version) = (form.name(), form.version().text());
@@ -104,7 +104,7 @@ pub(crate) fn new_tag<S: Alter>(
 ) -> Result<About, Fault>
     requires in_form { InForm S.Store tx.old }
     ensures stays { Stays S.Store tx.old tx.new }
-    ensures tells { Tells S.Store tx.old tx.new result (λ about c. AreTeamsSound c
+    ensures loads { Loads S.Store tx.old tx.new result (λ about c. AreTeamsSound c
         → AboutTells about (registry_of c) caller.now
         (asked.TagSet name.now tag.now version.now)) }
 {
@@ -125,7 +125,7 @@ pub(crate) fn old_tag<S: Alter>(
 ) -> Result<About, Fault>
     requires in_form { InForm S.Store tx.old }
     ensures stays { Stays S.Store tx.old tx.new }
-    ensures tells { Tells S.Store tx.old tx.new result (λ about c. AreTeamsSound c
+    ensures loads { Loads S.Store tx.old tx.new result (λ about c. AreTeamsSound c
         → AboutTells about (registry_of c) caller.now (asked.TagRemove name.now tag.now)) }
 {
     Ok(About::TagRemove {
@@ -143,9 +143,9 @@ pub(crate) fn seen_package<S: Alter>(
 ) -> Result<About, Fault>
     requires in_form { InForm S.Store tx.old }
     ensures stays { Stays S.Store tx.old tx.new }
-    ensures packument { Tells S.Store tx.old tx.new result (λ about c. AreTeamsSound c
+    ensures packument { Loads S.Store tx.old tx.new result (λ about c. AreTeamsSound c
         → AboutTells about (registry_of c) caller.now (asked.Packument name.now)) }
-    ensures tags { Tells S.Store tx.old tx.new result (λ about c. AreTeamsSound c
+    ensures tags { Loads S.Store tx.old tx.new result (λ about c. AreTeamsSound c
         → AboutTells about (registry_of c) caller.now (asked.Tags name.now)) }
 {
     Ok(About::Package {
@@ -164,7 +164,7 @@ pub(crate) fn seen_document<S: Alter>(
 ) -> Result<About, Fault>
     requires in_form { InForm S.Store tx.old }
     ensures stays { Stays S.Store tx.old tx.new }
-    ensures tells { Tells S.Store tx.old tx.new result (λ about c. AreTeamsSound c
+    ensures loads { Loads S.Store tx.old tx.new result (λ about c. AreTeamsSound c
         → AboutTells about (registry_of c) caller.now
         (asked.VersionDoc name.now version.now)) }
 {
@@ -181,7 +181,7 @@ fn asked_lives<S: Alter>(
 ) -> Result<bool, Fault>
     requires in_form { InForm S.Store tx.old }
     ensures stays { Stays S.Store tx.old tx.new }
-    ensures tells { Tells S.Store tx.old tx.new result (λ lives c. lives ≡ state.lives
+    ensures loads { Loads S.Store tx.old tx.new result (λ lives c. lives ≡ state.lives
         (registry_of c) name.now (state.asked_version (registry_of c) name.now version.now)) }
 {
     match version {
@@ -194,7 +194,7 @@ fn asked_lives<S: Alter>(
 fn latest_lives<S: Alter>(tx: &mut Transaction<'_, S>, name: &Name) -> Result<bool, Fault>
     requires in_form { InForm S.Store tx.old }
     ensures stays { Stays S.Store tx.old tx.new }
-    ensures tells { Tells S.Store tx.old tx.new result (λ lives c. lives ≡ state.lives
+    ensures loads { Loads S.Store tx.old tx.new result (λ lives c. lives ≡ state.lives
         (registry_of c) name.now (state.asked_version (registry_of c) name.now which.Latest)) }
 {
     match load_tag(tx, name, LATEST)? {
@@ -216,7 +216,7 @@ pub(crate) fn seen_archive<S: Alter>(
 ) -> Result<About, Fault>
     requires in_form { InForm S.Store tx.old }
     ensures stays { Stays S.Store tx.old tx.new }
-    ensures tells { Tells S.Store tx.old tx.new result (λ about c. AreTeamsSound c
+    ensures loads { Loads S.Store tx.old tx.new result (λ about c. AreTeamsSound c
         → AboutTells about (registry_of c) caller.now (asked.Archive name.now version.now)) }
 {
     Ok(About::Version {

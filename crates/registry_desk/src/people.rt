@@ -3,7 +3,7 @@
 ghost use Rattle.registry_access.specs.declared.caller.Caller.{Caller};
 ghost use Rattle.registry_rows.specs.Frames.{Stays};
 ghost use Rattle.registry_tables.specs.Contents.{registry_of};
-ghost use Rattle.registry_tables.specs.Effects.{InForm, Tells};
+ghost use Rattle.registry_tables.specs.Effects.{InForm, Loads};
 ghost use Rattle.registry_rules.specs.Facts.{AboutTells};
 ghost use Rattle.registry_rules.specs.declared.request.Action.TheVariants as asked;
 
@@ -18,7 +18,7 @@ use std::alloc::Global;
 pub(crate) fn new_user<S: Alter>(tx: &mut Transaction<'_, S>, user: &Ident) -> Result<About, Fault>
     requires in_form { InForm S.Store tx.old }
     ensures stays { Stays S.Store tx.old tx.new }
-    ensures tells { Tells S.Store tx.old tx.new result (λ about c. (who : Caller)
+    ensures loads { Loads S.Store tx.old tx.new result (λ about c. (who : Caller)
         → AboutTells about (registry_of c) who (asked.UserAdd user.now)) }
 {
     Ok(About::UserAdd {
@@ -35,7 +35,7 @@ pub(crate) fn new_token<S: Alter>(
 ) -> Result<About, Fault>
     requires in_form { InForm S.Store tx.old }
     ensures stays { Stays S.Store tx.old tx.new }
-    ensures tells { Tells S.Store tx.old tx.new result (λ about c. (who : Caller)
+    ensures loads { Loads S.Store tx.old tx.new result (λ about c. (who : Caller)
         → AboutTells about (registry_of c) who (asked.TokenAdd user.now digest.now)) }
 {
     Ok(About::TokenAdd {

@@ -4,21 +4,22 @@ ghost use Rattle.std.specs.Prelude.{◌≡◌, false, IfErr, IfOk, IsTrue, OnErr
 ghost use Rattle.sqlite.specs.Held.{state};
 ghost use Rattle.sqlite.specs.State.{HasCleanDisk, Survives};
 ghost use Rattle.sqlite.specs.Steps.{IsEmpty, over_memory};
-ghost use Rattle.registry_rules.specs.Kept.{IsKept, IsSound};
+ghost use Rattle.registry_rules.specs.Kept.{IsKept};
 ghost use Rattle.registry_rules.specs.State.{nothing};
 ghost use Rattle.registry_tables.specs.Archives.{HoldsArchives};
-ghost use Rattle.registry_tables.specs.Contents.{contents};
 ghost use Rattle.registry_tables.specs.Effects.{registry_in, stored};
 ghost use Rattle.registry_tables.specs.Fresh.{fresh};
 ghost use Rattle.registry_tables.specs.Needs.{HoldsNeeds};
+ghost use Rattle.registry_tables.specs.Teams.{GrantsInScope};
 ghost use Rattle.registry_history.specs.Headline.{Headline};
-ghost use Rattle.registry_desk.specs.Promises.{Answered, GrowsHistory, HasHeadline, Keeps, KeepsForm, KeepsSound, KeepsSure, Moves, RanTo, Served, ServedRun, ShutByFaults, StaysSure, Stepped, Stored, SurvivesOne, SurvivesRun, WasOpen, WritesHistory};
-ghost use Rattle.registry_desk.specs.Resting.{Rests, end_stored};
-ghost use Rattle.registry_desk.specs.Caches.{HasPackuments};
+ghost use Rattle.registry_desk.specs.Promises.{Answered, GrowsHistory, HasHeadline, HidesUnread, HoldsReferences, HoldsSound, Keeps, KeepsForm, KeepsFormRun, KeepsRun, KeepsSure, Moves, RanTo, Served, ServedRun, ShutByFaults, StaysSure, Stepped, Stored, SurvivesOne, SurvivesRun, Unchanged, WasOpen, WritesHistory};
+ghost use Rattle.registry_desk.specs.Resting.{IsRegistryOf, Rests, end_stored};
+ghost use Rattle.registry_desk.specs.Caches.{HasPackuments, KeepsAnswer, KeepsNoMore};
 
 use crate::answer::answered_inside;
 use crate::cache::keep_reply;
 use registry_cache::TextCache;
+use registry_hidden::laws::unread_packages_are_unheard_of;
 use registry_names::Fault;
 use registry_rows::commit;
 use registry_rules::laws::requests_are_in_form;
@@ -68,9 +69,9 @@ impl Registry<MemStore> {
     pub fn in_memory(alloc: Global) -> Result<Registry<MemStore>, Fault>
         ensures fresh { IfOk result (λ r. stored (state over_memory r) ≡ fresh) }
         ensures empty { IfOk result (λ r. registry_in (state over_memory r) ≡ nothing) }
-        ensures needs { IfOk result (λ r. HoldsNeeds (stored (state over_memory r))) }
+        ensures sound { IfOk result (λ r. HoldsSound (state over_memory r)) }
+        ensures refers { IfOk result (λ r. HoldsReferences (stored (state over_memory r))) }
         ensures archives { IfOk result (λ r. HoldsArchives (stored (state over_memory r))) }
-        ensures sound { IfOk result (λ r. IsSound (registry_in (state over_memory r)).access) }
         ensures form { IfOk result (λ r. IsKept (registry_in (state over_memory r))) }
         ensures served { IfOk result (λ r. IsTrue (state over_memory r).is_open) }
     {
@@ -93,7 +94,7 @@ impl Registry<MemStore> {
             Headline requests.now ran.1.items (registry_in (state over_memory ran.0))) }
         ensures stored { IfOk result (λ ran.
             stored (state over_memory ran.0) ≡ end_stored requests.now ran.1.items fresh) }
-        ensures needs { IfOk result (λ ran. HoldsNeeds (stored (state over_memory ran.0))) }
+        ensures sound { IfOk result (λ ran. HoldsSound (state over_memory ran.0)) }
         ensures archives { IfOk result (λ ran. HoldsArchives (stored (state over_memory ran.0))) }
         ensures form { IfOk result (λ ran. IsKept (registry_in (state over_memory ran.0))) }
         ensures served { IfOk result (λ ran. IsTrue (state over_memory ran.0).is_open) }
@@ -109,30 +110,44 @@ impl<S: Alter> Registry<S> {
     /// has changed.
     ///
     /// What is said here holds as long as the disk returns what was written to it, which memory
-    /// always does; and of a registry where references hold, and the needs that are stored are
-    /// those of live versions, as in a new one: every request keeps that. A crash leaves what is
-    /// stored, as long as the registry is open, as it is after a reply. Where a fault of the disk
-    /// has shut it, a crash leaves what it could have left before, or what the request makes.
+    /// always does; and of a registry where each grant is on a package of its organisation's scope
+    /// and, for a withdrawal alone, the needs that are stored are those of live versions. So it is
+    /// in a new one, and every request keeps it. That a fault, a refusal and a query change nothing
+    /// doesn't suppose it.
+    ///
+    /// A crash leaves what is stored, as long as the registry is open, as it is after a reply.
+    /// Where a fault of the disk has shut it, a crash leaves what it could have left before, or
+    /// what the request makes.
     pub fn apply(&mut self, alloc: Global, request: &Request) -> Result<Reply, Fault>
         ensures answer { Answered (state S.Store self.old) (state S.Store self.new)
             request.now result }
         ensures served { Served (state S.Store self.old) (state S.Store self.new) result }
         ensures opened { WasOpen (state S.Store self.old) (state S.Store self.new) }
+        ensures unchanged { Unchanged (state S.Store self.old) (state S.Store self.new)
+            request.now result }
         ensures step { Stepped (state S.Store self.old) (state S.Store self.new)
             request.now result }
         ensures moves { Moves (state S.Store self.old) (state S.Store self.new)
             request.now result }
         ensures history { GrowsHistory (state S.Store self.old) (state S.Store self.new)
             request.now result }
-        ensures sound { KeepsSound (state S.Store self.old) (state S.Store self.new) }
-        ensures form { KeepsForm (state S.Store self.old) (state S.Store self.new) }
-        ensures needs { Keeps (state S.Store self.old) (state S.Store self.new) HoldsNeeds }
-        ensures archives { Keeps (state S.Store self.old) (state S.Store self.new) HoldsArchives }
+        ensures hidden { HidesUnread (state S.Store self.old) (state S.Store self.new)
+            request.now result }
+        ensures grants { Keeps (state S.Store self.old) (state S.Store self.new)
+            request.now GrantsInScope }
+        ensures needs { Keeps (state S.Store self.old) (state S.Store self.new)
+            request.now HoldsNeeds }
+        ensures refers { Keeps (state S.Store self.old) (state S.Store self.new)
+            request.now HoldsReferences }
+        ensures archives { Keeps (state S.Store self.old) (state S.Store self.new)
+            request.now HoldsArchives }
+        ensures form { KeepsForm (state S.Store self.old) (state S.Store self.new) request.now }
         ensures survives { SurvivesOne (state S.Store self.old) (state S.Store self.new)
             request.now }
         ensures stays { StaysSure (state S.Store self.new) }
     {
         requests_are_in_form(request);
+        unread_packages_are_unheard_of();
         answered(alloc, &mut self.conn, &mut self.cache, request)
     }
 
@@ -142,7 +157,7 @@ impl<S: Alter> Registry<S> {
     /// A crash leaves what is stored, as long as the registry is open. Where a fault of the disk
     /// has shut it, no reply is lost: a crash leaves what was stored at the last one, or before the
     /// first request what it could have left, or what a request makes that was answered by a fault
-    /// since.
+    /// since. A registry that was shut from the first request on leaves what it could have left.
     pub fn run(
         &mut self,
         alloc: Global,
@@ -159,10 +174,16 @@ impl<S: Alter> Registry<S> {
         ensures served { IfOk result (λ outcomes. ServedRun (state S.Store self.old)
             (state S.Store self.new) outcomes.items) }
         ensures opened { WasOpen (state S.Store self.old) (state S.Store self.new) }
-        ensures sound { KeepsSound (state S.Store self.old) (state S.Store self.new) }
-        ensures form { KeepsForm (state S.Store self.old) (state S.Store self.new) }
-        ensures needs { Keeps (state S.Store self.old) (state S.Store self.new) HoldsNeeds }
-        ensures archives { Keeps (state S.Store self.old) (state S.Store self.new) HoldsArchives }
+        ensures grants { KeepsRun (state S.Store self.old) (state S.Store self.new)
+            requests.now GrantsInScope }
+        ensures needs { KeepsRun (state S.Store self.old) (state S.Store self.new)
+            requests.now HoldsNeeds }
+        ensures refers { KeepsRun (state S.Store self.old) (state S.Store self.new)
+            requests.now HoldsReferences }
+        ensures archives { KeepsRun (state S.Store self.old) (state S.Store self.new)
+            requests.now HoldsArchives }
+        ensures form { KeepsFormRun (state S.Store self.old) (state S.Store self.new)
+            requests.now }
         ensures survives { IfOk result (λ outcomes. SurvivesRun (state S.Store self.old)
             (state S.Store self.new) requests.now outcomes.items) }
         ensures stays { KeepsSure (state S.Store self.old) (state S.Store self.new) }
@@ -203,14 +224,15 @@ pub(crate) fn create_tables<S: Alter>(conn: &mut Connection<S>) -> Result<(), Fa
     ensures served { HasCleanDisk (state S.Store conn.new)
         → OnOk result (IsTrue (state S.Store conn.new).is_open) }
     ensures survives { Survives (state S.Store conn.old) (state S.Store conn.new)
-        (λ db. contents db ≡ fresh) }
+        (λ db. IsRegistryOf db fresh) }
 {
     let mut tx = conn.transaction();
     create(&mut tx)?;
     commit(tx)
 }
 
-// One transaction, which rolls back where `?` drops it.
+// One transaction, which rolls back where `?` drops it. What is replied is kept after the commit,
+// and where a fault comes no text is kept that wasn't before.
 fn answered<S: Alter>(
     alloc: Global,
     conn: &mut Connection<S>,
@@ -226,8 +248,12 @@ fn answered<S: Alter>(
         request.now result }
     ensures served { Served (state S.Store conn.old) (state S.Store conn.new) result }
     ensures opened { WasOpen (state S.Store conn.old) (state S.Store conn.new) }
+    ensures unchanged { Unchanged (state S.Store conn.old) (state S.Store conn.new)
+        request.now result }
     ensures step { Stepped (state S.Store conn.old) (state S.Store conn.new) request.now result }
     ensures survives { SurvivesOne (state S.Store conn.old) (state S.Store conn.new) request.now }
+    ensures no_more { OnErr result (KeepsNoMore cache.old cache.new) }
+    ensures kept { IfOk result (KeepsAnswer request.now.what cache.old cache.new) }
 {
     let mut tx = conn.transaction();
     let reply = answered_inside(alloc, &mut tx, cache, request)?;

@@ -1,6 +1,6 @@
 //! The reply to a request that isn't refused.
 
-ghost use Rattle.std.specs.Prelude.{◌≡◌, ℕ, List as Sequence, Some, IfOk, filter, length, map};
+ghost use Rattle.std.specs.Prelude.{◌≡◌, ℕ, true, List as Sequence, Some, Ok, IfOk, filter, length, map};
 ghost use Rattle.registry_names.specs.Maps.{of, pairs_of, parts, seen};
 ghost use Rattle.registry_names.specs.Versions.{text_of_version};
 ghost use Rattle.registry_packument.specs.Documents.{document_text};
@@ -15,6 +15,7 @@ ghost use Rattle.registry_tables.specs.Spelled.{document, member_entry, row_entr
 ghost use Rattle.registry_tables.specs.Teams.{granted_entry};
 ghost use Rattle.registry_history.specs.Answers as answers;
 ghost use Rattle.registry_history.specs.Answers.{members_in, packument_in, tags_in, team_packages_in};
+ghost use Rattle.registry_history.specs.Runs.{accepts};
 ghost use Rattle.registry_desk.specs.Found.{AreRowsOf};
 
 use crate::rows::Rows;
@@ -31,8 +32,9 @@ use std::alloc::Global;
 
 /// The reply to a caller's action, of the rows that answer it.
 pub(crate) fn reply(alloc: Global, what: &Action, rows: Rows) -> Result<Reply, Fault>
-    ensures { IfOk result (λ told. (S : State) (who : Caller) → AreRowsOf rows S who what.now
+    ensures is { IfOk result (λ told. (S : State) (who : Caller) → AreRowsOf rows S who what.now
         → told ≡ answers.reply S who what.now) }
+    ensures accepts { IfOk result (λ told. accepts (Ok told) ≡ true) }
 {
     match (what, rows) {
         (Action::Publish { .. }, _) => Ok(Reply::Created),
@@ -116,10 +118,13 @@ fn packument(
         → text ≡ packument_in S name.now) }
 {
     let name = Text::from_str(alloc, name.text())?;
+    let Some(head) = PackHead::new(name, tags) else {
+        return Err(Fault::Database);
+    };
     let Some(mut source) = VersionRows::new(versions) else {
         return Err(Fault::Database);
     };
-    packument_text(alloc, &PackHead { name, tags }, &mut source)
+    packument_text(alloc, &head, &mut source)
 }
 
 // The document of a version, with its message where it has one.

@@ -7,7 +7,7 @@ ghost use Rattle.registry_names.specs.Texts.{Text as SpecText};
 ghost use Rattle.registry_ranges.specs.Selectors.{Condition};
 ghost use Rattle.registry_rows.specs.Frames.{Stays};
 ghost use Rattle.registry_tables.specs.Contents.{registry_of};
-ghost use Rattle.registry_tables.specs.Effects.{InForm, Knows, Tells};
+ghost use Rattle.registry_tables.specs.Effects.{InForm, Knows, Loads};
 ghost use Rattle.registry_tables.specs.Spelled.{document, document_entry};
 ghost use Rattle.registry_tables.specs.Teams.{AreTeamsSound};
 ghost use Rattle.registry_cache.specs.Caches.{kept};
@@ -113,7 +113,7 @@ fn live_rows<S: Alter>(
 ) -> Result<Rows, Fault>
     requires in_form { InForm S.Store tx.old }
     ensures stays { Stays S.Store tx.old tx.new }
-    ensures tells { Tells S.Store tx.old tx.new result (λ rows c. (who : Caller)
+    ensures loads { Loads S.Store tx.old tx.new result (λ rows c. (who : Caller)
         (selector : List (List Condition)) (message : SpecText)
         → AreRowsOf rows (registry_of c) who (asked.Deprecate name.now selector message)) }
 {
@@ -152,7 +152,7 @@ fn stored_rows<S: Alter>(
 ) -> Result<Rows, Fault>
     requires in_form { InForm S.Store tx.old }
     ensures stays { Stays S.Store tx.old tx.new }
-    ensures tells { Tells S.Store tx.old tx.new result
+    ensures loads { Loads S.Store tx.old tx.new result
         (λ rows c. (who : Caller) → AreRowsOf rows (registry_of c) who (asked.Packument name.now)) }
 {
     let versions = load_versions(alloc, tx, name)?;
@@ -167,7 +167,7 @@ fn document_row<S: Alter>(
 ) -> Result<Rows, Fault>
     requires in_form { InForm S.Store tx.old }
     ensures stays { Stays S.Store tx.old tx.new }
-    ensures tells { Tells S.Store tx.old tx.new result
+    ensures loads { Loads S.Store tx.old tx.new result
         (λ rows c. (who : Caller)
         → AreRowsOf rows (registry_of c) who (asked.VersionDoc name.now version.now)) }
 {
@@ -182,7 +182,7 @@ fn load_asked<S: Alter>(
 ) -> Result<Option<DocumentRow>, Fault>
     requires in_form { InForm S.Store tx.old }
     ensures stays { Stays S.Store tx.old tx.new }
-    ensures tells { Tells S.Store tx.old tx.new result (λ found c. option_map document_entry found
+    ensures loads { Loads S.Store tx.old tx.new result (λ found c. option_map document_entry found
         ≡ option_map document (asked_release (registry_of c) name.now version.now)) }
 {
     match version {
@@ -198,7 +198,7 @@ fn load_latest<S: Alter>(
 ) -> Result<Option<DocumentRow>, Fault>
     requires in_form { InForm S.Store tx.old }
     ensures stays { Stays S.Store tx.old tx.new }
-    ensures tells { Tells S.Store tx.old tx.new result (λ found c. option_map document_entry found
+    ensures loads { Loads S.Store tx.old tx.new result (λ found c. option_map document_entry found
         ≡ option_map document (asked_release (registry_of c) name.now which.Latest)) }
 {
     match load_tag(tx, name, LATEST)? {
@@ -217,7 +217,7 @@ fn archive_row<S: Alter>(
 ) -> Result<Rows, Fault>
     requires in_form { InForm S.Store tx.old }
     ensures stays { Stays S.Store tx.old tx.new }
-    ensures tells { Tells S.Store tx.old tx.new result
+    ensures loads { Loads S.Store tx.old tx.new result
         (λ rows c. (who : Caller)
         → AreRowsOf rows (registry_of c) who (asked.Archive name.now version.now)) }
 {
@@ -232,7 +232,7 @@ fn tag_rows<S: Alter>(
 ) -> Result<Rows, Fault>
     requires in_form { InForm S.Store tx.old }
     ensures stays { Stays S.Store tx.old tx.new }
-    ensures tells { Tells S.Store tx.old tx.new result
+    ensures loads { Loads S.Store tx.old tx.new result
         (λ rows c. (who : Caller) → AreRowsOf rows (registry_of c) who (asked.Tags name.now)) }
 {
     Ok(Rows::Tags(load_tags(alloc, tx, name)?))
@@ -245,7 +245,7 @@ fn member_rows<S: Alter>(
 ) -> Result<Rows, Fault>
     requires in_form { InForm S.Store tx.old }
     ensures stays { Stays S.Store tx.old tx.new }
-    ensures tells { Tells S.Store tx.old tx.new result
+    ensures loads { Loads S.Store tx.old tx.new result
         (λ rows c. (who : Caller)
         → AreRowsOf rows (registry_of c) who (asked.Members organisation.now)) }
 {
@@ -259,7 +259,7 @@ fn team_rows<S: Alter>(
 ) -> Result<Rows, Fault>
     requires in_form { InForm S.Store tx.old }
     ensures stays { Stays S.Store tx.old tx.new }
-    ensures tells { Tells S.Store tx.old tx.new result
+    ensures loads { Loads S.Store tx.old tx.new result
         (λ rows c. (who : Caller)
         → AreRowsOf rows (registry_of c) who (asked.Teams organisation.now)) }
 {
@@ -274,7 +274,7 @@ fn team_member_rows<S: Alter>(
 ) -> Result<Rows, Fault>
     requires in_form { InForm S.Store tx.old }
     ensures stays { Stays S.Store tx.old tx.new }
-    ensures tells { Tells S.Store tx.old tx.new result
+    ensures loads { Loads S.Store tx.old tx.new result
         (λ rows c. (who : Caller)
         → AreRowsOf rows (registry_of c) who (asked.TeamMembers organisation.now team.now)) }
 {
@@ -291,7 +291,7 @@ fn grant_rows<S: Alter>(
 ) -> Result<Rows, Fault>
     requires in_form { InForm S.Store tx.old }
     ensures stays { Stays S.Store tx.old tx.new }
-    ensures tells { Tells S.Store tx.old tx.new result (λ rows c. AreTeamsSound c → AreRowsOf rows
+    ensures loads { Loads S.Store tx.old tx.new result (λ rows c. AreTeamsSound c → AreRowsOf rows
         (registry_of c) caller.now (asked.TeamPackages organisation.now team.now)) }
 {
     let granted = load_team_packages(alloc, tx, caller, organisation.text(), team.text())?;

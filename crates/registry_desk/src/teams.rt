@@ -3,7 +3,7 @@
 ghost use Rattle.registry_access.specs.declared.caller.Caller.{Caller};
 ghost use Rattle.registry_rows.specs.Frames.{Stays};
 ghost use Rattle.registry_tables.specs.Contents.{registry_of};
-ghost use Rattle.registry_tables.specs.Effects.{InForm, Tells};
+ghost use Rattle.registry_tables.specs.Effects.{InForm, Loads};
 ghost use Rattle.registry_desk.specs.Found.{IsPlace};
 ghost use Rattle.registry_rules.specs.Facts.{AboutTells};
 ghost use Rattle.registry_rules.specs.declared.request.Action.TheVariants as asked;
@@ -25,7 +25,7 @@ pub(crate) fn new_team<S: Alter>(
 ) -> Result<About, Fault>
     requires in_form { InForm S.Store tx.old }
     ensures stays { Stays S.Store tx.old tx.new }
-    ensures tells { Tells S.Store tx.old tx.new result (λ about c.
+    ensures loads { Loads S.Store tx.old tx.new result (λ about c.
         AboutTells about (registry_of c) caller.now (asked.TeamCreate organisation.now team.now)) }
 {
     Ok(About::TeamCreate {
@@ -44,7 +44,7 @@ pub(crate) fn old_team<S: Alter>(
 ) -> Result<About, Fault>
     requires in_form { InForm S.Store tx.old }
     ensures stays { Stays S.Store tx.old tx.new }
-    ensures tells { Tells S.Store tx.old tx.new result (λ about c. AboutTells about
+    ensures loads { Loads S.Store tx.old tx.new result (λ about c. AboutTells about
         (registry_of c) caller.now (asked.TeamDestroy organisation.now team.now)) }
 {
     Ok(About::TeamDestroy {
@@ -64,7 +64,7 @@ pub(crate) fn new_team_member<S: Alter>(
 ) -> Result<About, Fault>
     requires in_form { InForm S.Store tx.old }
     ensures stays { Stays S.Store tx.old tx.new }
-    ensures tells { Tells S.Store tx.old tx.new result (λ about c. AboutTells about
+    ensures loads { Loads S.Store tx.old tx.new result (λ about c. AboutTells about
         (registry_of c) caller.now (asked.TeamAdd organisation.now team.now user.now)) }
 {
     let rows = load_access(alloc, tx, caller, organisation.text())?;
@@ -88,7 +88,7 @@ pub(crate) fn old_team_member<S: Alter>(
 ) -> Result<About, Fault>
     requires in_form { InForm S.Store tx.old }
     ensures stays { Stays S.Store tx.old tx.new }
-    ensures tells { Tells S.Store tx.old tx.new result (λ about c. AboutTells about
+    ensures loads { Loads S.Store tx.old tx.new result (λ about c. AboutTells about
         (registry_of c) caller.now (asked.TeamRemove organisation.now team.now user.now)) }
 {
     let rows = load_access(alloc, tx, caller, organisation.text())?;
@@ -116,7 +116,7 @@ fn find_place<S: Alter>(
 ) -> Result<Place, Fault>
     requires in_form { InForm S.Store tx.old }
     ensures stays { Stays S.Store tx.old tx.new }
-    ensures tells { Tells S.Store tx.old tx.new result
+    ensures loads { Loads S.Store tx.old tx.new result
         (λ place c. IsPlace place (registry_of c) organisation.now team.now user.now) }
 {
     Ok(Place {
@@ -136,9 +136,9 @@ pub(crate) fn seen_team<S: Alter>(
 ) -> Result<About, Fault>
     requires in_form { InForm S.Store tx.old }
     ensures stays { Stays S.Store tx.old tx.new }
-    ensures members { Tells S.Store tx.old tx.new result (λ about c. AboutTells about
+    ensures members { Loads S.Store tx.old tx.new result (λ about c. AboutTells about
         (registry_of c) caller.now (asked.TeamMembers organisation.now team.now)) }
-    ensures packages { Tells S.Store tx.old tx.new result (λ about c. AboutTells about
+    ensures packages { Loads S.Store tx.old tx.new result (λ about c. AboutTells about
         (registry_of c) caller.now (asked.TeamPackages organisation.now team.now)) }
 {
     Ok(About::Team {

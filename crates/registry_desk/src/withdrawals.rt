@@ -7,7 +7,7 @@ ghost use Rattle.registry_rows.specs.Frames.{Stays};
 ghost use Rattle.registry_rules.specs.Facts.{AboutTells};
 ghost use Rattle.registry_rules.specs.declared.request.Action.TheVariants as asked;
 ghost use Rattle.registry_tables.specs.Contents.{registry_of};
-ghost use Rattle.registry_tables.specs.Effects.{InForm, Tells};
+ghost use Rattle.registry_tables.specs.Effects.{InForm, Loads};
 ghost use Rattle.registry_tables.specs.Needs.{HoldsNeeds};
 ghost use Rattle.registry_tables.specs.Teams.{AreTeamsSound};
 ghost use Rattle.registry_desk.specs.Found.{IsLife};
@@ -29,7 +29,7 @@ pub(crate) fn old_version<S: Alter>(
 ) -> Result<About, Fault>
     requires in_form { InForm S.Store tx.old }
     ensures stays { Stays S.Store tx.old tx.new }
-    ensures tells { Tells S.Store tx.old tx.new result (λ about c. AreTeamsSound c → HoldsNeeds c
+    ensures loads { Loads S.Store tx.old tx.new result (λ about c. AreTeamsSound c → HoldsNeeds c
         → AboutTells about (registry_of c) caller.now (asked.Withdraw name.now version.now)) }
 {
     let standing = load_standing(alloc, tx, caller, name)?;
@@ -60,7 +60,7 @@ fn find_life<S: Alter>(
 ) -> Result<Life, Fault>
     requires in_form { InForm S.Store tx.old }
     ensures stays { Stays S.Store tx.old tx.new }
-    ensures tells { Tells S.Store tx.old tx.new result
+    ensures loads { Loads S.Store tx.old tx.new result
         (λ life c. HoldsNeeds c → IsLife life (registry_of c) name.now version.now) }
 {
     let depended = is_depended(alloc, tx, name, version)?;
@@ -84,7 +84,7 @@ pub(crate) fn live_versions<S: Alter>(
 ) -> Result<About, Fault>
     requires in_form { InForm S.Store tx.old }
     ensures stays { Stays S.Store tx.old tx.new }
-    ensures tells { Tells S.Store tx.old tx.new result (λ about c.
+    ensures loads { Loads S.Store tx.old tx.new result (λ about c.
         (selector : List (List Condition)) (message : SpecText) → AreTeamsSound c
         → AboutTells about (registry_of c) caller.now
         (asked.Deprecate name.now selector message)) }

@@ -35,12 +35,16 @@ use Rattle.registry_rules.specs.declared.request.Action.TheVariants.{OrgSet, Org
 use Rattle.registry_rules.specs.declared.request.Asked.{Asked}
 use Rattle.registry_rules.specs.declared.request.Asked.TheVariants.{Exact, Latest}
 use Rattle.registry_rules.proofs.AllowedFacts.{policy_passed, state_passed}
-use Rattle.registry_hidden.specs.Concerns.{concerns, withdraws_another}
+use Rattle.registry_hidden.specs.Concerns.{concerns}
 use Rattle.registry_hidden.specs.Laws.{OthersAreAccepted}
 use Rattle.registry_hidden.specs.Without.{state_without}
 use Rattle.registry_hidden.proofs.KeepFacts.{at-kept}
 use Rattle.registry_hidden.proofs.NamedFacts.{other_pair, other_triple}
 use Rattle.registry_hidden.proofs.OtherFacts.{at_other, of_other, status_other}
+
+abbrev pub withdraws_another : Action → Text → Bool
+withdraws_another (Withdraw q v) p = not (is q p)
+withdraws_another _ p = false
 
 -- ---- the policy
 
@@ -129,7 +133,7 @@ module _ (S : State) (p q : Text) (other : is q p ≡ false) where
   same_waiting : (now : ℕ) → is_waiting (state_without S p) now q ≡ is_waiting S now q
   same_waiting now = ap₂ (λ (b : Bool) (es : List (Text × Withdrawal)). not b && is_less_than_a_day_ago now (last_of es)) same_has_live (of_other p q other S.spent)
 
-  same_published_at : (v : Text) → published_at (state_without S p) q v ≡ published_at S q v
+  pub same_published_at : (v : Text) → published_at (state_without S p) q v ≡ published_at S q v
   same_published_at v = ap (option_map (λ (r : Release). r.at)) (at_other p q other S.live v)
 
   same_last : (u : Text) → refuse (not (has_maintainer (state_without S p) q u)) NotFound (refuse (not (has_other_maintainer (state_without S p) q u)) LastOwner None)

@@ -1,5 +1,9 @@
 pub mod AcceptedFacts
+pub mod ArrivalFacts
 pub mod KeepFacts
+pub mod KeptFacts
+pub mod LeftFacts
+pub mod ListFacts
 pub mod NamedFacts
 pub mod OtherFacts
 pub mod RefusedFacts
@@ -7,5 +11,6 @@ pub mod ReplyFacts
 pub mod RestFacts
 pub mod RunFacts
 pub mod StandingFacts
+pub mod TakenFacts
 pub mod UnheardFacts
 pub mod UntouchedFacts

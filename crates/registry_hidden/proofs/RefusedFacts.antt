@@ -30,11 +30,16 @@ use Rattle.registry_rules.specs.State.{State, has_grant, has_team, is_published}
 use Rattle.registry_rules.specs.declared.request.Action.{Action}
 use Rattle.registry_rules.specs.declared.request.Action.TheVariants as command
 use Rattle.registry_rules.specs.declared.request.Action.TheVariants.{Revoke, SetAccess, OwnerAdd, OwnerRemove, Publish, TagSet, TagRemove, Withdraw, Deprecate, Packument, VersionDoc, Archive, Tags}
-use Rattle.registry_hidden.specs.Concerns.{concerns, is_member_publish}
+use Rattle.registry_hidden.specs.Concerns.{concerns}
 use Rattle.registry_hidden.specs.Without.{state_without}
 use Rattle.registry_hidden.proofs.AcceptedFacts.{same_role}
 use Rattle.registry_hidden.proofs.KeepFacts.{at-unkept}
 use Rattle.registry_hidden.proofs.NamedFacts.{other_triple}
+
+-- whether a member of the package's scope publishes the package
+abbrev pub is_member_publish : State → Caller → Action → Text → Bool
+is_member_publish S who (Publish f) p = is f.name p && is_some (scope_role S.access who (scope_of p))
+is_member_publish S who _ p = false
 
 -- refused for one reason by both
 abbrev pub AreRefused : State → State → ℕ → Caller → Action → Type 0

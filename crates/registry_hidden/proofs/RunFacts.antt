@@ -1,9 +1,11 @@
--- Two runs of one caller's requests, after histories that differ in what named a package that they
--- don't read.
-use Rattle.std.proofs.Common.{◌≡◌, ◌⊎◌, inl, inr, Bool, true, false, ◌&&◌, if◌then◌else◌, refl, sym, ap, ◌∙◌, subst, Some, None, Ok, Err, List, [], ◌∷◌, is_some}
+-- Two runs of the requests of one caller alone, after histories that differ in what named a package
+-- that they don't read.
+use Rattle.std.proofs.Common.{◌≡◌, ◌⊎◌, inl, inr, ℕ, Bool, true, false, ◌&&◌, if◌then◌else◌, refl, sym, ap, ◌∙◌, subst, true≢false, Some, None, Option, Ok, Err, List, [], ◌∷◌, is_some}
+use Rattle.std.proofs.lemmas.Bool.{and_parts}
 use Rattle.registry_names.specs.Maps.{at}
 use Rattle.registry_names.specs.Names.{scope_of}
 use Rattle.registry_names.specs.Texts.{Text, is}
+use Rattle.registry_names.specs.declared.status.Status.{Status}
 use Rattle.registry_access.specs.Callers.{role_of}
 use Rattle.registry_access.specs.Levels.{is_owner_or_admin}
 use Rattle.registry_access.specs.Positions.{level_in, scope_role}
@@ -11,195 +13,174 @@ use Rattle.registry_access.specs.declared.caller.Caller.{Caller}
 use Rattle.registry_access.specs.declared.levels.Level.TheVariants.{Nothing}
 use Rattle.registry_rules.specs.Callers.{caller_of}
 use Rattle.registry_rules.specs.Changes.{all_made}
-use Rattle.registry_rules.specs.Effects.{effects_for, step, step_by}
+use Rattle.registry_rules.specs.Effects.{effects_for, step}
 use Rattle.registry_rules.specs.Refusals.{refusal_by, refusal_for}
-use Rattle.registry_rules.specs.State.{State}
+use Rattle.registry_rules.specs.State.{State, is_published}
 use Rattle.registry_rules.specs.declared.reply.Reply.{Reply}
 use Rattle.registry_rules.specs.declared.request.Action.{Action}
 use Rattle.registry_rules.specs.declared.request.Action.TheVariants.{Publish}
-use Rattle.registry_rules.specs.declared.request.Credential.{Credential}
 use Rattle.registry_rules.specs.declared.request.Request.{Request}
 use Rattle.registry_history.specs.Answers.{answer}
-use Rattle.registry_history.specs.History.{Entry, Legal, after}
-use Rattle.registry_history.specs.Runs.{Outcome, HaveOutcomes, enters, grown, next}
-use Rattle.registry_history.proofs.RunFacts.{accepted, legal_grown}
-use Rattle.registry_hidden.specs.Concerns.{may_tell, withdraws_another}
-use Rattle.registry_hidden.specs.Runs.{DifferUnseen, AreAsked, AreAlike, RunsAreAlike}
+use Rattle.registry_history.specs.History.{after}
+use Rattle.registry_history.specs.Runs.{HaveOutcomes, Outcome, enters, next}
+use Rattle.registry_history.proofs.RunFacts.{accepted}
+use Rattle.registry_hidden.specs.Concerns.{is_shown, shows, shows_to}
+use Rattle.registry_hidden.specs.Levels.{HasNoLevel}
+use Rattle.registry_hidden.specs.Runs.{AreAlikeTo, IsTheirs, RunsAreAlike}
 use Rattle.registry_hidden.specs.Without.{state_without}
 use Rattle.registry_hidden.proofs.AcceptedFacts.{same_role}
-use Rattle.registry_hidden.proofs.RestFacts.{histories_rest, without_new}
+use Rattle.registry_hidden.proofs.LeftFacts.{IsLeft, answers_alike, both_next, left_next, left_rests, left_start, same_callers, same_rest}
+use Rattle.registry_hidden.proofs.RefusedFacts.{is_member_publish}
+use Rattle.registry_hidden.proofs.RestFacts.{without_new}
 use Rattle.registry_hidden.proofs.StandingFacts.{standing_kept}
-use Rattle.registry_hidden.proofs.UnheardFacts.{either_false, is_apart, next_alike, same_caller, unheard}
-use Rattle.registry_hidden.proofs.UntouchedFacts.{untouched_leave_the_rest}
+use Rattle.registry_hidden.proofs.UnheardFacts.{is_apart, shown_is, why_shown}
 
 -- ---- two runs from one registry
 
-pub same_runs : (S : State) (rs : List Request) (os qs : List Outcome) → HaveOutcomes S rs os → HaveOutcomes S rs qs → AreAlike os qs
-same_runs S [] [] [] a b = tt
-same_runs S [] [] (q ∷ qs) a b = absurd b
-same_runs S [] (o ∷ os) qs a b = absurd a
-same_runs S (r ∷ rs) [] qs a b = absurd a
-same_runs S (r ∷ rs) (o ∷ os) [] a b = absurd b
-same_runs S (r ∷ rs) (Ok x ∷ os) (Ok y ∷ qs) a b =
-    let same = a.0 ∙ sym b.0 in
-    (same, same_runs (next S r (Ok x)) rs os qs a.1 (subst (λ z. HaveOutcomes (next S r (Ok z)) rs qs) (sym same) b.1))
-same_runs S (r ∷ rs) (Ok x ∷ os) (Err f ∷ qs) a b = tt
-same_runs S (r ∷ rs) (Err f ∷ os) (q ∷ qs) a b = tt
+same_runs : (who : Caller) (p : Text) (S : State) (rs : List Request) (os qs : List Outcome) → HaveOutcomes S rs os → HaveOutcomes S rs qs → AreAlikeTo who p S S rs os qs
+same_runs who p S [] os qs a b = tt
+same_runs who p S (r ∷ rs) [] qs a b = tt
+same_runs who p S (r ∷ rs) (Err f ∷ os) qs a b = tt
+same_runs who p S (r ∷ rs) (Ok x ∷ os) [] a b = tt
+same_runs who p S (r ∷ rs) (Ok x ∷ os) (Err g ∷ qs) a b = tt
+same_runs who p S (r ∷ rs) (Ok x ∷ os) (Ok y ∷ qs) a b = λ theirs one.
+    let same = a.0 ∙ sym b.0 in (
+      same,
+      subst (λ z. AreAlikeTo who p (next S r (Ok x)) (next S r (Ok z)) rs os qs) same
+          (same_runs who p (next S r (Ok x)) rs os qs a.1 (subst (λ z. HaveOutcomes (next S r (Ok z)) rs qs) (sym same) b.1)),
+    )
 
--- ---- the caller's standing, request by request
+-- ---- a caller without a level on the package, which was published, gains none by a request
 
--- whether a reply may show the package depends on the role in the scope alone
-tell_alike : (S T : State) (who : Caller) (what : Action) (p : Text) → scope_role S.access who (scope_of p) ≡ scope_role T.access who (scope_of p) → may_tell S who what p ≡ may_tell T who what p
-tell_alike S T who (Publish f) p same = ap (λ r. is f.name p && is_some r) same
-tell_alike S T who _ p same = refl
+is_stranger : (S : State) (who : Caller) (p : Text) → level_in S.access who p ≡ Nothing → (o : Option Caller) → IsTheirs who o → HasNoLevel S o p
+is_stranger S who p nothing None theirs = tt
+is_stranger S who p nothing (Some c) theirs = ap (λ x. level_in S.access x p) theirs ∙ nothing
 
--- they have no level on the package, are neither an owner nor an admin of its scope, and have the
--- role there that they had at the start
-record StandsApart (p o : Text) (who : Caller) (shown : Credential) (start S : State) : Type 0 where
-  known : caller_of S shown ≡ Some who
-  nothing : level_in S.access who p ≡ Nothing
-  unmanaging : is_owner_or_admin (role_of S.access who o) ≡ false
-  role : role_of S.access who o ≡ role_of start.access who o
+module _ (who : Caller) (p : Text) where
+  -- the package has a scope, in which they are neither an owner nor an admin
+  abbrev IsOutside : State → Type 0
+  IsOutside S = (o : Text) × (scope_of p ≡ Some o) × (is_owner_or_admin (role_of S.access who o) ≡ false)
 
--- two registries, as legal histories leave them, that differ in the package alone, and the caller
--- is such in both
-record AreNear (p o : Text) (who : Caller) (shown : Credential) (start S T : State) : Type 0 where
-  history : List Entry
-  other_history : List Entry
-  legal : Legal history
-  other_legal : Legal other_history
-  left : S ≡ after history
-  other_left : T ≡ after other_history
-  same : state_without S p ≡ state_without T p
-  stands : StandsApart p o who shown start S
-  other_stands : StandsApart p o who shown start T
-
-module _ (p o : Text) (scoped : scope_of p ≡ Some o) (who : Caller) (shown : Credential) (start : State) where
-  abbrev Stands : State → Type 0
-  Stands S = StandsApart p o who shown start S
-
-  scope_alike : (S : State) → role_of S.access who o ≡ role_of start.access who o → scope_role S.access who (scope_of p) ≡ scope_role start.access who (scope_of p)
-  scope_alike S role = ap (scope_role S.access who) scoped ∙ role ∙ sym (ap (scope_role start.access who) scoped)
-
-  hides_still : (S : State) (what : Action) → Stands S → may_tell start who what p ≡ false → may_tell S who what p ≡ false
-  hides_still S what stands hides = tell_alike S start who what p (scope_alike S stands.role) ∙ hides
-
-  stepped : (S : State) (r : Request) → caller_of S r.who ≡ Some who → step S r ≡ step_by S r.at who r.what
-  stepped S r known = ap (λ c. all_made S (effects_for S r.at c r.what)) known
-
-  after_step : (h : List Entry) → Legal h → (r : Request) → r.who ≡ shown → may_tell start who r.what p ≡ false → Stands (after h) → refusal_by (after h) r.at who r.what ≡ None → Stands (step (after h) r)
-  after_step h legal r his hides stands may =
-      let S = after h in
-      let kept = standing_kept S r.at who r.what p o shown (histories_rest h legal).sound scoped stands.unmanaging stands.known stands.nothing
-      (either_false (withdraws_another r.what p) _ (hides_still S r.what stands hides)).1 may in
-      subst Stands (sym (stepped S r (ap (caller_of S) his ∙ stands.known))) (record {
-        known = kept.known;
-        nothing = kept.nothing;
-        unmanaging = ap is_owner_or_admin kept.role ∙ stands.unmanaging;
-        role = kept.role ∙ stands.role;
-      })
-
-  stands_next : (h : List Entry) → Legal h → (r : Request) (a : Reply) → r.who ≡ shown → may_tell start who r.what p ≡ false → a ≡ answer (after h) r → Stands (after h) → Stands (next (after h) r (Ok a))
-  stands_next h legal r a his hides answered stands = by_entry (enters r (Ok a)) refl
+  outside : (S : State) → IsLeft S → level_in S.access who p ≡ Nothing → is_published S p ≡ true → IsOutside S
+  outside S left nothing status = by (is_apart S who p (left_rests S left) nothing)
     where
-      may : enters r (Ok a) ≡ true → refusal_by (after h) r.at who r.what ≡ None
-      may entered = sym (ap (λ c. refusal_for (after h) r.at c r.what) (ap (caller_of (after h)) his ∙ stands.known)) ∙ accepted (after h) r (Ok a) answered entered
+      by : (at S.access.statuses p ≡ None) ⊎ IsOutside S → IsOutside S
+      by (inl new) = absurd (true≢false (sym status ∙ ap is_some new))
+      by (inr there) = there
 
-      by_entry : (b : Bool) → enters r (Ok a) ≡ b → Stands (if b then step (after h) r else after h)
-      by_entry true entered = after_step h legal r his hides stands (may entered)
-      by_entry false entered = stands
+  -- whose name is taken
+  publish_shows : (S : State) (now : ℕ) (what : Action) → is_member_publish S who what p ≡ true → is_published S p ≡ true → shows S now who what p ≡ true
+  publish_shows S now (Publish f) member status =
+      let both = and_parts (is f.name p) _ member in
+      λ i. both.0 i && (status i && both.1 i)
+  publish_shows S now _ member status = absurd (true≢false (sym member))
 
-  -- ---- two runs from registries that agree in all but the package
+  module _ (S T : State) (left : IsLeft S) (left' : IsLeft T) (same : state_without S p ≡ state_without T p) (nothing : level_in S.access who p ≡ Nothing) (nothing' : level_in T.access who p ≡ Nothing)
+      (there : (is_published S p ≡ true) ⊎ (is_published T p ≡ true)) where
+    roles_alike : (o : Text) → role_of S.access who o ≡ role_of T.access who o
+    roles_alike o = sym (same_role S.access p who o) ∙ ap (λ (U : State). role_of U.access who o) same ∙ same_role T.access p who o
 
-  -- the replies to one request are the same
-  one_reply : (g h : List Entry) → Legal g → Legal h → state_without (after g) p ≡ state_without (after h) p → Stands (after g) → Stands (after h) → (r : Request) → r.who ≡ shown → may_tell start who r.what p ≡ false
-      → answer (after g) r ≡ answer (after h) r
-  one_reply g h legal legal' same stands stands' r his hides =
-      unheard (after g) who p (histories_rest g legal) stands.nothing r (ap (caller_of (after g)) his ∙ stands.known) (hides_still (after g) r.what stands hides)
-      ∙ ap (λ S. answer S r) same
-      ∙ sym (unheard (after h) who p (histories_rest h legal') stands'.nothing r (ap (caller_of (after h)) his ∙ stands'.known) (hides_still (after h) r.what stands' hides))
+    scopes_alike : (s : Option Text) → scope_role S.access who s ≡ scope_role T.access who s
+    scopes_alike None = refl
+    scopes_alike (Some o) = roles_alike o
 
-  -- and what it leaves differs in the package alone
-  near_after : (g h : List Entry) → Legal g → Legal h → state_without (after g) p ≡ state_without (after h) p → Stands (after g) → Stands (after h) → (r : Request) → r.who ≡ shown → may_tell start who r.what p ≡ false
-      → (a b : Reply) → a ≡ answer (after g) r → b ≡ answer (after h) r → (a ≡ b) × AreNear p o who shown start (next (after g) r (Ok a)) (next (after h) r (Ok b))
-  near_after g h legal legal' same stands stands' r his hides a b answered answered' =
-      let replies = answered ∙ one_reply g h legal legal' same stands stands' r his hides ∙ sym answered' in
-      let grows = legal_grown g r (Ok a) legal answered in
-      let grows' = legal_grown h r (Ok b) legal' answered' in (
-        replies,
-        record {
-          history = grown g (after g) r (Ok a);
-          other_history = grown h (after h) r (Ok b);
-          legal = grows.0;
-          other_legal = grows'.0;
-          left = grows.1;
-          other_left = grows'.1;
-          same = next_alike (after g) (after h) p same r who (ap (caller_of (after g)) his ∙ stands.known) (ap (caller_of (after h)) his ∙ stands'.known) a b replies;
-          stands = stands_next g legal r a his hides answered stands;
-          other_stands = stands_next h legal' r b his hides answered' stands';
-        },
-      )
+    outside_here : IsOutside S
+    outside_here = by there
+      where
+        by : (is_published S p ≡ true) ⊎ (is_published T p ≡ true) → IsOutside S
+        by (inl status) = outside S left nothing status
+        by (inr status) = let x = outside T left' nothing' status in (x.0, x.1, ap is_owner_or_admin (roles_alike x.0) ∙ x.2)
 
-  near_one : (S T : State) → AreNear p o who shown start S T → (r : Request) → r.who ≡ shown → may_tell start who r.what p ≡ false → (a b : Reply) → a ≡ answer S r → b ≡ answer T r
-      → (a ≡ b) × AreNear p o who shown start (next S r (Ok a)) (next T r (Ok b))
-  near_one S T near r his hides a b answered answered' =
-      subst (λ U. (a ≡ b) × AreNear p o who shown start (next U r (Ok a)) (next T r (Ok b))) (sym near.left)
-      (subst (λ V. (a ≡ b) × AreNear p o who shown start (next (after near.history) r (Ok a)) (next V r (Ok b))) (sym near.other_left)
-      (near_after near.history near.other_history near.legal near.other_legal
-      (ap (λ U. state_without U p) (sym near.left) ∙ near.same ∙ ap (λ U. state_without U p) near.other_left)
-      (subst Stands near.left near.stands) (subst Stands near.other_left near.other_stands) r his hides a b
-      (answered ∙ ap (λ U. answer U r) near.left) (answered' ∙ ap (λ U. answer U r) near.other_left)))
+    members_alike : (what : Action) → is_member_publish S who what p ≡ is_member_publish T who what p
+    members_alike (Publish f) = ap (λ x. is f.name p && is_some x) (scopes_alike (scope_of p))
+    members_alike _ = refl
 
-  near_runs : (S T : State) → AreNear p o who shown start S T → (rs : List Request) (os qs : List Outcome) → AreAsked start who shown p rs → HaveOutcomes S rs os → HaveOutcomes T rs qs → AreAlike os qs
-  near_runs S T near [] [] [] asked a b = tt
-  near_runs S T near [] [] (q ∷ qs) asked a b = absurd b
-  near_runs S T near [] (x ∷ os) qs asked a b = absurd a
-  near_runs S T near (r ∷ rs) [] qs asked a b = absurd a
-  near_runs S T near (r ∷ rs) (x ∷ os) [] asked a b = absurd b
-  near_runs S T near (r ∷ rs) (Ok x ∷ os) (Ok y ∷ qs) asked a b =
-      let one = near_one S T near r asked.0 asked.1 x y a.0 b.0 in
-      (one.0, near_runs (next S r (Ok x)) (next T r (Ok y)) one.1 rs os qs asked.2 a.1 b.1)
-  near_runs S T near (r ∷ rs) (Ok x ∷ os) (Err f ∷ qs) asked a b = tt
-  near_runs S T near (r ∷ rs) (Err f ∷ os) (q ∷ qs) asked a b = tt
+    refused : (now : ℕ) (what : Action) → shows S now who what p ≡ shows T now who what p → is_member_publish S who what p ≡ true → refusal_by S now who what ≡ Some (why_shown what)
+    refused now what one member = shown_is S now who what p (left_rests S left) nothing (by there)
+      where
+        by : (is_published S p ≡ true) ⊎ (is_published T p ≡ true) → shows S now who what p ≡ true
+        by (inl status) = publish_shows S now what member status
+        by (inr status) = one ∙ publish_shows T now what (sym (members_alike what) ∙ member) status
 
--- ---- after histories that differ in what named the package
+    gains_none : (r : Request) → caller_of S r.who ≡ Some who → shows S r.at who r.what p ≡ shows T r.at who r.what p → refusal_by S r.at who r.what ≡ None → level_in (step S r).access who p ≡ Nothing
+    gains_none r known one may = ap (λ o. level_in (all_made S (effects_for S r.at o r.what)).access who p) known ∙ by (is_member_publish S who r.what p) refl
+      where
+        by : (b : Bool) → is_member_publish S who r.what p ≡ b → level_in (all_made S (effects_for S r.at (Some who) r.what)).access who p ≡ Nothing
+        by true member = let both : None ≡ Some (why_shown r.what) = sym may ∙ refused r.at r.what one member in absurd cc
+        by false stranger =
+            (standing_kept S r.at who r.what p outside_here.0 r.who (left_rests S left).sound outside_here.1 outside_here.2 known nothing stranger may).nothing
 
-module _ (g h : List Entry) (p : Text) (who : Caller) (shown : Credential) (differ : DifferUnseen g h p who shown) where
-  same_rest : state_without (after g) p ≡ state_without (after h) p
-  same_rest = sym (untouched_leave_the_rest g p differ.legal).1 ∙ ap after differ.untouched ∙ (untouched_leave_the_rest h p differ.other_legal).1
+    keeps_none : (r : Request) (a : Reply) → a ≡ answer S r → IsTheirs who (caller_of S r.who) → is_shown S r p ≡ is_shown T r p → level_in (next S r (Ok a)).access who p ≡ Nothing
+    keeps_none r a answered theirs one = by_entry (enters r (Ok a)) refl
+      where
+        by_caller : (o : Option Caller) → caller_of S r.who ≡ o → IsTheirs who o → shows_to S r.at o r.what p ≡ shows_to T r.at o r.what p → refusal_for S r.at o r.what ≡ None → level_in (step S r).access who p ≡ Nothing
+        by_caller None known theirs one may = absurd cc
+        by_caller (Some c) known theirs one may =
+            gains_none r (known ∙ ap Some theirs)
+            (ap (λ x. shows S r.at x r.what p) (sym theirs) ∙ one ∙ ap (λ x. shows T r.at x r.what p) theirs)
+            (ap (λ x. refusal_by S r.at x r.what) (sym theirs) ∙ may)
 
-  known_there : caller_of (after h) shown ≡ Some who
-  known_there = sym (same_caller (after h) p shown) ∙ ap (λ U. caller_of U shown) (sym same_rest) ∙ same_caller (after g) p shown ∙ differ.known
+        by_entry : (b : Bool) → enters r (Ok a) ≡ b → level_in (if b then step S r else S).access who p ≡ Nothing
+        by_entry true entered =
+            by_caller (caller_of S r.who) refl theirs (one ∙ ap (λ o. shows_to T r.at o r.what p) (sym (same_callers S T p same r.who))) (accepted S r (Ok a) answered entered)
+        by_entry false entered = nothing
 
-  roles_there : (o : Text) → role_of (after h).access who o ≡ role_of (after g).access who o
-  roles_there o = sym (same_role (after h).access p who o) ∙ ap (λ (U : State). role_of U.access who o) (sym same_rest) ∙ same_role (after g).access p who o
+-- ---- two runs
 
-  near_start : (o : Text) → is_owner_or_admin (role_of (after g).access who o) ≡ false → AreNear p o who shown (after g) (after g) (after h)
-  near_start o unmanaging = record {
-    history = g;
-    other_history = h;
-    legal = differ.legal;
-    other_legal = differ.other_legal;
-    left = refl;
-    other_left = refl;
-    same = same_rest;
-    stands = record { known = differ.known; nothing = differ.unread; unmanaging = unmanaging; role = refl };
-    other_stands = record { known = known_there; nothing = differ.other_unread; unmanaging = ap is_owner_or_admin (roles_there o) ∙ unmanaging; role = roles_there o };
-  }
+record AreNear (who : Caller) (p : Text) (S T : State) : Type 0 where
+  left : IsLeft S
+  other_left : IsLeft T
+  same : state_without S p ≡ state_without T p
+  nothing : level_in S.access who p ≡ Nothing
+  other_nothing : level_in T.access who p ≡ Nothing
 
-  -- in a registry the package was never published, or it has a scope in which they are neither an
-  -- owner nor an admin
-  abbrev Apart : State → Type 0
-  Apart S = (at S.access.statuses p ≡ None) ⊎ ((o : Text) × (scope_of p ≡ Some o) × (is_owner_or_admin (role_of S.access who o) ≡ false))
+turned : {A B : Type 0} → A ⊎ B → B ⊎ A
+turned (inl a) = inr a
+turned (inr b) = inl b
 
-  alike_by : Apart (after g) → Apart (after h) → (rs : List Request) (os qs : List Outcome) → AreAsked (after g) who shown p rs → HaveOutcomes (after g) rs os → HaveOutcomes (after h) rs qs → AreAlike os qs
-  alike_by (inl new) (inl new') rs os qs asked a b =
-      let one = sym (without_new (after g) p (histories_rest g differ.legal) new) ∙ same_rest ∙ without_new (after h) p (histories_rest h differ.other_legal) new' in
-      same_runs (after g) rs os qs a (subst (λ U. HaveOutcomes U rs qs) (sym one) b)
-  alike_by (inl new) (inr x) rs os qs asked a b =
-      near_runs p x.0 x.1 who shown (after g) (after g) (after h) (near_start x.0 (ap is_owner_or_admin (sym (roles_there x.0)) ∙ x.2)) rs os qs asked a b
-  alike_by (inr x) other rs os qs asked a b = near_runs p x.0 x.1 who shown (after g) (after g) (after h) (near_start x.0 x.2) rs os qs asked a b
+module _ (who : Caller) (p : Text) where
+  theirs_there : (S T : State) (r : Request) → AreNear who p S T → IsTheirs who (caller_of S r.who) → IsTheirs who (caller_of T r.who)
+  theirs_there S T r near theirs = subst (IsTheirs who) (same_callers S T p near.same r.who) theirs
+
+  one_reply : (S T : State) (r : Request) → AreNear who p S T → IsTheirs who (caller_of S r.who) → is_shown S r p ≡ is_shown T r p → answer S r ≡ answer T r
+  one_reply S T r near theirs one =
+      answers_alike S T p near.same (left_rests S near.left) (left_rests T near.other_left) r (is_stranger S who p near.nothing (caller_of S r.who) theirs)
+      (is_stranger T who p near.other_nothing (caller_of T r.who) (theirs_there S T r near theirs)) one
+
+  near_next : (S T : State) (r : Request) (a b : Reply) → AreNear who p S T → (is_published S p ≡ true) ⊎ (is_published T p ≡ true) → IsTheirs who (caller_of S r.who) → is_shown S r p ≡ is_shown T r p
+      → a ≡ answer S r → b ≡ answer T r → AreNear who p (next S r (Ok a)) (next T r (Ok b))
+  near_next S T r a b near there theirs one answered answered' =
+      let replies = answered ∙ one_reply S T r near theirs one ∙ sym answered' in
+      record {
+        left = left_next S r (Ok a) near.left answered;
+        other_left = left_next T r (Ok b) near.other_left answered';
+        same = both_next S T p near.same r (Ok a) (Ok b) (ap (λ x. enters r (Ok x)) replies);
+        nothing = keeps_none who p S T near.left near.other_left near.same near.nothing near.other_nothing there r a answered theirs one;
+        other_nothing = keeps_none who p T S near.other_left near.left (sym near.same) near.other_nothing near.nothing (turned there) r b answered' (theirs_there S T r near theirs) (sym one);
+      }
+
+  near_runs : (rs : List Request) (os qs : List Outcome) (S T : State) → AreNear who p S T → HaveOutcomes S rs os → HaveOutcomes T rs qs → AreAlikeTo who p S T rs os qs
+  near_runs [] os qs S T near a b = tt
+  near_runs (r ∷ rs) [] qs S T near a b = tt
+  near_runs (r ∷ rs) (Err f ∷ os) qs S T near a b = tt
+  near_runs (r ∷ rs) (Ok x ∷ os) [] S T near a b = tt
+  near_runs (r ∷ rs) (Ok x ∷ os) (Err g ∷ qs) S T near a b = tt
+  near_runs (r ∷ rs) (Ok x ∷ os) (Ok y ∷ qs) S T near a b =
+      by (λ later. near_runs rs os qs (next S r (Ok x)) (next T r (Ok y)) later a.1 b.1) (at S.access.statuses p) (at T.access.statuses p) refl refl
+    where
+      goes_on : (AreNear who p (next S r (Ok x)) (next T r (Ok y)) → AreAlikeTo who p (next S r (Ok x)) (next T r (Ok y)) rs os qs)
+          → (is_published S p ≡ true) ⊎ (is_published T p ≡ true) → AreAlikeTo who p S T (r ∷ rs) (Ok x ∷ os) (Ok y ∷ qs)
+      goes_on later there theirs one = (a.0 ∙ one_reply S T r near theirs one ∙ sym b.0, later (near_next S T r x y near there theirs one a.0 b.0))
+
+      by : (AreNear who p (next S r (Ok x)) (next T r (Ok y)) → AreAlikeTo who p (next S r (Ok x)) (next T r (Ok y)) rs os qs)
+          → (s t : Option Status) → at S.access.statuses p ≡ s → at T.access.statuses p ≡ t → AreAlikeTo who p S T (r ∷ rs) (Ok x ∷ os) (Ok y ∷ qs)
+      by later None None new new' =
+          let one : S ≡ T = sym (without_new S p (left_rests S near.left) new) ∙ near.same ∙ without_new T p (left_rests T near.other_left) new' in
+          subst (λ U. HaveOutcomes U (r ∷ rs) (Ok y ∷ qs) → AreAlikeTo who p S U (r ∷ rs) (Ok x ∷ os) (Ok y ∷ qs)) one (same_runs who p S (r ∷ rs) (Ok x ∷ os) (Ok y ∷ qs) a) b
+      by later (Some s) t here there = goes_on later (inl (ap is_some here))
+      by later None (Some t) here there = goes_on later (inr (ap is_some there))
 
 pub runs_are_alike : RunsAreAlike
-runs_are_alike g h p who shown differ =
-    alike_by g h p who shown differ (is_apart (after g) who p (histories_rest g differ.legal) differ.unread) (is_apart (after h) who p (histories_rest h differ.other_legal) differ.other_unread)
+runs_are_alike g h p who differ nothing nothing' rs os qs a b =
+    near_runs who p rs os qs (after g) (after h)
+    (record { left = left_start g differ.legal; other_left = left_start h differ.other_legal; same = same_rest g h p differ; nothing = nothing; other_nothing = nothing' }) a b

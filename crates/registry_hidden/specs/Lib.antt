@@ -1,5 +1,7 @@
+pub mod Arrivals
 pub mod Concerns
 pub mod Histories
 pub mod Laws
+pub mod Levels
 pub mod Runs
 pub mod Without

@@ -1,7 +1,8 @@
 //! Laws of hidden packages. Each function does nothing: what it ensures holds of the definitions
 //! themselves, and its proof is the law's.
 
-ghost use Rattle.registry_hidden.specs.Laws.{NamedLeaveTheRest, OthersAreAccepted, OthersMakeTheSame, RepliesAreAlike, RestsAreAlike, UntouchedLeaveTheRest};
+ghost use Rattle.registry_hidden.specs.Arrivals.{ListsHaveArrivals, StrangersSeeTheSame};
+ghost use Rattle.registry_hidden.specs.Laws.{KeptIsDepended, NamedLeaveTheRest, OthersAreAccepted, OthersMakeTheSame, RepliesAreAlike, RestsAreAlike, TakenIsDenied, UntouchedLeaveTheRest};
 ghost use Rattle.registry_hidden.specs.Runs.{RunsAreAlike};
 
 /// A command that names a package leaves the registry without the package as it was. Any other
@@ -19,19 +20,46 @@ pub fn histories_without_a_package_leave_the_rest()
     ensures { UntouchedLeaveTheRest }
 {}
 
-/// Whatever a caller asks who has no level on a package, they are answered as if nobody had ever
-/// touched it, and what the registry holds then is the same in all else. Two requests are excepted:
-/// a withdrawal of another package, which the package may need, and a publish of the package by a
-/// member of its scope, whose name is taken.
+/// Whatever is asked by a caller who has no level on a package, by whichever token or name, or with
+/// a credential of nobody, it is answered as if nobody had ever touched the package, and what the
+/// registry holds then is the same in all else. Two requests are excepted: a withdrawal of another
+/// package that this one alone keeps from being done, and a publish of the package by a member of
+/// its scope, whose name is taken.
 pub fn unread_packages_are_unheard_of()
     ensures replies { RepliesAreAlike }
     ensures rests { RestsAreAlike }
 {}
 
+/// What the two show. The withdrawal is refused with `Depended`, and would be done without the
+/// package; the publish is refused with `Denied A6`, and would create the package. So each is
+/// answered otherwise wherever it is excepted.
+pub fn two_requests_show_a_package()
+    ensures kept { KeptIsDepended }
+    ensures taken { TakenIsDenied }
+{}
+
 /// Take two legal histories that are one list once the entries that name a package are dropped, and
-/// a caller who has no level on the package after either. Whatever list of requests they make,
-/// except the two, at whatever moments, the replies are the same after both, up to the first fault
-/// in either. Nothing is said of the time and the memory that a reply takes.
+/// a caller who has no level on the package after either. Whatever list of requests they make, by
+/// any credentials of theirs or of nobody, at whatever moments, while nobody else asks anything, the
+/// replies are the same after both, up to the first fault in either, and up to the first of the two
+/// that shows the package in one of them alone. Nothing is said of the time and the memory that a
+/// reply takes.
 pub fn unread_packages_make_no_difference()
     ensures { RunsAreAlike }
+{}
+
+/// Take two runs, after such histories, in which any callers take turns at any moments. In each,
+/// anybody may ask more than in the other: what names the package, and what is no accepted command.
+/// All else is asked in both, in one order. Then each request that is asked in both, by a caller who
+/// has no level on the package at that point of either, is answered alike, except where it shows the
+/// package in one of the runs alone. Nothing is said from where, of a command that doesn't name the
+/// package, one run has a fault, or the package alone keeps it from being done in one run.
+pub fn unread_packages_do_not_interfere()
+    ensures { StrangersSeeTheSame }
+{}
+
+/// Such are any two runs whose requests are one list once those that named the package and were
+/// accepted are dropped from both.
+pub fn lists_have_arrivals()
+    ensures { ListsHaveArrivals }
 {}

@@ -7,8 +7,7 @@ use Rattle.registry_rules.specs.State.{State}
 use Rattle.registry_rules.specs.declared.request.Request.{Request}
 use Rattle.registry_history.specs.Runs.{Outcome}
 use Rattle.registry_history.proofs.RunFacts.{headline_from, history_says, run_says}
-use Rattle.registry_desk.specs.Promises.{HoldsSound}
-use Rattle.registry_desk.proofs.StoredFacts.{HasAnswered, HasRun, has_run_more, has_run_none}
+use Rattle.registry_desk.proofs.StoredFacts.{HasAnswered, HasRun, has_run_more, has_run_none, refers_for_each}
 use Rattle.registry_wire.specs.declared.wanted.Wanted.{Wanted}
 use Rattle.registry_service.specs.Courses.{Follow}
 use Rattle.registry_service.specs.Histories.{LogEntry, FollowAll}
@@ -23,10 +22,11 @@ answered-of old new r o a = record {
   opened = a.opened;
   step = a.step;
   moves = a.moves;
-  sound = a.sound;
-  form = a.form;
+  grants = a.grants;
   needs = a.needs;
+  refers = a.refers;
   archives = a.archives;
+  form = a.form;
   survives = a.survives;
   stays = a.stays;
 }
@@ -95,17 +95,18 @@ one-run old new ts runs = record {
   ran = runs.run.ran;
   stored = runs.run.stored;
   headline = λ needs clean on empty.
-      let sound : HoldsSound old = record { refers = subst (λ (S : State). IsSound S.access) (sym empty) nothing_sound; needs = needs } in
+      let sound = refers_for_each runs.requests old (subst (λ (S : State). IsSound S.access) (sym empty) nothing_sound) needs in
       headline_from _ runs.requests runs.outcomes _ _ empty (runs.run.ran sound clean) on;
   history = λ needs clean on h legal is.
-      let sound : HoldsSound old = record { refers = subst (λ (S : State). IsSound S.access) (sym is) (history_says h legal).sound; needs = needs } in
+      let sound = refers_for_each runs.requests old (subst (λ (S : State). IsSound S.access) (sym is) (history_says h legal).sound) needs in
       run_says h _ runs.requests runs.outcomes _ _ (runs.run.ran sound clean) on legal is;
   served = runs.run.served;
   opened = runs.run.opened;
-  sound = runs.run.sound;
-  form = runs.run.form;
+  grants = runs.run.grants;
   needs = runs.run.needs;
+  refers = runs.run.refers;
   archives = runs.run.archives;
+  form = runs.run.form;
   survives = runs.run.survives;
   stays = runs.run.stays;
   closes = runs.run.closes;

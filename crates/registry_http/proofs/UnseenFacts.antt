@@ -1,19 +1,194 @@
--- The same replies are the same responses.
-use Rattle.std.proofs.Common.{◌≡◌, Bool, List, [], ◌∷◌, Ok, Err, ap}
-use Rattle.registry_rules.specs.declared.reply.Reply.{Reply}
-use Rattle.registry_history.specs.Runs.{Outcome}
-use Rattle.registry_hidden.specs.Runs.{AreAlike}
-use Rattle.registry_hidden.proofs.RunFacts.{runs_are_alike}
+-- What strangers are sent in two worlds whose turns differ in requests on a package.
+use Rattle.std.proofs.Common.{◌≡◌, ◌==◌, ◌++◌, ◌+◌, ◌∙◌, ℕ, suc, Bool, true, false, List, [], ◌∷◌, length, Option, Some, None, Ok, Err, is_some, refl, sym, ap, ap₂, arith, subst, if◌then◌else◌}
+use Rattle.std.proofs.lemmas.Bool.Decides.{nat_tests}
+use Rattle.sqlite.specs.State.{State as Shown}
+use Rattle.registry_names.specs.Texts.{Text}
+use Rattle.registry_rules.specs.State.{State}
+use Rattle.registry_rules.specs.declared.request.Request.{Request}
+use Rattle.registry_history.specs.History.{Entry, after}
+use Rattle.registry_history.specs.Runs.{HaveOutcomes, IsAnswer, Outcome, end_of, next}
+use Rattle.registry_history.proofs.RunFacts.{end_push}
+use Rattle.registry_hidden.specs.Arrivals.{may_change_more}
+use Rattle.registry_hidden.specs.Without.{state_without}
+use Rattle.registry_hidden.proofs.LeftFacts.{IsLeft, answers_alike, left_next, left_rests, left_start, leaves_rest, next_alike, rest_stays, same_rest}
+use Rattle.registry_service.specs.Courses.{written}
+use Rattle.registry_service.specs.Histories.{FollowAll, IsOneHistory, LogEntry, World, is_last, turns_of}
 use Rattle.registry_service.specs.HttpAnswers.{response_to}
-use Rattle.registry_http.specs.Unseen.{AreAnsweredAlike, RunsAreAnsweredAlike}
+use Rattle.registry_service.specs.Turns.{Answering, Cause, IsTurn, IsTurnFor, Turn, bad_input, no_memory, request, request_limit, response_of, end_of as turn_end}
+use Rattle.registry_service.specs.declared.turning.End.{End}
+use Rattle.registry_service.proofs.HistoryFacts.{one-history}
+use Rattle.registry_http.specs.Services.{applied}
+use Rattle.registry_http.specs.Unseen.{DifferIn, IsSameTurn, IsStrangers, IsUnseen, IsWorldOf, LeavesRest, Meeting, StaysClose, StrangersAreAnsweredTheSame, and_outcome, and_request, first_left, first_log, first_outcomes, first_requests, in_both, in_first, in_second, second_left, second_log, second_outcomes, second_requests}
 
-answered-alike : (os qs : List Outcome) → AreAlike os qs → AreAnsweredAlike os qs
-answered-alike [] [] alike = alike
-answered-alike [] (q ∷ qs) alike = absurd alike
-answered-alike (o ∷ os) [] alike = absurd alike
-answered-alike (Ok a ∷ os) (Ok b ∷ qs) (same, alike) = (λ (closes : Bool). ap (λ (reply : Reply). response_to (Ok reply) closes) same, answered-alike os qs alike)
-answered-alike (Ok a ∷ os) (Err f ∷ qs) alike = alike
-answered-alike (Err f ∷ os) (q ∷ qs) alike = alike
+same-number : (k j : ℕ) → (k == j) ≡ true → k ≡ j
+same-number k j here = grind (arith, nat_tests, here)
 
-pub runs-answered_alike : RunsAreAnsweredAlike
-runs-answered_alike g h p who shown unseen rs os qs asked first second = answered-alike os qs (runs_are_alike g h p who shown unseen rs os qs asked first second)
+-- ---- a run without its last request
+
+have-split : (S : State) (rs : List Request) (os : List Outcome) (r : Request) (o : Outcome) → HaveOutcomes S (rs ++ r ∷ []) (os ++ o ∷ []) → HaveOutcomes S rs os × IsAnswer (end_of S rs os) r o
+have-split S [] [] r o have = (tt, have.0)
+have-split S [] (p ∷ []) r o have = absurd have.1
+have-split S [] (p ∷ x ∷ os) r o have = absurd have.1
+have-split S (q ∷ []) [] r o have = absurd have.1
+have-split S (q ∷ x ∷ rs) [] r o have = absurd have.1
+have-split S (q ∷ rs) (p ∷ os) r o have = let rest = have-split (next S q p) rs os r o have.1 in ((have.0, rest.0), rest.1)
+
+-- ---- two turns of both worlds
+
+-- turns that were taken for the same, with the same outcome, end their connections alike
+ends-alike : {D : Type 0} (answers : Answering D) (c : Cause) (K L M N : D) (a b : Bool) (o : Outcome) (e f : Option End) → a ≡ b → IsTurnFor answers c K a o e L → IsTurnFor answers c M b o f N → e ≡ f
+ends-alike answers (request w at) K L M N a b o e f last first second = first.ends ∙ ap (λ x. turn_end o x w.closes) last ∙ sym second.ends
+ends-alike answers (bad_input r) K L M N a b o e f last first second = first.0.1 ∙ sym second.0.1
+ends-alike answers no_memory K L M N a b o e f last first second = first.0.1 ∙ sym second.0.1
+
+-- ---- the registries of both worlds
+
+-- legal histories left them, and they agree in all but the package
+record AreNear (p : Text) (S T : State) : Type 0 where
+  left : IsLeft S
+  other_left : IsLeft T
+  same : state_without S p ≡ state_without T p
+
+module _ (p : Text) where
+  near-first : (S T : State) (r : Request) (o : Outcome) → AreNear p S T → IsAnswer S r o → state_without (next S r o) p ≡ state_without S p → AreNear p (next S r o) T
+  near-first S T r o near answered stays = record { left = left_next S r o near.left answered; other_left = near.other_left; same = stays ∙ near.same }
+
+  near-second : (S T : State) (r : Request) (q : Outcome) → AreNear p S T → IsAnswer T r q → state_without (next T r q) p ≡ state_without T p → AreNear p S (next T r q)
+  near-second S T r q near answered stays = record { left = near.left; other_left = left_next T r q near.other_left answered; same = near.same ∙ sym stays }
+
+  near-fault : (S T : State) (r : Request) (o q : Outcome) → AreNear p S T → IsAnswer S r o → IsAnswer T r q → may_change_more r p ≡ false → AreNear p (next S r o) (next T r q)
+  near-fault S T r o q near answered answered' less =
+      near-second (next S r o) T r q (near-first S T r o near answered (rest_stays S p r o (leaves_rest r o p less))) answered' (rest_stays T p r q (leaves_rest r q p less))
+
+  near-both : (S T : State) (r : Request) (o q : Outcome) → AreNear p S T → IsAnswer S r o → IsAnswer T r q → StaysClose p S T r o q → AreNear p (next S r o) (next T r q)
+  near-both S T r (Ok a) (Ok b) near answered answered' held =
+      record { left = left_next S r (Ok a) near.left answered; other_left = left_next T r (Ok b) near.other_left answered'; same = next_alike S T p near.same r a b answered answered' held }
+  near-both S T r (Ok a) (Err g) near answered answered' less = near-fault S T r (Ok a) (Err g) near answered answered' less
+  near-both S T r (Err f) q near answered answered' less = near-fault S T r (Err f) q near answered answered' less
+
+  same-outcome : (S T : State) (r : Request) (o q : Outcome) → AreNear p S T → IsAnswer S r o → IsAnswer T r q → IsUnseen p S T (Some r) o q → o ≡ q
+  same-outcome S T r (Ok a) (Ok b) near answered answered' (stranger, stranger', shown, replies) =
+      ap Ok (answered ∙ answers_alike S T p near.same (left_rests S near.left) (left_rests T near.other_left) r stranger stranger' shown ∙ sym answered')
+  same-outcome S T r (Ok a) (Err g) near answered answered' unseen = absurd unseen.3
+  same-outcome S T r (Err f) (Ok b) near answered answered' unseen = absurd unseen.3
+  same-outcome S T r (Err f) (Err g) near answered answered' unseen = absurd unseen.3
+
+module _ {D : Type 0} (answers : Answering D) (p : Text) (S T : State) (start : AreNear p S T) where
+  abbrev HaveFirst : List Meeting → Type 0
+  HaveFirst ms = HaveOutcomes S (first_requests ms) (first_outcomes ms)
+
+  abbrev HaveSecond : List Meeting → Type 0
+  HaveSecond ms = HaveOutcomes T (second_requests ms) (second_outcomes ms)
+
+  abbrev AreNearAfter : List Meeting → Type 0
+  AreNearAfter ms = AreNear p (first_left S ms) (second_left T ms)
+
+  -- what one more request, if any, leaves
+  older : (U : State) (rs : List Request) (os : List Outcome) (r : Option Request) (o : Outcome) → HaveOutcomes U (and_request rs r) (and_outcome os r o) → HaveOutcomes U rs os
+  older U rs os None o have = have
+  older U rs os (Some r) o have = (have-split U rs os r o have).0
+
+  near-one : (ms : List Meeting) (k : ℕ) (r : Option Request) (t u : Turn) → HaveFirst (in_both k r t u ∷ ms) → HaveSecond (in_both k r t u ∷ ms) → AreNearAfter ms → IsSameTurn p (first_left S ms) (second_left T ms) r t u → AreNearAfter (in_both k r t u ∷ ms)
+  near-one ms k None t u first second near same = near
+  near-one ms k (Some r) t u first second near same =
+      let a = have-split S (first_requests ms) (first_outcomes ms) r t.outcome first in
+      let b = have-split T (second_requests ms) (second_outcomes ms) r u.outcome second in
+      subst (λ U. AreNear p U (end_of T (second_requests ms ++ r ∷ []) (second_outcomes ms ++ u.outcome ∷ []))) (sym (end_push S (first_requests ms) (first_outcomes ms) r t.outcome a.0))
+      (subst (λ U. AreNear p (next (first_left S ms) r t.outcome) U) (sym (end_push T (second_requests ms) (second_outcomes ms) r u.outcome b.0))
+      (near-both p (first_left S ms) (second_left T ms) r t.outcome u.outcome near a.1 b.1 same.1))
+
+  near-alone : (ms : List Meeting) (k : ℕ) (r : Option Request) (t : Turn) → HaveFirst (in_first k r t ∷ ms) → AreNearAfter ms → LeavesRest p r t.outcome → AreNearAfter (in_first k r t ∷ ms)
+  near-alone ms k None t first near leaves = near
+  near-alone ms k (Some r) t first near leaves =
+      let a = have-split S (first_requests ms) (first_outcomes ms) r t.outcome first in
+      subst (λ U. AreNear p U (second_left T ms)) (sym (end_push S (first_requests ms) (first_outcomes ms) r t.outcome a.0))
+      (near-first p (first_left S ms) (second_left T ms) r t.outcome near a.1 (rest_stays (first_left S ms) p r t.outcome leaves))
+
+  near-other : (ms : List Meeting) (k : ℕ) (r : Option Request) (u : Turn) → HaveSecond (in_second k r u ∷ ms) → AreNearAfter ms → LeavesRest p r u.outcome → AreNearAfter (in_second k r u ∷ ms)
+  near-other ms k None u second near leaves = near
+  near-other ms k (Some r) u second near leaves =
+      let b = have-split T (second_requests ms) (second_outcomes ms) r u.outcome second in
+      subst (λ U. AreNear p (first_left S ms) U) (sym (end_push T (second_requests ms) (second_outcomes ms) r u.outcome b.0))
+      (near-second p (first_left S ms) (second_left T ms) r u.outcome near b.1 (rest_stays (second_left T ms) p r u.outcome leaves))
+
+  near-after : (ms : List Meeting) → HaveFirst ms → HaveSecond ms → DifferIn p S T ms → AreNearAfter ms
+  near-after [] first second differ = start
+  near-after (in_both k r t u ∷ ms) first second differ =
+      near-one ms k r t u first second
+      (near-after ms (older S (first_requests ms) (first_outcomes ms) r t.outcome first) (older T (second_requests ms) (second_outcomes ms) r u.outcome second) differ.1) differ.0
+  near-after (in_first k r t ∷ ms) first second differ = near-alone ms k r t first (near-after ms (older S (first_requests ms) (first_outcomes ms) r t.outcome first) second differ.1) differ.0
+  near-after (in_second k r u ∷ ms) first second differ = near-other ms k r u second (near-after ms first (older T (second_requests ms) (second_outcomes ms) r u.outcome second) differ.1) differ.0
+
+  -- ---- the turns of a stranger's connection
+
+  -- as many turns, and the same written
+  record AreSame (ts us : List Turn) : Type 0 where
+    count : length ts ≡ length us
+    bytes : written ts ≡ written us
+
+  lasts : (ts us : List Turn) → length ts ≡ length us → is_last ts ≡ is_last us
+  lasts ts us count = ap (λ n. n + 1 == request_limit) count
+
+  one-turn : (ms : List Meeting) (k : ℕ) (r : Option Request) (t u : Turn) (K L M N : D) → HaveFirst (in_both k r t u ∷ ms) → HaveSecond (in_both k r t u ∷ ms) → AreNearAfter ms
+      → IsSameTurn p (first_left S ms) (second_left T ms) r t u → IsUnseen p (first_left S ms) (second_left T ms) r t.outcome u.outcome
+      → (a b : Bool) → a ≡ b → IsTurn answers K a t L → IsTurn answers M b u N → response_of t ≡ response_of u
+  one-turn ms k None t u K L M N first second near same unseen a b last is is' = ap response_of same
+  one-turn ms k (Some r) t u K L M N first second near same unseen a b last is is' =
+      let x = have-split S (first_requests ms) (first_outcomes ms) r t.outcome first in
+      let y = have-split T (second_requests ms) (second_outcomes ms) r u.outcome second in
+      let outcome = same-outcome p (first_left S ms) (second_left T ms) r t.outcome u.outcome near x.1 y.1 unseen in
+      let there : IsTurnFor answers t.cause M b t.outcome u.ended N = subst (λ o. IsTurnFor answers t.cause M b o u.ended N) (sym outcome) (subst (λ c. IsTurnFor answers c M b u.outcome u.ended N) (sym same.0) is') in
+      ap₂ (λ o e. response_to o (is_some e)) outcome (ends-alike answers t.cause K L M N a b t.outcome t.ended u.ended last is there)
+
+  same-turns : (k : ℕ) (ms : List Meeting) (K L M N : D) → FollowAll answers K (first_log ms) L → FollowAll answers M (second_log ms) N → HaveFirst ms → HaveSecond ms → DifferIn p S T ms → IsStrangers k p S T ms
+      → AreSame (turns_of k (first_log ms)) (turns_of k (second_log ms))
+  same-turns k [] K L M N follow follow' first second differ strangers = record { count = refl; bytes = refl }
+  same-turns k (in_both j r t u ∷ ms) K L M N follow follow' first second differ strangers =
+      let have = older S (first_requests ms) (first_outcomes ms) r t.outcome first in
+      let have' = older T (second_requests ms) (second_outcomes ms) r u.outcome second in
+      let rest = same-turns k ms K follow.0 M follow'.0 follow.1 follow'.1 have have' differ.1 strangers.1 in
+      let near = near-after ms have have' differ.1 in
+      by rest near (k == j) refl
+    where
+      by : AreSame (turns_of k (first_log ms)) (turns_of k (second_log ms)) → AreNearAfter ms → (b : Bool) → (k == j) ≡ b
+          → AreSame (if b then t ∷ turns_of k (first_log ms) else turns_of k (first_log ms)) (if b then u ∷ turns_of k (second_log ms) else turns_of k (second_log ms))
+      by rest near false other = rest
+      by rest near true here = record {
+        count = ap suc rest.count;
+        bytes = ap₂ (λ x y. x ++ y) rest.bytes
+            (one-turn ms j r t u follow.0 L follow'.0 N first second near differ.0 (strangers.0 here) (is_last (turns_of j (first_log ms))) (is_last (turns_of j (second_log ms)))
+            (lasts (turns_of j (first_log ms)) (turns_of j (second_log ms)) (subst (λ i. length (turns_of i (first_log ms)) ≡ length (turns_of i (second_log ms))) (same-number k j here) rest.count)) follow.2 follow'.2);
+      }
+  same-turns k (in_first j r t ∷ ms) K L M N follow follow' first second differ strangers =
+      let rest = same-turns k ms K follow.0 M N follow.1 follow' (older S (first_requests ms) (first_outcomes ms) r t.outcome first) second differ.1 strangers.1 in
+      subst (λ b. AreSame (if b then t ∷ turns_of k (first_log ms) else turns_of k (first_log ms)) (turns_of k (second_log ms))) (sym strangers.0) rest
+  same-turns k (in_second j r u ∷ ms) K L M N follow follow' first second differ strangers =
+      let rest = same-turns k ms K L M follow'.0 follow follow'.1 first (older T (second_requests ms) (second_outcomes ms) r u.outcome second) differ.1 strangers.1 in
+      subst (λ b. AreSame (turns_of k (first_log ms)) (if b then u ∷ turns_of k (second_log ms) else turns_of k (second_log ms))) (sym strangers.0) rest
+
+-- ---- two worlds
+
+module _ {D : Type 0} (show : D → Shown) where
+  -- the run of a world, from what its history left
+  have-run : (M : D) (w : World D) (h : List Entry) (es : List LogEntry) (rs : List Request) (os : List Outcome) → IsWorldOf show M w h es rs os → HaveOutcomes (after h) rs os
+  have-run M w h es rs os world =
+      subst (λ x. HaveOutcomes (after h) x os) world.requests
+      (subst (λ x. HaveOutcomes (after h) world.run.requests x) world.outcomes
+      (subst (λ U. HaveOutcomes U world.run.requests world.run.outcomes) world.left (world.run.ran world.sound world.clean).answers))
+
+  history : (M : D) (w : World D) (h : List Entry) (es : List LogEntry) (rs : List Request) (os : List Outcome) → IsWorldOf show M w h es rs os → IsOneHistory (applied show) M w
+  history M w h es rs os world = one-history (applied show) M w world.reached
+
+  follow-log : (M : D) (w : World D) (h : List Entry) (es : List LogEntry) (rs : List Request) (os : List Outcome) → IsWorldOf show M w h es rs os → FollowAll (applied show) M es w.service
+  follow-log M w h es rs os world = subst (λ x. FollowAll (applied show) M x w.service) world.log (history M w h es rs os world).service
+
+  sent : (M : D) (w : World D) (h : List Entry) (es : List LogEntry) (rs : List Request) (os : List Outcome) → IsWorldOf show M w h es rs os → (k : ℕ) → (w.transcripts k).out ≡ written (turns_of k es)
+  sent M w h es rs os world k = ((history M w h es rs os world).transcripts k).answered ∙ ap (λ x. written (turns_of k x)) world.log
+
+  pub strangers-answered_the_same : StrangersAreAnsweredTheSame show
+  strangers-answered_the_same M N w v g h p ms differ first second meets k strangers =
+      let start : AreNear p (after g) (after h) = record { left = left_start g differ.legal; other_left = left_start h differ.other_legal; same = same_rest g h p differ } in
+      let same = same-turns (applied show) p (after g) (after h) start k ms M w.service N v.service
+      (follow-log M w g (first_log ms) (first_requests ms) (first_outcomes ms) first) (follow-log N v h (second_log ms) (second_requests ms) (second_outcomes ms) second)
+      (have-run M w g (first_log ms) (first_requests ms) (first_outcomes ms) first) (have-run N v h (second_log ms) (second_requests ms) (second_outcomes ms) second) meets strangers in
+      sent M w g (first_log ms) (first_requests ms) (first_outcomes ms) first k ∙ same.bytes ∙ sym (sent N v h (second_log ms) (second_requests ms) (second_outcomes ms) second k)

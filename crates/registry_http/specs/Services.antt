@@ -5,8 +5,9 @@ use Rattle.registry_names.specs.declared.stop.Stop.{Stop}
 use Rattle.registry_rules.specs.declared.request.Request.{Request}
 use Rattle.registry_tables.specs.Archives.{HoldsArchives}
 use Rattle.registry_tables.specs.Needs.{HoldsNeeds}
+use Rattle.registry_tables.specs.Teams.{GrantsInScope}
 use Rattle.registry_history.specs.Runs.{Outcome}
-use Rattle.registry_desk.specs.Promises.{Answered, GrowsHistory, HasHeadline, Keeps, KeepsForm, KeepsSound, KeepsSure, Moves, RanTo, Served, ServedRun, ShutByFaults, StaysSure, Stepped, Stored, SurvivesOne, SurvivesRun, WasOpen, WritesHistory}
+use Rattle.registry_desk.specs.Promises.{Answered, GrowsHistory, HasHeadline, HidesUnread, HoldsReferences, Keeps, KeepsForm, KeepsFormRun, KeepsRun, KeepsSure, Moves, RanTo, Served, ServedRun, ShutByFaults, StaysSure, Stepped, Stored, SurvivesOne, SurvivesRun, Unchanged, WasOpen, WritesHistory}
 use Rattle.registry_service.specs.Courses.{Follow}
 use Rattle.registry_service.specs.Histories.{LogEntry, FollowAll}
 use Rattle.registry_service.specs.Requests.{reads_request}
@@ -17,13 +18,16 @@ pub record Applies (old new : Shown) (r : Request) (o : Outcome) : Type 0 where
   pub answer : Answered old new r o
   pub served : Served old new o
   pub opened : WasOpen old new
+  pub unchanged : Unchanged old new r o
   pub step : Stepped old new r o
   pub moves : Moves old new r o
   pub history : GrowsHistory old new r o
-  pub sound : KeepsSound old new
-  pub form : KeepsForm old new
-  pub needs : Keeps old new HoldsNeeds
-  pub archives : Keeps old new HoldsArchives
+  pub hidden : HidesUnread old new r o
+  pub grants : Keeps old new r GrantsInScope
+  pub needs : Keeps old new r HoldsNeeds
+  pub refers : Keeps old new r HoldsReferences
+  pub archives : Keeps old new r HoldsArchives
+  pub form : KeepsForm old new r
   pub survives : SurvivesOne old new r
   pub stays : StaysSure new
 
@@ -62,10 +66,11 @@ pub record IsOneRun (old new : Shown) (ts : List Turn) : Type 0 where
   pub history : WritesHistory old new requests outcomes
   pub served : ServedRun old new outcomes
   pub opened : WasOpen old new
-  pub sound : KeepsSound old new
-  pub form : KeepsForm old new
-  pub needs : Keeps old new HoldsNeeds
-  pub archives : Keeps old new HoldsArchives
+  pub grants : KeepsRun old new requests GrantsInScope
+  pub needs : KeepsRun old new requests HoldsNeeds
+  pub refers : KeepsRun old new requests HoldsReferences
+  pub archives : KeepsRun old new requests HoldsArchives
+  pub form : KeepsFormRun old new requests
   pub survives : SurvivesRun old new requests outcomes
   pub stays : KeepsSure old new
   pub closes : ShutByFaults old new

@@ -3,7 +3,7 @@
 ghost use Rattle.sqlite.specs.Held.{state};
 ghost use Rattle.registry_http.specs.Services.{LogRuns, TurnsRun};
 ghost use Rattle.registry_http.specs.Hiding.{HiddenAreUnheardOf};
-ghost use Rattle.registry_http.specs.Unseen.{RunsAreAnsweredAlike};
+ghost use Rattle.registry_http.specs.Unseen.{StrangersAreAnsweredTheSame};
 
 use sqlite::Alter;
 
@@ -24,10 +24,15 @@ pub fn hidden_packages_are_unheard_of()
     ensures { HiddenAreUnheardOf }
 {}
 
-/// Take two legal histories that are one list once the entries that name a package are dropped, and
-/// a caller who has no level on the package after either. Whatever list of requests they make,
-/// except a withdrawal of another package and a publish of this one as a member of its scope, they
-/// get the same responses after both, byte for byte, up to the first fault in either.
-pub fn unread_packages_change_no_byte()
-    ensures { RunsAreAnsweredAlike }
+/// Take two registries, which legal histories left that are one list once the entries that name a
+/// package are dropped, and that serve many connections each. In each world, turns may be taken that
+/// aren't in the other: for what names the package, for what is no accepted command, and for what is
+/// no request in form. All other turns are taken in both, for the same, in one order. Then each
+/// connection is answered the same, byte for byte, that has no turn in one world alone, and whose
+/// requests are of callers who have no level on the package at that point of either. Excepted are a
+/// request that shows the package in one world alone, and one that meets a fault; and, of whomever, a
+/// command that doesn't name the package, and that meets a fault or is kept from being done by the
+/// package alone in one world.
+pub fn unread_packages_change_no_byte<S: Alter>()
+    ensures { StrangersAreAnsweredTheSame (state S.Store) }
 {}

@@ -8,7 +8,7 @@ use Rattle.registry_packument.specs.Packuments.{version_pair, version_pairs, pac
 use Rattle.registry_packument.specs.Writing.{IsFaultOf}
 use Rattle.registry_names.specs.declared.stop.Fault.{Fault}
 use Rattle.registry_names.specs.declared.stop.Fault.TheVariants.{Memory, Database}
-use Rattle.registry_packument.specs.declared.head.PackHead.{PackHead}
+use Rattle.registry_packument.specs.Heads.{HeadParts}
 use Rattle.registry_packument.specs.declared.packument.VersionRow.{VersionRow}
 use Rattle.registry_packument.proofs.PackFacts.{pack_pairs-parts}
 
@@ -20,16 +20,16 @@ abbrev pub with_left : ℕ → Bool → List VersionRow → Option ℕ
 with_left count later rows = with_pairs count later (version_pairs rows)
 
 -- how many bytes there are, without a bound
-abbrev pub whole_len : PackHead → List VersionRow → Option ℕ
+abbrev pub whole_len : HeadParts → List VersionRow → Option ℕ
 whole_len head rows = option_map length (pack_text head rows)
 
-start_at : (head : PackHead) (count : ℕ) (all : Option (List Pair)) → count ≡ length (opening_text head)
-    → with_pairs count false all ≡ option_map length (option_map (λ ps. object_text (pack_pairs head.name head.tags.items ps)) all)
+start_at : (head : HeadParts) (count : ℕ) (all : Option (List Pair)) → count ≡ length (opening_text head)
+    → with_pairs count false all ≡ option_map length (option_map (λ ps. object_text (pack_pairs head.name head.tags ps)) all)
 start_at head count None e = refl
 start_at head count (Some ps) e =
     ap Some (rw e (sym (length-append (opening_text head) (versions_text false ps)) ∙ sym (ap length (pack_pairs-parts head ps))))
 
-pub with_left-start : (head : PackHead) (rows : List VersionRow) (count : ℕ) → count ≡ length (opening_text head) → with_left count false rows ≡ whole_len head rows
+pub with_left-start : (head : HeadParts) (rows : List VersionRow) (count : ℕ) → count ≡ length (opening_text head) → with_left count false rows ≡ whole_len head rows
 with_left-start head rows count e = start_at head count (version_pairs rows) e
 
 step_at : (count more : ℕ) (later : Bool) (p : Pair) (left : Option (List Pair)) → more ≡ count + length (member_text later p)
@@ -65,7 +65,7 @@ too_many_at : (count : ℕ) (later : Bool) (left : Option (List Pair)) (all : Op
 too_many_at count later None all h le = no_text all h
 too_many_at count later (Some ps) all h le = too_long all (count + length (versions_text later ps)) h (omega arith)
 
-row_at : (head : PackHead) (all : List VersionRow) (row : VersionRow) (rows : List VersionRow) (count : ℕ) (later : Bool) (pair : Option Pair) → version_pair row ≡ pair
+row_at : (head : HeadParts) (all : List VersionRow) (row : VersionRow) (rows : List VersionRow) (count : ℕ) (later : Bool) (pair : Option Pair) → version_pair row ≡ pair
     → with_left count later (row ∷ rows) ≡ whole_len head all → ((p : Pair) → version_pair row ≡ Some p → 2 ^ 64 ≤ count + length (member_text later p)) → pack_len head all ≡ None
 row_at head all row rows count later None e h much =
     let none : None ≡ whole_len head all = rw e at h in no_text (pack_text head all) none
@@ -78,7 +78,7 @@ is_fault Memory len none = tt
 is_fault Database len none = none
 
 -- memory ran out, or the next row has no document, or is too much
-pub row_fault : (head : PackHead) (all : List VersionRow) (row : VersionRow) (old rows : List VersionRow) (count : ℕ) (later : Bool) (fault : Fault) → old ≡ row ∷ rows
+pub row_fault : (head : HeadParts) (all : List VersionRow) (row : VersionRow) (old rows : List VersionRow) (count : ℕ) (later : Bool) (fault : Fault) → old ≡ row ∷ rows
     → with_left count later old ≡ whole_len head all
     → (fault ≡ Memory) ⊎ ((p : Pair) → version_pair row ≡ Some p → 2 ^ 64 ≤ count + length (member_text later p)) → IsFaultOf (pack_len head all) fault
 row_fault head all row old rows count later fault gives left (inl memory) = rw memory tt

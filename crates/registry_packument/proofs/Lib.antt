@@ -1,8 +1,8 @@
 pub mod DocumentFacts
 pub mod LenFacts
 pub mod ManifestFacts
+pub mod OrderFacts
 pub mod PackFacts
 pub mod PassingFacts
-pub mod SourceFacts
 pub mod StreamFacts
 pub mod ValueFacts

@@ -11,7 +11,7 @@ use Rattle.registry_names.specs.declared.stop.Fault.TheVariants.{Memory, Databas
 use Rattle.registry_packument.specs.ObjectTexts.{Pair, member_text, members_text, object_text}
 use Rattle.registry_packument.specs.Packuments.{tag_pair, version_pair, version_pairs, pack_pairs, opening_text, versions_text, pack_text, tag_members, pack_value, AreDocumentsOf}
 use Rattle.registry_packument.specs.Writing.{Adds, IsFaultOf}
-use Rattle.registry_packument.specs.declared.head.PackHead.{PackHead}
+use Rattle.registry_packument.specs.Heads.{HeadParts}
 use Rattle.registry_packument.proofs.ValueFacts.{document_text-compact}
 use Rattle.registry_names.specs.declared.dist_tag.DistTag.{DistTag}
 use Rattle.registry_packument.specs.declared.packument.VersionRow.{VersionRow}
@@ -54,17 +54,17 @@ documents_texts (r ∷ rs) (member k d ms) h =
     let document = document_text-compact r.manifest r.message h.1.0.0 h.1.0.1.0 in
     ((r.version, compact_text d) ∷ rest.0, (rw (document, rest.1.0, h.1.0.1.1) refl, (h.0, (refl, rest.1.1))))
 
-pack_pairs-members : (head : PackHead) (ps : List Pair) (documents : Members) → AreTextsOf ps documents
-    → object_text (pack_pairs head.name head.tags.items ps) ≡ compact_text (pack_value head documents)
+pack_pairs-members : (head : HeadParts) (ps : List Pair) (documents : Members) → AreTextsOf ps documents
+    → object_text (pack_pairs head.name head.tags ps) ≡ compact_text (pack_value head documents)
 pack_pairs-members head ps documents h =
-    let tags = object_text-object (map tag_pair head.tags.items) (tag_members head.tags.items) (tags_text head.tags.items) in
+    let tags = object_text-object (map tag_pair head.tags) (tag_members head.tags) (tags_text head.tags) in
     let versions = object_text-object ps documents h in
-    object_text-object (pack_pairs head.name head.tags.items ps)
-    (member (codes "_id") (string head.name) (member (codes "dist-tags") (object (tag_members head.tags.items)) (member (codes "name") (string head.name)
+    object_text-object (pack_pairs head.name head.tags ps)
+    (member (codes "_id") (string head.name) (member (codes "dist-tags") (object (tag_members head.tags)) (member (codes "name") (string head.name)
     (member (codes "versions") (object documents) no_members))))
     (refl, (refl, (refl, (tags, (refl, (refl, (refl, (versions, tt))))))))
 
-pub pack_text-json : (head : PackHead) (versions : List VersionRow) (documents : Members) → AreDocumentsOf versions documents
+pub pack_text-json : (head : HeadParts) (versions : List VersionRow) (documents : Members) → AreDocumentsOf versions documents
     → pack_text head versions ≡ Some (compact_text (pack_value head documents))
 pack_text-json head versions documents h =
     let texts = documents_texts versions documents h in
@@ -104,9 +104,9 @@ parted a b c key m =
     rw d (spread (123 ∷ []) a b c (44 ∷ (key ++ 58 ∷ 123 ∷ [])) m (125 ∷ []))
 
 -- what comes before the versions, and these with the end
-pub pack_pairs-parts : (head : PackHead) (ps : List Pair) → object_text (pack_pairs head.name head.tags.items ps) ≡ opening_text head ++ versions_text false ps
+pub pack_pairs-parts : (head : HeadParts) (ps : List Pair) → object_text (pack_pairs head.name head.tags ps) ≡ opening_text head ++ versions_text false ps
 pack_pairs-parts head ps =
-    parted (member_text false (codes "_id", quoted head.name)) (member_text true (codes "dist-tags", object_text (map tag_pair head.tags.items)))
+    parted (member_text false (codes "_id", quoted head.name)) (member_text true (codes "dist-tags", object_text (map tag_pair head.tags)))
     (member_text true (codes "name", quoted head.name)) (quoted (codes "versions")) (members_text false ps)
 
 -- ---- the loop over the versions
@@ -125,8 +125,8 @@ whole_of-step : (out more : List ℕ) (later : Bool) (p : Pair) (left : Option (
 whole_of-step out more later p None e = refl
 whole_of-step out more later p (Some ps) e = ap Some (rw e (simp append_assoc))
 
-start_at : (head : PackHead) (out : List ℕ) (all : Option (List Pair)) → out ≡ opening_text head
-    → whole_of out false all ≡ option_map (λ ps. object_text (pack_pairs head.name head.tags.items ps)) all
+start_at : (head : HeadParts) (out : List ℕ) (all : Option (List Pair)) → out ≡ opening_text head
+    → whole_of out false all ≡ option_map (λ ps. object_text (pack_pairs head.name head.tags ps)) all
 start_at head out None e = refl
 start_at head out (Some ps) e = ap Some (rw e (sym (pack_pairs-parts head ps)))
 
@@ -150,5 +150,5 @@ pub rows_end : (out done : List ℕ) (later : Bool) (rows : List VersionRow) (wh
 rows_end out done later rows whole none h e = sym h ∙ ap (λ rs. whole_of out later (version_pairs rs)) none ∙ ap Some (sym e)
 
 -- nothing is written of the versions
-pub rows_start : (head : PackHead) (rows : List VersionRow) (out : List ℕ) → out ≡ opening_text head → whole_of out false (version_pairs rows) ≡ pack_text head rows
+pub rows_start : (head : HeadParts) (rows : List VersionRow) (out : List ℕ) → out ≡ opening_text head → whole_of out false (version_pairs rows) ≡ pack_text head rows
 rows_start head rows out e = start_at head out (version_pairs rows) e

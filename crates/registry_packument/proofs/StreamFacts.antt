@@ -10,7 +10,7 @@ use Rattle.registry_packument.specs.Documents.{document_text}
 use Rattle.registry_packument.specs.ObjectTexts.{Pair, member_text, members_text, object_text}
 use Rattle.registry_packument.specs.Packuments.{version_pair, version_pairs, pack_pairs, opening_text, versions_text, pack_text}
 use Rattle.registry_packument.specs.Streams.{row_prefix, versions_prefix, pack_prefix}
-use Rattle.registry_packument.specs.declared.head.PackHead.{PackHead}
+use Rattle.registry_packument.specs.Heads.{HeadParts}
 use Rattle.registry_packument.specs.declared.packument.VersionRow.{VersionRow}
 use Rattle.registry_packument.proofs.PackFacts.{pack_pairs-parts}
 
@@ -119,23 +119,23 @@ versions_prefix-pairs (row ∷ rows) later ps h =
     end_at later row.version (document_text row.manifest row.message) (version_pairs rows) (versions_prefix true rows) ps
     (λ qs is. versions_prefix-pairs rows true qs is) h
 
-parts_at : (head : PackHead) (pairs : Option (List Pair)) (prefix : List ℕ) → ((ps : List Pair) → pairs ≡ Some ps → prefix ≡ versions_text false ps)
-    → unwrap_or (option_map (λ ps. object_text (pack_pairs head.name head.tags.items ps)) pairs) (opening_text head ++ prefix) ≡ opening_text head ++ prefix
+parts_at : (head : HeadParts) (pairs : Option (List Pair)) (prefix : List ℕ) → ((ps : List Pair) → pairs ≡ Some ps → prefix ≡ versions_text false ps)
+    → unwrap_or (option_map (λ ps. object_text (pack_pairs head.name head.tags ps)) pairs) (opening_text head ++ prefix) ≡ opening_text head ++ prefix
 parts_at head None prefix is = refl
 parts_at head (Some ps) prefix is = pack_pairs-parts head ps ∙ ap (λ xs. opening_text head ++ xs) (sym (is ps refl))
 
 -- what comes before the versions, and these
-pub pack_prefix-parts : (head : PackHead) (rows : List VersionRow) → pack_prefix head rows ≡ opening_text head ++ versions_prefix false rows
+pub pack_prefix-parts : (head : HeadParts) (rows : List VersionRow) → pack_prefix head rows ≡ opening_text head ++ versions_prefix false rows
 pack_prefix-parts head rows = parts_at head (version_pairs rows) (versions_prefix false rows) (λ ps is. versions_prefix-pairs rows false ps is)
 
-whole_at : {a b : Option (List ℕ)} {s : Bool} (head : PackHead) (pairs : Option (List Pair)) (prefix : List ℕ)
+whole_at : {a b : Option (List ℕ)} {s : Bool} (head : HeadParts) (pairs : Option (List Pair)) (prefix : List ℕ)
     → ((ps : List Pair) → pairs ≡ Some ps → prefix ≡ versions_text false ps) → is_some pairs ≡ true → Writes a b s (opening_text head ++ prefix)
-    → IsSomeAnd (option_map (λ ps. object_text (pack_pairs head.name head.tags.items ps)) pairs) (λ text. Writes a b s text)
+    → IsSomeAnd (option_map (λ ps. object_text (pack_pairs head.name head.tags ps)) pairs) (λ text. Writes a b s text)
 whole_at head None prefix is some wrote = absurd (true≢false (sym some))
 whole_at head (Some ps) prefix is some wrote = rw (pack_pairs-parts head ps, ← is ps refl) wrote
 
 -- a packument whose versions all have documents is written whole
-pub pack_text-written : {a b : Option (List ℕ)} {s : Bool} (head : PackHead) (rows : List VersionRow) → is_some (version_pairs rows) ≡ true
+pub pack_text-written : {a b : Option (List ℕ)} {s : Bool} (head : HeadParts) (rows : List VersionRow) → is_some (version_pairs rows) ≡ true
     → Writes a b s (opening_text head ++ versions_prefix false rows) → IsSomeAnd (pack_text head rows) (λ text. Writes a b s text)
 pack_text-written head rows some wrote =
     whole_at head (version_pairs rows) (versions_prefix false rows) (λ ps is. versions_prefix-pairs rows false ps is) some wrote

@@ -27,7 +27,7 @@ use Rattle.registry_names.specs.Texts.{Text, text_cmp}
 use Rattle.registry_names.proofs.TextFacts.{text_total, text_exact}
 use Rattle.registry_packument.specs.Documents.{manifest_members, members_in, written_members, members_without, placed, documented, document_text, document_members, IsCompact}
 use Rattle.registry_packument.proofs.ManifestFacts.{document_is, first_is}
-use Rattle.registry_packument.proofs.SourceFacts.{below_all-trans}
+use Rattle.registry_packument.proofs.OrderFacts.{below_all-trans}
 
 -- ---- the numbers that are read can be written
 

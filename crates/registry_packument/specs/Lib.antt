@@ -1,4 +1,5 @@
 pub mod Documents
+pub mod Heads
 pub mod Lists
 pub mod ObjectTexts
 pub mod Packuments

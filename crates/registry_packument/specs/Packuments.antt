@@ -6,7 +6,7 @@ use Rattle.registry_packument.specs.Documents.{document_text, document_members, 
 use Rattle.registry_packument.specs.Lists.{tag_texts}
 use Rattle.registry_packument.specs.ObjectTexts.{Pair, member_text, members_text, object_text}
 use Rattle.registry_packument.specs.TextValues.{text_members}
-use Rattle.registry_packument.specs.declared.head.PackHead.{PackHead}
+use Rattle.registry_packument.specs.Heads.{HeadParts}
 use Rattle.registry_names.specs.declared.dist_tag.DistTag.{DistTag}
 use Rattle.registry_packument.specs.declared.packument.VersionRow.{VersionRow}
 
@@ -38,20 +38,20 @@ abbrev pub packument_of : List ℕ → List DistTag → List VersionRow → Opti
 packument_of name tags versions = option_map (λ ps. object_text (pack_pairs name tags ps)) (version_pairs versions)
 
 -- the packument of a package's head and its versions
-abbrev pub pack_text : PackHead → List VersionRow → Option (List ℕ)
-pack_text head versions = packument_of head.name head.tags.items versions
+abbrev pub pack_text : HeadParts → List VersionRow → Option (List ℕ)
+pack_text head versions = packument_of head.name head.tags versions
 
 -- how many bytes the packument has, where there is one and the number is below 2^64
-abbrev pub pack_len : PackHead → List VersionRow → Option ℕ
+abbrev pub pack_len : HeadParts → List VersionRow → Option ℕ
 pack_len head versions = option_and_then (λ text. if nat_lt (length text) (2 ^ 64) then Some (length text) else None) (pack_text head versions)
 
 -- ---- the same in parts, as they are written one after the other
 
 -- all that comes before the first version
-abbrev pub opening_text : PackHead → List ℕ
+abbrev pub opening_text : HeadParts → List ℕ
 opening_text head =
     123 ∷ (member_text false (codes "_id", quoted head.name)
-    ++ (member_text true (codes "dist-tags", object_text (map tag_pair head.tags.items))
+    ++ (member_text true (codes "dist-tags", object_text (map tag_pair head.tags))
     ++ (member_text true (codes "name", quoted head.name)
     ++ member_text true (codes "versions", 123 ∷ []))))
 
@@ -77,10 +77,10 @@ AreDocumentsOf (r ∷ rs) no_members = ⊥
 AreDocumentsOf (r ∷ rs) (member k d ms) = (r.version ≡ k) × (IsDocumentOf r d × AreDocumentsOf rs ms)
 
 -- the packument of a package's head and its versions' documents
-abbrev pub pack_value : PackHead → Members → Data
+abbrev pub pack_value : HeadParts → Members → Data
 pack_value head documents =
     object (member (codes "_id") (string head.name)
-    (member (codes "dist-tags") (object (tag_members head.tags.items))
+    (member (codes "dist-tags") (object (tag_members head.tags))
     (member (codes "name") (string head.name)
     (member (codes "versions") (object documents)
     no_members))))

@@ -7,7 +7,7 @@ use Rattle.registry_packument.specs.Documents.{document_text}
 use Rattle.registry_packument.specs.ObjectTexts.{member_text}
 use Rattle.registry_packument.specs.Packuments.{opening_text, pack_text}
 use Rattle.registry_packument.specs.Sources.{IsFaultFrom}
-use Rattle.registry_packument.specs.declared.head.PackHead.{PackHead}
+use Rattle.registry_packument.specs.Heads.{HeadParts}
 use Rattle.registry_packument.specs.declared.packument.VersionRow.{VersionRow}
 use Rattle.registry_packument.specs.declared.stream.PackFault.{PackFault}
 use Rattle.registry_packument.specs.declared.stream.PackFault.TheVariants.{Write, Source}
@@ -24,7 +24,7 @@ versions_prefix later (r ∷ rs) =
     member_text later (r.version, unwrap_or (option_map (λ document. document ++ versions_prefix true rs) (document_text r.manifest r.message)) [])
 
 -- the packument, or what of it comes before the first document that is missing
-abbrev pub pack_prefix : PackHead → List VersionRow → List ℕ
+abbrev pub pack_prefix : HeadParts → List VersionRow → List ℕ
 pack_prefix head versions = unwrap_or (pack_text head versions) (opening_text head ++ versions_prefix false versions)
 
 -- what is printed of a fault

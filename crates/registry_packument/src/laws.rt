@@ -6,7 +6,7 @@ ghost use Rattle.serde_json.specs.Data.{Members, object};
 ghost use Rattle.serde_json.specs.Written.{compact_text};
 ghost use Rattle.registry_packument.specs.Documents.{IsCompact, document_members, document_text};
 ghost use Rattle.registry_packument.specs.Packuments.{AreDocumentsOf, pack_text, pack_value};
-ghost use Rattle.registry_packument.specs.declared.head.PackHead.{PackHead};
+ghost use Rattle.registry_packument.specs.Heads.{HeadParts};
 ghost use Rattle.registry_packument.specs.declared.packument.VersionRow.{VersionRow};
 
 /// Where a manifest is the compact JSON of an object, its document is that of the object with the
@@ -19,7 +19,7 @@ pub fn documents_are_json()
 
 /// Where each manifest is the compact JSON of an object, the packument is that of its value.
 pub fn packuments_are_json()
-    ensures { (head : PackHead) (versions : List VersionRow) (documents : Members)
+    ensures { (head : HeadParts) (versions : List VersionRow) (documents : Members)
         → AreDocumentsOf versions documents
         → pack_text head versions ≡ Some (compact_text (pack_value head documents)) }
 {}

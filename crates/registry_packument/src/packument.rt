@@ -40,12 +40,12 @@ pub(crate) const CLOSING: &str = "}}";
 pub(crate) fn opening(alloc: Global, head: &PackHead) -> Result<String, AllocError>
     ensures { IfOk result (λ text. string_bytes text ≡ opening_text head.now) }
 {
-    let name = head.name.as_str();
+    let name = head.name();
     let mut out = String::new(alloc);
     out.push_str("{")?;
     push_text_member(alloc, &mut out, false, "_id", name)?;
     push_key(alloc, &mut out, true, "dist-tags")?;
-    push_object(alloc, &mut out, &head.tags)?;
+    push_object(alloc, &mut out, head.tags())?;
     push_text_member(alloc, &mut out, true, "name", name)?;
     push_key(alloc, &mut out, true, "versions")?;
     out.push_str("{")?;
@@ -72,8 +72,8 @@ pub(crate) fn push_version(
 /// package's name), `dist-tags` (tag to version) and `versions` (version to document), in compact
 /// JSON.
 ///
-/// The versions are the rows that the source gives, and the tags are written as they come, in byte
-/// order, each once. A version's document is that of [`version_text`](crate::version_text).
+/// The versions are the rows that the source gives. They and the tags are in byte order, each once.
+/// A version's document is that of [`version_text`](crate::version_text).
 /// `Database` comes where a manifest is none (see there), and else the source's own fault, or
 /// `Memory` where no memory is left. Where it succeeds, the source has given all its rows.
 pub fn packument_text<S: VersionSource>(

@@ -1,11 +1,11 @@
 -- AUTOINCREMENT: the number that a new row gets, and the row of sqlite_sequence that counts it.
-use Rattle.std.proofs.Common.{◌≡◌, ◌⊎◌, ◌==◌, ◌/◌, inl, inr, ℕ, ℤ, pos, ◌+ℤ◌, ◌<ℤ◌, ◌≤ℤ◌, List, [], ◌∷◌, length, map, find, fold, drop, slice_get, Bool, true, false, not, cond, Some, None, Option, Ok, Result, OnOk, refl, sym, ap, ap₂, subst, subst₂, ◌∙◌, append-nil, IsTrue, Less, Equal, Greater, is_lt, is_eq, arith}
+use Rattle.std.proofs.Common.{◌≡◌, ◌⊎◌, ◌==◌, ◌/◌, inl, inr, ℕ, ℤ, pos, ◌+ℤ◌, ◌<ℤ◌, ◌≤ℤ◌, List, [], ◌∷◌, length, map, find, fold, drop, slice_get, Bool, true, false, not, cond, Some, None, Option, option_map, Ok, Result, OnOk, refl, sym, ap, ap₂, subst, subst₂, ◌∙◌, append-nil, IsTrue, Ordering, Less, Equal, Greater, is_lt, is_eq, true≢false, arith}
 use Rattle.std.specs.Prelude.{option_and_then, unwrap_or}
 use Rattle.std.specs.Int.{int_max}
 use Rattle.std.specs.List.{AllByRecursion}
 use Rattle.std.specs.Ordering.{int_cmp, match_ordering, ordering_reverse}
 use Rattle.std.specs.FinMap.Entries.{below_all}
-use Rattle.std.proofs.lemmas.Bool.{and_parts, and_from, not-true}
+use Rattle.std.proofs.lemmas.Bool.{and_parts, and_from, or_parts, not-true}
 use Rattle.std.proofs.lemmas.Bool.Decides.{nat_tests}
 use Rattle.std.proofs.lemmas.Cmp.{tied_itself}
 use Rattle.std.proofs.lemmas.Int.{ints}
@@ -27,7 +27,7 @@ use Rattle.sqlite_schema.specs.declared.schema.Keys.TheVariants.{Enforced}
 use Rattle.sqlite_rules.specs.declared.error.Rowids.TheVariants.{Above}
 use Rattle.sqlite_schema.specs.declared.schema.Kind.TheVariants.{Integer}
 use Rattle.sqlite_rules.specs.Cast.{cast}
-use Rattle.sqlite_rules.specs.Edit.{Edit, edit_of, id_in, next_rowid, at_least, taken_by}
+use Rattle.sqlite_rules.specs.Edit.{Edit, edit_of, id_in, next_rowid, at_least, is_taken, taken_by}
 use Rattle.sqlite_rules.proofs.TableLemmas.{int_is}
 use Rattle.sqlite_rules.specs.Lists.{Has}
 use Rattle.sqlite_rules.proofs.ListLemmas.{all_has, all_from, has_found, has_filtered, has_got}
@@ -46,7 +46,7 @@ use Rattle.registry_rows.specs.KeyKinds.{NumberMap, numbers, map_by}
 use Rattle.registry_rows.specs.Rows.{HasRowids}
 use Rattle.registry_rows.specs.Statements.{Means, KeepsOthers, Adds, ignores_updates, insert_values}
 use Rattle.registry_rows.specs.Ready.{Ready, Executed, IsNumbered}
-use Rattle.registry_rows.specs.Counting.{count_in, last_number, next_number, IsCounted, TakesNext, IsNew}
+use Rattle.registry_rows.specs.Counting.{has_name, count_value, counted, count_in, other_counts, last_number, next_number, IsCounted, TakesNext, IsNew}
 use Rattle.registry_rows.proofs.WriteFacts.{written_as, written_sound, went, same_value}
 use Rattle.registry_rows.proofs.CastFacts.{cast_null, cast_int, cast_exact}
 use Rattle.registry_rows.proofs.ActionFacts.{no_works, quiet_updates}
@@ -169,19 +169,46 @@ module _ {X : Type 0} where
 
 -- ---- the row of sqlite_sequence
 
--- the row counts for a table of this name
-abbrev names : List ℕ → Row → Bool
-names name r = is_eq (value_cmp (column r 1) (Text name))
-
+-- the row that counts so many for a table of this name
 abbrev counter_row : ℤ → List ℕ → ℤ → Row
 counter_row id name n = Int id ∷ Text name ∷ Int n ∷ []
 
-names_itself : (id : ℤ) (name : List ℕ) (n : ℤ) → names name (counter_row id name n) ≡ true
+names_itself : (id : ℤ) (name : List ℕ) (n : ℤ) → has_name name (counter_row id name n) ≡ true
 names_itself id name n = ap is_eq (tied_itself value_cmp_total (Text name))
 
-counts_itself : (id : ℤ) (name : List ℕ) (n : ℤ) → count_of (Some (counter_row id name n)) ≡ n
-unfolding unary
-counts_itself id name n = refl
+-- a count is read alike in both crates
+same_count : (c : Option Row) → count_of c ≡ counted (option_map (λ (r : Row). column r 2) c)
+same_count None = refl
+same_count (Some r) = refl
+
+-- where none is of the name, all are others
+all_others : (name : List ℕ) (table : List Row) → find (has_name name) table ≡ None → other_counts name table ≡ table
+all_others name [] none = refl
+all_others name (r ∷ table) none = go (has_name name r) refl none (all_others name table)
+  where
+    go : (b : Bool) → has_name name r ≡ b → cond b (Some r) (find (has_name name) table) ≡ None → (find (has_name name) table ≡ None → other_counts name table ≡ table)
+        → cond b table (r ∷ other_counts name table) ≡ r ∷ table
+    go true is none later = absurd cc
+    go false is none later = ap (λ (rs : List Row). r ∷ rs) (later none)
+
+-- a row more of the name leaves the others
+others_added : (name : List ℕ) (new : Row) → has_name name new ≡ true → (table : List Row) → is_taken table new ≡ false → find (has_name name) table ≡ None
+    → other_counts name (put_row new table) ≡ other_counts name table
+others_added name new pass [] free none = ap (λ b. cond b [] (new ∷ [])) pass
+others_added name new pass (r ∷ table) free none =
+    let parts = or_parts _ _ free in
+    go (value_cmp (rowid r) (rowid new)) refl parts.0 (has_name name r) refl none (others_added name new pass table parts.1)
+  where
+    rest : List Row
+    rest = other_counts name table
+
+    go : (o : Ordering) → value_cmp (rowid r) (rowid new) ≡ o → is_eq o ≡ false → (b : Bool) → has_name name r ≡ b → cond b (Some r) (find (has_name name) table) ≡ None
+        → (find (has_name name) table ≡ None → other_counts name (put_row new table) ≡ other_counts name table)
+        → other_counts name (match_ordering o (r ∷ put_row new table) (new ∷ table) (new ∷ r ∷ table)) ≡ cond b table (r ∷ other_counts name table)
+    go o tie other true is none later = absurd cc
+    go Less tie other false is none later = ap (λ b. cond b (put_row new table) (r ∷ other_counts name (put_row new table))) is ∙ ap (λ (rs : List Row). r ∷ rs) (later none)
+    go Equal tie other false is none later = absurd (true≢false other)
+    go Greater tie other false is none later = ap (λ b. cond b (r ∷ table) (new ∷ other_counts name (r ∷ table))) pass ∙ ap (λ (rs : List Row). r ∷ rs) (sym (all_others name table none))
 
 -- a row more, where none was of its name
 found_added : (p : Row → Bool) (new : Row) → p new ≡ true → (table : List Row) → find p table ≡ None → find p (put_row new table) ≡ Some new
@@ -231,29 +258,74 @@ module _ (p : Row → Bool) (new : Row) (pass : p new ≡ true) where
             let there = has_found p table c e in
             later (ap (value_cmp (rowid r)) (sym is) ∙ all_has (λ x. value_cmp (rowid r) (rowid x) ≡ Less) table c ids.0.0 there.0) out (more e)
 
+-- it leaves the others
+module _ (name : List ℕ) (new : Row) (pass : has_name name new ≡ true) (id : ℤ) (keyed : rowid new ≡ Int id) where
+  -- before rows that are above it
+  others_before : (table : List Row) → AllByRecursion (λ x. value_cmp (rowid new) (rowid x) ≡ Less) table → other_counts name (put_row new table) ≡ table
+  others_before [] low = ap (λ b. cond b [] (new ∷ [])) pass
+  others_before (r ∷ table) low =
+      ap (λ o. other_counts name (match_ordering o (r ∷ put_row new table) (new ∷ table) (new ∷ r ∷ table))) (value_cmp_total.antisymm (rowid r) (rowid new) ∙ ap ordering_reverse low.0)
+      ∙ ap (λ b. cond b (r ∷ table) (new ∷ other_counts name (r ∷ table))) pass
+
+  -- none of the rows above a rowid has it
+  all_left : (table : List Row) → AllByRecursion (λ x. value_cmp (Int id) (rowid x) ≡ Less) table → without_rowid id table ≡ table
+  all_left [] low = refl
+  all_left (r ∷ table) low =
+      ap (λ o. cond (not (is_eq o)) (r ∷ without_rowid id table) (without_rowid id table)) (value_cmp_total.antisymm (rowid r) (Int id) ∙ ap ordering_reverse low.0)
+      ∙ ap (λ (rs : List Row). r ∷ rs) (all_left table low.1)
+
+  others_replaced : (table : List Row) → HasRowids table → (c : Row) → find (has_name name) table ≡ Some c → rowid c ≡ Int id → other_counts name (put_row new (without_rowid id table)) ≡ other_counts name table
+  others_replaced [] ids c found is = absurd cc
+  others_replaced (r ∷ table) ids c found is = go (has_name name r) refl found (λ e. others_replaced table (ids.0.1, ids.1.1) c e is)
+    where
+      here : rowid r ≡ Int id → other_counts name (put_row new (without_rowid id (r ∷ table))) ≡ table
+      here own =
+          let low = subst (λ v. AllByRecursion (λ x. value_cmp v (rowid x) ≡ Less) table) own ids.0.0 in
+          ap (λ b. other_counts name (put_row new (cond (not b) (r ∷ without_rowid id table) (without_rowid id table)))) (ap (λ v. is_eq (value_cmp v (Int id))) own ∙ ap is_eq (tied_itself value_cmp_total (Int id)))
+          ∙ ap (λ (rs : List Row). other_counts name (put_row new rs)) (all_left table low)
+          ∙ others_before table (subst (λ v. AllByRecursion (λ x. value_cmp v (rowid x) ≡ Less) table) (sym keyed) low)
+
+      later : value_cmp (rowid r) (Int id) ≡ Less → has_name name r ≡ false → other_counts name (put_row new (without_rowid id table)) ≡ other_counts name table
+          → other_counts name (put_row new (without_rowid id (r ∷ table))) ≡ r ∷ other_counts name table
+      later less out more =
+          ap (λ o. other_counts name (put_row new (cond (not (is_eq o)) (r ∷ without_rowid id table) (without_rowid id table)))) less
+          ∙ ap (λ o. other_counts name (match_ordering o (r ∷ put_row new (without_rowid id table)) (new ∷ without_rowid id table) (new ∷ r ∷ without_rowid id table))) (ap (value_cmp (rowid r)) keyed ∙ less)
+          ∙ ap (λ b. cond b (put_row new (without_rowid id table)) (r ∷ other_counts name (put_row new (without_rowid id table)))) out ∙ ap (λ (rs : List Row). r ∷ rs) more
+
+      go : (b : Bool) → has_name name r ≡ b → cond b (Some r) (find (has_name name) table) ≡ Some c
+          → (find (has_name name) table ≡ Some c → other_counts name (put_row new (without_rowid id table)) ≡ other_counts name table)
+          → other_counts name (put_row new (without_rowid id (r ∷ table))) ≡ cond b table (r ∷ other_counts name table)
+      go true on e more = let same : r ≡ c = cc in here (ap rowid same ∙ is)
+      go false out e more =
+          let there = has_found (has_name name) table c e in
+          later (ap (value_cmp (rowid r)) (sym is) ∙ all_has (λ x. value_cmp (rowid r) (rowid x) ≡ Less) table c ids.0.0 there.0) out (more e)
+
 -- the edit that counts
-counted_by : (schema : Schema) (table : Table) (counters : ℕ) → ignores_updates schema ≡ true → (mid next : Trees) (n : ℤ) → HasRowids (mid counters) → (c : Option Row) → find (names table.name) (mid counters) ≡ c
-    → Edited schema Enforced mid (counting mid table (sequence_table counters) n c) (Ok next) → KeepsOthers schema counters mid next × (count_in table.name (next counters) ≡ n) × HasRowids (next counters)
+counted_by : (schema : Schema) (table : Table) (counters : ℕ) → ignores_updates schema ≡ true → (mid next : Trees) (n : ℤ) → HasRowids (mid counters) → (c : Option Row) → find (has_name table.name) (mid counters) ≡ c
+    → Edited schema Enforced mid (counting mid table (sequence_table counters) n c) (Ok next)
+    → KeepsOthers schema counters mid next × (count_value table.name (next counters) ≡ Some (Int n)) × (other_counts table.name (next counters) ≡ other_counts table.name (mid counters)) × HasRowids (next counters)
 counted_by schema table counters quiet mid next n ids None none h =
     let did = one_step schema Enforced mid next (counting mid table (sequence_table counters) n None) (no_works schema Enforced 0 counters (counting mid table (sequence_table counters) n None).news) h in
     let e = rw cast_null at did in
     let id = next_rowid (mid counters) in
     let new = counter_row id table.name n in (
       others_kept schema counters mid next e.tables,
-      ap (λ rs. count_of (find (names table.name) rs)) e.rows ∙ ap count_of (found_added (names table.name) new (names_itself id table.name n) (mid counters) none) ∙ counts_itself id table.name n,
+      ap (count_value table.name) e.rows ∙ ap (option_map (λ (r : Row). column r 2)) (found_added (has_name table.name) new (names_itself id table.name n) (mid counters) none),
+      ap (other_counts table.name) e.rows ∙ others_added table.name new (names_itself id table.name n) (mid counters) (not-true _ (and_parts _ _ e.fresh).0) none,
       subst HasRowids (sym e.rows) (IsShaped-put_row new (mid counters) refl ids),
     )
 counted_by schema table counters quiet mid next n ids (Some c) found h =
     let edit = counting mid table (sequence_table counters) n (Some c) in
     let did = one_step schema Enforced mid next edit (quiet_updates schema (sequence_table counters) quiet (taken_by mid edit) _ []) h in
-    let there = has_found (names table.name) (mid counters) c found in
+    let there = has_found (has_name table.name) (mid counters) c found in
     let id = id_in (rowid c) in
     let own : rowid c ≡ Int id = int_is (rowid c) (all_has _ (mid counters) c ids.1 there.0) in
     let new = counter_row id table.name n in
     let row : cast Integer (rowid c) ∷ Text table.name ∷ Int n ∷ [] ≡ new = ap (λ (v : Value). v ∷ Text table.name ∷ Int n ∷ []) (ap (cast Integer) own ∙ cast_int id) in
     let rows : next counters ≡ put_row new (without_rowid id (mid counters)) = did.rows ∙ ap (λ r. put_row r (without_rowid id (mid counters))) row in (
       others_kept schema counters mid next did.tables,
-      ap (λ rs. count_of (find (names table.name) rs)) rows ∙ ap count_of (found_replaced (names table.name) new (names_itself id table.name n) id refl (mid counters) ids c found own) ∙ counts_itself id table.name n,
+      ap (count_value table.name) rows ∙ ap (option_map (λ (r : Row). column r 2)) (found_replaced (has_name table.name) new (names_itself id table.name n) id refl (mid counters) ids c found own),
+      ap (other_counts table.name) rows ∙ others_replaced table.name new (names_itself id table.name n) id refl (mid counters) ids c found own,
       subst HasRowids (sym rows) (IsShaped-put_row new (without_rowid id (mid counters)) refl (IsShaped-filter shape.Table (λ r. not (has_rowid id r)) (mid counters) ids)),
     )
 
@@ -283,7 +355,8 @@ module _ (schema : Schema) (at : ℕ) (name : List ℕ) (tree : ℕ) (id : List 
     pub mid : Trees
     pub adds : Adds schema tree (Int n ∷ Null ∷ values) old mid
     pub others : KeepsOthers schema counters mid new
-    pub counted : count_in name (new counters) ≡ n
+    pub counts : count_value name (new counters) ≡ Some (Int n)
+    pub rest : other_counts name (new counters) ≡ other_counts name (mid counters)
     pub rowids : HasRowids (new counters)
 
   abbrev edit_with : Trees → ℤ → List Row → Edit
@@ -307,14 +380,14 @@ module _ (schema : Schema) (at : ℕ) (name : List ℕ) (tree : ℕ) (id : List 
       put_one schema table (Null ∷ values) (at_least (Above count) (next_rowid (db tree))) db mid (not-true _ (and_parts _ _ e.fresh).0) e.rows (others_kept schema tree db mid e.tables)
 
   -- the count that was there, and the edit that counts
-  counter_is : (limit : Option ℕ) (params : Row) (db : Trees) (c : Option Row) → rows.CounterIn (task limit params) db (sequence schema) (Ok c) → find (names name) (db counters) ≡ c
+  counter_is : (limit : Option ℕ) (params : Row) (db : Trees) (c : Option Row) → rows.CounterIn (task limit params) db (sequence schema) (Ok c) → find (has_name name) (db counters) ≡ c
   counter_is limit params db c h = sym (same_value (subst (λ o. rows.CounterIn (task limit params) db o (Ok c)) sequence_is h))
 
   count_edited : (limit : Option ℕ) (params : Row) (mid next : Trees) (c : Option Row) (n : ℤ) → is_lt (int_cmp (count_of c) n) ≡ true → rows.Counts (task limit params) mid c n (Ok next)
       → Edited schema Enforced mid (counting mid table (sequence_table counters) n c) (Ok next)
   count_edited limit params mid next c n low h = subst (λ o. rows.CountsIn (task limit params) mid c n o (Ok next)) sequence_is (rw low at h)
 
-  goes : (limit : Option ℕ) (params : Row) (db : Trees) (values : Row) (w : Written) → are_exact columns values ≡ true → HasRowids (db counters) → (c : Option Row) → find (names name) (db counters) ≡ c
+  goes : (limit : Option ℕ) (params : Row) (db : Trees) (values : Row) (w : Written) → are_exact columns values ≡ true → HasRowids (db counters) → (c : Option Row) → find (has_name name) (db counters) ≡ c
       → Goes limit params db c ((Null ∷ Null ∷ values) ∷ []) w → AddsCounted values (at_least (Above (count_of c)) (next_rowid (db tree))) db w.trees × (w.last ≡ Some (at_least (Above (count_of c)) (next_rowid (db tree))))
   goes limit params db values w exact ids c stood h =
       let n = at_least (Above (count_of c)) (next_rowid (db tree)) in
@@ -328,25 +401,26 @@ module _ (schema : Schema) (at : ℕ) (name : List ℕ) (tree : ℕ) (id : List 
       let counts = subst (λ k. rows.Counts (task limit params) written.0 c k (Ok counted.0)) top counted.1 in
       let edited = count_edited limit params written.0 counted.0 c n low counts in
       let same : written.0 counters ≡ db counters = all_has (λ (t : Table). (tree == t.tree) ≡ false → written.0 t.tree ≡ db t.tree) schema.tables (sequence_table counters) adds.others (has_sequence schema (sequence_table counters) sequence_is) apart in
-      let it = counted_by schema table counters quiet written.0 counted.0 n (subst HasRowids (sym same) ids) c (ap (find (names name)) same ∙ stood) edited in
+      let it = counted_by schema table counters quiet written.0 counted.0 n (subst HasRowids (sym same) ids) c (ap (find (has_name name)) same ∙ stood) edited in
       let wrote = same_value counted.2 in (
-        subst (AddsCounted values n db) (sym (ap (λ (x : Written). x.trees) wrote)) (record { mid = written.0; adds = adds; others = it.0; counted = it.1; rowids = it.2 }),
+        subst (AddsCounted values n db) (sym (ap (λ (x : Written). x.trees) wrote)) (record { mid = written.0; adds = adds; others = it.0; counts = it.1; rest = it.2; rowids = it.3 }),
         ap (λ (x : Written). x.last) wrote ∙ ap last_id news,
       )
 
   pub inserts_counted : (sql : List ℕ) (cells : List Term) (params : Row) (old new : State) → old.now.schema ≡ schema → Means schema sql (insert_values at (lit Null ∷ cells)) → are_exact columns (eval_all cells (params ∷ [])) ≡ true
       → HasRowids (old.now.trees counters) → (count : ℕ) → Executes sql params old new (Ok count)
       → (new.now.schema ≡ schema) × AddsCounted (eval_all cells (params ∷ [])) (given_number old.now.trees) old.now.trees new.now.trees × (new.last_rowid ≡ given_number old.now.trees)
-  inserts_counted sql cells params old new has means exact ids count h =
+  inserts_counted sql cells params old new has means exact ids n h =
       let values = eval_all cells (params ∷ []) in
-      let w = written_as schema at table found sql params old new has _ means.0 means.1 count h refl in
+      let w = written_as schema at table found sql params old new has _ means.0 means.1 n h refl in
       let given = went w.1 in
       let counter = went given.2 in
       let stood = counter_is old.step_limit params old.now.trees counter.0 counter.1 in
       let source : given.0 ≡ (Null ∷ Null ∷ values) ∷ [] = given.1.1 ∙ ap (λ p. value_rows p (length (lit Null ∷ lit Null ∷ cells)) (length (lit Null ∷ lit Null ∷ cells) / length (lit Null ∷ lit Null ∷ cells)) (lit Null ∷ lit Null ∷ cells)) (append-nil params)
       ∙ one_row params (lit Null) (lit Null ∷ cells) in
       let it = goes old.step_limit params old.now.trees values w.0 exact ids counter.0 stood (subst (λ sources. Goes old.step_limit params old.now.trees counter.0 sources w.0) source counter.2) in
-      let same : at_least (Above (count_of counter.0)) (next_rowid (old.now.trees tree)) ≡ given_number old.now.trees = ap (λ c. at_least (Above (count_of c)) (next_rowid (old.now.trees tree))) (sym stood) in (
+      let count : count_of counter.0 ≡ count_in name (old.now.trees counters) = same_count counter.0 ∙ ap (λ c. counted (option_map (λ (r : Row). column r 2) c)) (sym stood) in
+      let same : at_least (Above (count_of counter.0)) (next_rowid (old.now.trees tree)) ≡ given_number old.now.trees = ap (λ c. at_least (Above c) (next_rowid (old.now.trees tree))) count in (
         ap (λ (d : Database). d.schema) w.2,
         subst₂ (λ n db. AddsCounted values n old.now.trees db) same (sym (ap (λ (d : Database). d.trees) w.2)) it.0,
         w.3 ∙ ap (λ l. unwrap_or l old.last_rowid) it.1 ∙ same,
@@ -371,8 +445,8 @@ module _ {C X : Type 0} {schema : Schema} {contents : Trees → C} {place : ℕ}
       inserted numbers number_key value schema table.tree row old.now.trees it.mid (numbers_once (old.now.trees table.tree) own) (numbers_once (it.mid table.tree) (it.adds.rowids own)) it.adds in
       record {
         leaves = record {
-          holds = others_as schema counters it.mid new.now.trees it.others contents t.depends ∙ i.counted it.mid (new.now.trees counters)
-              ∙ ap₂ count (after (by_number_given t) old.now.trees it.mid _ it.adds.others between) it.counted
+          holds = others_as schema counters it.mid new.now.trees it.others contents t.depends ∙ i.counting it.mid (new.now.trees counters) _ it.counts it.rest
+              ∙ ap (λ c. count c (at_least (Above (count_in table.name (old.now.trees counters))) (next_rowid (old.now.trees table.tree)))) (after (by_number_given t) old.now.trees it.mid _ it.adds.others between)
               ∙ ap (λ k. count (change (contents old.now.trees) (put (map_by numbers value (old.now.trees table.tree)) k (value (Null ∷ values)))) k) number;
           ready = record {
             schema_is = made.0;

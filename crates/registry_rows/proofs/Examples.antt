@@ -1,5 +1,6 @@
 -- The laws at texts, as their users cite them: two tables, one of them counted, and an index.
-use Rattle.std.proofs.Common.{◌≡◌, ℕ, ℤ, List, [], ◌∷◌, map, filter, true, false, codes, option_map, Result, OnOk, refl}
+use Rattle.std.proofs.Common.{◌≡◌, ℕ, ℤ, List, [], ◌∷◌, map, filter, true, false, codes, Option, Some, option_map, Result, OnOk, refl}
+use Rattle.sqlite.specs.declared.types.Value.{Value}
 use Rattle.sqlite.specs.declared.types.Value.TheVariants.{Null, Int, Blob, Text as Stored}
 use Rattle.sqlite_value.specs.Order.{Row, column}
 use Rattle.sqlite_value.specs.Keys.{plain}
@@ -21,7 +22,7 @@ use Rattle.registry_rows.specs.KeyKinds.{BytesMap, NumberMap, bytes, numbers, ma
 use Rattle.registry_rows.specs.Rows.{listed}
 use Rattle.registry_rows.specs.Statements.{Means, MeansQuery, MeansFirstCounted, MeansIndex, insert_values, delete_where, select_where, by_column}
 use Rattle.registry_rows.specs.Ready.{Ready, Blank, Leaves, Reads, Executed, Queried, DependsOn, IsMappedByBytes, IsNumbered}
-use Rattle.registry_rows.specs.Counting.{IsCounted, TakesNext, count_in}
+use Rattle.registry_rows.specs.Counting.{IsCounted, TakesNext, count_value, other_counts}
 use Rattle.registry_rows.proofs.CreateFacts.{create_adds_counter, index_keeps_blank}
 use Rattle.registry_rows.proofs.KeyedFacts.{by_bytes_given, by_number_given}
 use Rattle.registry_rows.proofs.StatementFacts.{insert_puts_bytes, delete_erases_by}
@@ -63,15 +64,16 @@ owner_in vs = text_in (column vs 1)
 record Contents : Type 0 where
   owners : BytesMap Text
   notes_held : NumberMap Note
-  -- the highest number that a note has had
-  last_note : ℤ
+  -- the highest number that a note has had, and what else sqlite_sequence has
+  last_note : Option Value
+  other_counters : List Row
 
 abbrev contents : Trees → Contents
-contents db = record { owners = map_by bytes owner_in (db 0); notes_held = map_by numbers note_in (db 2); last_note = count_in (codes "notes") (db 3) }
+contents db = record { owners = map_by bytes owner_in (db 0); notes_held = map_by numbers note_in (db 2); last_note = count_value (codes "notes") (db 3); other_counters = other_counts (codes "notes") (db 3) }
 
 contents_depend : DependsOn schema contents
 contents_depend old new (owners_same, (notes_same, (counts_same, none))) =
-    λ i. record { owners = map_by bytes owner_in (owners_same i); notes_held = map_by numbers note_in (notes_same i); last_note = count_in (codes "notes") (counts_same i) }
+    λ i. record { owners = map_by bytes owner_in (owners_same i); notes_held = map_by numbers note_in (notes_same i); last_note = count_value (codes "notes") (counts_same i); other_counters = other_counts (codes "notes") (counts_same i) }
 
 badges_mapped : IsMappedByBytes schema contents 0 badges owner_in (λ c m. record c { owners = m })
 badges_mapped = record { found = refl; shape = refl; indexed = refl; plain = refl; begins = refl; depends = contents_depend; alone = λ db rows. refl }
@@ -79,9 +81,9 @@ badges_mapped = record { found = refl; shape = refl; indexed = refl; plain = ref
 notes_numbered : IsNumbered schema contents 1 notes note_in (λ c m. record c { notes_held = m })
 notes_numbered = record { found = refl; shape = refl; plain = refl; depends = contents_depend; alone = λ db rows. refl }
 
-notes_counted : IsCounted schema contents notes 3 (λ c n. record c { last_note = n })
+notes_counted : IsCounted schema contents notes 3 (λ c n. record c { last_note = Some (Int n) })
 unfolding everything
-notes_counted = record { counts = refl; sequence_is = refl; apart = refl; quiet = refl; counted = λ db rows. refl }
+notes_counted = record { counts = refl; sequence_is = refl; apart = refl; quiet = refl; counting = λ db rows n counts rest i. record (contents db) { last_note = counts i; other_counters = rest i } }
 
 -- ---- CREATE
 
@@ -115,7 +117,7 @@ unfolding understood everything
 put_means = (refl, (refl, refl))
 
 note_put : (title : Text) (body : List ℕ) (old new : State) (r : Result ℕ Error) → Ready schema old → Executed put_text (Stored title ∷ Blob body ∷ []) old new r → HasCleanDisk new
-    → OnOk r (TakesNext schema contents notes note_in (λ c m. record c { notes_held = m }) 3 (λ c n. record c { last_note = n }) (Stored title ∷ Blob body ∷ []) old new)
+    → OnOk r (TakesNext schema contents notes note_in (λ c m. record c { notes_held = m }) 3 (λ c n. record c { last_note = Some (Int n) }) (Stored title ∷ Blob body ∷ []) old new)
 note_put title body = insert_numbers notes_numbered notes_counted put_text (col 0 0 ∷ col 0 1 ∷ []) put_means (Stored title ∷ Blob body ∷ []) refl
 
 abbrev body_text : List ℕ

@@ -1,15 +1,19 @@
 -- AUTOINCREMENT: which numbers it gives, where it counts them, and the law of its INSERT.
-use Rattle.std.specs.Prelude.{◌≡◌, ◌==◌, ℕ, ℤ, pos, ◌+ℤ◌, ◌<ℤ◌, ◌≤ℤ◌, true, false, List, [], ◌∷◌, fold, find, drop, None, Some}
+use Rattle.std.specs.Prelude.{◌≡◌, ◌==◌, ℕ, ℤ, pos, ◌+ℤ◌, ◌<ℤ◌, ◌≤ℤ◌, Bool, true, false, List, [], ◌∷◌, fold, find, drop, Option, None, Some, option_map, unwrap_or, if◌then◌else◌}
 use Rattle.std.specs.Int.{int_max}
 use Rattle.std.specs.Ordering.{is_eq}
-use Rattle.sqlite.specs.declared.types.Value.TheVariants.{Null, Text}
+use Rattle.sqlite.specs.declared.types.Value.{Value}
+use Rattle.sqlite.specs.declared.types.Value.TheVariants.{Null, Int, Text}
 use Rattle.sqlite_value.specs.Order.{Row, column, value_cmp}
 use Rattle.sqlite_trees.specs.Tree.{Trees}
 use Rattle.sqlite_trees.specs.declared.store.Store.{Ghosts}
+use Rattle.sqlite_sql.specs.declared.ops.UnaryOp.TheVariants.{ToInt}
+use Rattle.sqlite_sql.specs.Ops.{unary}
 use Rattle.sqlite_sql.specs.Term.{Term, lit, eval_all}
 use Rattle.sqlite_schema.specs.declared.schema.Schema.{Schema}
 use Rattle.sqlite_schema.specs.declared.schema.Table.{Table}
-use Rattle.sqlite.specs.Rows.{sequence, count_of}
+use Rattle.sqlite_rules.specs.Edit.{id_in}
+use Rattle.sqlite.specs.Rows.{sequence}
 use Rattle.sqlite.specs.State.{State}
 use Rattle.registry_names.specs.Maps.{at, put, entries}
 use Rattle.registry_rows.specs.Columns.{are_exact}
@@ -19,10 +23,29 @@ use Rattle.registry_rows.specs.Statements.{Means, ignores_updates, insert_values
 use Rattle.registry_rows.specs.Ready.{Leaves, with_rows, IsNumbered}
 use Rattle.registry_rows.specs.Laws.{EachAnswer}
 
--- the number that the rows of sqlite_sequence have for a table: that of the first row of its name,
--- or 0
+-- ---- the rows of sqlite_sequence, of which the first that has a table's name counts for it
+
+abbrev pub has_name : List ℕ → Row → Bool
+has_name name r = is_eq (value_cmp (column r 1) (Text name))
+
+-- what that row has as the count, where there is one
+abbrev pub count_value : List ℕ → List Row → Option Value
+count_value name counters = option_map (λ r. column r 2) (find (has_name name) counters)
+
+-- the number that SQLite takes a count for: where there is none, 0
+abbrev pub counted : Option Value → ℤ
+counted count = id_in (unary ToInt (unwrap_or count Null))
+
+-- the number that the rows have for a table
 abbrev pub count_in : List ℕ → List Row → ℤ
-count_in name counters = count_of (find (λ r. is_eq (value_cmp (column r 1) (Text name))) counters)
+count_in name counters = counted (count_value name counters)
+
+-- the other rows, in their order
+abbrev pub other_counts : List ℕ → List Row → List Row
+other_counts name [] = []
+other_counts name (r ∷ rs) = if has_name name r then rs else r ∷ other_counts name rs
+
+-- ---- the numbers of rows
 
 -- the greatest key, or 0
 abbrev pub last_number : {X : Type 0} → NumberMap X → ℤ
@@ -32,14 +55,16 @@ last_number m = fold (λ _ e. e.0) (pos 0) (entries m)
 abbrev pub next_number : {X : Type 0} → ℤ → NumberMap X → ℤ
 next_number count m = int_max count (last_number m) +ℤ pos 1
 
--- The table counts in the rows of this tree, which is that of sqlite_sequence, and what they say of
--- it is a part of the contents. Where the contents leave it out, `count` changes nothing.
+-- The table counts in the rows of this tree, which is that of sqlite_sequence. Rows that differ from
+-- those that are there in the table's count alone, a whole number, give the contents with that
+-- count. Where the contents leave it out, `count` changes nothing.
 pub record IsCounted {C : Type 0} (schema : Schema) (contents : Trees → C) (table : Table) (counters : ℕ) (count : C → ℤ → C) : Type 0 where
   pub counts : table.is_counted ≡ true
   pub sequence_is : sequence schema ≡ Some (sequence_table counters)
   pub apart : (table.tree == counters) ≡ false
   pub quiet : ignores_updates schema ≡ true
-  pub counted : (db : Trees) (rows : List Row) → contents (with_rows db counters rows) ≡ count (contents db) (count_in table.name rows)
+  pub counting : (db : Trees) (rows : List Row) (n : ℤ) → count_value table.name rows ≡ Some (Int n) → other_counts table.name rows ≡ other_counts table.name (db counters)
+      → contents (with_rows db counters rows) ≡ count (contents db) n
 
 -- the number that the next row of a table gets
 abbrev pub next_in : {X : Type 0} → (Row → X) → Table → ℕ → Trees → ℤ

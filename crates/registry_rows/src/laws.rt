@@ -68,9 +68,9 @@ pub fn numbers_are_keys<S: Alter, C, X, Y>()
     ensures all { OfEachNumberedTable C X (SelectListsAll S.Store Y) }
 {}
 
-/// AUTOINCREMENT: INSERT puts a row under the next number, counts that and answers it. The next
-/// number is above the count and above each that a row has, so none is given twice, also where
-/// rows were deleted since.
+/// AUTOINCREMENT: INSERT puts a row under the next number, counts that and answers it. Every other
+/// row of `sqlite_sequence` stays as it is. The next number is above the count and above each that
+/// a row has, so none is given twice, also where rows were deleted since.
 pub fn numbers_are_counted<S: Alter, C, X>()
     ensures insert { InsertNumbers S.Store C X }
     ensures new { NextIsNew X }

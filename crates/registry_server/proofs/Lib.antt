@@ -1,4 +1,7 @@
+mod PoolFacts
 mod SocketFacts
 mod StateFacts
 mod VisitFacts
 mod WorldFacts
+mod PhaseFacts
+mod IdleFacts

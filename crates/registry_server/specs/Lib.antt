@@ -2,5 +2,6 @@ pub mod ConnectionStates
 pub mod Connections
 pub mod Listening
 pub mod Phases
+pub mod Pools
 pub mod Sockets
 pub mod Worlds

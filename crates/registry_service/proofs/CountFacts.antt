@@ -1,5 +1,5 @@
 -- How many reads failed, over one turn after another.
-use Rattle.std.proofs.Common.{◌≡◌, ◌≤◌, ◌<◌, ◌+◌, ◌-◌, max, ◌∙◌, ℕ, zero, suc, refl, ap, arith, ◌⊎◌, inl, inr}
+use Rattle.std.proofs.Common.{◌≡◌, ◌≤◌, ◌<◌, ◌+◌, ◌-◌, max, ◌∙◌, ℕ, zero, suc, refl, ap, arith}
 use Rattle.registry_names.specs.ByteStreams.{RisesBetween, raised, raised_by}
 use Rattle.registry_wire.specs.Inboxes.{failures_admitted}
 use Rattle.registry_wire.specs.Reading.{CountsInterrupted}

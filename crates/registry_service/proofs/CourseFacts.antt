@@ -2,15 +2,15 @@
 use Rattle.std.proofs.Common.{◌≡◌, ◌≢◌, ◌≤◌, ◌<◌, ◌+◌, ◌==◌, ◌++◌, ◌∷◌, ◌⊎◌, ◌∙◌, [], ℕ, Bool, true, false, List, length, Option, Some, None, Ok, Err, refl, sym, ap, subst, inl, inr, append_assoc, append-nil, arith, length-append, is_some, if◌then◌else◌}
 use Rattle.std.specs.Int.{from_bool}
 use Rattle.std.proofs.lemmas.Bool.{eqb-false}
-use Rattle.registry_names.specs.ByteStreams.{Reads, Writes, WritesPrefix}
+use Rattle.registry_names.specs.ByteStreams.{Writes, WritesPrefix}
 use Rattle.registry_names.specs.declared.refusal.Refusal.{Refusal}
 use Rattle.registry_names.proofs.ByteStreamFacts.{Reads-append, Reads-nothing, Writes-append, Writes-nothing}
-use Rattle.registry_wire.specs.Reading.{TakenOf}
+use Rattle.registry_wire.specs.Reading.{ReadsNoMoreThanNeeded, TakenOf}
 use Rattle.registry_wire.specs.Spelling.{EndsWith, IsBad}
 use Rattle.registry_wire.specs.declared.first.Ending.TheVariants as ending
 use Rattle.registry_wire.proofs.RequestFacts.{request-more, bad-more}
 use Rattle.registry_service.specs.HttpAnswers.{AnswersSo, Outcome, answer_bytes, response_to}
-use Rattle.registry_service.specs.Courses.{AtEndOf, BreaksOff, Completes, Course, EndsAs, EndsUnasked, Follow, Gave, GoOn, GoesTo, IsServed, Rests, Side, Took, count_of, moments, requests, taken_for, written}
+use Rattle.registry_service.specs.Courses.{AtEndOf, Course, EndsAs, EndsUnasked, Follow, Gave, GoOn, GoesTo, IsServed, ReadsFor, ReadsOn, Rests, Side, Took, count_of, moments, requests, taken_for, written}
 use Rattle.registry_service.specs.Servings.{bytes_of}
 use Rattle.registry_service.specs.Turns.{Answering, Cause, IsTurn, IsTurnFor, Turn, bad_input, end_of, is_request, no_memory, request}
 use Rattle.registry_service.specs.declared.answer.Answer.{Answer}
@@ -180,27 +180,51 @@ module _ {D : Type 0} (answers : Answering D) where
   abbrev pub turn_of : (mid new : Side D) (last : Bool) (turned : Turned) → GoesTo answers mid new last turned → Turn
   turn_of mid new last turned goes = record { cause = goes.cause; outcome = goes.turns.outcome; ended = turned.end }
 
-  pub course-on : (old mid new : Side D) (ts : List Turn) (last : Bool) (turned : Turned) → Course answers old mid ts → GoOn ts → (mid.unknown ≡ true → new.unknown ≡ true)
-      → last ≡ (length ts + 1 == 1000) → (goes : GoesTo answers mid new last turned) → Course answers old new (turn_of mid new last turned goes ∷ ts)
-  course-on old mid new ts last turned c on stays is_last goes = record {
-    got = c.got ++ goes.got;
-    gave = Reads-append c.gave goes.gave stays;
-    took = (
-      mid.held ++ goes.got,
-      subst (λ (came : List ℕ). Took came ts (mid.held ++ goes.got) ⊥) (append_assoc old.held c.got goes.got)
-          (took-more (old.held ++ c.got) goes.got ts mid.held (took-open old.service ts mid.service (old.held ++ c.got) mid.held _ c.follow on c.took)),
-      goes.took,
-    );
-    follow = (mid.service, c.follow, subst (λ (b : Bool). IsTurn answers mid.service b (turn_of mid new last turned goes) new.service) is_last goes.turns.is_turn);
-    asked = gave-on old.readings mid.readings new.readings (moments ts) _ c.asked goes.asked;
-  }
+  -- turns for which no more was read than their requests needed
+  pub record Led (old new : Side D) (ts : List Turn) : Type 0 where
+    pub course : Course answers old new ts
+    pub lean : ReadsFor old.held ts course.got
+
+  -- what is read after turns that go on
+  reads-on : (old mid : Side D) (ts : List Turn) (led : Led old mid ts) (newer : List ℕ) → GoOn ts → ReadsNoMoreThanNeeded mid.held newer → ReadsOn old.held ts (led.course.got ++ newer)
+  reads-on old mid ts led newer on lean =
+      let c = led.course in
+      record {
+        older = c.got;
+        newer = newer;
+        both = refl;
+        before = led.lean;
+        rest = mid.held;
+        left = took-open old.service ts mid.service (old.held ++ c.got) mid.held _ c.follow on c.took;
+        lean = lean;
+      }
+
+  pub course-on : (old mid new : Side D) (ts : List Turn) (last : Bool) (turned : Turned) → Led old mid ts → GoOn ts → (mid.unknown ≡ true → new.unknown ≡ true)
+      → last ≡ (length ts + 1 == 1000) → (goes : GoesTo answers mid new last turned) → Led old new (turn_of mid new last turned goes ∷ ts)
+  course-on old mid new ts last turned led on stays is_last goes =
+      let c = led.course in
+      record {
+        course = record {
+          got = c.got ++ goes.got;
+          gave = Reads-append c.gave goes.gave stays;
+          took = (
+            mid.held ++ goes.got,
+            subst (λ (came : List ℕ). Took came ts (mid.held ++ goes.got) ⊥) (append_assoc old.held c.got goes.got)
+                (took-more (old.held ++ c.got) goes.got ts mid.held (took-open old.service ts mid.service (old.held ++ c.got) mid.held _ c.follow on c.took)),
+            goes.took,
+          );
+          follow = (mid.service, c.follow, subst (λ (b : Bool). IsTurn answers mid.service b (turn_of mid new last turned goes) new.service) is_last goes.turns.is_turn);
+          asked = gave-on old.readings mid.readings new.readings (moments ts) _ c.asked goes.asked;
+        };
+        lean = reads-on old mid ts led goes.got on goes.lean;
+      }
 
   -- ---- turns in a row
 
   -- so many turns were taken and their responses written, and the connection goes on
   pub record Going (old now : Side D) (out out2 : Option (List ℕ)) (out_unknown : Bool) (n : ℕ) : Type 0 where
     pub turns : List Turn
-    pub course : Course answers old now turns
+    pub led : Led old now turns
     pub go_on : GoOn turns
     pub wrote : Writes out out2 out_unknown (written turns)
     pub count : n ≡ length turns
@@ -208,12 +232,15 @@ module _ {D : Type 0} (answers : Answering D) where
   pub going-first : (s : Side D) (out : Option (List ℕ)) (out_unknown : Bool) → Going s s out out out_unknown 0
   going-first s out out_unknown = record {
     turns = [];
-    course = record {
-      got = [];
-      gave = Reads-nothing s.left s.unknown;
-      took = sym (append-nil s.held);
-      follow = refl;
-      asked = gave-nothing s.readings;
+    led = record {
+      course = record {
+        got = [];
+        gave = Reads-nothing s.left s.unknown;
+        took = sym (append-nil s.held);
+        follow = refl;
+        asked = gave-nothing s.readings;
+      };
+      lean = refl;
     };
     go_on = tt;
     wrote = Writes-nothing out out_unknown;
@@ -228,7 +255,7 @@ module _ {D : Type 0} (answers : Answering D) where
       → Rests answers mid new e → IsServed answers old new out out2 out_unknown (served n e)
   rest-on old mid new out out2 out_unknown n e going stays rests =
       let ts = going.turns in
-      let c = going.course in
+      let c = going.led.course in
       let took = took-more (old.held ++ c.got) rests.got ts mid.held (took-open old.service ts mid.service (old.held ++ c.got) mid.held _ c.follow going.go_on c.took) in
       let all : Took (old.held ++ (c.got ++ rests.got)) ts (mid.held ++ rests.got) ⊥ = subst (λ (came : List ℕ). Took came ts (mid.held ++ rests.got) ⊥) (append_assoc old.held c.got rests.got) took in
       inl (record {
@@ -240,6 +267,7 @@ module _ {D : Type 0} (answers : Answering D) where
           follow = subst (λ (M : D). Follow answers old.service ts M) (sym rests.service) c.follow;
           asked = subst (λ (readings : Option (List ℕ)). Gave old.readings readings (moments ts)) (sym rests.readings) c.asked;
         };
+        lean = inr (going.go_on, reads-on old mid ts going.led rests.got going.go_on rests.lean);
         wrote = going.wrote;
         ends = ends-unasked new ts e going.go_on rests.ends;
         count = going.count ∙ sym (requests-all old.service ts mid.service c.follow going.go_on);
@@ -253,12 +281,14 @@ module _ {D : Type 0} (answers : Answering D) where
       let ts = going.turns in
       let t = turn_of mid new last turned goes in
       let place = is_last ∙ ap (λ (n : ℕ). n + 1 == 1000) going.count in
+      let led = course-on old mid new ts last turned going.led going.go_on stays place goes in
       inl (record {
         turns = t ∷ ts;
-        course = course-on old mid new ts last turned going.course going.go_on stays place goes;
+        course = led.course;
+        lean = inl ((ended, going.go_on), led.lean);
         wrote = Writes-append going.wrote (subst (λ (bs : List ℕ). Writes out2 out3 mute2 bs) (bytes-same goes.turns.outcome turned.answer (is_some turned.end) goes.turns.answer) wrote) still;
         ends = ends-as new t ts e mid.service last new.service goes.turns.is_turn ended going.go_on;
-        count = counts-more n k (length ts) (requests ts) turned goes.cause going.count (requests-all old.service ts mid.service going.course.follow going.go_on) one goes.turns.counts;
+        count = counts-more n k (length ts) (requests ts) turned goes.cause going.count (requests-all old.service ts mid.service going.led.course.follow going.go_on) one goes.turns.counts;
       })
 
   -- one more turn, of which not all is written
@@ -268,17 +298,19 @@ module _ {D : Type 0} (answers : Answering D) where
   break-on old mid new out out2 out3 out_unknown mute2 n last turned going stays still is_last goes wrote =
       let ts = going.turns in
       let place = is_last ∙ ap (λ (n : ℕ). n + 1 == 1000) going.count in
+      let led = course-on old mid new ts last turned going.led going.go_on stays place goes in
       let part = subst (λ (bs : List ℕ). WritesPrefix out2 out3 mute2 bs) (bytes-same goes.turns.outcome turned.answer (is_some turned.end) goes.turns.answer) wrote in
       inr (record {
         newest = turn_of mid new last turned goes;
         older = ts;
-        course = course-on old mid new ts last turned going.course going.go_on stays place goes;
+        course = led.course;
+        lean = led.lean;
         go_on = going.go_on;
         sent = part.count;
         is_less = part.is_less;
         wrote = Writes-append going.wrote part.wrote still;
         ends = refl;
-        count = going.count ∙ sym (requests-all old.service ts mid.service going.course.follow going.go_on);
+        count = going.count ∙ sym (requests-all old.service ts mid.service going.led.course.follow going.go_on);
       })
 
   -- one more turn, of which all is written, and the connection goes on
@@ -289,10 +321,11 @@ module _ {D : Type 0} (answers : Answering D) where
       let ts = going.turns in
       let t = turn_of mid new last turned goes in
       let place = is_last ∙ ap (λ (n : ℕ). n + 1 == 1000) going.count in
+      let led = course-on old mid new ts last turned going.led going.go_on stays place goes in
       let single = one-more k turned goes.cause (on-request goes.cause mid.service last goes.turns.outcome turned.end new.service goes.turns.is_turn ended) one goes.turns.counts in (
         record {
           turns = t ∷ ts;
-          course = course-on old mid new ts last turned going.course going.go_on stays place goes;
+          led = led;
           go_on = (ended, going.go_on);
           wrote = Writes-append going.wrote (subst (λ (bs : List ℕ). Writes out2 out3 mute2 bs) (bytes-same goes.turns.outcome turned.answer (is_some turned.end) goes.turns.answer) wrote) still;
           count = omega (arith, going.count, single);

@@ -5,8 +5,8 @@ use Rattle.registry_names.specs.declared.refusal.Refusal.{Refusal}
 use Rattle.registry_wire.specs.Reading.{TakenOf}
 use Rattle.registry_wire.specs.Spelling.{EndsWith, IsBad}
 use Rattle.registry_wire.specs.declared.first.Ending.TheVariants as ending
-use Rattle.registry_service.specs.Courses.{GoOn, Took, taken_for, written}
-use Rattle.registry_service.specs.Histories.{EndsOnce, LogEntry, FollowAll, IsTranscript, IsOneHistory, Transcript, Reached, World, at_end, is_last, turned_on, begins, comes, sends, shuts, turns, turns_of, with_bytes, with_sent, with_turn}
+use Rattle.registry_service.specs.Courses.{GoOn, Took, taken_for}
+use Rattle.registry_service.specs.Histories.{EndsOnce, FollowAll, IsTranscript, IsOneHistory, Transcript, Reached, World, at_end, is_last, turned_on, begins, comes, sends, shuts, turns, turns_of, with_bytes, with_sent, with_turn}
 use Rattle.registry_service.specs.Turns.{Answering, Cause, IsTurn, Turn, bad_input, is_request, no_memory, request, response_of}
 use Rattle.registry_service.proofs.CourseFacts.{on-request, taken-open, took-any, took-more}
 

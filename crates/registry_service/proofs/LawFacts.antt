@@ -1,6 +1,5 @@
 -- What turns take of all the bytes of a connection.
-use Rattle.std.proofs.Common.{◌≡◌, ◌⊎◌, ◌++◌, ◌∷◌, ◌∙◌, [], ℕ, Bool, false, List, Some, refl, sym, ap, subst, inl, inr, append_assoc, append-nil}
-use Rattle.std.specs.Io.KnownBytes.{Consumes, IsAtEnd}
+use Rattle.std.proofs.Common.{◌≡◌, ◌⊎◌, ◌++◌, ◌∷◌, ◌∙◌, [], ℕ, List, sym, ap, subst, inl, inr, append_assoc, append-nil}
 use Rattle.registry_names.specs.declared.refusal.Refusal.{Refusal}
 use Rattle.registry_wire.specs.Reading.{TakenOf}
 use Rattle.registry_wire.specs.Spelling.{EndsWith, IsBad, Spells}
@@ -8,7 +7,7 @@ use Rattle.registry_wire.specs.declared.first.Ending.{Ending}
 use Rattle.registry_wire.specs.declared.first.Ending.TheVariants as ending
 use Rattle.registry_wire.specs.declared.wanted.Wanted.{Wanted}
 use Rattle.registry_wire.proofs.RequestFacts.{request-more, bad-more}
-use Rattle.registry_service.specs.Courses.{AtEndOf, Course, Side, Took, taken_for}
+use Rattle.registry_service.specs.Courses.{AtEndOf, Took, taken_for}
 use Rattle.registry_service.specs.Laws.{TakenOfAll, TurnsAreSpelled, wanted_by, wanted_of}
 use Rattle.registry_service.specs.Turns.{Answering, Cause, Turn, bad_input, no_memory, request}
 use Rattle.registry_service.proofs.CourseFacts.{took-more}

@@ -1,11 +1,11 @@
 -- The turns of one connection, one after the other: what they take, what they write, and how it
 -- ends.
-use Rattle.std.specs.Prelude.{◌≡◌, ◌≤◌, ◌<◌, ◌+◌, ◌==◌, ◌++◌, ◌∷◌, ◌⊎◌, [], ℕ, Bool, true, false, List, length, take, Option, Some, None, if◌then◌else◌}
+use Rattle.std.specs.Prelude.{◌≡◌, ◌≤◌, ◌<◌, ◌+◌, ◌==◌, ◌++◌, ◌∷◌, ◌⊎◌, [], ℕ, Bool, false, List, length, take, Option, Some, None, if◌then◌else◌}
 use Rattle.std.specs.Io.KnownBytes.{IsAtEnd}
 use Rattle.registry_names.specs.ByteStreams.{Reads, RisesBetween, Writes}
 use Rattle.registry_names.specs.declared.stop.Fault.TheVariants.{Memory}
 use Rattle.registry_wire.specs.Inboxes.{failures_admitted}
-use Rattle.registry_wire.specs.Reading.{CountsInterrupted, TakenOf}
+use Rattle.registry_wire.specs.Reading.{CountsInterrupted, ReadsNoMoreThanNeeded, TakenOf}
 use Rattle.registry_wire.specs.Spelling.{EndsWith, IsUnfinished}
 use Rattle.registry_wire.specs.declared.first.Ending.TheVariants as ending
 use Rattle.registry_wire.specs.declared.inbox.Taken.{Taken}
@@ -59,6 +59,26 @@ abbrev pub Took : List ℕ → List Turn → List ℕ → Type 0 → Type 0
 Took came [] held AtEnd = held ≡ came
 Took came (t ∷ ts) held AtEnd = (rest : List ℕ) × Took came ts rest ⊥ × TakenOf rest held AtEnd (taken_for t.cause)
 
+-- What was read for turns, and then newer bytes: no more of these than the next request needed,
+-- after what the turns left of all that had come.
+pub record ReadsAfter (held : List ℕ) (ts : List Turn) (got : List ℕ) (ForTurns : List ℕ → Type 0) : Type 0 where
+  pub older : List ℕ
+  pub newer : List ℕ
+  pub both : got ≡ older ++ newer
+  pub before : ForTurns older
+  pub rest : List ℕ
+  pub left : Took (held ++ older) ts rest ⊥
+  pub lean : ReadsNoMoreThanNeeded rest newer
+
+-- What was read for the turns, one after the other: for each of them no more than it needed.
+abbrev pub ReadsFor : List ℕ → List Turn → List ℕ → Type 0
+ReadsFor held [] got = got ≡ []
+ReadsFor held (t ∷ ts) got = ReadsAfter held ts got (ReadsFor held ts)
+
+-- What was read for the turns, and for a request after them that never came whole.
+abbrev pub ReadsOn : List ℕ → List Turn → List ℕ → Type 0
+ReadsOn held ts got = ReadsAfter held ts got (ReadsFor held ts)
+
 -- The clock gave these moments, the first of its readings, where so many are known
 abbrev pub Gave : Option (List ℕ) → Option (List ℕ) → List ℕ → Type 0
 Gave None new ms = Unit {0}
@@ -96,6 +116,11 @@ EndsAs s ts ReadFault = GoOn ts × IsUnfinished s.held
 EndsAs s ts WriteFault = ⊥
 EndsAs s ts (Faulted fault) = EndedBy ts (Faulted fault)
 
+-- What was read on a connection that ended so: after a turn that ended it nothing more; and where
+-- it went on after the last turn, what was read for a request that never came whole
+abbrev pub ReadsUntil : List ℕ → List Turn → End → List ℕ → Type 0
+ReadsUntil held ts e got = (EndedBy ts e × ReadsFor held ts got) ⊎ (GoOn ts × ReadsOn held ts got)
+
 -- why no turn is taken: nothing is left after the last one, or a read failed
 abbrev pub EndsUnasked : {D : Type 0} → Side D → End → Type 0
 EndsUnasked s e = ((e ≡ Closed) × EndsWith s.held ending.Closed × AtEndOf s) ⊎ ((e ≡ ReadFault) × IsUnfinished s.held)
@@ -129,6 +154,7 @@ module _ {D : Type 0} (answers : Answering D) where
     pub cause : Cause
     pub got : List ℕ
     pub gave : Reads old.left new.left new.unknown got
+    pub lean : ReadsNoMoreThanNeeded old.held got
     pub took : TakenOf (old.held ++ got) new.held (AtEndOf new) (taken_for cause)
     pub turns : Turns answers old.service cause last t new.service
     pub asked : Gave old.readings new.readings (moment_of cause)
@@ -137,6 +163,7 @@ module _ {D : Type 0} (answers : Answering D) where
   pub record Rests (old new : Side D) (e : End) : Type 0 where
     pub got : List ℕ
     pub gave : Reads old.left new.left new.unknown got
+    pub lean : ReadsNoMoreThanNeeded old.held got
     pub held : new.held ≡ old.held ++ got
     pub service : new.service ≡ old.service
     pub readings : new.readings ≡ old.readings
@@ -148,15 +175,18 @@ module _ {D : Type 0} (answers : Answering D) where
   pub record Completes (old new : Side D) (out out2 : Option (List ℕ)) (out_unknown : Bool) (s : Served) : Type 0 where
     pub turns : List Turn
     pub course : Course old new turns
+    pub lean : ReadsUntil old.held turns s.end course.got
     pub wrote : Writes out out2 out_unknown (written turns)
     pub ends : EndsAs new turns s.end
     pub count : s.requests ≡ requests turns
 
-  -- a write failed: the older responses were written whole, and a part of the newest
+  -- A write failed: the older responses were written whole, and a part of the newest. After this
+  -- turn nothing was asked or read.
   pub record BreaksOff (old new : Side D) (out out2 : Option (List ℕ)) (out_unknown : Bool) (s : Served) : Type 0 where
     pub newest : Turn
     pub older : List Turn
     pub course : Course old new (newest ∷ older)
+    pub lean : ReadsFor old.held (newest ∷ older) course.got
     pub go_on : GoOn older
     pub sent : ℕ
     pub is_less : sent < length (response_of newest)

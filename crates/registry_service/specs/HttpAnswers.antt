@@ -3,7 +3,6 @@ use Rattle.std.specs.Prelude.{◌≡◌, ℕ, Bool, List, ◌++◌, length, code
 use Rattle.registry_names.specs.Faults.{fault_status, fault_text}
 use Rattle.registry_names.specs.Refusals.{refusal_status, refusal_text}
 use Rattle.registry_names.specs.Texts.{Text}
-use Rattle.registry_names.specs.declared.refusal.Refusal.{Refusal}
 use Rattle.registry_names.specs.declared.stop.Fault.{Fault}
 use Rattle.registry_rules.specs.declared.reply.Reply.{Reply}
 use Rattle.registry_rules.specs.declared.reply.Reply.TheVariants.{Created, Done, Count, Doc, Bytes, Refused}

@@ -1,6 +1,6 @@
 -- What one turn of a connection is: what it is taken for, what is answered, and whether the
 -- connection ends.
-use Rattle.std.specs.Prelude.{◌≡◌, ◌⊎◌, ◌+◌, ◌++◌, ◌∷◌, [], ℕ, Bool, true, false, List, Option, Some, None, is_some, Ok, Err, if◌then◌else◌}
+use Rattle.std.specs.Prelude.{◌≡◌, ◌⊎◌, ℕ, Bool, true, false, List, Option, Some, None, is_some, Ok, Err, if◌then◌else◌}
 use Rattle.registry_names.specs.declared.refusal.Refusal.{Refusal}
 use Rattle.registry_names.specs.declared.stop.Fault.TheVariants.{Memory}
 use Rattle.registry_names.specs.declared.stop.Stop.{Stop}

@@ -35,7 +35,8 @@ pub struct Served {
 /// [`turn`], and writes their responses. What comes that is no request is answered, too, and so is
 /// want of memory while a request is read.
 ///
-/// The clock is asked once for each whole request.
+/// The clock is asked once for each whole request. Nothing more is read after a turn that ends the
+/// connection, and after a failed write the service is asked nothing more, either.
 pub fn serve<D: Service, R: ByteIn, W: ByteOut, C: Clock>(
     alloc: Global,
     service: &mut D,

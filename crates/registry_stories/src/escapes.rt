@@ -1,6 +1,6 @@
 //! Escapes in a text: `\r`, `\n`, `\t`, `\\`, and `\xNN` for any byte.
 
-use crate::failure::{Stop, failed};
+use crate::failure::{Stop, failed_with};
 use std::alloc::Global;
 
 /// What the bytes before spell in part.
@@ -67,5 +67,5 @@ fn digit(letter: u8) -> Option<u8> {
 }
 
 fn unknown(alloc: Global) -> Stop {
-    failed(alloc, r"an escape is none of \r \n \t \\ \xNN")
+    failed_with(alloc, r"an escape is none of \r \n \t \\ \xNN")
 }

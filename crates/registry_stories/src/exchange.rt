@@ -2,7 +2,7 @@
 //! connection is given what comes, and asked what is to be sent.
 
 use crate::clock::StatedClock;
-use crate::failure::{Stop, failed};
+use crate::failure::{Stop, failed_with};
 use crate::registry::{DB, StoryRegistry};
 use registry_desk::Registry;
 use registry_http::RegistryService;
@@ -52,7 +52,7 @@ pub fn answered(
         }
         StoryRegistry::InFile => match Registry::open(rt, DB) {
             Ok(registry) => Ok(answered_in(alloc, registry, at, asked, pace)?),
-            Err(_) => Err(failed(alloc, "the registry's file can't be opened")),
+            Err(_) => Err(failed_with(alloc, "the registry's file can't be opened")),
         },
     }
 }

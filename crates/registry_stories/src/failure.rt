@@ -23,15 +23,16 @@ impl From<AllocError> for Stop {
     }
 }
 
-/// Fails with a message.
-pub fn failed(alloc: Global, said: &str) -> Stop {
+/// The failure with this message.
+pub fn failed_with(alloc: Global, said: &str) -> Stop {
     match String::from_str(alloc, said) {
         Ok(said) => Stop::Failed(said),
         Err(_) => Stop::Memory,
     }
 }
 
-/// Fails with what was wanted and what came, each from a little before the first difference.
+/// The failure that shows what was wanted and what came, each from a little before the first
+/// difference.
 pub fn differing(alloc: Global, wanted: &[u8], came: &[u8]) -> Stop {
     match difference(alloc, wanted, came) {
         Ok(said) => Stop::Failed(said),

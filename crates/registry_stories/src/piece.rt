@@ -1,7 +1,7 @@
 //! The bytes that a line of a story spells after its arrow.
 
 use crate::escapes::unescaped;
-use crate::failure::{Stop, failed};
+use crate::failure::{Stop, failed_with};
 use std::alloc::{AllocError, Global};
 use std::fs;
 
@@ -22,7 +22,7 @@ pub fn piece(rt: &HostRuntime, alloc: Global, spelled: &str, end: &str) -> Resul
     }
     let (marks, text) = spelled.split_once(' ').unwrap_or((spelled, ""));
     let Some(marks) = marks_of(marks) else {
-        return Err(failed(alloc, "the marks after the arrow are unknown"));
+        return Err(failed_with(alloc, "the marks after the arrow are unknown"));
     };
     let mut once = text_bytes(alloc, text, marks.is_escaped)?;
     once.extend_from_slice(end.as_bytes())?;

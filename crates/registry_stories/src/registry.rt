@@ -1,6 +1,6 @@
 //! The registry of a story, in memory or in a file.
 
-use crate::failure::{Stop, failed};
+use crate::failure::{Stop, failed_with};
 use registry_desk::Registry;
 use registry_http::RegistryService;
 use registry_names::Fault;
@@ -27,7 +27,7 @@ impl StoryRegistry {
         match Registry::in_memory(alloc) {
             Ok(registry) => Ok(StoryRegistry::InMemory(RegistryService::new(registry))),
             Err(Fault::Memory) => Err(Stop::Memory),
-            Err(Fault::Database) => Err(failed(alloc, "no registry can be made in memory")),
+            Err(Fault::Database) => Err(failed_with(alloc, "no registry can be made in memory")),
         }
     }
 }

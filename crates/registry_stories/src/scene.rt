@@ -2,7 +2,7 @@
 
 use crate::command::printed;
 use crate::exchange::{Answer, Pace, answered, end_text};
-use crate::failure::{Stop, differing, failed};
+use crate::failure::{Stop, differing, failed_with};
 use crate::piece::piece;
 use crate::registry::StoryRegistry;
 use crate::story::{IN_FILE, Line, Story, is_unknown};
@@ -155,7 +155,7 @@ impl<'a> Scene<'a> {
         self.exchange()?;
         let wanted = piece_after(self.rt, self.alloc, spelled, '<')?;
         let Some(answer) = &mut self.answer else {
-            return Err(failed(self.alloc, "nothing was asked on a connection"));
+            return Err(failed_with(self.alloc, "nothing was asked on a connection"));
         };
         match answer.bytes.as_slice().strip_prefix(wanted.as_slice()) {
             Some(rest) => {
@@ -182,7 +182,7 @@ impl<'a> Scene<'a> {
         let bytes = piece(self.rt, self.alloc, spelled, "")?;
         match &mut self.made {
             Some(made) => Ok(made.bytes.extend_from_slice(&bytes)?),
-            None => Err(failed(self.alloc, "no file is being made")),
+            None => Err(failed_with(self.alloc, "no file is being made")),
         }
     }
 
@@ -234,7 +234,7 @@ impl<'a> Scene<'a> {
         };
         match fs::write(self.rt, made.name, made.bytes.as_slice()) {
             Ok(()) => Ok(()),
-            Err(_) => Err(failed(self.alloc, "the file can't be written")),
+            Err(_) => Err(failed_with(self.alloc, "the file can't be written")),
         }
     }
 }

@@ -1,6 +1,6 @@
 //! The stories of a file.
 
-use crate::failure::{Stop, failed};
+use crate::failure::{Stop, failed_with};
 use std::alloc::Global;
 
 /// The line that says that the registry of a story is in a file.
@@ -54,7 +54,7 @@ pub fn stories_of(alloc: Global, text: &str) -> Result<Vec<Story<'_>>, Stop> {
                 .push(Line { number, text })
                 .map_err(|_| Stop::Memory)?;
         } else if !is_unknown(text) {
-            return Err(failed(alloc, "a line comes before the first story"));
+            return Err(failed_with(alloc, "a line comes before the first story"));
         }
     }
     Ok(stories)

@@ -43,7 +43,7 @@ unfolding understood everything
 put_means = (refl, (refl, refl))
 
 pub archive_put : (integrity : Text) (bytes : List ℕ) (old new : Shown) → Ready schema old → Wrote put_text (Stored integrity ∷ Blob bytes ∷ []) old new → HasCleanDisk new
-    → TakesNext schema contents table.archives archive_in (λ c m. record c { archives = m }) table.counters.tree (λ c n. record c { last_archive = n }) (Stored integrity ∷ Blob bytes ∷ []) old new
+    → TakesNext schema contents table.archives archive_in (λ c m. record c { archives = m }) table.counters.tree (λ c n. record c { last_archive = Some (Int n) }) (Stored integrity ∷ Blob bytes ∷ []) old new
 archive_put integrity bytes old new form call = insert_numbers archives_numbered archives_counted put_text put_cells put_means (Stored integrity ∷ Blob bytes ∷ []) refl old new (Ok call.0) form call.1
 
 -- ---- SELECT by integrity
@@ -150,7 +150,7 @@ stands_stored integrity bytes c n e = (
 
 -- it is added
 pub is_added : (integrity : Text) (bytes : List ℕ) (c : Contents) → number_of integrity bytes c.archives ≡ None
-    → (record c { archives = put c.archives (next_archive c) (record { integrity = integrity; bytes = bytes }); last_archive = next_archive c } ≡ with_archive integrity bytes c) × (next_archive c ≡ archive_number integrity bytes c)
+    → (record c { archives = put c.archives (next_archive c) (record { integrity = integrity; bytes = bytes }); last_archive = Some (Int (next_archive c)) } ≡ with_archive integrity bytes c) × (next_archive c ≡ archive_number integrity bytes c)
 is_added integrity bytes c e = (
   rw (ap is_some e) refl,
   sym (ap (λ o. unwrap_or o (next_archive c)) e),

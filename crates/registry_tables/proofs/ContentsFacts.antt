@@ -1,8 +1,7 @@
 -- What the tables hold is determined by their rows alone.
 use Rattle.std.proofs.Common.{◌≡◌, [], refl}
-use Rattle.sqlite_sql.specs.Ops.{unary}
 use Rattle.registry_names.specs.Maps.{rows, empty}
-use Rattle.registry_rows.specs.Counting.{count_in}
+use Rattle.registry_rows.specs.Counting.{count_value, other_counts}
 use Rattle.registry_rows.specs.KeyKinds.{bytes, numbers, map_by}
 use Rattle.registry_rows.specs.Rows.{map_of}
 use Rattle.registry_rows.specs.Ready.{DependsOn}
@@ -30,9 +29,10 @@ contents_depend old new (users, (tokens, (organisations, (members, (teams, (team
   need_ranges = map_of 3 nothing_in (need_ranges i);
   held = map_of 1 held_in (held i);
   archives = map_by numbers archive_in (archives i);
-  last_archive = count_in table.archives.name (counters i);
+  last_archive = count_value table.archives.name (counters i);
+  counters = other_counts table.archives.name (counters i);
 }
 
 pub no_rows : contents (λ _. []) ≡ no_contents
-unfolding rows empty unary
+unfolding rows empty
 no_rows = refl

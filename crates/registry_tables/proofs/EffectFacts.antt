@@ -1,10 +1,15 @@
 -- Calls inside a transaction, one after another.
-use Rattle.std.proofs.Common.{◌∙◌, refl}
+use Rattle.std.proofs.Common.{◌∙◌, refl, Result, Ok, Err, OnOk}
 use Rattle.sqlite.specs.State.{State as Shown, HasCleanDisk}
 use Rattle.sqlite.proofs.InsideLemmas.{keeps_then}
 use Rattle.registry_rows.specs.Ready.{Ready, Reads}
 use Rattle.registry_tables.specs.Effects.{IsAsBefore}
 use Rattle.registry_tables.specs.Schema.{schema}
+
+-- what holds in any case
+pub on_any : {R E P : Type 0} (r : Result R E) → P → OnOk r P
+on_any (Ok x) h = h
+on_any (Err e) h = tt
 
 -- a query, and then a call that changed nothing
 pub reads_as_before : (a b c : Shown) → Reads schema a b → IsAsBefore b c → Reads schema a c

@@ -17,7 +17,7 @@ use Rattle.registry_rows.specs.Frames.{Wrote}
 use Rattle.registry_rows.specs.Ready.{Ready, Leaves, Reads, Queried}
 use Rattle.registry_rows.specs.Statements.{Means, MeansQuery, IsUncascaded, scan, by_texts, in_order, set_terms}
 use Rattle.registry_rows.proofs.LookUpFacts.{select_lists_two, seen_as_is}
-use Rattle.registry_rows.proofs.StatementFacts.{insert_puts, update_revises, delete_erases}
+use Rattle.registry_rows.proofs.StatementFacts.{insert_puts, insert_meets_none, update_revises, delete_erases}
 use Rattle.registry_tables.specs.Schema.{schema}
 use Rattle.registry_tables.specs.Schema as table
 use Rattle.registry_tables.specs.Changes.{amended}
@@ -45,6 +45,11 @@ pub grant_put : (o t p : Text) (grant : Grant) (old new : Shown) → Ready schem
     → Leaves schema contents (record (stored old) { grants = put (stored old).grants (o, (t, p)) grant }) new
 grant_put o t p ReadOnly old new form call = insert_puts grants_mapped put_text put_cells put_means (Stored o ∷ Stored t ∷ Stored p ∷ Int (pos 1) ∷ []) refl old new (Ok call.0) form call.1
 grant_put o t p ReadWrite old new form call = insert_puts grants_mapped put_text put_cells put_means (Stored o ∷ Stored t ∷ Stored p ∷ Int (pos 2) ∷ []) refl old new (Ok call.0) form call.1
+
+-- an answered INSERT had a new key
+pub grant_was_new : (o t p : Text) (grant : Grant) (old new : Shown) → Ready schema old → Wrote put_text (Stored o ∷ Stored t ∷ Stored p ∷ Int (pos (grant_number grant)) ∷ []) old new → HasCleanDisk new → at (stored old).grants (o, (t, p)) ≡ None
+grant_was_new o t p ReadOnly old new form call = insert_meets_none grants_mapped put_text put_cells put_means (Stored o ∷ Stored t ∷ Stored p ∷ Int (pos 1) ∷ []) refl old new (Ok call.0) form call.1
+grant_was_new o t p ReadWrite old new form call = insert_meets_none grants_mapped put_text put_cells put_means (Stored o ∷ Stored t ∷ Stored p ∷ Int (pos 2) ∷ []) refl old new (Ok call.0) form call.1
 
 -- ---- UPDATE
 

@@ -48,7 +48,7 @@ granted_some None g t = absurd (true≢false (sym t))
 granted_some (Some h) g t = (h, refl, t)
 
 module _ (c : Contents) (o u p : Text) (shown : List Grant)
-    (tells : (y : Grant) → Has shown y ↔ IsJoined 2 2 c.team_members c.grants (joins 2 2 (Stored o ∷ Stored u ∷ Stored p ∷ []) grant_sides) (λ k x l z. z) y) (g : Grant) where
+    (loads : (y : Grant) → Has shown y ↔ IsJoined 2 2 c.team_members c.grants (joins 2 2 (Stored o ∷ Stored u ∷ Stored p ∷ []) grant_sides) (λ k x l z. z) y) (g : Grant) where
   abbrev test : Triple → Bool
   test k = pair_is (o, u) (k.0, k.1.1) && grants (at c.grants (k.0, (k.1.0, p))) g
 
@@ -56,7 +56,7 @@ module _ (c : Contents) (o u p : Text) (shown : List Grant)
   shown_granted : is_listed shown g ≡ true → granted_in c o u p g ≡ true
   shown_granted any =
       let h = some_has (λ h. is_grant h g) shown any in
-      let it = (tells h.0).0 h.1 in
+      let it = (loads h.0).0 h.1 in
       let k = it.key in
       let l = it.other_key in
       let organisation = and_parts (is o k.0) _ it.pass in
@@ -81,7 +81,7 @@ module _ (c : Contents) (o u p : Text) (shown : List Grant)
       let h = granted_some _ g both.1 in
       let pass : joins 2 2 (Stored o ∷ Stored u ∷ Stored p ∷ []) grant_sides k.0 (k.0.0, (k.0.1.0, p)) ≡ true =
       and_from _ _ own.0 (and_from _ _ own.1 (and_from _ _ own.0 (and_from _ _ (is_self k.0.1.0) (and_from _ _ (is_self p) refl)))) in
-      some_from (λ z. is_grant z g) shown h.0 ((tells h.0).1 (record {
+      some_from (λ z. is_grant z g) shown h.0 ((loads h.0).1 (record {
         key = k.0;
         value = e.0.1;
         other_key = (k.0.0, (k.0.1.0, p));
@@ -100,7 +100,7 @@ module _ (c : Contents) (o u p : Text) (shown : List Grant)
 
 joined_are_granted : (c : Contents) (o u p : Text) (shown : List Grant)
     → ((y : Grant) → Has shown y ↔ IsJoined 2 2 c.team_members c.grants (joins 2 2 (Stored o ∷ Stored u ∷ Stored p ∷ []) grant_sides) (λ k x l z. z) y) → AreGranted c o u p shown
-joined_are_granted c o u p shown tells g = listed_is_granted c o u p shown tells g
+joined_are_granted c o u p shown loads g = listed_is_granted c o u p shown loads g
 
 -- ---- SELECT from team_members and grants
 

@@ -18,6 +18,7 @@ use Rattle.registry_rules.specs.Actions.{version_of}
 use Rattle.registry_rules.specs.Changes.{release_of}
 use Rattle.registry_rules.specs.State.{Release}
 use Rattle.registry_rows.specs.KeyKinds.{NumberMap}
+use Rattle.registry_rows.specs.Counting.{counted}
 use Rattle.registry_rows.proofs.CountFacts.{next_is_new}
 use Rattle.registry_rows.proofs.KeyedFacts.{number_key}
 use Rattle.registry_rows.proofs.ListingFacts.{first_risen}
@@ -77,7 +78,7 @@ module _ (integrity : Text) (bytes : List ℕ) (c : Contents) where
   more = (with_archive integrity bytes c).archives
 
   next_is_free : at c.archives (next_archive c) ≡ None
-  next_is_free = (next_is_new c.last_archive c.archives).free
+  next_is_free = (next_is_new (counted c.last_archive) c.archives).free
 
   never_next : (n : ℤ) (a : Archive) → at c.archives n ≡ Some a → int_eq (next_archive c) n ≡ false
   never_next n a e = elim (cases_Bool (int_eq (next_archive c) n)) [

@@ -32,6 +32,7 @@ pub mod StatusFacts
 pub mod StepFacts
 pub mod TagFacts
 pub mod TeamFacts
+pub mod TeamReferenceFacts
 pub mod TeamListFacts
 pub mod TeamMemberFacts
 pub mod TokenFacts

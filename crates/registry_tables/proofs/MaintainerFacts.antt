@@ -1,5 +1,5 @@
 -- What the statements on maintainers make and show.
-use Rattle.std.proofs.Common.{◌≡◌, ◌==◌, ℕ, List, [], ◌∷◌, Bool, ◌||◌, map, not, is_some, length, Ok, refl, sym, ap, ◌∙◌, codes}
+use Rattle.std.proofs.Common.{◌≡◌, ◌==◌, ℕ, List, [], ◌∷◌, Bool, ◌||◌, map, not, is_some, length, None, Ok, refl, sym, ap, ◌∙◌, codes}
 use Rattle.std.specs.List.{list_any}
 use Rattle.std.proofs.lemmas.Simd.{map-map}
 use Rattle.sqlite.specs.declared.types.Value.TheVariants.{Null, Text as Stored}
@@ -16,7 +16,7 @@ use Rattle.registry_rows.specs.Frames.{Wrote}
 use Rattle.registry_rows.specs.Ready.{Ready, Leaves, Reads, Queried}
 use Rattle.registry_rows.specs.Statements.{Means, MeansQuery, IsUncascaded, scan, by_texts, in_order}
 use Rattle.registry_rows.proofs.LookUpFacts.{select_lists, seen_as_is}
-use Rattle.registry_rows.proofs.StatementFacts.{insert_puts, delete_erases}
+use Rattle.registry_rows.proofs.StatementFacts.{insert_puts, insert_meets_none, delete_erases}
 use Rattle.registry_tables.specs.Schema.{schema}
 use Rattle.registry_tables.specs.Schema as table
 use Rattle.registry_tables.specs.Contents.{contents}
@@ -40,6 +40,10 @@ put_means = (refl, (refl, refl))
 pub owner_put : (p u : Text) (old new : Shown) → Ready schema old → Wrote put_text (Stored p ∷ Stored u ∷ []) old new → HasCleanDisk new
     → Leaves schema contents (record (stored old) { owners = put (stored old).owners (p, u) tt }) new
 owner_put p u old new form call = insert_puts owners_mapped put_text put_cells put_means (Stored p ∷ Stored u ∷ []) refl old new (Ok call.0) form call.1
+
+-- an answered INSERT had a new key
+pub owner_was_new : (p u : Text) (old new : Shown) → Ready schema old → Wrote put_text (Stored p ∷ Stored u ∷ []) old new → HasCleanDisk new → at (stored old).owners (p, u) ≡ None
+owner_was_new p u old new form call = insert_meets_none owners_mapped put_text put_cells put_means (Stored p ∷ Stored u ∷ []) refl old new (Ok call.0) form call.1
 
 -- ---- DELETE
 

@@ -1,5 +1,6 @@
 -- Each table gives one map of what is stored.
-use Rattle.std.proofs.Common.{refl}
+use Rattle.std.proofs.Common.{Some, refl}
+use Rattle.sqlite.specs.declared.types.Value.TheVariants.{Int}
 use Rattle.sqlite_tied.specs.Compute.{everything}
 use Rattle.registry_rows.specs.Counting.{IsCounted}
 use Rattle.registry_rows.specs.Ready.{IsMapped, IsMappedByBytes, IsNumbered}
@@ -56,6 +57,6 @@ held_mapped = record { found = refl; shape = refl; indexed = refl; plain = refl;
 pub archives_numbered : IsNumbered schema contents 16 table.archives archive_in (λ c m. record c { archives = m })
 archives_numbered = record { found = refl; shape = refl; plain = refl; depends = contents_depend; alone = λ db rows. refl }
 
-pub archives_counted : IsCounted schema contents table.archives table.counters.tree (λ c n. record c { last_archive = n })
+pub archives_counted : IsCounted schema contents table.archives table.counters.tree (λ c n. record c { last_archive = Some (Int n) })
 unfolding everything
-archives_counted = record { counts = refl; sequence_is = refl; apart = refl; quiet = refl; counted = λ db rows. refl }
+archives_counted = record { counts = refl; sequence_is = refl; apart = refl; quiet = refl; counting = λ db rows n counts rest i. record (contents db) { last_archive = counts i; counters = rest i } }

@@ -19,7 +19,7 @@ use Rattle.registry_packument.specs.declared.list.Member.{Member}
 use Rattle.registry_rows.specs.Frames.{Wrote}
 use Rattle.registry_rows.specs.Ready.{Ready, Leaves, Reads, Queried}
 use Rattle.registry_rows.specs.Statements.{Means, MeansQuery, scan, by_texts, in_order, set_terms}
-use Rattle.registry_rows.proofs.StatementFacts.{insert_puts, update_revises}
+use Rattle.registry_rows.proofs.StatementFacts.{insert_puts, insert_meets_none, update_revises}
 use Rattle.registry_rows.proofs.LookUpFacts.{select_finds, select_lists, first_listed, seen_as_is}
 use Rattle.registry_tables.specs.Schema.{schema}
 use Rattle.registry_tables.specs.Changes.{amended}
@@ -46,6 +46,12 @@ pub member_put : (o u : Text) (role : Role) (old new : Shown) → Ready schema o
 member_put o u Developer old new form call = insert_puts members_mapped put_text put_cells put_means (Stored o ∷ Stored u ∷ Int (pos 0) ∷ []) refl old new (Ok call.0) form call.1
 member_put o u Admin old new form call = insert_puts members_mapped put_text put_cells put_means (Stored o ∷ Stored u ∷ Int (pos 1) ∷ []) refl old new (Ok call.0) form call.1
 member_put o u Owner old new form call = insert_puts members_mapped put_text put_cells put_means (Stored o ∷ Stored u ∷ Int (pos 2) ∷ []) refl old new (Ok call.0) form call.1
+
+-- an answered INSERT had a new key
+pub member_was_new : (o u : Text) (role : Role) (old new : Shown) → Ready schema old → Wrote put_text (Stored o ∷ Stored u ∷ Int (pos (role_number role)) ∷ []) old new → HasCleanDisk new → at (stored old).members (o, u) ≡ None
+member_was_new o u Developer old new form call = insert_meets_none members_mapped put_text put_cells put_means (Stored o ∷ Stored u ∷ Int (pos 0) ∷ []) refl old new (Ok call.0) form call.1
+member_was_new o u Admin old new form call = insert_meets_none members_mapped put_text put_cells put_means (Stored o ∷ Stored u ∷ Int (pos 1) ∷ []) refl old new (Ok call.0) form call.1
+member_was_new o u Owner old new form call = insert_meets_none members_mapped put_text put_cells put_means (Stored o ∷ Stored u ∷ Int (pos 2) ∷ []) refl old new (Ok call.0) form call.1
 
 -- ---- UPDATE
 

@@ -1,5 +1,5 @@
 -- What the statements on organisations make and show.
-use Rattle.std.proofs.Common.{◌≡◌, ◌==◌, ℕ, List, [], ◌∷◌, not, is_some, length, Ok, refl, codes}
+use Rattle.std.proofs.Common.{◌≡◌, ◌==◌, ℕ, List, [], ◌∷◌, not, is_some, length, None, Ok, refl, codes}
 use Rattle.sqlite.specs.declared.types.Value.TheVariants.{Null, Text as Stored}
 use Rattle.sqlite.specs.Command.TheVariants.{Insert, Select}
 use Rattle.sqlite.specs.Source.TheVariants.{Values}
@@ -13,7 +13,7 @@ use Rattle.registry_names.specs.Maps.{at, put}
 use Rattle.registry_rows.specs.Frames.{Wrote}
 use Rattle.registry_rows.specs.Ready.{Ready, Leaves, Reads, Queried}
 use Rattle.registry_rows.specs.Statements.{Means, MeansQuery, scan, by_texts}
-use Rattle.registry_rows.proofs.StatementFacts.{insert_puts}
+use Rattle.registry_rows.proofs.StatementFacts.{insert_puts, insert_meets_none}
 use Rattle.registry_tables.specs.Schema.{schema}
 use Rattle.registry_tables.specs.Contents.{contents}
 use Rattle.registry_tables.specs.Effects.{stored}
@@ -35,6 +35,10 @@ put_means = (refl, (refl, refl))
 pub organisation_put : (o : Text) (old new : Shown) → Ready schema old → Wrote put_text (Stored o ∷ []) old new → HasCleanDisk new
     → Leaves schema contents (record (stored old) { organisations = put (stored old).organisations o tt }) new
 organisation_put o old new form call = insert_puts organisations_mapped put_text put_cells put_means (Stored o ∷ []) refl old new (Ok call.0) form call.1
+
+-- an answered INSERT had a new key
+pub organisation_was_new : (o : Text) (old new : Shown) → Ready schema old → Wrote put_text (Stored o ∷ []) old new → HasCleanDisk new → at (stored old).organisations o ≡ None
+organisation_was_new o old new form call = insert_meets_none organisations_mapped put_text put_cells put_means (Stored o ∷ []) refl old new (Ok call.0) form call.1
 
 -- ---- SELECT
 

@@ -12,15 +12,15 @@ use Rattle.registry_access.specs.declared.grant.Grant.{Grant}
 use Rattle.registry_access.specs.declared.role.Role.{Role}
 use Rattle.registry_access.specs.declared.role.Role.TheVariants.{Developer, Admin, Owner}
 use Rattle.registry_tables.specs.Contents.{Contents, access_of, contents}
-use Rattle.registry_tables.specs.Teams.{AreGranted, AreHis}
+use Rattle.registry_tables.specs.Teams.{AreGranted, AreGrantedTo}
 use Rattle.registry_tables.proofs.JoinedFacts.{scoped_are_all, strangers_have_none, unscoped_have_none}
 
 -- those of their teams in the organisation of the scope
-pub members_grants : (c : Contents) (o u p : Text) (role : Option Role) (gs : List Grant) → scope_of p ≡ Some o → AreGranted c o u p gs → AreHis c (User u) p role gs
+pub members_grants : (c : Contents) (o u p : Text) (role : Option Role) (gs : List Grant) → scope_of p ≡ Some o → AreGranted c o u p gs → AreGrantedTo c (User u) p role gs
 members_grants c o u p role gs scope are sound is other g = are g ∙ scoped_are_all c sound.grants u p g o scope
 
 -- who is no member has none
-strangers_grants : (c : Contents) (u p : Text) → AreHis c (User u) p None []
+strangers_grants : (c : Contents) (u p : Text) → AreGrantedTo c (User u) p None []
 strangers_grants c u p sound is other g = go (scope_of p) refl
   where
     go : (o : Option Text) → scope_of p ≡ o → is_listed [] g ≡ granted (access_of c) (User u) p g
@@ -28,12 +28,12 @@ strangers_grants c u p sound is other g = go (scope_of p) refl
     go (Some o) scope = sym (strangers_have_none c sound o u p g scope (sym (ap is_some (subst (λ s. ◌≡◌ {A = Option Role} None (scope_role (access_of c) (User u) s)) scope is))))
 
 -- nobody has any on a package without a scope
-unscoped_grants : (c : Contents) (u p : Text) (role : Option Role) → scope_of p ≡ None → AreHis c (User u) p role []
+unscoped_grants : (c : Contents) (u p : Text) (role : Option Role) → scope_of p ≡ None → AreGrantedTo c (User u) p role []
 unscoped_grants c u p role scope sound is other g = sym (unscoped_have_none c sound.grants u p g scope)
 
 -- a list with none is right where they are no developer, and on a package without a scope
 pub no_grants : (c : Contents) (who : Caller) (p : Text) (role : Option Role)
-    → ((u : Text) → who ≡ User u → role ≡ Some Developer → scope_of p ≡ None) → AreHis c who p role []
+    → ((u : Text) → who ≡ User u → role ≡ Some Developer → scope_of p ≡ None) → AreGrantedTo c who p role []
 no_grants c Operator p role scope = λ sound is other g. refl
 no_grants c (User u) p None scope = strangers_grants c u p
 no_grants c (User u) p (Some Developer) scope = unscoped_grants c u p (Some Developer) (scope u refl refl)
@@ -42,5 +42,5 @@ no_grants c (User u) p (Some Owner) scope = λ sound is other g. absurd (true≢
 no_grants c Anonymous p role scope = λ sound is other g. refl
 
 -- what is said of the same tables
-pub grants_before : (who : Caller) (p : Text) (role : Option Role) (gs : List Grant) (d e : Database) → d ≡ e → AreHis (contents d.trees) who p role gs → AreHis (contents e.trees) who p role gs
-grants_before who p role gs d e same = subst (λ (d : Database). AreHis (contents d.trees) who p role gs) same
+pub grants_before : (who : Caller) (p : Text) (role : Option Role) (gs : List Grant) (d e : Database) → d ≡ e → AreGrantedTo (contents d.trees) who p role gs → AreGrantedTo (contents e.trees) who p role gs
+grants_before who p role gs d e same = subst (λ (d : Database). AreGrantedTo (contents d.trees) who p role gs) same

@@ -20,7 +20,7 @@ use Rattle.registry_names.specs.declared.status.Status.{Status}
 use Rattle.registry_names.specs.declared.status.Status.TheVariants.{Public, Restricted}
 use Rattle.registry_names.proofs.KeyFacts.{text_key}
 use Rattle.registry_rows.specs.Statements.{Means, MeansQuery, scan, by_texts, set_terms}
-use Rattle.registry_rows.proofs.StatementFacts.{insert_puts, update_revises}
+use Rattle.registry_rows.proofs.StatementFacts.{insert_puts, insert_meets_none, update_revises}
 use Rattle.registry_rows.proofs.LookUpFacts.{select_finds, first_listed}
 use Rattle.registry_tables.specs.Changes.{amended}
 use Rattle.registry_tables.specs.Spelled.{status_number, status_spelled}
@@ -43,6 +43,11 @@ pub status_put : (p : Text) (status : Status) (old new : Shown) → Ready schema
     → Leaves schema contents (record (stored old) { packages = put (stored old).packages p status }) new
 status_put p Public old new form call = insert_puts packages_mapped put_text put_cells put_means (Stored p ∷ Int (pos 1) ∷ []) refl old new (Ok call.0) form call.1
 status_put p Restricted old new form call = insert_puts packages_mapped put_text put_cells put_means (Stored p ∷ Int (pos 0) ∷ []) refl old new (Ok call.0) form call.1
+
+-- an answered INSERT had a new key
+pub status_was_new : (p : Text) (status : Status) (old new : Shown) → Ready schema old → Wrote put_text (Stored p ∷ Int (pos (status_number status)) ∷ []) old new → HasCleanDisk new → at (stored old).packages p ≡ None
+status_was_new p Public old new form call = insert_meets_none packages_mapped put_text put_cells put_means (Stored p ∷ Int (pos 1) ∷ []) refl old new (Ok call.0) form call.1
+status_was_new p Restricted old new form call = insert_meets_none packages_mapped put_text put_cells put_means (Stored p ∷ Int (pos 0) ∷ []) refl old new (Ok call.0) form call.1
 
 -- ---- UPDATE
 

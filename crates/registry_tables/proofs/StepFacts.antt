@@ -80,6 +80,28 @@ change_keeps (PutDeprecation p v message) c held = held
 change_keeps (PutTag p t v stands) c held = held
 change_keeps (DropTag p t) c held = held
 
+-- no row beside the count of archives changes
+pub change_counts : (change : Change) (c : Contents) → (stored_by change c).counters ≡ c.counters
+change_counts (AddUser u) c = refl
+change_counts (AddToken digest u) c = refl
+change_counts (AddOrg o) c = refl
+change_counts (PutMember o u role stands) c = refl
+change_counts (DropMember o u) c = refl
+change_counts (AddTeam o t) c = refl
+change_counts (PutTeamMember o t u) c = refl
+change_counts (DropTeamMember o t u) c = refl
+change_counts (DropTeam o t) c = refl
+change_counts (PutGrant o t p grant stands) c = refl
+change_counts (DropGrant o t p) c = refl
+change_counts (PutOwner p u) c = refl
+change_counts (DropOwner p u) c = refl
+change_counts (PutStatus p status stands) c = refl
+change_counts (AddVersion f now) c = refl
+change_counts (RetireVersion p v published withdrawn) c = refl
+change_counts (PutDeprecation p v message) c = refl
+change_counts (PutTag p t v stands) c = refl
+change_counts (DropTag p t) c = refl
+
 pub changes_make : (changes : List Change) (c : Contents) → HeldAreStored c → registry_of (all_stored changes c) ≡ all_made (registry_of c) changes
 changes_make [] c held = refl
 changes_make (change ∷ changes) c held = changes_make changes (stored_by change c) (change_keeps change c held) ∙ ap (λ S. all_made S changes) (change_makes change c held)

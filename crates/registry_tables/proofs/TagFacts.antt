@@ -15,7 +15,7 @@ use Rattle.registry_names.proofs.KeyFacts.{pair_key}
 use Rattle.registry_rows.specs.Frames.{Wrote}
 use Rattle.registry_rows.specs.Statements.{Means, MeansQuery, IsUncascaded, scan, by_texts, in_order, set_terms}
 use Rattle.registry_rows.specs.Ready.{Ready, Leaves, Reads, Queried}
-use Rattle.registry_rows.proofs.StatementFacts.{insert_puts, update_revises, delete_erases}
+use Rattle.registry_rows.proofs.StatementFacts.{insert_puts, insert_meets_none, update_revises, delete_erases}
 use Rattle.registry_rows.proofs.LookUpFacts.{select_finds, select_lists, first_listed, seen_as_is}
 use Rattle.registry_tables.specs.Schema.{schema}
 use Rattle.registry_tables.specs.Schema as table
@@ -42,6 +42,10 @@ put_means = (refl, (refl, refl))
 pub tag_put : (p t v : Text) (old new : Shown) → Ready schema old → Wrote put_text (Stored p ∷ Stored t ∷ Stored v ∷ []) old new → HasCleanDisk new
     → Leaves schema contents (record (stored old) { tags = put (stored old).tags (p, t) v }) new
 tag_put p t v old new form call = insert_puts tags_mapped put_text put_cells put_means (Stored p ∷ Stored t ∷ Stored v ∷ []) refl old new (Ok call.0) form call.1
+
+-- an answered INSERT had a new key
+pub tag_was_new : (p t v : Text) (old new : Shown) → Ready schema old → Wrote put_text (Stored p ∷ Stored t ∷ Stored v ∷ []) old new → HasCleanDisk new → at (stored old).tags (p, t) ≡ None
+tag_was_new p t v old new form call = insert_meets_none tags_mapped put_text put_cells put_means (Stored p ∷ Stored t ∷ Stored v ∷ []) refl old new (Ok call.0) form call.1
 
 -- ---- UPDATE
 

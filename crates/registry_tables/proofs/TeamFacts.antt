@@ -1,5 +1,5 @@
 -- What the statements on teams make and show.
-use Rattle.std.proofs.Common.{◌≡◌, ◌==◌, ℕ, List, [], ◌∷◌, map, not, is_some, length, Ok, refl, sym, ap, ◌∙◌, codes}
+use Rattle.std.proofs.Common.{◌≡◌, ◌==◌, ℕ, List, [], ◌∷◌, map, not, is_some, length, None, Ok, refl, sym, ap, ◌∙◌, codes}
 use Rattle.std.proofs.lemmas.Simd.{map-map}
 use Rattle.sqlite.specs.declared.types.Value.TheVariants.{Null, Text as Stored}
 use Rattle.sqlite.specs.Command.TheVariants.{Insert, Select}
@@ -14,7 +14,7 @@ use Rattle.registry_names.specs.Maps.{at, keys, of, put}
 use Rattle.registry_rows.specs.Frames.{Wrote}
 use Rattle.registry_rows.specs.Ready.{Ready, Leaves, Reads, Queried}
 use Rattle.registry_rows.specs.Statements.{Means, MeansQuery, scan, by_texts, in_order}
-use Rattle.registry_rows.proofs.StatementFacts.{insert_puts}
+use Rattle.registry_rows.proofs.StatementFacts.{insert_puts, insert_meets_none}
 use Rattle.registry_rows.proofs.LookUpFacts.{select_lists, seen_as_is}
 use Rattle.registry_tables.specs.Schema.{schema}
 use Rattle.registry_rules.specs.Kept.{IsSound}
@@ -39,6 +39,10 @@ put_means = (refl, (refl, refl))
 pub team_put : (o t : Text) (old new : Shown) → Ready schema old → Wrote put_text (Stored o ∷ Stored t ∷ []) old new → HasCleanDisk new
     → Leaves schema contents (record (stored old) { teams = put (stored old).teams (o, t) tt }) new
 team_put o t old new form call = insert_puts teams_mapped put_text put_cells put_means (Stored o ∷ Stored t ∷ []) refl old new (Ok call.0) form call.1
+
+-- an answered INSERT had a new key
+pub team_was_new : (o t : Text) (old new : Shown) → Ready schema old → Wrote put_text (Stored o ∷ Stored t ∷ []) old new → HasCleanDisk new → at (stored old).teams (o, t) ≡ None
+team_was_new o t old new form call = insert_meets_none teams_mapped put_text put_cells put_means (Stored o ∷ Stored t ∷ []) refl old new (Ok call.0) form call.1
 
 -- ---- SELECT
 

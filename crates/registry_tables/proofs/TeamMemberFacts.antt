@@ -1,5 +1,5 @@
 -- What the statements on the members of teams make and show.
-use Rattle.std.proofs.Common.{◌≡◌, ◌==◌, ℕ, List, [], ◌∷◌, not, is_some, length, Ok, refl, codes}
+use Rattle.std.proofs.Common.{◌≡◌, ◌==◌, ℕ, List, [], ◌∷◌, not, is_some, length, None, Ok, refl, codes}
 use Rattle.sqlite.specs.declared.types.Value.TheVariants.{Null, Text as Stored}
 use Rattle.sqlite.specs.Command.TheVariants.{Insert, Delete, Select}
 use Rattle.sqlite.specs.Source.TheVariants.{Values}
@@ -13,7 +13,7 @@ use Rattle.registry_names.specs.Maps.{at, erase, put}
 use Rattle.registry_rows.specs.Frames.{Wrote}
 use Rattle.registry_rows.specs.Ready.{Ready, Leaves, Reads, Queried}
 use Rattle.registry_rows.specs.Statements.{Means, MeansQuery, IsUncascaded, scan, by_texts}
-use Rattle.registry_rows.proofs.StatementFacts.{insert_puts, delete_erases}
+use Rattle.registry_rows.proofs.StatementFacts.{insert_puts, insert_meets_none, delete_erases}
 use Rattle.registry_tables.specs.Schema.{schema}
 use Rattle.registry_tables.specs.Schema as table
 use Rattle.registry_tables.specs.Contents.{contents}
@@ -36,6 +36,10 @@ put_means = (refl, (refl, refl))
 pub team_member_put : (o t u : Text) (old new : Shown) → Ready schema old → Wrote put_text (Stored o ∷ Stored t ∷ Stored u ∷ []) old new → HasCleanDisk new
     → Leaves schema contents (record (stored old) { team_members = put (stored old).team_members (o, (t, u)) tt }) new
 team_member_put o t u old new form call = insert_puts team_members_mapped put_text put_cells put_means (Stored o ∷ Stored t ∷ Stored u ∷ []) refl old new (Ok call.0) form call.1
+
+-- an answered INSERT had a new key
+pub team_member_was_new : (o t u : Text) (old new : Shown) → Ready schema old → Wrote put_text (Stored o ∷ Stored t ∷ Stored u ∷ []) old new → HasCleanDisk new → at (stored old).team_members (o, (t, u)) ≡ None
+team_member_was_new o t u old new form call = insert_meets_none team_members_mapped put_text put_cells put_means (Stored o ∷ Stored t ∷ Stored u ∷ []) refl old new (Ok call.0) form call.1
 
 -- ---- DELETE
 

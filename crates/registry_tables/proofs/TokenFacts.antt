@@ -1,5 +1,5 @@
 -- What the statements on tokens make and show.
-use Rattle.std.proofs.Common.{◌≡◌, ℕ, List, [], ◌∷◌, option_map, slice_get, Ok, refl, ◌∙◌, codes}
+use Rattle.std.proofs.Common.{◌≡◌, ℕ, List, [], ◌∷◌, option_map, slice_get, None, Ok, refl, ◌∙◌, codes}
 use Rattle.std.proofs.lemmas.Iterator.Adapters.{option_map_id}
 use Rattle.sqlite.specs.declared.types.Value.TheVariants.{Null, Blob, Text as Stored}
 use Rattle.sqlite.specs.Command.TheVariants.{Insert, Select}
@@ -15,7 +15,7 @@ use Rattle.registry_rows.specs.Frames.{Wrote}
 use Rattle.registry_rows.specs.Ready.{Ready, Leaves, Reads, Queried}
 use Rattle.registry_rows.specs.Statements.{Means, MeansQuery, scan, by_texts}
 use Rattle.registry_rows.proofs.KeyedFacts.{by_bytes_given}
-use Rattle.registry_rows.proofs.StatementFacts.{insert_puts_bytes}
+use Rattle.registry_rows.proofs.StatementFacts.{insert_puts_bytes, insert_meets_none_bytes}
 use Rattle.registry_rows.proofs.LookUpFacts.{select_finds_by, first_listed}
 use Rattle.registry_tables.specs.Schema.{schema}
 use Rattle.registry_tables.specs.Contents.{contents}
@@ -38,6 +38,10 @@ put_means = (refl, (refl, refl))
 pub token_put : (digest u : Text) (old new : Shown) → Ready schema old → Wrote put_text (Blob digest ∷ Stored u ∷ []) old new → HasCleanDisk new
     → Leaves schema contents (record (stored old) { tokens = put (stored old).tokens digest u }) new
 token_put digest u old new form call = insert_puts_bytes tokens_mapped put_text put_cells put_means (Blob digest ∷ Stored u ∷ []) refl old new (Ok call.0) form call.1
+
+-- an answered INSERT had a new key
+pub token_was_new : (digest u : Text) (old new : Shown) → Ready schema old → Wrote put_text (Blob digest ∷ Stored u ∷ []) old new → HasCleanDisk new → at (stored old).tokens digest ≡ None
+token_was_new digest u old new form call = insert_meets_none_bytes tokens_mapped put_text put_cells put_means (Blob digest ∷ Stored u ∷ []) refl old new (Ok call.0) form call.1
 
 -- ---- SELECT
 

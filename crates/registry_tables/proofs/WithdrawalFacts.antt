@@ -1,5 +1,5 @@
 -- What the statements make that withdraw a version, and what goes with its row.
-use Rattle.std.proofs.Common.{◌≡◌, ◌==◌, ℕ, ℤ, List, [], ◌∷◌, pos, map, filter, length, not, ◌||◌, Bool, true, false, cond, arith, ne_eqb, Ok, refl, ap, codes}
+use Rattle.std.proofs.Common.{◌≡◌, ◌==◌, ℕ, ℤ, List, [], ◌∷◌, pos, map, filter, length, not, ◌||◌, Bool, true, false, cond, arith, ne_eqb, true≢false, None, Some, is_some, Ok, refl, sym, ap, ◌∙◌, codes}
 use Rattle.std.specs.List.{list_any}
 use Rattle.std.specs.Ordering.{int_eq}
 use Rattle.sqlite.specs.declared.types.Value.TheVariants.{Null, Int, Text as Stored}
@@ -12,9 +12,10 @@ use Rattle.sqlite_tied.specs.Compute.{everything}
 use Rattle.sqlite_value.specs.Order.{Row, column}
 use Rattle.registry_names.specs.Texts.{Text}
 use Rattle.registry_names.specs.Keys.{Pair, pair_is}
-use Rattle.registry_names.specs.Maps.{put, erase, keep, entries, seen}
+use Rattle.registry_names.specs.Maps.{at, put, erase, keep, entries, seen}
 use Rattle.registry_names.proofs.ChangeFacts.{keep_but}
 use Rattle.registry_names.proofs.KeyFacts.{pair_key}
+use Rattle.registry_names.proofs.MapFacts.{at-erase_same}
 use Rattle.registry_rows.specs.Columns.{text_in}
 use Rattle.registry_rows.specs.Frames.{Wrote}
 use Rattle.registry_rows.specs.KeyKinds.{numbers}
@@ -22,15 +23,17 @@ use Rattle.registry_rows.specs.Ready.{Ready, Leaves, Reads, Queried}
 use Rattle.registry_rows.specs.Statements.{Means, MeansQuery, IsUncascaded, delete_where, select_where, scan, by_column, by_texts, in_order}
 use Rattle.registry_rows.proofs.KeyedFacts.{by_number_given, by_texts_given}
 use Rattle.registry_rows.proofs.LookUpFacts.{select_has_by}
-use Rattle.registry_rows.proofs.StatementFacts.{insert_puts, delete_erases_by}
+use Rattle.registry_rows.proofs.StatementFacts.{insert_puts, insert_meets_none, delete_erases_by}
 use Rattle.registry_sql_laws.specs.Cascades.{Child, IsChild, HasChildren, links, link_of}
 use Rattle.registry_sql_laws.proofs.CascadeFacts.{mapped_child, delete_cascades}
+use Rattle.registry_tables.specs.Changes.{IsUntagged}
 use Rattle.registry_tables.specs.Contents.{Contents, contents}
 use Rattle.registry_tables.specs.Effects.{stored}
 use Rattle.registry_tables.specs.Schema as table
 use Rattle.registry_tables.specs.Schema.{schema}
 use Rattle.registry_tables.specs.Withdrawals.{is_held, without_rows}
 use Rattle.registry_tables.proofs.MappedFacts.{archives_numbered, held_mapped, need_ranges_mapped, needs_mapped, spent_mapped, versions_mapped}
+use Rattle.registry_tables.proofs.ReferenceFacts.{named_lives}
 
 -- ---- what goes with a version: what it depends on, and its place among the archives
 
@@ -80,6 +83,14 @@ version_means = (refl, (refl, refl))
 
 pub version_dropped : (p v : Text) (old new : Shown) → Ready schema old → Wrote version_text (Stored p ∷ Stored v ∷ []) old new → HasCleanDisk new → Leaves schema contents (without_rows p v (stored old)) new
 version_dropped p v old new form call = delete_cascades versions_mapped version_text version_means _ version_children (p, v) old new (Ok call.0) form call.1
+
+-- no tag named it: after the deletion a tag still names a version that lives
+pub version_untagged : (p v : Text) (old new : Shown) → Leaves schema contents (without_rows p v (stored old)) new → IsUntagged p v (stored old)
+version_untagged p v old new left t named =
+    let same : at (stored new).tags (p, t) ≡ Some v = ap (λ (c : Contents). at c.tags (p, t)) left.holds ∙ named in
+    let lives = named_lives new left.ready p t v same in
+    let gone : at (stored new).versions (p, v) ≡ None = ap (λ (c : Contents). at c.versions (p, v)) left.holds ∙ at-erase_same pair_key (stored old).versions (p, v) in
+    absurd (true≢false (sym lives ∙ ap is_some gone))
 
 -- ---- its archive
 
@@ -147,3 +158,7 @@ pub withdrawal_put : (p v : Text) (published withdrawn : ℕ) (old new : Shown) 
     → Wrote put_text (Stored p ∷ Stored v ∷ Int (pos published) ∷ Int (pos withdrawn) ∷ []) old new → HasCleanDisk new
     → Leaves schema contents (record (stored old) { spent = put (stored old).spent (p, v) (record { published = published; withdrawn = withdrawn }) }) new
 withdrawal_put p v published withdrawn old new form call = insert_puts spent_mapped put_text put_cells put_means (Stored p ∷ Stored v ∷ Int (pos published) ∷ Int (pos withdrawn) ∷ []) refl old new (Ok call.0) form call.1
+
+-- an answered INSERT had a new key
+pub withdrawal_was_new : (p v : Text) (published withdrawn : ℕ) (old new : Shown) → Ready schema old → Wrote put_text (Stored p ∷ Stored v ∷ Int (pos published) ∷ Int (pos withdrawn) ∷ []) old new → HasCleanDisk new → at (stored old).spent (p, v) ≡ None
+withdrawal_was_new p v published withdrawn old new form call = insert_meets_none spent_mapped put_text put_cells put_means (Stored p ∷ Stored v ∷ Int (pos published) ∷ Int (pos withdrawn) ∷ []) refl old new (Ok call.0) form call.1

@@ -1,12 +1,13 @@
 -- The archives that are stored, each once, and which of them the live versions have.
 use Rattle.std.specs.Prelude.{◌≡◌, ℕ, ℤ, Bool, true, ◌&&◌, List, [], Option, Some, is_some, option_map, unwrap_or, if◌then◌else◌}
 use Rattle.std.specs.List.{find}
+use Rattle.sqlite.specs.declared.types.Value.TheVariants.{Int}
 use Rattle.registry_names.specs.Keys.{Pair}
 use Rattle.registry_names.specs.Texts.{Text, is}
 use Rattle.registry_names.specs.Maps.{at, put, entries}
 use Rattle.registry_publish.specs.Integrity.{integrity_text}
 use Rattle.registry_rules.specs.State.{Release}
-use Rattle.registry_rows.specs.Counting.{next_number}
+use Rattle.registry_rows.specs.Counting.{counted, next_number}
 use Rattle.registry_rows.specs.KeyKinds.{NumberMap}
 use Rattle.registry_tables.specs.Contents.{Archive, Contents}
 
@@ -16,7 +17,7 @@ use Rattle.registry_tables.specs.Contents.{Archive, Contents}
 abbrev pub is_archive : Text → List ℕ → Archive → Bool
 is_archive integrity bytes a = is integrity a.integrity && is bytes a.bytes
 
--- the lowest number of an archive that is
+-- the lowest number of an archive with this integrity and these bytes, if there is one
 abbrev pub number_of : Text → List ℕ → NumberMap Archive → Option ℤ
 number_of integrity bytes m = option_map (λ (e : ℤ × Archive). e.0) (find (λ (e : ℤ × Archive). is_archive integrity bytes e.1) (entries m))
 
@@ -26,7 +27,7 @@ is_stored integrity bytes c = is_some (number_of integrity bytes c.archives)
 
 -- the number of the next archive
 abbrev pub next_archive : Contents → ℤ
-next_archive c = next_number c.last_archive c.archives
+next_archive c = next_number (counted c.last_archive) c.archives
 
 -- the number that these bytes have, or get
 abbrev pub archive_number : Text → List ℕ → Contents → ℤ
@@ -36,14 +37,14 @@ archive_number integrity bytes c = unwrap_or (number_of integrity bytes c.archiv
 abbrev pub with_next_archive : Text → List ℕ → Contents → Contents
 with_next_archive integrity bytes c = record c {
   archives = put c.archives (next_archive c) (record { integrity = integrity; bytes = bytes });
-  last_archive = next_archive c;
+  last_archive = Some (Int (next_archive c));
 }
 
 -- they are stored: as they were, or under the next number, which is counted
 abbrev pub with_archive : Text → List ℕ → Contents → Contents
 with_archive integrity bytes c = record c {
   archives = if is_stored integrity bytes c then c.archives else put c.archives (next_archive c) (record { integrity = integrity; bytes = bytes });
-  last_archive = if is_stored integrity bytes c then c.last_archive else next_archive c;
+  last_archive = if is_stored integrity bytes c then c.last_archive else Some (Int (next_archive c));
 }
 
 -- ---- whose they are

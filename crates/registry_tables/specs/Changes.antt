@@ -1,5 +1,6 @@
 -- What a change makes of what is stored.
-use Rattle.std.specs.Prelude.{◌≡◌, ℕ, Bool, true, false, not, ◌&&◌, List, [], ◌∷◌, None, is_some, if◌then◌else◌}
+use Rattle.std.specs.Prelude.{◌≡◌, ℕ, Bool, true, false, not, ◌&&◌, List, [], ◌∷◌, None, Some, is_some, if◌then◌else◌}
+use Rattle.registry_names.specs.Texts.{Text}
 use Rattle.std.specs.declared.cmp.Ordering.{Ordering}
 use Rattle.registry_names.specs.Maps.{MapBy, at, put, erase}
 use Rattle.registry_publish.specs.Form.{FormParts}
@@ -19,6 +20,14 @@ amended m k x = if is_some (at m k) then put m k x else m
 -- the row of a key: a new one, or what is there already is amended
 abbrev pub with_row : {K X : Type 0} {cmp : K → K → Ordering} → MapBy cmp X → K → X → Bool → MapBy cmp X
 with_row m k x stands = if stands then amended m k x else put m k x
+
+-- nothing is under the key
+abbrev pub IsFree : {K X : Type 0} {cmp : K → K → Ordering} → MapBy cmp X → K → Type 0
+IsFree m k = at m k ≡ None
+
+-- nothing is, if the row is to be a new one
+abbrev pub IsFreeUnless : {K X : Type 0} {cmp : K → K → Ordering} → MapBy cmp X → K → Bool → Type 0
+IsFreeUnless m k stands = stands ≡ false → IsFree m k
 
 -- the row of a version that is published at this moment: its archive is elsewhere
 abbrev pub row_of : FormParts → ℕ → Release
@@ -68,9 +77,44 @@ all_stored (change ∷ changes) c = all_stored changes (stored_by change c)
 abbrev pub is_unspent : FormParts → Contents → Bool
 is_unspent f c = is_some (at c.packages f.name) && not (is_some (at c.spent (f.name, version_of f)))
 
--- what a version's publication asks of the tables: the version neither lives nor was withdrawn, and
--- its package has a status
+-- ---- what a change asks of what is stored
+
+-- of a version's publication: the version neither lives nor was withdrawn, and its package has a
+-- status
 pub record IsNew (f : FormParts) (c : Contents) : Type 0 where
   pub not_live : at c.versions (f.name, version_of f) ≡ None
   pub not_spent : is_some (at c.spent (f.name, version_of f)) ≡ false
   pub has_status : is_some (at c.packages f.name) ≡ true
+
+-- no tag of the package names the version
+abbrev pub IsUntagged : Text → Text → Contents → Type 0
+IsUntagged p v c = (t : Text) → ¬ (at c.tags (p, t) ≡ Some v)
+
+-- of a withdrawal: the version lives, it wasn't withdrawn before, and no tag names it
+pub record MayRetire (p v : Text) (c : Contents) : Type 0 where
+  pub lives : is_some (at c.versions (p, v)) ≡ true
+  pub not_spent : IsFree c.spent (p, v)
+  pub untagged : IsUntagged p v c
+
+-- What must be so of what is stored, or the change is not answered. A new row has a key under
+-- which nothing is. Other changes ask for nothing, except those of versions
+abbrev pub Asks : Change → Contents → Type 0
+Asks (AddUser u) c = IsFree c.users u
+Asks (AddToken digest u) c = IsFree c.tokens digest
+Asks (AddOrg o) c = IsFree c.organisations o
+Asks (PutMember o u role stands) c = IsFreeUnless c.members (o, u) stands
+Asks (DropMember o u) c = Unit {0}
+Asks (AddTeam o t) c = IsFree c.teams (o, t)
+Asks (PutTeamMember o t u) c = IsFree c.team_members (o, (t, u))
+Asks (DropTeamMember o t u) c = Unit {0}
+Asks (DropTeam o t) c = Unit {0}
+Asks (PutGrant o t p grant stands) c = IsFreeUnless c.grants (o, (t, p)) stands
+Asks (DropGrant o t p) c = Unit {0}
+Asks (PutOwner p u) c = IsFree c.owners (p, u)
+Asks (DropOwner p u) c = Unit {0}
+Asks (PutStatus p status stands) c = IsFreeUnless c.packages p stands
+Asks (AddVersion f now) c = IsNew f c
+Asks (RetireVersion p v published withdrawn) c = MayRetire p v c
+Asks (PutDeprecation p v message) c = Unit {0}
+Asks (PutTag p t v stands) c = IsFreeUnless c.tags (p, t) stands
+Asks (DropTag p t) c = Unit {0}

@@ -1,6 +1,7 @@
 -- What the rows of the tables say, and the registry's state that follows from it. Where a row had a
 -- value of another type, it would say nothing there, 0 or the empty text.
-use Rattle.std.specs.Prelude.{◌==◌, ℕ, ℤ, List, [], option_map, option_and_then, unwrap_or, if◌then◌else◌}
+use Rattle.std.specs.Prelude.{◌==◌, ℕ, ℤ, List, [], Option, option_map, option_and_then, unwrap_or, if◌then◌else◌}
+use Rattle.sqlite.specs.declared.types.Value.{Value}
 use Rattle.sqlite_value.specs.Order.{Row, column}
 use Rattle.sqlite_trees.specs.Tree.{Trees}
 use Rattle.registry_names.specs.Texts.{Text}
@@ -15,7 +16,7 @@ use Rattle.registry_access.specs.declared.grant.Grant.{Grant}
 use Rattle.registry_access.specs.declared.grant.Grant.TheVariants.{ReadOnly, ReadWrite}
 use Rattle.registry_rules.specs.State.{State, Release, Withdrawal}
 use Rattle.registry_rows.specs.Columns.{text_in, blob_in, number_in, int_in}
-use Rattle.registry_rows.specs.Counting.{count_in}
+use Rattle.registry_rows.specs.Counting.{count_value, other_counts}
 use Rattle.registry_rows.specs.KeyKinds.{BytesMap, NumberMap, bytes, numbers, map_by}
 use Rattle.registry_rows.specs.Rows.{map_of}
 use Rattle.registry_rows.specs.TextKeys.{TextsMap}
@@ -108,8 +109,10 @@ pub record Contents : Type 0 where
   pub held : PairMap ℤ
   -- the archives under their numbers
   pub archives : NumberMap Archive
-  -- the highest number that an archive has had
-  pub last_archive : ℤ
+  -- the highest number that an archive has had, as SQLite keeps it. None before the first
+  pub last_archive : Option Value
+  -- the rows of `sqlite_sequence` besides that number. No call puts one
+  pub counters : List Row
 
 abbrev pub contents : Trees → Contents
 contents db = record {
@@ -130,7 +133,8 @@ contents db = record {
   need_ranges = map_of 3 nothing_in (db table.need_ranges.tree);
   held = map_of 1 held_in (db table.held.tree);
   archives = map_by numbers archive_in (db table.archives.tree);
-  last_archive = count_in table.archives.name (db table.counters.tree);
+  last_archive = count_value table.archives.name (db table.counters.tree);
+  counters = other_counts table.archives.name (db table.counters.tree);
 }
 
 -- ---- the registry's state, of what is stored

@@ -55,9 +55,13 @@ module _ {S : Type 0} (store : Ghosts S) where
     abbrev pub Makes : (Contents → Contents) → Type 0
     Makes f = HasCleanDisk (shown new) → OnOk result (Leaves schema contents (f (stored_in old)) (shown new))
 
+    -- an answer comes only where this is so of what is stored
+    abbrev pub OnlyWhere : (Contents → Type 0) → Type 0
+    OnlyWhere is_so = HasCleanDisk (shown new) → OnOk result (is_so (stored_in old))
+
     -- an answer is determined by what is stored, and leaves everything as it was
-    abbrev pub Tells : (R → Contents → Type 0) → Type 0
-    Tells is_told = HasCleanDisk (shown new) → IfOk result (λ answer. Reads schema (shown old) (shown new) × is_told answer (stored_in old))
+    abbrev pub Loads : (R → Contents → Type 0) → Type 0
+    Loads is_told = HasCleanDisk (shown new) → IfOk result (λ answer. Reads schema (shown old) (shown new) × is_told answer (stored_in old))
 
     -- the same of an answer that may need no statement
     abbrev pub Knows : (R → Contents → Type 0) → Type 0

@@ -1,5 +1,5 @@
 -- The tables as they are made, and what they hold then.
-use Rattle.std.specs.Prelude.{ℕ, [], map, take, pos, codes, nat_lt, if◌then◌else◌}
+use Rattle.std.specs.Prelude.{ℕ, [], None, map, take, codes, nat_lt, if◌then◌else◌}
 use Rattle.sqlite_schema.specs.declared.schema.Schema.{Schema}
 use Rattle.sqlite_trees.specs.declared.store.Store.{Ghosts}
 use Rattle.sqlite.specs.State.{HasCleanDisk}
@@ -37,7 +37,7 @@ with_number c n = record c { meta = put c.meta schema_key n }
 
 -- what no rows say
 abbrev pub no_contents : Contents
-no_contents = record { users = empty; tokens = empty; organisations = empty; members = empty; teams = empty; team_members = empty; packages = empty; grants = empty; owners = empty; versions = empty; spent = empty; tags = empty; needs = empty; meta = empty; need_ranges = empty; held = empty; archives = empty; last_archive = pos 0 }
+no_contents = record { users = empty; tokens = empty; organisations = empty; members = empty; teams = empty; team_members = empty; packages = empty; grants = empty; owners = empty; versions = empty; spent = empty; tags = empty; needs = empty; meta = empty; need_ranges = empty; held = empty; archives = empty; last_archive = None; counters = [] }
 
 -- a registry of which nothing was asked yet
 abbrev pub fresh : Contents

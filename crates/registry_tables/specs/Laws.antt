@@ -35,6 +35,10 @@ ListsMakeOperations = (changes : List Change) (c : Contents) → HeldAreStored c
 abbrev pub ChangesKeepHeld : Type 0
 ChangesKeepHeld = (change : Change) (c : Contents) → HeldAreStored c → HeldAreStored (stored_by change c)
 
+-- none writes a row of `sqlite_sequence` besides the count of archives
+abbrev pub ChangesKeepCounters : Type 0
+ChangesKeepCounters = (change : Change) (c : Contents) → (stored_by change c).counters ≡ c.counters
+
 module _ {S : Type 0} (store : Ghosts S) where
   abbrev pub FormsHaveHeld : Type 0
   FormsHaveHeld = (tx : Transaction S) → InForm store tx → HasCleanDisk (shown store tx)

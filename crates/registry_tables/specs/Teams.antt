@@ -41,10 +41,6 @@ without_team o t c = record c {
 abbrev pub users_of : Contents → Text → Text → List Text
 users_of c o t = keys (parts (pairs_of c.team_members o) t)
 
--- the teams of an organisation that a user is in, in byte order
-abbrev pub teams_of : Contents → Text → Text → List Text
-teams_of c o u = map (λ e. e.0.1.0) (filter (λ e. pair_is (o, u) (e.0.0, e.0.1.1)) (entries c.team_members))
-
 -- ---- what is granted
 
 -- whether a team of the organisation that the user is in has this grant on the package
@@ -71,8 +67,8 @@ pub record AreTeamsSound (c : Contents) : Type 0 where
 
 -- the list has what the caller is granted on the package, where the role that it is given is right
 -- in the organisation of its scope. Of an owner or admin nothing is said
-abbrev pub AreHis : Contents → Caller → Text → Option Role → List Grant → Type 0
-AreHis c who p role gs = AreTeamsSound c → role ≡ scope_role (access_of c) who (scope_of p)
+abbrev pub AreGrantedTo : Contents → Caller → Text → Option Role → List Grant → Type 0
+AreGrantedTo c who p role gs = AreTeamsSound c → role ≡ scope_role (access_of c) who (scope_of p)
     → is_owner_or_admin role ≡ false → (g : Grant) → is_listed gs g ≡ granted (access_of c) who p g
 
 -- what a team is granted, in byte order of the packages

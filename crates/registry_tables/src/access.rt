@@ -7,7 +7,7 @@ ghost use Rattle.registry_access.specs.declared.caller.Caller.TheVariants as cal
 ghost use Rattle.registry_rows.specs.Frames.{Stays};
 ghost use Rattle.registry_tables.specs.Access.{TellOrganisation, TellRole};
 ghost use Rattle.registry_tables.specs.Contents.{access_of};
-ghost use Rattle.registry_tables.specs.Effects.{InForm, Knows, Tells};
+ghost use Rattle.registry_tables.specs.Effects.{InForm, Knows, Loads};
 
 use crate::members::load_role;
 use crate::organisations::has_organisation;
@@ -25,7 +25,7 @@ pub fn load_access<S: Alter>(
 ) -> Result<AccessRows, Fault>
     requires in_form { InForm S.Store tx.old }
     ensures stays { Stays S.Store tx.old tx.new }
-    ensures tells { Tells S.Store tx.old tx.new result
+    ensures loads { Loads S.Store tx.old tx.new result
         (λ rows c. SameOrganisation (state_of rows) (access_of c) caller.now organisation.now) }
 {
     let organisations = organisation_rows(alloc, tx, organisation)?;
@@ -49,7 +49,7 @@ fn organisation_rows<S: Alter>(
 ) -> Result<Vec<Text>, Fault>
     requires in_form { InForm S.Store tx.old }
     ensures stays { Stays S.Store tx.old tx.new }
-    ensures tells { Tells S.Store tx.old tx.new result
+    ensures loads { Loads S.Store tx.old tx.new result
         (λ names c. TellOrganisation names.items c organisation.now) }
 {
     if has_organisation(tx, organisation)? {
@@ -93,7 +93,7 @@ fn user_rows<S: Alter>(
 ) -> Result<Vec<MemberRow>, Fault>
     requires in_form { InForm S.Store tx.old }
     ensures stays { Stays S.Store tx.old tx.new }
-    ensures tells { Tells S.Store tx.old tx.new result
+    ensures loads { Loads S.Store tx.old tx.new result
         (λ members c. TellRole members.items c (caller.User user.now) organisation.now) }
 {
     match load_role(tx, organisation, user.text())? {

@@ -11,7 +11,7 @@ ghost use Rattle.registry_rows.specs.Frames.{Stays};
 ghost use Rattle.registry_tables.specs.Archives.{archive_number, next_archive, number_of, with_archive, with_next_archive};
 ghost use Rattle.registry_tables.specs.Changes.{with_archive_of};
 ghost use Rattle.registry_tables.specs.Contents.{live_of};
-ghost use Rattle.registry_tables.specs.Effects.{InForm, IsUnderWay, Makes, Tells, shown, stored_in};
+ghost use Rattle.registry_tables.specs.Effects.{InForm, IsUnderWay, Makes, Loads, shown, stored_in};
 ghost use Rattle.registry_tables.specs.Spelled.{archive_spelled, bytes_spelled, held_spelled, number_among};
 ghost use Rattle.registry_tables.specs.Withdrawals as withdrawals;
 
@@ -32,7 +32,7 @@ pub fn load_archive<S: Alter>(
 ) -> Result<Option<Blob>, Fault>
     requires in_form { InForm S.Store tx.old }
     ensures stays { Stays S.Store tx.old tx.new }
-    ensures tells { Tells S.Store tx.old tx.new result
+    ensures loads { Loads S.Store tx.old tx.new result
         (λ archive c. archive
         ≡ option_map (λ r. r.archive) (at (live_of c) (name.now, version.now))) }
 {
@@ -53,7 +53,7 @@ pub(crate) fn held_archive<S: Alter>(
 ) -> Result<Option<i64>, Fault>
     requires in_form { InForm S.Store tx.old }
     ensures stays { Stays S.Store tx.old tx.new }
-    ensures tells { Tells S.Store tx.old tx.new result
+    ensures loads { Loads S.Store tx.old tx.new result
         (λ number c. number ≡ at c.held (name.now, version.now)) }
 {
     let rows = read(
@@ -68,7 +68,7 @@ pub(crate) fn held_archive<S: Alter>(
 fn load_bytes<S: Alter>(tx: &mut Transaction<'_, S>, number: i64) -> Result<Blob, Fault>
     requires in_form { InForm S.Store tx.old }
     ensures stays { Stays S.Store tx.old tx.new }
-    ensures tells { Tells S.Store tx.old tx.new result
+    ensures loads { Loads S.Store tx.old tx.new result
         (λ bytes c. option_map (λ a. a.bytes) (at c.archives number) ≡ Some bytes) }
 {
     let rows = read(
@@ -123,7 +123,7 @@ fn find<S: Alter>(
 ) -> Result<Option<i64>, Fault>
     requires in_form { InForm S.Store tx.old }
     ensures stays { Stays S.Store tx.old tx.new }
-    ensures tells { Tells S.Store tx.old tx.new result
+    ensures loads { Loads S.Store tx.old tx.new result
         (λ number c. number ≡ number_of integrity.now bytes.now c.archives) }
 {
     let rows = read(
@@ -193,18 +193,12 @@ fn hold<S: Alter>(
 }
 
 /// Drops the archive of this number, unless a version has it.
-pub(crate) fn free_archive<S: Alter>(
-    tx: &mut Transaction<'_, S>,
-    number: Option<i64>,
-) -> Result<(), Fault>
+pub(crate) fn free_archive<S: Alter>(tx: &mut Transaction<'_, S>, number: i64) -> Result<(), Fault>
     requires under_way { IsUnderWay S.Store tx.old }
     ensures stays { Stays S.Store tx.old tx.new }
     ensures makes { Makes S.Store tx.old tx.new result
-        (λ c. record c { archives = withdrawals.archives_left number c }) }
+        (λ c. record c { archives = withdrawals.archives_left (Some number) c }) }
 {
-    let Some(number) = number else {
-        return Ok(());
-    };
     if is_held(tx, number)? {
         return Ok(());
     }
@@ -215,7 +209,7 @@ pub(crate) fn free_archive<S: Alter>(
 fn is_held<S: Alter>(tx: &mut Transaction<'_, S>, number: i64) -> Result<bool, Fault>
     requires in_form { InForm S.Store tx.old }
     ensures stays { Stays S.Store tx.old tx.new }
-    ensures tells { Tells S.Store tx.old tx.new result
+    ensures loads { Loads S.Store tx.old tx.new result
         (λ held c. held ≡ withdrawals.is_held number c) }
 {
     let rows = read(

@@ -7,7 +7,7 @@ ghost use Rattle.sqlite.specs.State.{HasCleanDisk};
 ghost use Rattle.registry_rules.specs.Callers.{caller_of};
 ghost use Rattle.registry_rules.specs.declared.request.Credential.TheVariants as shown_as;
 ghost use Rattle.registry_tables.specs.Contents.{registry_of};
-ghost use Rattle.registry_tables.specs.Effects.{InForm, Knows, Tells, shown};
+ghost use Rattle.registry_tables.specs.Effects.{InForm, Knows, Loads, shown};
 ghost use Rattle.registry_tables.specs.Schema.{schema};
 
 use crate::texts::read_back;
@@ -49,7 +49,7 @@ fn load_user<S: Alter>(
 ) -> Result<Option<Caller>, Fault>
     requires in_form { InForm S.Store tx.old }
     ensures stays { Stays S.Store tx.old tx.new }
-    ensures tells { Tells S.Store tx.old tx.new result
+    ensures loads { Loads S.Store tx.old tx.new result
         (λ caller c. caller ≡ caller_of (registry_of c) (shown_as.User user.now)) }
 {
     if has_user(tx, user.text())? {
@@ -67,7 +67,7 @@ fn load_token<S: Alter>(
 ) -> Result<Option<Caller>, Fault>
     requires in_form { InForm S.Store tx.old }
     ensures stays { Stays S.Store tx.old tx.new }
-    ensures tells { Tells S.Store tx.old tx.new result
+    ensures loads { Loads S.Store tx.old tx.new result
         (λ caller c. caller ≡ caller_of (registry_of c) (shown_as.Token digest.now)) }
 {
     let user = load_token_user(alloc, tx, digest)?;

@@ -2,8 +2,8 @@
 
 ghost use Rattle.registry_rows.specs.Frames.{Stays};
 ghost use Rattle.registry_rules.specs.Changes.{change_of};
-ghost use Rattle.registry_tables.specs.Changes.{stored_by};
-ghost use Rattle.registry_tables.specs.Effects.{InForm, Makes};
+ghost use Rattle.registry_tables.specs.Changes.{Asks, stored_by};
+ghost use Rattle.registry_tables.specs.Effects.{InForm, Makes, OnlyWhere};
 
 use crate::grants::{drop_grant, put_grant};
 use crate::maintainers::{drop_owner, put_owner};
@@ -23,15 +23,18 @@ use sqlite::{Alter, Transaction};
 
 /// Makes one change. Nothing else that is stored is changed.
 ///
-/// No clause says so, but a new row of a key that is there already is a fault, and so is a row of
-/// which the tables lack what it refers to: a version of a package without a status, or a tag of a
-/// version that doesn't live. A grant refers to its team and its package's status, a maintainer to
-/// the user and to that status. A version doesn't go before each tag that names it is gone, or
-/// names another.
+/// A new row of a key that is there already is a fault. So are a version that is published after it
+/// was withdrawn, or in a package without a status, and one that is withdrawn although it doesn't
+/// live, was withdrawn already, or has a tag.
+///
+/// No clause says so, but a row of which the tables lack what it refers to is a fault, too: a tag
+/// of a version that doesn't live. A grant refers to its team and its package's status, a
+/// maintainer to the user and to that status.
 pub fn make<S: Alter>(tx: &mut Transaction<'_, S>, change: &Change<'_>) -> Result<(), Fault>
     requires in_form { InForm S.Store tx.old }
     ensures stays { Stays S.Store tx.old tx.new }
     ensures makes { Makes S.Store tx.old tx.new result (stored_by (change_of change.now)) }
+    ensures asks { OnlyWhere S.Store tx.old tx.new result (Asks (change_of change.now)) }
 {
     match *change {
         Change::AddUser { user } => add_user(tx, user.text()),

@@ -6,7 +6,7 @@ ghost use Rattle.registry_ranges.specs.Texts as ranges;
 ghost use Rattle.registry_rows.specs.Frames.{Stays};
 ghost use Rattle.registry_rules.specs.Withdrawals as definitions;
 ghost use Rattle.registry_tables.specs.Contents.{registry_of};
-ghost use Rattle.registry_tables.specs.Effects.{InForm, Tells};
+ghost use Rattle.registry_tables.specs.Effects.{InForm, Loads};
 ghost use Rattle.registry_tables.specs.Needs.{HoldsNeeds};
 
 use crate::needs::load_dependents;
@@ -25,7 +25,7 @@ pub fn is_depended<S: Alter>(
 ) -> Result<bool, Fault>
     requires in_form { InForm S.Store tx.old }
     ensures stays { Stays S.Store tx.old tx.new }
-    ensures tells { Tells S.Store tx.old tx.new result (λ depended c. HoldsNeeds c
+    ensures loads { Loads S.Store tx.old tx.new result (λ depended c. HoldsNeeds c
         → depended ≡ definitions.is_depended (registry_of c) name.now version.now) }
 {
     let texts = load_dependents(alloc, tx, name)?;

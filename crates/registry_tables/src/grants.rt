@@ -5,8 +5,8 @@ ghost use Rattle.registry_access.specs.declared.grant.Grant.{Grant as Right};
 ghost use Rattle.registry_names.specs.Maps.{at, erase, put};
 ghost use Rattle.registry_names.specs.Texts.{Text as Bytes};
 ghost use Rattle.registry_rows.specs.Frames.{Stays};
-ghost use Rattle.registry_tables.specs.Changes.{amended, with_row};
-ghost use Rattle.registry_tables.specs.Effects.{InForm, Makes, Tells};
+ghost use Rattle.registry_tables.specs.Changes.{IsFree, IsFreeUnless, amended, with_row};
+ghost use Rattle.registry_tables.specs.Effects.{InForm, Makes, OnlyWhere, Loads};
 ghost use Rattle.registry_tables.specs.Spelled.{grant_number};
 ghost use Rattle.registry_tables.specs.Teams.{AreGranted, grant_spelled, granted_entry, granted_spelled, grants_of};
 
@@ -26,7 +26,7 @@ pub fn has_grant<S: Alter>(
 ) -> Result<bool, Fault>
     requires in_form { InForm S.Store tx.old }
     ensures stays { Stays S.Store tx.old tx.new }
-    ensures tells { Tells S.Store tx.old tx.new result
+    ensures loads { Loads S.Store tx.old tx.new result
         (λ has c. has ≡ is_some (at c.grants (organisation.now, (team.now, name.now)))) }
 {
     let rows = read(
@@ -37,7 +37,7 @@ pub fn has_grant<S: Alter>(
     Ok(!rows.is_empty())
 }
 
-/// Grants a team this on a package. `stands` says whether it is granted something on it already.
+/// Grants a team this on a package. The flag says whether it is granted something on it already.
 pub(crate) fn put_grant<S: Alter>(
     tx: &mut Transaction<'_, S>,
     organisation: &str,
@@ -52,6 +52,8 @@ pub(crate) fn put_grant<S: Alter>(
         (λ c. record c {
           grants = with_row c.grants (organisation.now, (team.now, name.now)) grant stands;
         }) }
+    ensures was_new { OnlyWhere S.Store tx.old tx.new result
+        (λ c. IsFreeUnless c.grants (organisation.now, (team.now, name.now)) stands) }
 {
     if stands {
         update_grant(tx, organisation, team, name, grant)
@@ -71,6 +73,8 @@ fn insert_grant<S: Alter>(
     ensures stays { Stays S.Store tx.old tx.new }
     ensures makes { Makes S.Store tx.old tx.new result
         (λ c. record c { grants = put c.grants (organisation.now, (team.now, name.now)) grant }) }
+    ensures was_new { OnlyWhere S.Store tx.old tx.new result
+        (λ c. IsFree c.grants (organisation.now, (team.now, name.now))) }
 {
     write(
         tx,
@@ -139,7 +143,7 @@ pub fn load_grants<S: Alter>(
 ) -> Result<Vec<Grant>, Fault>
     requires in_form { InForm S.Store tx.old }
     ensures stays { Stays S.Store tx.old tx.new }
-    ensures tells { Tells S.Store tx.old tx.new result
+    ensures loads { Loads S.Store tx.old tx.new result
         (λ grants c. AreGranted c organisation.now user.now name.now grants.items) }
 {
     let rows = read(
@@ -159,7 +163,7 @@ pub(crate) fn load_team_grants<S: Alter>(
 ) -> Result<Vec<Granted>, Fault>
     requires in_form { InForm S.Store tx.old }
     ensures stays { Stays S.Store tx.old tx.new }
-    ensures tells { Tells S.Store tx.old tx.new result
+    ensures loads { Loads S.Store tx.old tx.new result
         (λ granted c. map granted_entry granted.items ≡ grants_of c organisation.now team.now) }
 {
     let rows = read(

@@ -3,7 +3,7 @@
 
 ghost use Rattle.registry_tables.specs.Archives.{HoldsArchives};
 ghost use Rattle.registry_tables.specs.Fresh.{fresh};
-ghost use Rattle.registry_tables.specs.Laws.{ChangesKeepHeld, ChangesMakeOperations, FormsHaveHeld, ListsMakeOperations};
+ghost use Rattle.registry_tables.specs.Laws.{ChangesKeepCounters, ChangesKeepHeld, ChangesMakeOperations, FormsHaveHeld, ListsMakeOperations};
 ghost use Rattle.registry_tables.specs.Laws.{DeprecationsKeepArchives, OthersKeepArchives, VersionsKeepArchives, WithdrawalsKeepArchives};
 ghost use Rattle.registry_tables.specs.Laws.{DeprecationsKeepNeeds, OthersKeepNeeds, VersionsKeepNeeds, WithdrawalsKeepNeeds};
 ghost use Rattle.registry_tables.specs.Laws.{MakingIsUnderstood, NoneTellsOfNothing, NumbersTellOfTables, UsersAloneStopMaking, UsersAloneTellNoNumber};
@@ -13,12 +13,14 @@ ghost use Rattle.registry_tables.specs.Needs.{HoldsNeeds};
 use sqlite::Alter;
 
 /// A change of what is stored makes one operation of the registry's state, where each version that
-/// has an archive has one that is stored. Tables in form have that, and each change keeps it.
+/// has an archive has one that is stored. Tables in form have that, and each change keeps it. Each
+/// keeps the rows of `sqlite_sequence`, too, except the count of archives.
 pub fn changes_make_operations<S: Alter>()
     ensures one { ChangesMakeOperations }
     ensures all { ListsMakeOperations }
     ensures kept { ChangesKeepHeld }
     ensures in_form { FormsHaveHeld S.Store }
+    ensures counters { ChangesKeepCounters }
 {}
 
 /// The archives that are stored are those of live versions, each once, with the integrity of their

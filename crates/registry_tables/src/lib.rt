@@ -49,7 +49,7 @@ pub use crate::spent::{is_spent, load_last_withdrawal};
 pub use crate::standing::load_standing;
 pub use crate::statuses::load_status;
 pub use crate::tags::{has_tag, load_tag, load_tags, load_version_tags};
-pub use crate::team_members::{is_in_team, load_team_users, load_user_teams};
+pub use crate::team_members::{is_in_team, load_team_users};
 pub use crate::team_packages::load_team_packages;
 pub use crate::teams::{has_team, load_teams};
 pub use crate::tokens::load_token_user;

@@ -6,8 +6,9 @@ ghost use Rattle.registry_names.specs.Maps.{at, erase, keys, of, put};
 ghost use Rattle.registry_names.specs.Texts.{is};
 ghost use Rattle.registry_rows.specs.Frames.{Stays};
 ghost use Rattle.registry_rules.specs.State as spec;
+ghost use Rattle.registry_tables.specs.Changes.{IsFree};
 ghost use Rattle.registry_tables.specs.Contents.{registry_of};
-ghost use Rattle.registry_tables.specs.Effects.{InForm, Makes, Tells};
+ghost use Rattle.registry_tables.specs.Effects.{InForm, Makes, OnlyWhere, Loads};
 
 use crate::texts::texts_in;
 use registry_names::{Fault, Name, Text};
@@ -23,7 +24,7 @@ pub fn is_maintainer<S: Alter>(
 ) -> Result<bool, Fault>
     requires in_form { InForm S.Store tx.old }
     ensures stays { Stays S.Store tx.old tx.new }
-    ensures tells { Tells S.Store tx.old tx.new result
+    ensures loads { Loads S.Store tx.old tx.new result
         (λ is c. is ≡ is_some (at c.owners (name.now, user.now))) }
 {
     let rows = read(
@@ -43,7 +44,7 @@ pub fn has_other_maintainer<S: Alter>(
 ) -> Result<bool, Fault>
     requires in_form { InForm S.Store tx.old }
     ensures stays { Stays S.Store tx.old tx.new }
-    ensures tells { Tells S.Store tx.old tx.new result
+    ensures loads { Loads S.Store tx.old tx.new result
         (λ has c. has ≡ spec.has_other_maintainer (registry_of c) name.now user.now) }
 {
     let maintainers = load_maintainers(alloc, tx, name)?;
@@ -58,7 +59,7 @@ fn load_maintainers<S: Alter>(
 ) -> Result<Vec<Text>, Fault>
     requires in_form { InForm S.Store tx.old }
     ensures stays { Stays S.Store tx.old tx.new }
-    ensures tells { Tells S.Store tx.old tx.new result
+    ensures loads { Loads S.Store tx.old tx.new result
         (λ users c. users.items ≡ keys (of c.owners name.now)) }
 {
     let rows = read(
@@ -95,6 +96,8 @@ pub(crate) fn put_owner<S: Alter>(
     ensures stays { Stays S.Store tx.old tx.new }
     ensures makes { Makes S.Store tx.old tx.new result
         (λ c. record c { owners = put c.owners (name.now, user.now) tt }) }
+    ensures was_new { OnlyWhere S.Store tx.old tx.new result
+        (λ c. IsFree c.owners (name.now, user.now)) }
 {
     write(
         tx,

@@ -8,9 +8,9 @@ ghost use Rattle.registry_names.specs.Maps.{at, of, put};
 ghost use Rattle.registry_names.specs.Texts.{Text as Bytes, is};
 ghost use Rattle.registry_rows.specs.Frames.{Stays};
 ghost use Rattle.registry_rules.specs.State as spec;
-ghost use Rattle.registry_tables.specs.Changes.{amended, with_row};
+ghost use Rattle.registry_tables.specs.Changes.{IsFree, IsFreeUnless, amended, with_row};
 ghost use Rattle.registry_tables.specs.Contents.{registry_of};
-ghost use Rattle.registry_tables.specs.Effects.{InForm, Makes, Tells};
+ghost use Rattle.registry_tables.specs.Effects.{InForm, Makes, OnlyWhere, Loads};
 ghost use Rattle.registry_tables.specs.Spelled.{member_entry, member_spelled, role_number, role_spelled};
 ghost use Rattle.registry_tables.specs.Teams.{without_member};
 
@@ -29,7 +29,7 @@ pub fn load_role<S: Alter>(
 ) -> Result<Option<Role>, Fault>
     requires in_form { InForm S.Store tx.old }
     ensures stays { Stays S.Store tx.old tx.new }
-    ensures tells { Tells S.Store tx.old tx.new result
+    ensures loads { Loads S.Store tx.old tx.new result
         (λ role c. role ≡ at c.members (organisation.now, user.now)) }
 {
     let rows = read(
@@ -48,7 +48,7 @@ pub fn load_members<S: Alter>(
 ) -> Result<Vec<Member>, Fault>
     requires in_form { InForm S.Store tx.old }
     ensures stays { Stays S.Store tx.old tx.new }
-    ensures tells { Tells S.Store tx.old tx.new result
+    ensures loads { Loads S.Store tx.old tx.new result
         (λ members c. map member_entry members.items ≡ of c.members organisation.now) }
 {
     let rows = read(
@@ -68,7 +68,7 @@ pub fn has_other_owner<S: Alter>(
 ) -> Result<bool, Fault>
     requires in_form { InForm S.Store tx.old }
     ensures stays { Stays S.Store tx.old tx.new }
-    ensures tells { Tells S.Store tx.old tx.new result
+    ensures loads { Loads S.Store tx.old tx.new result
         (λ has c. has ≡ spec.has_other_owner (registry_of c) organisation.now user.now) }
 {
     let members = load_members(alloc, tx, organisation)?;
@@ -89,7 +89,7 @@ fn names(member: &Member, user: &str) -> bool
     member.user.as_str() == user
 }
 
-/// Gives a user this role in an organisation. `stands` says whether they are a member already.
+/// Gives a user this role in an organisation. The flag says whether they are a member already.
 pub(crate) fn put_member<S: Alter>(
     tx: &mut Transaction<'_, S>,
     organisation: &str,
@@ -101,6 +101,8 @@ pub(crate) fn put_member<S: Alter>(
     ensures stays { Stays S.Store tx.old tx.new }
     ensures makes { Makes S.Store tx.old tx.new result
         (λ c. record c { members = with_row c.members (organisation.now, user.now) role stands }) }
+    ensures was_new { OnlyWhere S.Store tx.old tx.new result
+        (λ c. IsFreeUnless c.members (organisation.now, user.now) stands) }
 {
     if stands {
         update_member(tx, organisation, user, role)
@@ -119,6 +121,8 @@ fn insert_member<S: Alter>(
     ensures stays { Stays S.Store tx.old tx.new }
     ensures makes { Makes S.Store tx.old tx.new result
         (λ c. record c { members = put c.members (organisation.now, user.now) role }) }
+    ensures was_new { OnlyWhere S.Store tx.old tx.new result
+        (λ c. IsFree c.members (organisation.now, user.now)) }
 {
     write(
         tx,

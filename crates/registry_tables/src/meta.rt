@@ -6,7 +6,7 @@ ghost use Rattle.sqlite.specs.State.{HasCleanDisk, KeepsCommit, Survives};
 ghost use Rattle.registry_names.specs.Maps.{at};
 ghost use Rattle.registry_rows.specs.Columns.{number_in};
 ghost use Rattle.registry_rows.specs.Frames.{Stays};
-ghost use Rattle.registry_tables.specs.Effects.{GoesOn, HasNoTables, InForm, Makes, Tells, TellsNone, shown};
+ghost use Rattle.registry_tables.specs.Effects.{GoesOn, HasNoTables, InForm, Makes, Loads, TellsNone, shown};
 ghost use Rattle.registry_tables.specs.Fresh.{schema_key, schema_number, with_number};
 ghost use Rattle.registry_tables.specs.Opening.{Lists, Opened, PutsNumber, ShowsNumber};
 
@@ -27,7 +27,7 @@ pub fn opened<S: Alter>(tx: &mut Transaction<'_, S>) -> Result<Option<u32>, Faul
         → KeepsCommit (shown S.Store tx.old) (shown S.Store tx.new) }
     ensures survives { Survives (shown S.Store tx.old) (shown S.Store tx.new) (λ _. ⊥) }
     ensures opened { IfOk result (λ number. Opened S.Store number tx.old tx.new) }
-    ensures ours { InForm S.Store tx.old → Tells S.Store tx.old tx.new result
+    ensures ours { InForm S.Store tx.old → Loads S.Store tx.old tx.new result
         (λ number c. IsSome number × (number ≡ at c.meta schema_key)) }
     ensures none { HasNoTables S.Store tx.old → TellsNone S.Store tx.old tx.new result
         (λ number. number ≡ None) }
@@ -44,7 +44,7 @@ fn lacks_tables<S: Alter>(tx: &mut Transaction<'_, S>) -> Result<bool, Fault>
         → KeepsCommit (shown S.Store tx.old) (shown S.Store tx.new) }
     ensures survives { Survives (shown S.Store tx.old) (shown S.Store tx.new) (λ _. ⊥) }
     ensures lists { IfOk result (λ lacks. Lists S.Store lacks tx.old tx.new) }
-    ensures ours { InForm S.Store tx.old → Tells S.Store tx.old tx.new result
+    ensures ours { InForm S.Store tx.old → Loads S.Store tx.old tx.new result
         (λ lacks c. lacks ≡ false) }
     ensures none { HasNoTables S.Store tx.old → TellsNone S.Store tx.old tx.new result
         (λ lacks. lacks ≡ true) }
@@ -61,7 +61,7 @@ fn load_schema<S: Alter>(tx: &mut Transaction<'_, S>) -> Result<u32, Fault>
         → KeepsCommit (shown S.Store tx.old) (shown S.Store tx.new) }
     ensures survives { Survives (shown S.Store tx.old) (shown S.Store tx.new) (λ _. ⊥) }
     ensures shows { IfOk result (λ number. ShowsNumber S.Store number tx.old tx.new) }
-    ensures ours { InForm S.Store tx.old → Tells S.Store tx.old tx.new result
+    ensures ours { InForm S.Store tx.old → Loads S.Store tx.old tx.new result
         (λ number c. at c.meta schema_key ≡ Some number) }
 {
     let rows = read(

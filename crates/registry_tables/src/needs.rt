@@ -9,7 +9,7 @@ ghost use Rattle.registry_ranges.specs.Texts.{binds};
 ghost use Rattle.registry_rules.specs.Withdrawals.{is_depended};
 ghost use Rattle.registry_rows.specs.Frames.{Stays};
 ghost use Rattle.registry_tables.specs.Contents.{registry_of};
-ghost use Rattle.registry_tables.specs.Effects.{InForm, IsUnderWay, Makes, Tells, shown, stored_in};
+ghost use Rattle.registry_tables.specs.Effects.{InForm, IsUnderWay, Makes, Loads, shown, stored_in};
 ghost use Rattle.registry_tables.specs.Needs.{HoldsNeeds, need_key, with_need, with_needs};
 ghost use Rattle.registry_tables.specs.Withdrawals.{ranges_on};
 
@@ -84,7 +84,7 @@ fn has_need<S: Alter>(
 ) -> Result<bool, Fault>
     requires in_form { InForm S.Store tx.old }
     ensures stays { Stays S.Store tx.old tx.new }
-    ensures tells { Tells S.Store tx.old tx.new result
+    ensures loads { Loads S.Store tx.old tx.new result
         (λ has c. has ≡ is_some (at c.need_ranges (need_key name.now version.now need.now))) }
 {
     let rows = read(
@@ -106,7 +106,7 @@ pub fn load_dependents<S: Alter>(
 ) -> Result<Vec<Text>, Fault>
     requires in_form { InForm S.Store tx.old }
     ensures stays { Stays S.Store tx.old tx.new }
-    ensures tells { Tells S.Store tx.old tx.new result
+    ensures loads { Loads S.Store tx.old tx.new result
         (λ texts c. texts.items ≡ ranges_on c name.now) }
     ensures depended { HasCleanDisk (shown S.Store tx.new) → HoldsNeeds (stored_in S.Store tx.old)
         → IfOk result (λ texts. (v : VersionParts) → list_any (λ text. binds text v) texts.items

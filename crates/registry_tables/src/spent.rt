@@ -4,8 +4,9 @@ ghost use Rattle.std.specs.Prelude.{◌≡◌, is_some};
 ghost use Rattle.registry_names.specs.Maps.{at, put};
 ghost use Rattle.registry_rows.specs.Frames.{Stays};
 ghost use Rattle.registry_rules.specs.Withdrawals.{last_withdrawal};
+ghost use Rattle.registry_tables.specs.Changes.{IsFree};
 ghost use Rattle.registry_tables.specs.Contents.{registry_of};
-ghost use Rattle.registry_tables.specs.Effects.{InForm, Makes, Tells};
+ghost use Rattle.registry_tables.specs.Effects.{InForm, Makes, OnlyWhere, Loads};
 
 use crate::moments::last_moment;
 use registry_names::{Fault, Moment, Name};
@@ -20,7 +21,7 @@ pub fn is_spent<S: Alter>(
 ) -> Result<bool, Fault>
     requires in_form { InForm S.Store tx.old }
     ensures stays { Stays S.Store tx.old tx.new }
-    ensures tells { Tells S.Store tx.old tx.new result
+    ensures loads { Loads S.Store tx.old tx.new result
         (λ spent c. spent ≡ is_some (at c.spent (name.now, version.now))) }
 {
     let rows = read(
@@ -38,7 +39,7 @@ pub fn load_last_withdrawal<S: Alter>(
 ) -> Result<Option<Moment>, Fault>
     requires in_form { InForm S.Store tx.old }
     ensures stays { Stays S.Store tx.old tx.new }
-    ensures tells { Tells S.Store tx.old tx.new result
+    ensures loads { Loads S.Store tx.old tx.new result
         (λ last c. last ≡ last_withdrawal (registry_of c) name.now) }
 {
     let rows = read(
@@ -67,6 +68,8 @@ pub(crate) fn put_withdrawal<S: Alter>(
           spent = put c.spent (name.now, version.now)
               (record { published = published; withdrawn = withdrawn });
         }) }
+    ensures was_new { OnlyWhere S.Store tx.old tx.new result
+        (λ c. IsFree c.spent (name.now, version.now)) }
 {
     write(
         tx,

@@ -7,8 +7,8 @@ ghost use Rattle.registry_access.specs.RowsFor.{StandingTells};
 ghost use Rattle.registry_names.specs.Names.{scope_of};
 ghost use Rattle.registry_rows.specs.Frames.{Stays};
 ghost use Rattle.registry_tables.specs.Contents.{access_of};
-ghost use Rattle.registry_tables.specs.Effects.{InForm, Knows, Tells};
-ghost use Rattle.registry_tables.specs.Teams.{AreHis, AreTeamsSound};
+ghost use Rattle.registry_tables.specs.Effects.{InForm, Knows, Loads};
+ghost use Rattle.registry_tables.specs.Teams.{AreGrantedTo, AreTeamsSound};
 
 use crate::grants::load_grants;
 use crate::maintainers::is_maintainer;
@@ -33,7 +33,7 @@ pub fn load_standing<S: Alter>(
 ) -> Result<Standing, Fault>
     requires in_form { InForm S.Store tx.old }
     ensures stays { Stays S.Store tx.old tx.new }
-    ensures tells { Tells S.Store tx.old tx.new result (λ standing c. AreTeamsSound c
+    ensures loads { Loads S.Store tx.old tx.new result (λ standing c. AreTeamsSound c
         → StandingTells standing (access_of c) caller.now name.now) }
 {
     let status = load_status(tx, name)?;
@@ -109,7 +109,7 @@ fn load_granted<S: Alter>(
     requires in_form { InForm S.Store tx.old }
     ensures stays { Stays S.Store tx.old tx.new }
     ensures knows { Knows S.Store tx.old tx.new result (λ grants c.
-        AreHis c caller.now name.now role grants.items) }
+        AreGrantedTo c caller.now name.now role grants.items) }
 {
     match (caller, role, name.scope()) {
         (Caller::User(user), Some(Role::Developer), Some(organisation)) => {

@@ -4,8 +4,8 @@ ghost use Rattle.std.specs.Prelude.{◌≡◌, IfOk, pos};
 ghost use Rattle.registry_names.specs.Maps.{at, put};
 ghost use Rattle.registry_names.specs.declared.status.Status.{Status as Readers};
 ghost use Rattle.registry_rows.specs.Frames.{Stays};
-ghost use Rattle.registry_tables.specs.Changes.{amended, with_row};
-ghost use Rattle.registry_tables.specs.Effects.{InForm, Makes, Tells};
+ghost use Rattle.registry_tables.specs.Changes.{IsFree, IsFreeUnless, amended, with_row};
+ghost use Rattle.registry_tables.specs.Effects.{InForm, Makes, OnlyWhere, Loads};
 ghost use Rattle.registry_tables.specs.Spelled.{status_number, status_spelled};
 
 use registry_names::{Fault, Name, Status};
@@ -19,7 +19,7 @@ pub fn load_status<S: Alter>(
 ) -> Result<Option<Status>, Fault>
     requires in_form { InForm S.Store tx.old }
     ensures stays { Stays S.Store tx.old tx.new }
-    ensures tells { Tells S.Store tx.old tx.new result
+    ensures loads { Loads S.Store tx.old tx.new result
         (λ status c. status ≡ at c.packages name.now) }
 {
     let rows = read(
@@ -30,7 +30,7 @@ pub fn load_status<S: Alter>(
     value_of_first_row::<StatusRow>(&rows)
 }
 
-/// Gives a package this status. `stands` says whether it has one already.
+/// Gives a package this status. The flag says whether it has one already.
 pub(crate) fn put_status<S: Alter>(
     tx: &mut Transaction<'_, S>,
     name: &str,
@@ -41,6 +41,8 @@ pub(crate) fn put_status<S: Alter>(
     ensures stays { Stays S.Store tx.old tx.new }
     ensures makes { Makes S.Store tx.old tx.new result
         (λ c. record c { packages = with_row c.packages name.now status stands }) }
+    ensures was_new { OnlyWhere S.Store tx.old tx.new result
+        (λ c. IsFreeUnless c.packages name.now stands) }
 {
     if stands {
         update_status(tx, name, status)
@@ -58,6 +60,8 @@ fn insert_status<S: Alter>(
     ensures stays { Stays S.Store tx.old tx.new }
     ensures makes { Makes S.Store tx.old tx.new result
         (λ c. record c { packages = put c.packages name.now status }) }
+    ensures was_new { OnlyWhere S.Store tx.old tx.new result
+        (λ c. IsFree c.packages name.now) }
 {
     write(
         tx,

@@ -5,9 +5,9 @@ ghost use Rattle.registry_names.specs.Maps.{at, erase, of, put};
 ghost use Rattle.registry_names.specs.Texts.{Text as Bytes};
 ghost use Rattle.registry_rows.specs.Frames.{Stays};
 ghost use Rattle.registry_rules.specs.Withdrawals.{tags_of};
-ghost use Rattle.registry_tables.specs.Changes.{amended, with_row};
+ghost use Rattle.registry_tables.specs.Changes.{IsFree, IsFreeUnless, amended, with_row};
 ghost use Rattle.registry_tables.specs.Contents.{registry_of};
-ghost use Rattle.registry_tables.specs.Effects.{InForm, Makes, Tells};
+ghost use Rattle.registry_tables.specs.Effects.{InForm, Makes, OnlyWhere, Loads};
 ghost use Rattle.registry_tables.specs.Spelled.{tag_entry, tag_spelled};
 
 use crate::texts::{TextRow, texts_in};
@@ -20,7 +20,7 @@ use std::alloc::Global;
 pub fn has_tag<S: Alter>(tx: &mut Transaction<'_, S>, name: &Name, tag: &str) -> Result<bool, Fault>
     requires in_form { InForm S.Store tx.old }
     ensures stays { Stays S.Store tx.old tx.new }
-    ensures tells { Tells S.Store tx.old tx.new result
+    ensures loads { Loads S.Store tx.old tx.new result
         (λ has c. has ≡ is_some (at c.tags (name.now, tag.now))) }
 {
     let rows = read(
@@ -39,7 +39,7 @@ pub fn load_tag<S: Alter>(
 ) -> Result<Option<Text>, Fault>
     requires in_form { InForm S.Store tx.old }
     ensures stays { Stays S.Store tx.old tx.new }
-    ensures tells { Tells S.Store tx.old tx.new result
+    ensures loads { Loads S.Store tx.old tx.new result
         (λ named c. named ≡ at c.tags (name.now, tag.now)) }
 {
     let rows = read(
@@ -58,7 +58,7 @@ pub fn load_tags<S: Alter>(
 ) -> Result<Vec<DistTag>, Fault>
     requires in_form { InForm S.Store tx.old }
     ensures stays { Stays S.Store tx.old tx.new }
-    ensures tells { Tells S.Store tx.old tx.new result
+    ensures loads { Loads S.Store tx.old tx.new result
         (λ tags c. map tag_entry tags.items ≡ of c.tags name.now) }
 {
     let rows = read(
@@ -78,7 +78,7 @@ pub fn load_version_tags<S: Alter>(
 ) -> Result<Vec<Text>, Fault>
     requires in_form { InForm S.Store tx.old }
     ensures stays { Stays S.Store tx.old tx.new }
-    ensures tells { Tells S.Store tx.old tx.new result
+    ensures loads { Loads S.Store tx.old tx.new result
         (λ tags c. tags.items ≡ tags_of (registry_of c) name.now version.now) }
 {
     let rows = read(
@@ -89,7 +89,7 @@ pub fn load_version_tags<S: Alter>(
     texts_in(alloc, &rows)
 }
 
-/// Lets a tag of a package name this version. `stands` says whether the tag is there already.
+/// Lets a tag of a package name this version. The flag says whether the tag is there already.
 pub(crate) fn put_tag<S: Alter>(
     tx: &mut Transaction<'_, S>,
     name: &str,
@@ -101,6 +101,8 @@ pub(crate) fn put_tag<S: Alter>(
     ensures stays { Stays S.Store tx.old tx.new }
     ensures makes { Makes S.Store tx.old tx.new result
         (λ c. record c { tags = with_row c.tags (name.now, tag.now) version.now stands }) }
+    ensures was_new { OnlyWhere S.Store tx.old tx.new result
+        (λ c. IsFreeUnless c.tags (name.now, tag.now) stands) }
 {
     if stands {
         update_tag(tx, name, tag, version)
@@ -119,6 +121,8 @@ fn insert_tag<S: Alter>(
     ensures stays { Stays S.Store tx.old tx.new }
     ensures makes { Makes S.Store tx.old tx.new result
         (λ c. record c { tags = put c.tags (name.now, tag.now) version.now }) }
+    ensures was_new { OnlyWhere S.Store tx.old tx.new result
+        (λ c. IsFree c.tags (name.now, tag.now)) }
 {
     write(
         tx,

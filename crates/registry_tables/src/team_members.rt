@@ -4,8 +4,9 @@
 ghost use Rattle.std.specs.Prelude.{◌≡◌, is_some};
 ghost use Rattle.registry_names.specs.Maps.{at, erase, put};
 ghost use Rattle.registry_rows.specs.Frames.{Stays};
-ghost use Rattle.registry_tables.specs.Effects.{InForm, Makes, Tells};
-ghost use Rattle.registry_tables.specs.Teams.{teams_of, users_of};
+ghost use Rattle.registry_tables.specs.Changes.{IsFree};
+ghost use Rattle.registry_tables.specs.Effects.{InForm, Makes, OnlyWhere, Loads};
+ghost use Rattle.registry_tables.specs.Teams.{users_of};
 
 use crate::texts::texts_in;
 use registry_names::{Fault, Text};
@@ -22,7 +23,7 @@ pub fn is_in_team<S: Alter>(
 ) -> Result<bool, Fault>
     requires in_form { InForm S.Store tx.old }
     ensures stays { Stays S.Store tx.old tx.new }
-    ensures tells { Tells S.Store tx.old tx.new result
+    ensures loads { Loads S.Store tx.old tx.new result
         (λ is c. is ≡ is_some (at c.team_members (organisation.now, (team.now, user.now)))) }
 {
     let rows = read(
@@ -47,6 +48,8 @@ pub(crate) fn put_team_member<S: Alter>(
         (λ c. record c {
           team_members = put c.team_members (organisation.now, (team.now, user.now)) tt;
         }) }
+    ensures was_new { OnlyWhere S.Store tx.old tx.new result
+        (λ c. IsFree c.team_members (organisation.now, (team.now, user.now))) }
 {
     write(
         tx,
@@ -85,33 +88,13 @@ pub fn load_team_users<S: Alter>(
 ) -> Result<Vec<Text>, Fault>
     requires in_form { InForm S.Store tx.old }
     ensures stays { Stays S.Store tx.old tx.new }
-    ensures tells { Tells S.Store tx.old tx.new result
+    ensures loads { Loads S.Store tx.old tx.new result
         (λ users c. users.items ≡ users_of c organisation.now team.now) }
 {
     let rows = read(
         tx,
         "SELECT user FROM team_members WHERE org = ?1 AND team = ?2 ORDER BY user",
         params![organisation, team],
-    )?;
-    texts_in(alloc, &rows)
-}
-
-/// The teams of an organisation that a user is in, in byte order.
-pub fn load_user_teams<S: Alter>(
-    alloc: Global,
-    tx: &mut Transaction<'_, S>,
-    organisation: &str,
-    user: &str,
-) -> Result<Vec<Text>, Fault>
-    requires in_form { InForm S.Store tx.old }
-    ensures stays { Stays S.Store tx.old tx.new }
-    ensures tells { Tells S.Store tx.old tx.new result
-        (λ teams c. teams.items ≡ teams_of c organisation.now user.now) }
-{
-    let rows = read(
-        tx,
-        "SELECT team FROM team_members WHERE org = ?1 AND user = ?2 ORDER BY org, team, user",
-        params![organisation, user],
     )?;
     texts_in(alloc, &rows)
 }

@@ -5,7 +5,7 @@ ghost use Rattle.registry_access.specs.Levels as levels;
 ghost use Rattle.registry_access.specs.Positions.{level_in};
 ghost use Rattle.registry_rows.specs.Frames.{Stays};
 ghost use Rattle.registry_tables.specs.Contents.{access_of};
-ghost use Rattle.registry_tables.specs.Effects.{InForm, Knows, Tells};
+ghost use Rattle.registry_tables.specs.Effects.{InForm, Knows, Loads};
 ghost use Rattle.registry_tables.specs.Teams.{AreTeamsSound, granted_entry, grants_read, readable};
 
 use crate::grants::load_team_grants;
@@ -27,7 +27,7 @@ pub fn load_team_packages<S: Alter>(
 ) -> Result<Vec<Granted>, Fault>
     requires in_form { InForm S.Store tx.old }
     ensures stays { Stays S.Store tx.old tx.new }
-    ensures tells { Tells S.Store tx.old tx.new result (λ granted c. AreTeamsSound c
+    ensures loads { Loads S.Store tx.old tx.new result (λ granted c. AreTeamsSound c
         → map granted_entry granted.items ≡ grants_read c caller.now organisation.now team.now) }
 {
     let granted = load_team_grants(alloc, tx, organisation, team)?;
@@ -64,7 +64,7 @@ fn is_read<S: Alter>(
 ) -> Result<bool, Fault>
     requires in_form { InForm S.Store tx.old }
     ensures stays { Stays S.Store tx.old tx.new }
-    ensures tells { Tells S.Store tx.old tx.new result (λ is c. AreTeamsSound c
+    ensures loads { Loads S.Store tx.old tx.new result (λ is c. AreTeamsSound c
         → is ≡ levels.reads (level_in (access_of c) caller.now name.now)) }
 {
     let name = read_back(Name::parse(alloc, name.as_str()))?;

@@ -3,7 +3,8 @@
 ghost use Rattle.std.specs.Prelude.{◌≡◌, IfOk, option_map, slice_get};
 ghost use Rattle.registry_names.specs.Maps.{at, put};
 ghost use Rattle.registry_rows.specs.Frames.{Stays};
-ghost use Rattle.registry_tables.specs.Effects.{InForm, Makes, Tells};
+ghost use Rattle.registry_tables.specs.Changes.{IsFree};
+ghost use Rattle.registry_tables.specs.Effects.{InForm, Makes, OnlyWhere, Loads};
 ghost use Rattle.registry_tables.specs.Spelled.{named_spelled};
 
 use crate::texts::{TextRow, read_back};
@@ -21,7 +22,7 @@ pub fn load_token_user<S: Alter>(
 ) -> Result<Option<Ident>, Fault>
     requires in_form { InForm S.Store tx.old }
     ensures stays { Stays S.Store tx.old tx.new }
-    ensures tells { Tells S.Store tx.old tx.new result (λ user c. user ≡ at c.tokens digest.now) }
+    ensures loads { Loads S.Store tx.old tx.new result (λ user c. user ≡ at c.tokens digest.now) }
 {
     let rows = read(
         tx,
@@ -51,6 +52,8 @@ pub(crate) fn add_token<S: Alter>(
     ensures stays { Stays S.Store tx.old tx.new }
     ensures makes { Makes S.Store tx.old tx.new result
         (λ c. record c { tokens = put c.tokens digest.now user.now }) }
+    ensures was_new { OnlyWhere S.Store tx.old tx.new result
+        (λ c. IsFree c.tokens digest.now) }
 {
     write(
         tx,

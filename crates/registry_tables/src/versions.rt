@@ -1,7 +1,6 @@
 //! The table `versions`: the live versions of every package.
 
-ghost use Rattle.std.specs.Prelude.{◌≡◌, IfOk, None, OnOk, is_some, map, option_map};
-ghost use Rattle.sqlite.specs.State.{HasCleanDisk};
+ghost use Rattle.std.specs.Prelude.{◌≡◌, IfOk, is_some, map, option_map};
 ghost use Rattle.registry_names.specs.Maps.{at, of, put, seen};
 ghost use Rattle.registry_names.specs.Texts.{Text as Bytes};
 ghost use Rattle.registry_names.specs.Versions.{text_of_version};
@@ -9,9 +8,9 @@ ghost use Rattle.registry_rows.specs.Frames.{Stays};
 ghost use Rattle.registry_rules.specs.Actions as actions;
 ghost use Rattle.registry_rules.specs.State as state;
 ghost use Rattle.registry_rules.specs.Withdrawals.{live_versions, published_at};
-ghost use Rattle.registry_tables.specs.Changes.{IsNew, is_unspent, row_of, version_put};
+ghost use Rattle.registry_tables.specs.Changes.{IsFree, IsNew, is_unspent, row_of, version_put};
 ghost use Rattle.registry_tables.specs.Contents.{live_of, registry_of};
-ghost use Rattle.registry_tables.specs.Effects.{InForm, Makes, Tells, shown, stored_in};
+ghost use Rattle.registry_tables.specs.Effects.{InForm, Makes, OnlyWhere, Loads};
 ghost use Rattle.registry_tables.specs.Spelled.{document, document_entry, document_spelled, row_entry, row_spelled};
 ghost use Rattle.registry_tables.specs.Withdrawals.{with_message};
 
@@ -36,7 +35,7 @@ pub fn has_version<S: Alter>(
 ) -> Result<bool, Fault>
     requires in_form { InForm S.Store tx.old }
     ensures stays { Stays S.Store tx.old tx.new }
-    ensures tells { Tells S.Store tx.old tx.new result
+    ensures loads { Loads S.Store tx.old tx.new result
         (λ lives c. lives ≡ is_some (at (live_of c) (name.now, version.now))) }
 {
     let rows = read(
@@ -55,7 +54,7 @@ pub fn load_published<S: Alter>(
 ) -> Result<Option<Moment>, Fault>
     requires in_form { InForm S.Store tx.old }
     ensures stays { Stays S.Store tx.old tx.new }
-    ensures tells { Tells S.Store tx.old tx.new result
+    ensures loads { Loads S.Store tx.old tx.new result
         (λ published c. published ≡ published_at (registry_of c) name.now version.now) }
 {
     let rows = read(
@@ -74,7 +73,7 @@ pub fn load_live<S: Alter>(
 ) -> Result<Vec<Ver>, Fault>
     requires in_form { InForm S.Store tx.old }
     ensures stays { Stays S.Store tx.old tx.new }
-    ensures tells { Tells S.Store tx.old tx.new result
+    ensures loads { Loads S.Store tx.old tx.new result
         (λ live c. map text_of_version live.items ≡ live_versions (registry_of c) name.now) }
 {
     let texts = load_live_texts(alloc, tx, name)?;
@@ -88,7 +87,7 @@ fn load_live_texts<S: Alter>(
 ) -> Result<Vec<Text>, Fault>
     requires in_form { InForm S.Store tx.old }
     ensures stays { Stays S.Store tx.old tx.new }
-    ensures tells { Tells S.Store tx.old tx.new result
+    ensures loads { Loads S.Store tx.old tx.new result
         (λ live c. live.items ≡ live_versions (registry_of c) name.now) }
 {
     let rows = read(
@@ -115,7 +114,7 @@ fn all_parsed(alloc: Global, texts: &[Text]) -> Result<Vec<Ver>, Fault>
 pub fn has_live<S: Alter>(tx: &mut Transaction<'_, S>, name: &Name) -> Result<bool, Fault>
     requires in_form { InForm S.Store tx.old }
     ensures stays { Stays S.Store tx.old tx.new }
-    ensures tells { Tells S.Store tx.old tx.new result
+    ensures loads { Loads S.Store tx.old tx.new result
         (λ lives c. lives ≡ state.has_live (registry_of c) name.now) }
 {
     let rows = read(
@@ -135,7 +134,7 @@ pub fn load_versions<S: Alter>(
 ) -> Result<Vec<VersionRow>, Fault>
     requires in_form { InForm S.Store tx.old }
     ensures stays { Stays S.Store tx.old tx.new }
-    ensures tells { Tells S.Store tx.old tx.new result
+    ensures loads { Loads S.Store tx.old tx.new result
         (λ versions c. map row_entry versions.items
         ≡ map (seen document) (of (live_of c) name.now)) }
 {
@@ -164,7 +163,7 @@ pub fn load_document<S: Alter>(
 ) -> Result<Option<DocumentRow>, Fault>
     requires in_form { InForm S.Store tx.old }
     ensures stays { Stays S.Store tx.old tx.new }
-    ensures tells { Tells S.Store tx.old tx.new result
+    ensures loads { Loads S.Store tx.old tx.new result
         (λ found c. option_map document_entry found
         ≡ option_map document (at (live_of c) (name.now, version.now))) }
 {
@@ -188,8 +187,7 @@ pub fn put_version<S: Alter>(
     requires in_form { InForm S.Store tx.old }
     ensures stays { Stays S.Store tx.old tx.new }
     ensures makes { Makes S.Store tx.old tx.new result (version_put form.now published) }
-    ensures was_new { HasCleanDisk (shown S.Store tx.new)
-        → OnOk result (IsNew form.now (stored_in S.Store tx.old)) }
+    ensures was_new { OnlyWhere S.Store tx.old tx.new result (IsNew form.now) }
 {
     if !may_be_put(tx, form)? {
         return Err(Fault::Database);
@@ -203,7 +201,7 @@ pub fn put_version<S: Alter>(
 fn may_be_put<S: Alter>(tx: &mut Transaction<'_, S>, form: &PublishForm) -> Result<bool, Fault>
     requires in_form { InForm S.Store tx.old }
     ensures stays { Stays S.Store tx.old tx.new }
-    ensures tells { Tells S.Store tx.old tx.new result (λ may c. may ≡ is_unspent form.now c) }
+    ensures loads { Loads S.Store tx.old tx.new result (λ may c. may ≡ is_unspent form.now c) }
 {
     let status = load_status(tx, form.name())?;
     let spent = is_spent(tx, form.name(), form.version().text())?;
@@ -221,9 +219,8 @@ fn insert_version<S: Alter>(
       versions = put c.versions
           (form.now.name, actions.version_of form.now) (row_of form.now published);
     }) }
-    ensures was_new { HasCleanDisk (shown S.Store tx.new) → OnOk result
-        (at (stored_in S.Store tx.old).versions (form.now.name, actions.version_of form.now)
-        ≡ None) }
+    ensures was_new { OnlyWhere S.Store tx.old tx.new result
+        (λ c. IsFree c.versions (form.now.name, actions.version_of form.now)) }
 {
     write(
         tx,

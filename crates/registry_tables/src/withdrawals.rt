@@ -1,8 +1,8 @@
 //! Withdrawals: what goes with a version.
 
-ghost use Rattle.registry_names.specs.Maps.{at};
 ghost use Rattle.registry_rows.specs.Frames.{Stays};
-ghost use Rattle.registry_tables.specs.Effects.{InForm, Makes};
+ghost use Rattle.registry_tables.specs.Changes.{IsUntagged, MayRetire};
+ghost use Rattle.registry_tables.specs.Effects.{InForm, Makes, OnlyWhere};
 ghost use Rattle.registry_tables.specs.Withdrawals.{version_retired, without_rows};
 
 use crate::archives::{free_archive, held_archive};
@@ -14,8 +14,8 @@ use sqlite::{Alter, Transaction, params};
 /// Ends the life of a version, which was published and is withdrawn at these moments, with what it
 /// depends on. Its archive goes with it, unless another version has it.
 ///
-/// A tag that names it is a fault, and so is a version that was withdrawn already; no clause says
-/// so.
+/// A version that doesn't live is a fault, and so is one that a tag names, or that was withdrawn
+/// already.
 pub(crate) fn retire_version<S: Alter>(
     tx: &mut Transaction<'_, S>,
     name: &Name,
@@ -27,8 +27,11 @@ pub(crate) fn retire_version<S: Alter>(
     ensures stays { Stays S.Store tx.old tx.new }
     ensures makes { Makes S.Store tx.old tx.new result
         (version_retired name.now version.now published withdrawn) }
+    ensures may_retire { OnlyWhere S.Store tx.old tx.new result (MayRetire name.now version.now) }
 {
-    let number = held_archive(tx, name, version)?;
+    let Some(number) = held_archive(tx, name, version)? else {
+        return Err(Fault::Database);
+    };
     drop_version(tx, name.text(), version)?;
     free_archive(tx, number)?;
     put_withdrawal(tx, name.text(), version, published, withdrawn)
@@ -43,6 +46,7 @@ fn drop_version<S: Alter>(
     requires in_form { InForm S.Store tx.old }
     ensures stays { Stays S.Store tx.old tx.new }
     ensures makes { Makes S.Store tx.old tx.new result (without_rows name.now version.now) }
+    ensures untagged { OnlyWhere S.Store tx.old tx.new result (IsUntagged name.now version.now) }
 {
     write(
         tx,

@@ -57,10 +57,7 @@ fn tag(rt: &impl Abort, alloc: Global, tag: &str, version: &str) -> DistTag {
 }
 
 fn head(rt: &impl Abort, alloc: Global, name: &str, cases: &[TagCase]) -> PackHead {
-    PackHead {
-        name: text(rt, alloc, name),
-        tags: tags(rt, alloc, cases),
-    }
+    PackHead::new(text(rt, alloc, name), tags(rt, alloc, cases)).expect(rt, "tags in their order")
 }
 
 fn versions(rt: &impl Abort, alloc: Global, cases: &[VersionCase]) -> Vec<VersionRow> {

@@ -76,9 +76,9 @@ enum Lies {
 /// What comes of a request to add the user `ann`.
 #[derive(Clone, Copy, Debug)]
 enum Comes {
-    /// She is added.
+    /// The user is added.
     Added,
-    /// She was there.
+    /// The user was there already.
     WasThere,
 }
 

@@ -1,7 +1,8 @@
-//! The program over streams that fail. Its modules have files from which no registry opens, and a
-//! client over loopback.
+//! The program over streams that fail. Its modules have files from which no registry opens, a
+//! client over loopback, and the moments of what is asked.
 
 mod faults;
+mod moments;
 mod serving;
 
 use registry_names::{FromRead, Text, ToWrite};

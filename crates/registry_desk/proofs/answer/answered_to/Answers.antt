@@ -18,8 +18,9 @@ use Rattle.registry_desk.proofs.answer.answered_to.Goals as goal
 pub answered_by-requires : goal.answered_by-requires
 answered_by-requires g c = record {
   under_way = λ clean.
-      let reads = (c.in_ok-about.ensures.tells clean).0 in
+      let reads = (c.in_ok-about.ensures.loads clean).0 in
       record { holds = refl; ready = reads.ready; mode = reads.mode ∙ c.requires.begun (omega (arith, c.facts.ensures.stays.survives.clean, clean)) };
+  known = refl;
 }
 
 pub returns-clause-stays : goal.returns-clause-stays
@@ -30,7 +31,7 @@ returns-clause-answers g c known sound needs right clean =
     let was = stored_in g.S.Store c.args.tx.now in
     let r = c.args.request.now in
     let were : HasCleanDisk (shown g.S.Store c.facts.new.tx) = omega (arith, c.answered_by.ensures.stays.survives.clean, clean) in
-    let told = c.in_ok-about.ensures.tells were in
+    let told = c.in_ok-about.ensures.loads were in
     let same : stored_in g.S.Store c.facts.new.tx ≡ was = ap (λ (d : Database). contents d.trees) told.0.same in
     let stands = known_stands (registry_of was) c.args.caller c.in_ok-about.about r known (told.1 sound needs) in
     IfOk-weaker c.answered_by.result _ _ (λ _ e. e ∙ ap (λ (d : Contents). answer (registry_of d) r) same)
@@ -41,7 +42,7 @@ returns-clause-settles g c known sound needs clean =
     let was = stored_in g.S.Store c.args.tx.now in
     let r = c.args.request.now in
     let were : HasCleanDisk (shown g.S.Store c.facts.new.tx) = omega (arith, c.answered_by.ensures.stays.survives.clean, clean) in
-    let told = c.in_ok-about.ensures.tells were in
+    let told = c.in_ok-about.ensures.loads were in
     let same : stored_in g.S.Store c.facts.new.tx ≡ was = ap (λ (d : Database). contents d.trees) told.0.same in
     let stands = known_stands (registry_of was) c.args.caller c.in_ok-about.about r known (told.1 sound needs) in
     on_answer c.answered_by.result (λ left. subst (λ (d : Contents). Leaves schema contents (settled_by r d) (shown g.S.Store c.answered_by.new.tx)) same left)
@@ -50,10 +51,16 @@ returns-clause-settles g c known sound needs clean =
 pub returns-clause-served : goal.returns-clause-served
 returns-clause-served g c clean =
     let were : HasCleanDisk (shown g.S.Store c.facts.new.tx) = omega (arith, c.answered_by.ensures.stays.survives.clean, clean) in
-    on_answer c.answered_by.result (λ _. (c.in_ok-about.ensures.tells were).0.was_open) (c.answered_by.ensures.goes_on clean)
+    on_answer c.answered_by.result (λ _. (c.in_ok-about.ensures.loads were).0.was_open) (c.answered_by.ensures.goes_on clean)
+
+pub returns-clause-unchanged : goal.returns-clause-unchanged
+returns-clause-unchanged g c clean =
+    let were : HasCleanDisk (shown g.S.Store c.facts.new.tx) = omega (arith, c.answered_by.ensures.stays.survives.clean, clean) in
+    let same : stored_in g.S.Store c.facts.new.tx ≡ stored_in g.S.Store c.args.tx.now = ap (λ (d : Database). contents d.trees) (c.in_ok-about.ensures.loads were).0.same in
+    IfOk-weaker c.answered_by.result _ _ (λ _ stay none. stay none ∙ same) (c.answered_by.ensures.unchanged clean)
 
 pub returns-clause-right : goal.returns-clause-right
 returns-clause-right g c clean =
     let were : HasCleanDisk (shown g.S.Store c.facts.new.tx) = omega (arith, c.answered_by.ensures.stays.survives.clean, clean) in
-    let same : stored_in g.S.Store c.facts.new.tx ≡ stored_in g.S.Store c.args.tx.now = ap (λ (d : Database). contents d.trees) (c.in_ok-about.ensures.tells were).0.same in
+    let same : stored_in g.S.Store c.facts.new.tx ≡ stored_in g.S.Store c.args.tx.now = ap (λ (d : Database). contents d.trees) (c.in_ok-about.ensures.loads were).0.same in
     subst (λ (d : Contents). IfOk c.answered_by.result (LeavesCacheRight d (stored_in g.S.Store c.answered_by.new.tx) c.args.request.now.what c.args.cache.now c.answered_by.new.cache)) same (c.answered_by.ensures.right clean)

@@ -10,10 +10,10 @@ use Rattle.registry_desk.proofs.LoadedFacts.{three_stay}
 use Rattle.registry_desk.proofs.grants.find_grantable.Goals as goal
 
 pub load_status-requires : goal.load_status-requires
-load_status-requires g c = record { in_form = λ clean on. (c.in_ok-has_team.ensures.tells clean).0.ready }
+load_status-requires g c = record { in_form = λ clean on. (c.in_ok-has_team.ensures.loads clean).0.ready }
 
 pub has_grant-requires : goal.has_grant-requires
-has_grant-requires g c = record { in_form = λ clean on. (c.in_ok-load_status.ensures.tells clean).0.ready }
+has_grant-requires g c = record { in_form = λ clean on. (c.in_ok-load_status.ensures.loads clean).0.ready }
 
 pub returns-in_err-load_status-clause-stays : goal.returns-in_err-load_status-clause-stays
 returns-in_err-load_status-clause-stays g c = stays_then g.S.Store c.args.tx.now c.has_team.new.tx c.load_status.new.tx c.has_team.ensures.stays c.load_status.ensures.stays
@@ -24,16 +24,16 @@ returns-in_err-has_grant-clause-stays g c = three_stay g.S.Store c.args.tx.now c
 pub returns-clause-stays : goal.returns-clause-stays
 returns-clause-stays g c = three_stay g.S.Store c.args.tx.now c.has_team.new.tx c.load_status.new.tx c.has_grant.new.tx c.has_team.ensures.stays c.load_status.ensures.stays c.has_grant.ensures.stays
 
-pub returns-clause-tells : goal.returns-clause-tells
-returns-clause-tells g c clean =
+pub returns-clause-loads : goal.returns-clause-loads
+returns-clause-loads g c clean =
     let was = shown g.S.Store c.args.tx.now in
     let one = shown g.S.Store c.has_team.new.tx in
     let two = shown g.S.Store c.load_status.new.tx in
     let clean_two : HasCleanDisk two = omega (arith, c.has_grant.ensures.stays.survives.clean, clean) in
     let clean_one : HasCleanDisk one = omega (arith, c.load_status.ensures.stays.survives.clean, clean_two) in
-    let there = c.in_ok-has_team.ensures.tells clean_one in
-    let status = c.in_ok-load_status.ensures.tells clean_two in
-    let grant = c.in_ok-has_grant.ensures.tells clean in
+    let there = c.in_ok-has_team.ensures.loads clean_one in
+    let status = c.in_ok-load_status.ensures.loads clean_two in
+    let grant = c.in_ok-has_grant.ensures.loads clean in
     let to_two = reads_then schema was one two there.0 status.0 in (
       reads_then schema was two (shown g.S.Store c.has_grant.new.tx) to_two grant.0,
       record {

@@ -10,7 +10,7 @@ use Rattle.registry_tables.specs.Schema.{schema}
 use Rattle.registry_desk.proofs.grants.old_grant.Goals as goal
 
 pub has_grant-requires : goal.has_grant-requires
-has_grant-requires g c = record { in_form = λ clean on. (c.in_ok-load_access.ensures.tells clean).0.ready }
+has_grant-requires g c = record { in_form = λ clean on. (c.in_ok-load_access.ensures.loads clean).0.ready }
 
 pub returns-in_err-has_grant-clause-stays : goal.returns-in_err-has_grant-clause-stays
 returns-in_err-has_grant-clause-stays g c = stays_then g.S.Store c.args.tx.now c.load_access.new.tx c.has_grant.new.tx c.load_access.ensures.stays c.has_grant.ensures.stays
@@ -18,13 +18,13 @@ returns-in_err-has_grant-clause-stays g c = stays_then g.S.Store c.args.tx.now c
 pub returns-clause-stays : goal.returns-clause-stays
 returns-clause-stays g c = stays_then g.S.Store c.args.tx.now c.load_access.new.tx c.has_grant.new.tx c.load_access.ensures.stays c.has_grant.ensures.stays
 
-pub returns-clause-tells : goal.returns-clause-tells
-returns-clause-tells g c clean =
+pub returns-clause-loads : goal.returns-clause-loads
+returns-clause-loads g c clean =
     let was = shown g.S.Store c.args.tx.now in
     let one = shown g.S.Store c.load_access.new.tx in
     let clean_one : HasCleanDisk one = omega (arith, c.has_grant.ensures.stays.survives.clean, clean) in
-    let rows = c.in_ok-load_access.ensures.tells clean_one in
-    let grant = c.in_ok-has_grant.ensures.tells clean in (
+    let rows = c.in_ok-load_access.ensures.loads clean_one in
+    let grant = c.in_ok-has_grant.ensures.loads clean in (
       reads_then schema was one (shown g.S.Store c.has_grant.new.tx) rows.0 grant.0,
       (
         rw c.text.ensures.text at rows.1,

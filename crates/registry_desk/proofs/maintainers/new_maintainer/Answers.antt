@@ -10,7 +10,7 @@ use Rattle.registry_desk.specs.Found.{IsNewcomer}
 use Rattle.registry_desk.proofs.maintainers.new_maintainer.Goals as goal
 
 pub find_newcomer-requires : goal.find_newcomer-requires
-find_newcomer-requires g c = record { in_form = λ clean on. (c.in_ok-standing.ensures.tells clean).0.ready }
+find_newcomer-requires g c = record { in_form = λ clean on. (c.in_ok-standing.ensures.loads clean).0.ready }
 
 pub returns-in_err-newcomer-clause-stays : goal.returns-in_err-newcomer-clause-stays
 returns-in_err-newcomer-clause-stays g c = stays_then g.S.Store c.args.tx.now c.load_standing.new.tx c.find_newcomer.new.tx c.load_standing.ensures.stays c.find_newcomer.ensures.stays
@@ -18,10 +18,10 @@ returns-in_err-newcomer-clause-stays g c = stays_then g.S.Store c.args.tx.now c.
 pub returns-clause-stays : goal.returns-clause-stays
 returns-clause-stays g c = stays_then g.S.Store c.args.tx.now c.load_standing.new.tx c.find_newcomer.new.tx c.load_standing.ensures.stays c.find_newcomer.ensures.stays
 
-pub returns-clause-tells : goal.returns-clause-tells
-returns-clause-tells g c clean =
-    let stands = c.in_ok-standing.ensures.tells (omega (arith, c.find_newcomer.ensures.stays.survives.clean, clean)) in
-    let found = c.in_ok-newcomer.ensures.tells clean in (
+pub returns-clause-loads : goal.returns-clause-loads
+returns-clause-loads g c clean =
+    let stands = c.in_ok-standing.ensures.loads (omega (arith, c.find_newcomer.ensures.stays.survives.clean, clean)) in
+    let found = c.in_ok-newcomer.ensures.loads clean in (
       reads_then schema (shown g.S.Store c.args.tx.now) (shown g.S.Store c.load_standing.new.tx) (shown g.S.Store c.find_newcomer.new.tx) stands.0 found.0,
       λ sound.
           let newcomer = subst₂ (λ (d : Database) (u : Text). IsNewcomer c.in_ok-newcomer.newcomer (registry_of (contents d.trees)) c.args.name.now u) stands.0.same c.text.ensures.text found.1 in

@@ -11,10 +11,10 @@ use Rattle.registry_desk.proofs.LoadedFacts.{three_stay}
 use Rattle.registry_desk.proofs.organisations.find_candidate.Goals as goal
 
 pub load_role-requires : goal.load_role-requires
-load_role-requires g c = record { in_form = λ clean on. (c.in_ok-has_user.ensures.tells clean).0.ready }
+load_role-requires g c = record { in_form = λ clean on. (c.in_ok-has_user.ensures.loads clean).0.ready }
 
 pub has_other_owner-requires : goal.has_other_owner-requires
-has_other_owner-requires g c = record { in_form = λ clean on. (c.in_ok-load_role.ensures.tells clean).0.ready }
+has_other_owner-requires g c = record { in_form = λ clean on. (c.in_ok-load_role.ensures.loads clean).0.ready }
 
 pub returns-in_err-load_role-clause-stays : goal.returns-in_err-load_role-clause-stays
 returns-in_err-load_role-clause-stays g c = stays_then g.S.Store c.args.tx.now c.has_user.new.tx c.load_role.new.tx c.has_user.ensures.stays c.load_role.ensures.stays
@@ -25,16 +25,16 @@ returns-in_err-has_other_owner-clause-stays g c = three_stay g.S.Store c.args.tx
 pub returns-clause-stays : goal.returns-clause-stays
 returns-clause-stays g c = three_stay g.S.Store c.args.tx.now c.has_user.new.tx c.load_role.new.tx c.has_other_owner.new.tx c.has_user.ensures.stays c.load_role.ensures.stays c.has_other_owner.ensures.stays
 
-pub returns-clause-tells : goal.returns-clause-tells
-returns-clause-tells g c clean =
+pub returns-clause-loads : goal.returns-clause-loads
+returns-clause-loads g c clean =
     let was = shown g.S.Store c.args.tx.now in
     let one = shown g.S.Store c.has_user.new.tx in
     let two = shown g.S.Store c.load_role.new.tx in
     let clean_two : HasCleanDisk two = omega (arith, c.has_other_owner.ensures.stays.survives.clean, clean) in
     let clean_one : HasCleanDisk one = omega (arith, c.load_role.ensures.stays.survives.clean, clean_two) in
-    let user = c.in_ok-has_user.ensures.tells clean_one in
-    let role = c.in_ok-load_role.ensures.tells clean_two in
-    let other = c.in_ok-has_other_owner.ensures.tells clean in
+    let user = c.in_ok-has_user.ensures.loads clean_one in
+    let role = c.in_ok-load_role.ensures.loads clean_two in
+    let other = c.in_ok-has_other_owner.ensures.loads clean in
     let to_two = reads_then schema was one two user.0 role.0 in (
       reads_then schema was two (shown g.S.Store c.has_other_owner.new.tx) to_two other.0,
       record {

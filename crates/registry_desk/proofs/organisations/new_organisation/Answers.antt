@@ -10,7 +10,7 @@ use Rattle.registry_tables.specs.Schema.{schema}
 use Rattle.registry_desk.proofs.organisations.new_organisation.Goals as goal
 
 pub has_organisation-requires : goal.has_organisation-requires
-has_organisation-requires g c = record { in_form = λ clean on. (c.in_ok-has_user.ensures.tells clean).0.ready }
+has_organisation-requires g c = record { in_form = λ clean on. (c.in_ok-has_user.ensures.loads clean).0.ready }
 
 pub returns-in_err-has_organisation-clause-stays : goal.returns-in_err-has_organisation-clause-stays
 returns-in_err-has_organisation-clause-stays g c = stays_then g.S.Store c.args.tx.now c.has_user.new.tx c.has_organisation.new.tx c.has_user.ensures.stays c.has_organisation.ensures.stays
@@ -18,13 +18,13 @@ returns-in_err-has_organisation-clause-stays g c = stays_then g.S.Store c.args.t
 pub returns-clause-stays : goal.returns-clause-stays
 returns-clause-stays g c = stays_then g.S.Store c.args.tx.now c.has_user.new.tx c.has_organisation.new.tx c.has_user.ensures.stays c.has_organisation.ensures.stays
 
-pub returns-clause-tells : goal.returns-clause-tells
-returns-clause-tells g c clean =
+pub returns-clause-loads : goal.returns-clause-loads
+returns-clause-loads g c clean =
     let was = shown g.S.Store c.args.tx.now in
     let one = shown g.S.Store c.has_user.new.tx in
     let clean_one : HasCleanDisk one = omega (arith, c.has_organisation.ensures.stays.survives.clean, clean) in
-    let user = c.in_ok-has_user.ensures.tells clean_one in
-    let there = c.in_ok-has_organisation.ensures.tells clean in (
+    let user = c.in_ok-has_user.ensures.loads clean_one in
+    let there = c.in_ok-has_organisation.ensures.loads clean in (
       reads_then schema was one (shown g.S.Store c.has_organisation.new.tx) user.0 there.0,
       λ who. (
         user.1 ∙ ap (has_user (registry_of (contents was.now.trees))) c.text.ensures.text,

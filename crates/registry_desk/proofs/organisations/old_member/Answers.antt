@@ -13,10 +13,10 @@ use Rattle.registry_desk.proofs.LoadedFacts.{three_stay}
 use Rattle.registry_desk.proofs.organisations.old_member.Goals as goal
 
 pub load_role-requires : goal.load_role-requires
-load_role-requires g c = record { in_form = λ clean on. (c.in_ok-load_access.ensures.tells clean).0.ready }
+load_role-requires g c = record { in_form = λ clean on. (c.in_ok-load_access.ensures.loads clean).0.ready }
 
 pub has_other_owner-requires : goal.has_other_owner-requires
-has_other_owner-requires g c = record { in_form = λ clean on. (c.in_ok-load_role.ensures.tells clean).0.ready }
+has_other_owner-requires g c = record { in_form = λ clean on. (c.in_ok-load_role.ensures.loads clean).0.ready }
 
 pub returns-in_err-load_role-clause-stays : goal.returns-in_err-load_role-clause-stays
 returns-in_err-load_role-clause-stays g c = stays_then g.S.Store c.args.tx.now c.load_access.new.tx c.load_role.new.tx c.load_access.ensures.stays c.load_role.ensures.stays
@@ -30,8 +30,8 @@ returns-clause-stays g c = three_stay g.S.Store c.args.tx.now c.load_access.new.
 abbrev role_in : State → Text → Text → Option Role
 role_in S o u = at S.access.roles (o, u)
 
-pub returns-clause-tells : goal.returns-clause-tells
-returns-clause-tells g c clean =
+pub returns-clause-loads : goal.returns-clause-loads
+returns-clause-loads g c clean =
     let o = c.args.organisation.now in
     let u = c.args.user.now in
     let was = shown g.S.Store c.args.tx.now in
@@ -39,9 +39,9 @@ returns-clause-tells g c clean =
     let two = shown g.S.Store c.load_role.new.tx in
     let clean_two : HasCleanDisk two = omega (arith, c.has_other_owner.ensures.stays.survives.clean, clean) in
     let clean_one : HasCleanDisk one = omega (arith, c.load_role.ensures.stays.survives.clean, clean_two) in
-    let rows = c.in_ok-load_access.ensures.tells clean_one in
-    let role = c.in_ok-load_role.ensures.tells clean_two in
-    let other = c.in_ok-has_other_owner.ensures.tells clean in
+    let rows = c.in_ok-load_access.ensures.loads clean_one in
+    let role = c.in_ok-load_role.ensures.loads clean_two in
+    let other = c.in_ok-has_other_owner.ensures.loads clean in
     let to_two = reads_then schema was one two rows.0 role.0 in (
       reads_then schema was two (shown g.S.Store c.has_other_owner.new.tx) to_two other.0,
       record {

@@ -14,19 +14,19 @@ use Rattle.registry_desk.proofs.LoadedFacts.{three_stay, four_stay, six_stay}
 use Rattle.registry_desk.proofs.packages.find_taken.Goals as goal
 
 pub is_spent-requires : goal.is_spent-requires
-is_spent-requires g c = record { in_form = λ clean on. (c.in_ok-has_version.ensures.tells clean).0.ready }
+is_spent-requires g c = record { in_form = λ clean on. (c.in_ok-has_version.ensures.loads clean).0.ready }
 
 pub has_tag-requires : goal.has_tag-requires
-has_tag-requires g c = record { in_form = λ clean on. (c.in_ok-is_spent.ensures.tells clean).0.ready }
+has_tag-requires g c = record { in_form = λ clean on. (c.in_ok-is_spent.ensures.loads clean).0.ready }
 
 pub has_tag-requires-2 : goal.has_tag-requires-2
-has_tag-requires-2 g c = record { in_form = λ clean on. (c.in_ok-has_tag.ensures.tells clean).0.ready }
+has_tag-requires-2 g c = record { in_form = λ clean on. (c.in_ok-has_tag.ensures.loads clean).0.ready }
 
 pub has_live-requires : goal.has_live-requires
-has_live-requires g c = record { in_form = λ clean on. (c.in_ok-has_tag-2.ensures.tells clean).0.ready }
+has_live-requires g c = record { in_form = λ clean on. (c.in_ok-has_tag-2.ensures.loads clean).0.ready }
 
 pub load_last_withdrawal-requires : goal.load_last_withdrawal-requires
-load_last_withdrawal-requires g c = record { in_form = λ clean on. (c.in_ok-has_live.ensures.tells clean).0.ready }
+load_last_withdrawal-requires g c = record { in_form = λ clean on. (c.in_ok-has_live.ensures.loads clean).0.ready }
 
 pub returns-in_err-is_spent-clause-stays : goal.returns-in_err-is_spent-clause-stays
 returns-in_err-is_spent-clause-stays g c = stays_then g.S.Store c.args.tx.now c.has_version.new.tx c.is_spent.new.tx c.has_version.ensures.stays c.is_spent.ensures.stays
@@ -50,8 +50,8 @@ returns-clause-stays g c =
     six_stay g.S.Store c.args.tx.now c.has_version.new.tx c.is_spent.new.tx c.has_tag.new.tx c.has_tag-2.new.tx c.has_live.new.tx c.load_last_withdrawal.new.tx
     c.has_version.ensures.stays c.is_spent.ensures.stays c.has_tag.ensures.stays c.has_tag-2.ensures.stays c.has_live.ensures.stays c.load_last_withdrawal.ensures.stays
 
-pub returns-clause-tells : goal.returns-clause-tells
-returns-clause-tells g c clean =
+pub returns-clause-loads : goal.returns-clause-loads
+returns-clause-loads g c clean =
     let was = shown g.S.Store c.args.tx.now in
     let one = shown g.S.Store c.has_version.new.tx in
     let two = shown g.S.Store c.is_spent.new.tx in
@@ -63,12 +63,12 @@ returns-clause-tells g c clean =
     let clean_three : HasCleanDisk three = omega (arith, c.has_tag-2.ensures.stays.survives.clean, clean_four) in
     let clean_two : HasCleanDisk two = omega (arith, c.has_tag.ensures.stays.survives.clean, clean_three) in
     let clean_one : HasCleanDisk one = omega (arith, c.is_spent.ensures.stays.survives.clean, clean_two) in
-    let lives = c.in_ok-has_version.ensures.tells clean_one in
-    let spent = c.in_ok-is_spent.ensures.tells clean_two in
-    let named = c.in_ok-has_tag.ensures.tells clean_three in
-    let newest = c.in_ok-has_tag-2.ensures.tells clean_four in
-    let some = c.in_ok-has_live.ensures.tells clean_five in
-    let last = c.in_ok-load_last_withdrawal.ensures.tells clean in
+    let lives = c.in_ok-has_version.ensures.loads clean_one in
+    let spent = c.in_ok-is_spent.ensures.loads clean_two in
+    let named = c.in_ok-has_tag.ensures.loads clean_three in
+    let newest = c.in_ok-has_tag-2.ensures.loads clean_four in
+    let some = c.in_ok-has_live.ensures.loads clean_five in
+    let last = c.in_ok-load_last_withdrawal.ensures.loads clean in
     let to_two = reads_then schema was one two lives.0 spent.0 in
     let to_three = reads_then schema was two three to_two named.0 in
     let to_four = reads_then schema was three four to_three newest.0 in

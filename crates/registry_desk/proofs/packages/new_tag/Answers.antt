@@ -11,10 +11,10 @@ use Rattle.registry_desk.proofs.LoadedFacts.{three_stay}
 use Rattle.registry_desk.proofs.packages.new_tag.Goals as goal
 
 pub has_version-requires : goal.has_version-requires
-has_version-requires g c = record { in_form = λ clean on. (c.in_ok-load_standing.ensures.tells clean).0.ready }
+has_version-requires g c = record { in_form = λ clean on. (c.in_ok-load_standing.ensures.loads clean).0.ready }
 
 pub has_tag-requires : goal.has_tag-requires
-has_tag-requires g c = record { in_form = λ clean on. (c.in_ok-has_version.ensures.tells clean).0.ready }
+has_tag-requires g c = record { in_form = λ clean on. (c.in_ok-has_version.ensures.loads clean).0.ready }
 
 pub returns-in_err-has_version-clause-stays : goal.returns-in_err-has_version-clause-stays
 returns-in_err-has_version-clause-stays g c = stays_then g.S.Store c.args.tx.now c.load_standing.new.tx c.has_version.new.tx c.load_standing.ensures.stays c.has_version.ensures.stays
@@ -25,17 +25,17 @@ returns-in_err-has_tag-clause-stays g c = three_stay g.S.Store c.args.tx.now c.l
 pub returns-clause-stays : goal.returns-clause-stays
 returns-clause-stays g c = three_stay g.S.Store c.args.tx.now c.load_standing.new.tx c.has_version.new.tx c.has_tag.new.tx c.load_standing.ensures.stays c.has_version.ensures.stays c.has_tag.ensures.stays
 
-pub returns-clause-tells : goal.returns-clause-tells
-returns-clause-tells g c clean =
+pub returns-clause-loads : goal.returns-clause-loads
+returns-clause-loads g c clean =
     let p = c.args.name.now in
     let was = shown g.S.Store c.args.tx.now in
     let one = shown g.S.Store c.load_standing.new.tx in
     let two = shown g.S.Store c.has_version.new.tx in
     let clean_two : HasCleanDisk two = omega (arith, c.has_tag.ensures.stays.survives.clean, clean) in
     let clean_one : HasCleanDisk one = omega (arith, c.has_version.ensures.stays.survives.clean, clean_two) in
-    let standing = c.in_ok-load_standing.ensures.tells clean_one in
-    let lives = c.in_ok-has_version.ensures.tells clean_two in
-    let named = c.in_ok-has_tag.ensures.tells clean in
+    let standing = c.in_ok-load_standing.ensures.loads clean_one in
+    let lives = c.in_ok-has_version.ensures.loads clean_two in
+    let named = c.in_ok-has_tag.ensures.loads clean in
     let to_two = reads_then schema was one two standing.0 lives.0 in (
       reads_then schema was two (shown g.S.Store c.has_tag.new.tx) to_two named.0,
       λ sound. record {

@@ -8,7 +8,7 @@ use Rattle.registry_tables.specs.Schema.{schema}
 use Rattle.registry_desk.proofs.packages.old_tag.Goals as goal
 
 pub has_tag-requires : goal.has_tag-requires
-has_tag-requires g c = record { in_form = λ clean on. (c.in_ok-load_standing.ensures.tells clean).0.ready }
+has_tag-requires g c = record { in_form = λ clean on. (c.in_ok-load_standing.ensures.loads clean).0.ready }
 
 pub returns-in_err-has_tag-clause-stays : goal.returns-in_err-has_tag-clause-stays
 returns-in_err-has_tag-clause-stays g c = stays_then g.S.Store c.args.tx.now c.load_standing.new.tx c.has_tag.new.tx c.load_standing.ensures.stays c.has_tag.ensures.stays
@@ -16,11 +16,11 @@ returns-in_err-has_tag-clause-stays g c = stays_then g.S.Store c.args.tx.now c.l
 pub returns-clause-stays : goal.returns-clause-stays
 returns-clause-stays g c = stays_then g.S.Store c.args.tx.now c.load_standing.new.tx c.has_tag.new.tx c.load_standing.ensures.stays c.has_tag.ensures.stays
 
-pub returns-clause-tells : goal.returns-clause-tells
-returns-clause-tells g c clean =
+pub returns-clause-loads : goal.returns-clause-loads
+returns-clause-loads g c clean =
     let p = c.args.name.now in
-    let standing = c.in_ok-load_standing.ensures.tells (omega (arith, c.has_tag.ensures.stays.survives.clean, clean)) in
-    let named = c.in_ok-has_tag.ensures.tells clean in (
+    let standing = c.in_ok-load_standing.ensures.loads (omega (arith, c.has_tag.ensures.stays.survives.clean, clean)) in
+    let named = c.in_ok-has_tag.ensures.loads clean in (
       reads_then schema (shown g.S.Store c.args.tx.now) (shown g.S.Store c.load_standing.new.tx) (shown g.S.Store c.has_tag.new.tx) standing.0 named.0,
       λ sound. (
         standing.1 sound,

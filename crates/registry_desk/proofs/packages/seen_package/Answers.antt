@@ -8,7 +8,7 @@ use Rattle.registry_tables.specs.Schema.{schema}
 use Rattle.registry_desk.proofs.packages.seen_package.Goals as goal
 
 pub has_live-requires : goal.has_live-requires
-has_live-requires g c = record { in_form = λ clean on. (c.in_ok-load_standing.ensures.tells clean).0.ready }
+has_live-requires g c = record { in_form = λ clean on. (c.in_ok-load_standing.ensures.loads clean).0.ready }
 
 pub returns-in_err-has_live-clause-stays : goal.returns-in_err-has_live-clause-stays
 returns-in_err-has_live-clause-stays g c = stays_then g.S.Store c.args.tx.now c.load_standing.new.tx c.has_live.new.tx c.load_standing.ensures.stays c.has_live.ensures.stays
@@ -18,16 +18,16 @@ returns-clause-stays g c = stays_then g.S.Store c.args.tx.now c.load_standing.ne
 
 pub returns-clause-packument : goal.returns-clause-packument
 returns-clause-packument g c clean =
-    let standing = c.in_ok-load_standing.ensures.tells (omega (arith, c.has_live.ensures.stays.survives.clean, clean)) in
-    let lives = c.in_ok-has_live.ensures.tells clean in (
+    let standing = c.in_ok-load_standing.ensures.loads (omega (arith, c.has_live.ensures.stays.survives.clean, clean)) in
+    let lives = c.in_ok-has_live.ensures.loads clean in (
       reads_then schema (shown g.S.Store c.args.tx.now) (shown g.S.Store c.load_standing.new.tx) (shown g.S.Store c.has_live.new.tx) standing.0 lives.0,
       λ sound. (standing.1 sound, lives.1 ∙ ap (λ (d : Database). has_live (registry_of (contents d.trees)) c.args.name.now) standing.0.same),
     )
 
 pub returns-clause-tags : goal.returns-clause-tags
 returns-clause-tags g c clean =
-    let standing = c.in_ok-load_standing.ensures.tells (omega (arith, c.has_live.ensures.stays.survives.clean, clean)) in
-    let lives = c.in_ok-has_live.ensures.tells clean in (
+    let standing = c.in_ok-load_standing.ensures.loads (omega (arith, c.has_live.ensures.stays.survives.clean, clean)) in
+    let lives = c.in_ok-has_live.ensures.loads clean in (
       reads_then schema (shown g.S.Store c.args.tx.now) (shown g.S.Store c.load_standing.new.tx) (shown g.S.Store c.has_live.new.tx) standing.0 lives.0,
       λ sound. (standing.1 sound, lives.1 ∙ ap (λ (d : Database). has_live (registry_of (contents d.trees)) c.args.name.now) standing.0.same),
     )

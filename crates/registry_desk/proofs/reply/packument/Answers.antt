@@ -1,7 +1,8 @@
 use Rattle.std.proofs.Common.{◌∙◌, ap, sym}
 use Rattle.std.proofs.lemmas.Result.{IfOk-weaker}
 use Rattle.registry_names.specs.Texts.{Text}
-use Rattle.registry_packument.specs.Packuments.{packument_of}
+use Rattle.registry_packument.specs.Heads.{HeadParts}
+use Rattle.registry_packument.specs.Packuments.{packument_of, pack_text}
 use Rattle.registry_desk.proofs.AnswerFacts.{packument_is}
 use Rattle.registry_desk.proofs.reply.packument.Goals as goal
 
@@ -10,5 +11,7 @@ returns c =
     let same = c.in_ok-name.ensures ∙ c.text.ensures.text in
     IfOk-weaker c.packument_text.result _ _
     (λ text written S shown named. packument_is S c.args.name.now c.args.tags.items c.args.versions.items text
-    (ap (λ (p : Text). packument_of p c.args.tags.items c.args.versions.items) (sym same) ∙ ap (packument_of c.in_ok-name.name c.args.tags.items) (sym c.in-Some.ensures) ∙ written) shown named)
+    (ap (λ (p : Text). packument_of p c.args.tags.items c.args.versions.items) (sym same)
+    ∙ ap (λ (head : HeadParts). pack_text head c.args.versions.items) (sym c.in-Some.ensures.parts)
+    ∙ ap (pack_text c.in-Some.head) (sym c.in-Some-new.ensures) ∙ written) shown named)
     c.packument_text.ensures.ok

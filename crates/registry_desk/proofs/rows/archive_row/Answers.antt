@@ -7,9 +7,9 @@ use Rattle.registry_tables.specs.Effects.{stored_in}
 use Rattle.registry_desk.proofs.rows.archive_row.Goals as goal
 
 -- a goal of its own, so that the archive of another version is refused at once
-pub returns-clause-tells : goal.returns-clause-tells
-returns-clause-tells g c clean =
-    let found = c.in_ok-archive.ensures.tells clean in (
+pub returns-clause-loads : goal.returns-clause-loads
+returns-clause-loads g c clean =
+    let found = c.in_ok-archive.ensures.loads clean in (
       found.0,
       λ who. found.1 ∙ ap (λ (v : Text). option_map (λ (r : Release). r.archive) (at (live_of (stored_in g.S.Store c.args.tx.now)) (c.args.name.now, v))) c.text.ensures.text,
     )

@@ -10,7 +10,7 @@ use Rattle.registry_desk.specs.Found.{IsPlace}
 use Rattle.registry_desk.proofs.teams.old_team_member.Goals as goal
 
 pub find_place-requires : goal.find_place-requires
-find_place-requires g c = record { in_form = λ clean on. (c.in_ok-rows.ensures.tells clean).0.ready }
+find_place-requires g c = record { in_form = λ clean on. (c.in_ok-rows.ensures.loads clean).0.ready }
 
 pub returns-in_err-place-clause-stays : goal.returns-in_err-place-clause-stays
 returns-in_err-place-clause-stays g c = stays_then g.S.Store c.args.tx.now c.load_access.new.tx c.find_place.new.tx c.load_access.ensures.stays c.find_place.ensures.stays
@@ -18,13 +18,13 @@ returns-in_err-place-clause-stays g c = stays_then g.S.Store c.args.tx.now c.loa
 pub returns-clause-stays : goal.returns-clause-stays
 returns-clause-stays g c = stays_then g.S.Store c.args.tx.now c.load_access.new.tx c.find_place.new.tx c.load_access.ensures.stays c.find_place.ensures.stays
 
-pub returns-clause-tells : goal.returns-clause-tells
-returns-clause-tells g c clean =
+pub returns-clause-loads : goal.returns-clause-loads
+returns-clause-loads g c clean =
     let was = shown g.S.Store c.args.tx.now in
     let one = shown g.S.Store c.load_access.new.tx in
     let clean_one : HasCleanDisk one = omega (arith, c.find_place.ensures.stays.survives.clean, clean) in
-    let rows = c.in_ok-rows.ensures.tells clean_one in
-    let found = c.in_ok-place.ensures.tells clean in
+    let rows = c.in_ok-rows.ensures.loads clean_one in
+    let found = c.in_ok-place.ensures.loads clean in
     let named = subst₂ (λ (a b : Text). IsPlace c.in_ok-place.place (registry_of (contents one.now.trees)) a b c.text-4.result.now) c.text-2.ensures.text c.text-3.ensures.text found.1 in
     let named_all = subst (λ (a : Text). IsPlace c.in_ok-place.place (registry_of (contents one.now.trees)) c.args.organisation.now c.args.team.now a) c.text-4.ensures.text named in
     let place = subst (λ (d : Database). IsPlace c.in_ok-place.place (registry_of (contents d.trees)) c.args.organisation.now c.args.team.now c.args.user.now) rows.0.same named_all in (

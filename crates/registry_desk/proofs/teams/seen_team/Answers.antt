@@ -9,7 +9,7 @@ use Rattle.registry_tables.specs.Schema.{schema}
 use Rattle.registry_desk.proofs.teams.seen_team.Goals as goal
 
 pub has_team-requires : goal.has_team-requires
-has_team-requires g c = record { in_form = λ clean on. (c.in_ok-load_access.ensures.tells clean).0.ready }
+has_team-requires g c = record { in_form = λ clean on. (c.in_ok-load_access.ensures.loads clean).0.ready }
 
 pub returns-in_err-has_team-clause-stays : goal.returns-in_err-has_team-clause-stays
 returns-in_err-has_team-clause-stays g c = stays_then g.S.Store c.args.tx.now c.load_access.new.tx c.has_team.new.tx c.load_access.ensures.stays c.has_team.ensures.stays
@@ -22,8 +22,8 @@ returns-clause-members g c clean =
     let was = shown g.S.Store c.args.tx.now in
     let one = shown g.S.Store c.load_access.new.tx in
     let clean_one : HasCleanDisk one = omega (arith, c.has_team.ensures.stays.survives.clean, clean) in
-    let rows = c.in_ok-load_access.ensures.tells clean_one in
-    let there = c.in_ok-has_team.ensures.tells clean in (
+    let rows = c.in_ok-load_access.ensures.loads clean_one in
+    let there = c.in_ok-has_team.ensures.loads clean in (
       reads_then schema was one (shown g.S.Store c.has_team.new.tx) rows.0 there.0,
       (
         rw c.text.ensures.text at rows.1,
@@ -36,8 +36,8 @@ returns-clause-packages g c clean =
     let was = shown g.S.Store c.args.tx.now in
     let one = shown g.S.Store c.load_access.new.tx in
     let clean_one : HasCleanDisk one = omega (arith, c.has_team.ensures.stays.survives.clean, clean) in
-    let rows = c.in_ok-load_access.ensures.tells clean_one in
-    let there = c.in_ok-has_team.ensures.tells clean in (
+    let rows = c.in_ok-load_access.ensures.loads clean_one in
+    let there = c.in_ok-has_team.ensures.loads clean in (
       reads_then schema was one (shown g.S.Store c.has_team.new.tx) rows.0 there.0,
       (
         rw c.text.ensures.text at rows.1,

@@ -11,13 +11,13 @@ use Rattle.registry_desk.proofs.LoadedFacts.{three_stay, four_stay}
 use Rattle.registry_desk.proofs.withdrawals.find_life.Goals as goal
 
 pub load_published-requires : goal.load_published-requires
-load_published-requires g c = record { in_form = λ clean on. (c.in_ok-depended.ensures.tells clean).0.ready }
+load_published-requires g c = record { in_form = λ clean on. (c.in_ok-depended.ensures.loads clean).0.ready }
 
 pub load_version_tags-requires : goal.load_version_tags-requires
-load_version_tags-requires g c = record { in_form = λ clean on. (c.in_ok-published.ensures.tells clean).0.ready }
+load_version_tags-requires g c = record { in_form = λ clean on. (c.in_ok-published.ensures.loads clean).0.ready }
 
 pub load_live-requires : goal.load_live-requires
-load_live-requires g c = record { in_form = λ clean on. (c.in_ok-tags.ensures.tells clean).0.ready }
+load_live-requires g c = record { in_form = λ clean on. (c.in_ok-tags.ensures.loads clean).0.ready }
 
 pub returns-in_err-published-clause-stays : goal.returns-in_err-published-clause-stays
 returns-in_err-published-clause-stays g c = stays_then g.S.Store c.args.tx.now c.is_depended.new.tx c.load_published.new.tx c.is_depended.ensures.stays c.load_published.ensures.stays
@@ -31,8 +31,8 @@ returns-in_err-live-clause-stays g c = four_stay g.S.Store c.args.tx.now c.is_de
 pub returns-clause-stays : goal.returns-clause-stays
 returns-clause-stays g c = four_stay g.S.Store c.args.tx.now c.is_depended.new.tx c.load_published.new.tx c.load_version_tags.new.tx c.load_live.new.tx c.is_depended.ensures.stays c.load_published.ensures.stays c.load_version_tags.ensures.stays c.load_live.ensures.stays
 
-pub returns-clause-tells : goal.returns-clause-tells
-returns-clause-tells g c clean =
+pub returns-clause-loads : goal.returns-clause-loads
+returns-clause-loads g c clean =
     let p = c.args.name.now in
     let v = text_of_version c.args.version.now in
     let was = shown g.S.Store c.args.tx.now in
@@ -43,10 +43,10 @@ returns-clause-tells g c clean =
     let clean_three : HasCleanDisk three = omega (arith, c.load_live.ensures.stays.survives.clean, clean) in
     let clean_two : HasCleanDisk two = omega (arith, c.load_version_tags.ensures.stays.survives.clean, clean_three) in
     let clean_one : HasCleanDisk one = omega (arith, c.load_published.ensures.stays.survives.clean, clean_two) in
-    let depended = c.in_ok-depended.ensures.tells clean_one in
-    let published = c.in_ok-published.ensures.tells clean_two in
-    let tags = c.in_ok-tags.ensures.tells clean_three in
-    let live = c.in_ok-live.ensures.tells clean in
+    let depended = c.in_ok-depended.ensures.loads clean_one in
+    let published = c.in_ok-published.ensures.loads clean_two in
+    let tags = c.in_ok-tags.ensures.loads clean_three in
+    let live = c.in_ok-live.ensures.loads clean in
     let to_two = reads_then schema was one two depended.0 published.0 in
     let to_three = reads_then schema was two three to_two tags.0 in (
       reads_then schema was three four to_three live.0,

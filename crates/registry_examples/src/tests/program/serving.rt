@@ -20,6 +20,7 @@ const ANSWER: &str =
 struct Caller<'a, R: Net> {
     rt: &'a R,
     port: u16,
+    asks: &'a str,
     taken: Vec<u8>,
     client: Option<R::Stream>,
 }
@@ -28,14 +29,14 @@ impl<R: Net> Caller<'_, R> {
     fn connect(&self) -> io::Result<R::Stream> {
         let place = SocketAddr::from((Ipv4Addr::LOCALHOST, self.port));
         let mut client = self.rt.connect(place)?;
-        client.write_all(ASKS.as_bytes())?;
+        client.write_all(self.asks.as_bytes())?;
         client.shutdown(Shutdown::Write)?;
         Ok(client)
     }
 
-    // Whether the output was given where the program listens, and the client the answer.
-    fn is_answered(&mut self, alloc: Global) -> Result<(), Fail> {
-        let wanted = format!(in alloc; "listening 127.0.0.1:{}\n{ANSWER}", self.port)?;
+    // Whether the output was given where the program listens, and the client this answer.
+    fn is_answered(&mut self, alloc: Global, answer: &str) -> Result<(), Fail> {
+        let wanted = format!(in alloc; "listening 127.0.0.1:{}\n{answer}", self.port)?;
         self.hear()?;
         same_text(&self.taken, wanted.as_str())
     }
@@ -65,21 +66,37 @@ impl<R: Net> Write for Caller<'_, R> {
 #[test]
 fn a_registry_in_a_file_is_served(rt: HostRuntime) -> Result<(), Fail> {
     let db = path(&rt, "-served.db")?;
-    let mut caller = Caller {
-        rt: &rt,
-        port: free_port(&rt)?,
-        taken: Vec::new(rt.alloc()),
-        client: None,
-    };
-    is_served(&rt, db.as_str(), &mut caller)?;
+    answers_client(&rt, db.as_str(), ASKS, ANSWER)?;
     forget(&rt, db.as_str())
 }
 
-// Whether the caller is served, and nothing is said of a fault.
-fn is_served<R: Net>(rt: &HostRuntime, db: &str, caller: &mut Caller<R>) -> Result<(), Fail> {
+/// Whether the program, serving the registry in this file, answers a client that asks so.
+pub(super) fn answers_client(
+    rt: &HostRuntime,
+    db: &str,
+    asks: &str,
+    answer: &str,
+) -> Result<(), Fail> {
+    let mut caller = Caller {
+        rt,
+        port: free_port(rt)?,
+        asks,
+        taken: Vec::new(rt.alloc()),
+        client: None,
+    };
+    is_served(rt, db, &mut caller, answer)
+}
+
+// Whether the caller is served and given this answer, and nothing is said of a fault.
+fn is_served<R: Net>(
+    rt: &HostRuntime,
+    db: &str,
+    caller: &mut Caller<R>,
+    answer: &str,
+) -> Result<(), Fail> {
     let mut errors = Vec::new(rt.alloc());
     let status = serve(rt, db, caller, &mut errors)?;
-    caller.is_answered(rt.alloc())?;
+    caller.is_answered(rt.alloc(), answer)?;
     same_text(&errors, "")?;
     if status != 0 {
         return Err(Fail::new(format_args!("the status is {status}")));

@@ -127,7 +127,7 @@ fn all_tell<S: Alter>(alloc: Global, tx: &mut Transaction<'_, S>, case: &Case) -
     ensures in_form { OnOk result (InForm S.Store tx.new) }
 {
     for (name, call, wanted) in case.calls {
-        tells(alloc, tx, (case.shows, *name, *call), *wanted)?;
+        loads(alloc, tx, (case.shows, *name, *call), *wanted)?;
     }
     Ok(())
 }
@@ -135,7 +135,7 @@ fn all_tell<S: Alter>(alloc: Global, tx: &mut Transaction<'_, S>, case: &Case) -
 // What a case shows, the name of a package, and a call on it.
 type Asked = (&'static str, &'static str, Call);
 
-fn tells<S: Alter>(
+fn loads<S: Alter>(
     alloc: Global,
     tx: &mut Transaction<'_, S>,
     asked: Asked,

@@ -41,7 +41,7 @@ const BROKEN_KEY: Error = Error::SqliteFailure(ErrorCode::ConstraintViolation(
 /// What steps on an empty database show, and the steps, one after another.
 static CASES: [(&str, &[Step]); 19] = [
     (
-        "a made database tells the schema",
+        "a new database says which schema it has",
         &[
             Step::Schema(Ok(None)),
             Step::Create(Ok(())),
@@ -49,7 +49,7 @@ static CASES: [(&str, &[Step]); 19] = [
         ],
     ),
     (
-        "another number is told too",
+        "another number is answered, too",
         &[
             Step::Run("CREATE TABLE meta (name TEXT, value INTEGER)"),
             Step::Run("INSERT INTO meta VALUES ('schema', 7)"),
@@ -142,7 +142,7 @@ static CASES: [(&str, &[Step]); 19] = [
         ],
     ),
     (
-        "a member goes from his teams",
+        "a member who leaves is in no team",
         &[
             Step::Create(Ok(())),
             Step::Run("INSERT INTO users VALUES ('ann'), ('bob')"),

@@ -6,7 +6,7 @@ ghost use Rattle.registry_tables.specs.Effects.{InForm};
 use super::text::{done, grants_text, names_text};
 use registry_names::{Fault, Name, Stop};
 use registry_rows::write;
-use registry_tables::{load_grants, load_team_users, load_user_teams};
+use registry_tables::{load_grants, load_team_users};
 use sqlite::{Alter, Transaction, params};
 use std::alloc::Global;
 
@@ -27,8 +27,6 @@ pub enum TeamCall {
     Grant(&'static str, &'static str, i64),
     /// The users in a team.
     Users(&'static str, &'static str),
-    /// The teams that a user is in.
-    Teams(&'static str, &'static str),
     /// What their teams are granted on the package.
     Grants(&'static str, &'static str),
 }
@@ -46,7 +44,6 @@ pub fn told<S: Alter>(
 {
     match call {
         TeamCall::Users(organisation, team) => users(alloc, tx, organisation, team),
-        TeamCall::Teams(organisation, user) => teams(alloc, tx, organisation, user),
         TeamCall::Grants(organisation, user) => grants(alloc, tx, organisation, user, name),
         _ => {
             put(tx, name, call)?;
@@ -94,20 +91,6 @@ fn users<S: Alter>(
 {
     let users = load_team_users(alloc, tx, organisation, team)?;
     names_text(alloc, &users)
-}
-
-fn teams<S: Alter>(
-    alloc: Global,
-    tx: &mut Transaction<'_, S>,
-    organisation: &str,
-    user: &str,
-) -> Result<String, Stop>
-    requires in_form { InForm S.Store tx.old }
-    ensures same_reference { tx.new.conn.ghost_name ≡ tx.old.conn.ghost_name }
-    ensures in_form { OnOk result (InForm S.Store tx.new) }
-{
-    let teams = load_user_teams(alloc, tx, organisation, user)?;
-    names_text(alloc, &teams)
 }
 
 fn grants<S: Alter>(

@@ -1,4 +1,5 @@
-use Rattle.registry_hidden.proofs.UnheardFacts.{replies_are_alike, rests_are_alike}
+use Rattle.registry_hidden.proofs.LeftFacts.{rests_are_alike}
+use Rattle.registry_hidden.proofs.UnheardFacts.{replies_are_alike}
 use Rattle.registry_hidden.proofs.laws.unread_packages_are_unheard_of.Goals as goal
 
 pub returns-clause-replies : goal.returns-clause-replies

@@ -1,5 +1,6 @@
-use Rattle.registry_http.proofs.UnseenFacts.{runs-answered_alike}
+use Rattle.sqlite.specs.Held.{state}
+use Rattle.registry_http.proofs.UnseenFacts.{strangers-answered_the_same}
 use Rattle.registry_http.proofs.laws.unread_packages_change_no_byte.Goals as goal
 
 pub returns : goal.returns
-returns c = runs-answered_alike
+returns g c = strangers-answered_the_same (state g.S.Store)

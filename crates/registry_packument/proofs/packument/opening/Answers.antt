@@ -7,9 +7,9 @@ use Rattle.registry_packument.proofs.packument.opening.Goals as goal
 
 pub returns : goal.returns
 returns c =
-    let id = rw c.as_str-name.ensures.text at c.in_ok-push_text_member.ensures in
-    let tags = rw (c.deref.ensures.value, tags_written c.args.head.now.tags.items) at c.in_ok-push_object.ensures in
-    let name = rw c.as_str-name.ensures.text at c.in_ok-push_text_member-2.ensures in
+    let id = rw c.name-name.ensures at c.in_ok-push_text_member.ensures in
+    let tags = rw (c.tags.ensures.value, tags_written c.args.head.now.tags) at c.in_ok-push_object.ensures in
+    let name = rw c.name-name.ensures at c.in_ok-push_text_member-2.ensures in
     assembled _ _ _ _ _ _ _ _ (quoted (codes "_id")) (quoted (codes "dist-tags")) (quoted (codes "name")) (quoted (codes "versions"))
-    (quoted c.args.head.now.name) (object_text (map tag_pair c.args.head.now.tags.items))
+    (quoted c.args.head.now.name) (object_text (map tag_pair c.args.head.now.tags))
     c.new-out.ensures.bytes c.in_ok-push_str.ensures.bytes id c.in_ok-push_key.ensures tags name c.in_ok-push_key-2.ensures c.in_ok-push_str-2.ensures.bytes

@@ -8,6 +8,7 @@ returns-in-Bad-clause-turns g c = record {
   cause = bad_input c.in-Bad.refusal;
   got = c.in-Bad.ensures.takes.got;
   gave = c.in-Bad.ensures.takes.gave;
+  lean = c.in-Bad.ensures.takes.lean;
   took = c.in-Bad.ensures.takes.took;
   turns = record {
     outcome = c.turn_away.ensures.outcome;

@@ -1,4 +1,4 @@
-use Rattle.std.proofs.Common.{refl, lit≤, arith, ◌∙◌}
+use Rattle.std.proofs.Common.{refl, arith, ◌∙◌}
 use Rattle.registry_wire.proofs.InboxFacts.{counts-none}
 use Rattle.registry_service.proofs.CountFacts.{counts-append, fails-append, fails-none}
 use Rattle.registry_service.proofs.CourseFacts.{break-on, end-on, ended-unread, go-on, going-first, rest-on, within}

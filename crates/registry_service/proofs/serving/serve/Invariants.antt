@@ -1,5 +1,4 @@
-use Rattle.std.proofs.Common.{◌≡◌, ◌-◌, ◌<◌, length, true}
-use Rattle.registry_names.specs.ByteStreams.{Writes}
+use Rattle.std.proofs.Common.{◌≡◌, ◌-◌, ◌<◌}
 use Rattle.registry_wire.specs.Reading.{CountsInterrupted}
 use Rattle.registry_service.specs.Courses.{side}
 use Rattle.registry_service.proofs.CourseFacts.{Going}

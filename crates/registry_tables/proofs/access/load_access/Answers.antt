@@ -8,10 +8,10 @@ use Rattle.registry_tables.specs.Effects.{shown}
 use Rattle.registry_tables.proofs.EffectFacts.{reads_as_before}
 use Rattle.registry_tables.proofs.access.load_access.Goals as goal
 
-pub returns-clause-tells : goal.returns-clause-tells
-returns-clause-tells g c clean =
+pub returns-clause-loads : goal.returns-clause-loads
+returns-clause-loads g c clean =
     let were : HasCleanDisk (shown g.S.Store c.organisation_rows.new.tx) = omega (arith, c.member_rows.ensures.stays.survives.clean, clean) in
-    let there = c.in_ok-organisations.ensures.tells were in
+    let there = c.in_ok-organisations.ensures.loads were in
     let known = c.in_ok-members.ensures.knows clean in
     let rows : AccessRows = record {
       organisations = c.in_ok-organisations.organisations;

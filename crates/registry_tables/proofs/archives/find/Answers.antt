@@ -12,5 +12,5 @@ returns g c =
     let it = archive_listed c.args.integrity.now c.args.bytes.now (shown g.S.Store c.args.tx.now) (shown g.S.Store c.read.new.tx) _ c.requires.in_form call in
     record {
       stays = read_stays g.S.Store _ _ _ c.args.tx.now c.read.new.tx _ c.in_ok-rows.ensures.same_reference call (λ clean. (it clean).0);
-      tells = λ clean. IfOk-weaker c.first_with.result _ _ (λ _ e. ((it clean).0, e ∙ ap (λ rows. number_among c.args.bytes.now (map archive_spelled rows)) c.deref.ensures.value ∙ (it clean).1)) c.first_with.ensures;
+      loads = λ clean. IfOk-weaker c.first_with.result _ _ (λ _ e. ((it clean).0, e ∙ ap (λ rows. number_among c.args.bytes.now (map archive_spelled rows)) c.deref.ensures.value ∙ (it clean).1)) c.first_with.ensures;
     }

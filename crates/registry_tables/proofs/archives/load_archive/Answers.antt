@@ -11,14 +11,14 @@ use Rattle.registry_tables.proofs.ReferenceFacts.{version_there}
 use Rattle.registry_tables.proofs.LiveFacts.{archive_of_held}
 use Rattle.registry_tables.proofs.archives.load_archive.Goals as goal
 
-pub returns-in-Some-clause-tells : goal.returns-in-Some-clause-tells
-returns-in-Some-clause-tells g c clean =
+pub returns-in-Some-clause-loads : goal.returns-in-Some-clause-loads
+returns-in-Some-clause-loads g c clean =
     let old = shown g.S.Store c.args.tx.now in
     let mid = shown g.S.Store c.held_archive.new.tx in
     let were : HasCleanDisk mid = omega (arith, c.load_bytes.ensures.stays.survives.clean, clean) in
-    let first = c.in_ok-number.ensures.tells were in
+    let first = c.in_ok-number.ensures.loads were in
     let fits : SFits w64 c.in-Some.number = search rules in
-    let second = rw (to_z-of_z w64 c.in-Some.number fits) at c.in_ok-load_bytes.ensures.tells clean in
+    let second = rw (to_z-of_z w64 c.in-Some.number fits) at c.in_ok-load_bytes.ensures.loads clean in
     let ready = c.requires.in_form (omega (arith, c.held_archive.ensures.stays.survives.clean, were)) first.0.was_open in
     let held = sym first.1 ∙ c.in-Some.is in (
       reads_then schema old mid (shown g.S.Store c.load_bytes.new.tx) first.0 second.0,

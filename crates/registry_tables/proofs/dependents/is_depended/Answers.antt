@@ -6,9 +6,9 @@ use Rattle.registry_tables.specs.Effects.{stored_in}
 use Rattle.registry_tables.proofs.DependentFacts.{ranges_tell}
 use Rattle.registry_tables.proofs.dependents.is_depended.Goals as goal
 
-pub returns-clause-tells : goal.returns-clause-tells
-returns-clause-tells g c clean =
-    let it = c.in_ok-texts.ensures.tells clean in
+pub returns-clause-loads : goal.returns-clause-loads
+returns-clause-loads g c clean =
+    let it = c.in_ok-texts.ensures.loads clean in
     IfOk-weaker c.any_binds.result _ _ (λ _ e. (
       it.0,
       λ holds. e ∙ ap (list_any (λ text. binds text c.args.version.now)) (c.deref.ensures.value ∙ it.1)

@@ -2,7 +2,7 @@ use Rattle.std.proofs.Common.{SFits, w64, rules}
 use Rattle.std.proofs.lemmas.Int.{to_z-of_z}
 use Rattle.registry_rows.proofs.QuietFacts.{on_answer}
 use Rattle.registry_tables.specs.Effects.{shown}
-use Rattle.registry_tables.proofs.GrantFacts.{grant_put}
+use Rattle.registry_tables.proofs.GrantFacts.{grant_put, grant_was_new}
 use Rattle.registry_tables.proofs.grants.insert_grant.Goals as goal
 
 pub returns-clause-makes : goal.returns-clause-makes
@@ -10,4 +10,11 @@ returns-clause-makes g c clean =
     let fits : SFits w64 c.number_of.result = search rules in
     on_answer c.write.result
     (λ wrote. grant_put c.args.organisation.now c.args.team.now c.args.name.now c.args.grant (shown g.S.Store c.args.tx.now) (shown g.S.Store c.write.new.tx) c.requires.in_form wrote clean)
+    (rw (c.params-to_sql.ensures, c.params-to_sql-2.ensures, c.params-to_sql-3.ensures, c.params-to_sql-4.ensures, to_z-of_z w64 c.number_of.result fits, c.number_of.ensures) at c.write.ensures.wrote)
+
+pub returns-clause-was_new : goal.returns-clause-was_new
+returns-clause-was_new g c clean =
+    let fits : SFits w64 c.number_of.result = search rules in
+    on_answer c.write.result
+    (λ wrote. grant_was_new c.args.organisation.now c.args.team.now c.args.name.now c.args.grant (shown g.S.Store c.args.tx.now) (shown g.S.Store c.write.new.tx) c.requires.in_form wrote clean)
     (rw (c.params-to_sql.ensures, c.params-to_sql-2.ensures, c.params-to_sql-3.ensures, c.params-to_sql-4.ensures, to_z-of_z w64 c.number_of.result fits, c.number_of.ensures) at c.write.ensures.wrote)

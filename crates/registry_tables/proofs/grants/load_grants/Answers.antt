@@ -14,5 +14,5 @@ returns g c =
     let granted = AreGranted (stored_in g.S.Store c.args.tx.now) c.args.organisation.now c.args.user.now c.args.name.now in
     record {
       stays = read_stays g.S.Store _ _ _ c.args.tx.now c.read.new.tx _ c.in_ok-rows.ensures.same_reference call (λ clean. (it clean).0);
-      tells = λ clean. IfOk-weaker c.values_of_rows.result _ _ (λ grants e. ((it clean).0, subst granted (sym (sym (map-id grants.items) ∙ e ∙ ap (map grant_spelled) c.deref.ensures.value)) (it clean).1)) c.values_of_rows.ensures;
+      loads = λ clean. IfOk-weaker c.values_of_rows.result _ _ (λ grants e. ((it clean).0, subst granted (sym (sym (map-id grants.items) ∙ e ∙ ap (map grant_spelled) c.deref.ensures.value)) (it clean).1)) c.values_of_rows.ensures;
     }

@@ -12,5 +12,5 @@ returns g c =
     let it = maintainers_listed c.args.name.now (shown g.S.Store c.args.tx.now) (shown g.S.Store c.read.new.tx) _ c.requires.in_form call in
     record {
       stays = read_stays g.S.Store _ _ _ c.args.tx.now c.read.new.tx _ c.in_ok-rows.ensures.same_reference call (λ clean. (it clean).0);
-      tells = λ clean. IfOk-weaker c.texts_in.result _ _ (λ _ e. ((it clean).0, e ∙ ap (map text_spelled) c.deref.ensures.value ∙ (it clean).1)) c.texts_in.ensures;
+      loads = λ clean. IfOk-weaker c.texts_in.result _ _ (λ _ e. ((it clean).0, e ∙ ap (map text_spelled) c.deref.ensures.value ∙ (it clean).1)) c.texts_in.ensures;
     }

@@ -10,5 +10,5 @@ returns g c =
     let it = need_found c.args.name.now c.args.version.now c.args.need.now (shown g.S.Store c.args.tx.now) (shown g.S.Store c.read.new.tx) _ c.requires.in_form call in
     record {
       stays = read_stays g.S.Store _ _ _ c.args.tx.now c.read.new.tx _ c.in_ok-rows.ensures.same_reference call (λ clean. (it clean).0);
-      tells = λ clean. ((it clean).0, ap not (c.is_empty.ensures ∙ ap (λ n. n == 0) c.in_ok-rows.rows.ok.0) ∙ (it clean).1);
+      loads = λ clean. ((it clean).0, ap not (c.is_empty.ensures ∙ ap (λ n. n == 0) c.in_ok-rows.rows.ok.0) ∙ (it clean).1);
     }

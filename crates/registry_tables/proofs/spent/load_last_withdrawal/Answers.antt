@@ -13,5 +13,5 @@ returns g c =
     let it = last_found c.args.name.now (shown g.S.Store c.args.tx.now) (shown g.S.Store c.read.new.tx) _ c.requires.in_form call in
     record {
       stays = read_stays g.S.Store _ _ _ c.args.tx.now c.read.new.tx _ c.in_ok-rows.ensures.same_reference call (λ clean. (it clean).0);
-      tells = λ clean. IfOk-weaker c.last_moment.result _ _ (λ _ e. ((it clean).0, e ∙ ap (λ rows. last_number (map number_spelled rows)) c.deref.ensures.value ∙ (it clean).1)) c.last_moment.ensures;
+      loads = λ clean. IfOk-weaker c.last_moment.result _ _ (λ _ e. ((it clean).0, e ∙ ap (λ rows. last_number (map number_spelled rows)) c.deref.ensures.value ∙ (it clean).1)) c.last_moment.ensures;
     }

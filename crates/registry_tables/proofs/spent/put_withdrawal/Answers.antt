@@ -2,7 +2,7 @@ use Rattle.std.proofs.Common.{SFits, w64, rules}
 use Rattle.std.proofs.lemmas.Int.{to_z-of_z}
 use Rattle.registry_rows.proofs.QuietFacts.{on_answer}
 use Rattle.registry_tables.specs.Effects.{shown}
-use Rattle.registry_tables.proofs.WithdrawalFacts.{withdrawal_put}
+use Rattle.registry_tables.proofs.WithdrawalFacts.{withdrawal_put, withdrawal_was_new}
 use Rattle.registry_tables.proofs.spent.put_withdrawal.Goals as goal
 
 pub returns-clause-makes : goal.returns-clause-makes
@@ -11,4 +11,12 @@ returns-clause-makes g c clean =
     let second : SFits w64 c.seconds-2.result = search rules in
     on_answer c.write.result
     (λ wrote. withdrawal_put c.args.name.now c.args.version.now c.args.published c.args.withdrawn (shown g.S.Store c.args.tx.now) (shown g.S.Store c.write.new.tx) c.requires.in_form wrote clean)
+    (rw (c.params-to_sql.ensures, c.params-to_sql-2.ensures, c.params-to_sql-3.ensures, c.params-to_sql-4.ensures, to_z-of_z w64 c.seconds.result first, c.seconds.ensures.seconds, to_z-of_z w64 c.seconds-2.result second, c.seconds-2.ensures.seconds) at c.write.ensures.wrote)
+
+pub returns-clause-was_new : goal.returns-clause-was_new
+returns-clause-was_new g c clean =
+    let first : SFits w64 c.seconds.result = search rules in
+    let second : SFits w64 c.seconds-2.result = search rules in
+    on_answer c.write.result
+    (λ wrote. withdrawal_was_new c.args.name.now c.args.version.now c.args.published c.args.withdrawn (shown g.S.Store c.args.tx.now) (shown g.S.Store c.write.new.tx) c.requires.in_form wrote clean)
     (rw (c.params-to_sql.ensures, c.params-to_sql-2.ensures, c.params-to_sql-3.ensures, c.params-to_sql-4.ensures, to_z-of_z w64 c.seconds.result first, c.seconds.ensures.seconds, to_z-of_z w64 c.seconds-2.result second, c.seconds-2.ensures.seconds) at c.write.ensures.wrote)

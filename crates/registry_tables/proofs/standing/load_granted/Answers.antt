@@ -3,7 +3,7 @@ use Rattle.std.proofs.lemmas.Result.{IfOk-weaker}
 use Rattle.registry_access.specs.declared.caller.Caller.{Caller}
 use Rattle.registry_access.specs.declared.caller.Caller.TheVariants.{User}
 use Rattle.registry_tables.specs.Effects.{shown, stored_in}
-use Rattle.registry_tables.specs.Teams.{AreHis}
+use Rattle.registry_tables.specs.Teams.{AreGrantedTo}
 use Rattle.registry_tables.proofs.EffectFacts.{as_it_was, reads_nothing_new}
 use Rattle.registry_tables.proofs.StandingFacts.{members_grants, no_grants}
 use Rattle.registry_tables.proofs.standing.load_granted.Goals as goal
@@ -15,15 +15,15 @@ returns-in-User-Some-Developer-Some-clause-knows g c clean =
     let stored = stored_in g.S.Store c.args.tx.now in
     IfOk-weaker c.load_grants.result _ _ (λ grants it. (
       reads_nothing_new (shown g.S.Store c.args.tx.now) (shown g.S.Store c.load_grants.new.tx) it.0,
-      subst (λ (who : Caller). AreHis stored who c.args.name.now c.args.role grants.items) (ap User c.text.ensures.text ∙ sym at.is-0)
+      subst (λ (who : Caller). AreGrantedTo stored who c.args.name.now c.args.role grants.items) (ap User c.text.ensures.text ∙ sym at.is-0)
           (members_grants stored at.organisation.now c.text.result.now c.args.name.now c.args.role grants.items (sym at.ensures.scope) it.1),
-    )) (c.load_grants.ensures.tells clean)
+    )) (c.load_grants.ensures.loads clean)
 
 pub returns-in_default-clause-knows : goal.returns-in_default-clause-knows
 returns-in_default-clause-knows g c clean =
     let stored = stored_in g.S.Store c.args.tx.now in (
       as_it_was (shown g.S.Store c.args.tx.now),
-      subst (AreHis stored c.args.caller.now c.args.name.now c.args.role) (sym c.new.ensures.items)
+      subst (AreGrantedTo stored c.args.caller.now c.args.name.now c.args.role) (sym c.new.ensures.items)
           (no_grants stored c.args.caller.now c.args.name.now c.args.role (λ u is_user is_developer. elim c.in_default.branch [
             | in_default-via-in-User+in-Some+in-Developer+in_default w ↦ sym w.in_default.ensures.scope
             | in_default-via-in-User+in-Some+in_default w ↦ search rules

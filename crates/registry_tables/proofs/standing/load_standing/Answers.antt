@@ -12,13 +12,13 @@ use Rattle.registry_tables.proofs.EffectFacts.{reads_as_before}
 use Rattle.registry_tables.proofs.StandingFacts.{grants_before}
 use Rattle.registry_tables.proofs.standing.load_standing.Goals as goal
 
-pub returns-clause-tells : goal.returns-clause-tells
-returns-clause-tells g c clean =
+pub returns-clause-loads : goal.returns-clause-loads
+returns-clause-loads g c clean =
     let at_maintainer : HasCleanDisk (shown g.S.Store c.maintains.new.tx) = omega (arith, c.load_granted.ensures.stays.survives.clean, clean) in
     let at_role : HasCleanDisk (shown g.S.Store c.load_scope_role.new.tx) = omega (arith, c.maintains.ensures.stays.survives.clean, at_maintainer) in
     let at_organisation : HasCleanDisk (shown g.S.Store c.has_scope.new.tx) = omega (arith, c.load_scope_role.ensures.stays.survives.clean, at_role) in
     let at_status : HasCleanDisk (shown g.S.Store c.load_status.new.tx) = omega (arith, c.has_scope.ensures.stays.survives.clean, at_organisation) in
-    let status = c.in_ok-status.ensures.tells at_status in
+    let status = c.in_ok-status.ensures.loads at_status in
     let organisation = c.in_ok-organisation.ensures.knows at_organisation in
     let role = c.in_ok-role.ensures.knows at_role in
     let maintainer = c.in_ok-maintainer.ensures.knows at_maintainer in
@@ -45,7 +45,7 @@ pub load_scope_role-requires : goal.load_scope_role-requires
 load_scope_role-requires g c = record {
   in_form = λ clean _.
       let at_status : HasCleanDisk (shown g.S.Store c.load_status.new.tx) = omega (arith, c.has_scope.ensures.stays.survives.clean, clean) in
-      (c.in_ok-organisation.ensures.knows clean).0.ready (c.in_ok-status.ensures.tells at_status).0.ready;
+      (c.in_ok-organisation.ensures.knows clean).0.ready (c.in_ok-status.ensures.loads at_status).0.ready;
 }
 
 pub maintains-requires : goal.maintains-requires
@@ -53,7 +53,7 @@ maintains-requires g c = record {
   in_form = λ clean _.
       let at_organisation : HasCleanDisk (shown g.S.Store c.has_scope.new.tx) = omega (arith, c.load_scope_role.ensures.stays.survives.clean, clean) in
       let at_status : HasCleanDisk (shown g.S.Store c.load_status.new.tx) = omega (arith, c.has_scope.ensures.stays.survives.clean, at_organisation) in
-      (c.in_ok-role.ensures.knows clean).0.ready ((c.in_ok-organisation.ensures.knows at_organisation).0.ready (c.in_ok-status.ensures.tells at_status).0.ready);
+      (c.in_ok-role.ensures.knows clean).0.ready ((c.in_ok-organisation.ensures.knows at_organisation).0.ready (c.in_ok-status.ensures.loads at_status).0.ready);
 }
 
 pub load_granted-requires : goal.load_granted-requires
@@ -62,5 +62,5 @@ load_granted-requires g c = record {
       let at_role : HasCleanDisk (shown g.S.Store c.load_scope_role.new.tx) = omega (arith, c.maintains.ensures.stays.survives.clean, clean) in
       let at_organisation : HasCleanDisk (shown g.S.Store c.has_scope.new.tx) = omega (arith, c.load_scope_role.ensures.stays.survives.clean, at_role) in
       let at_status : HasCleanDisk (shown g.S.Store c.load_status.new.tx) = omega (arith, c.has_scope.ensures.stays.survives.clean, at_organisation) in
-      (c.in_ok-maintainer.ensures.knows clean).0.ready ((c.in_ok-role.ensures.knows at_role).0.ready ((c.in_ok-organisation.ensures.knows at_organisation).0.ready (c.in_ok-status.ensures.tells at_status).0.ready));
+      (c.in_ok-maintainer.ensures.knows clean).0.ready ((c.in_ok-role.ensures.knows at_role).0.ready ((c.in_ok-organisation.ensures.knows at_organisation).0.ready (c.in_ok-status.ensures.loads at_status).0.ready));
 }

@@ -13,5 +13,5 @@ returns g c =
     let it = status_found c.args.name.now (shown g.S.Store c.args.tx.now) (shown g.S.Store c.read.new.tx) _ c.requires.in_form call in
     record {
       stays = read_stays g.S.Store _ _ _ c.args.tx.now c.read.new.tx _ c.in_ok-rows.ensures.same_reference call (λ clean. (it clean).0);
-      tells = λ clean. IfOk-weaker c.value_of_first_row.result _ _ (λ found e. ((it clean).0, sym (option_map_id found) ∙ e ∙ ap (λ rows. option_map status_spelled (slice_get rows 0)) c.deref.ensures.value ∙ (it clean).1)) c.value_of_first_row.ensures;
+      loads = λ clean. IfOk-weaker c.value_of_first_row.result _ _ (λ found e. ((it clean).0, sym (option_map_id found) ∙ e ∙ ap (λ rows. option_map status_spelled (slice_get rows 0)) c.deref.ensures.value ∙ (it clean).1)) c.value_of_first_row.ensures;
     }

@@ -8,10 +8,10 @@ use Rattle.registry_tables.specs.Teams.{AreTeamsSound, granted_entry, readable}
 use Rattle.registry_tables.proofs.EffectFacts.{reads_as_before}
 use Rattle.registry_tables.proofs.team_packages.load_team_packages.Goals as goal
 
-pub returns-clause-tells : goal.returns-clause-tells
-returns-clause-tells g c clean =
+pub returns-clause-loads : goal.returns-clause-loads
+returns-clause-loads g c clean =
     let were : HasCleanDisk (shown g.S.Store c.load_team_grants.new.tx) = omega (arith, c.read_by.ensures.stays.survives.clean, clean) in
-    let first = c.in_ok-granted.ensures.tells were in
+    let first = c.in_ok-granted.ensures.loads were in
     IfOk-weaker c.read_by.result _ _ (λ read it. (
       reads_as_before (shown g.S.Store c.args.tx.now) (shown g.S.Store c.load_team_grants.new.tx) (shown g.S.Store c.read_by.new.tx) first.0 it.0,
       λ sound. it.1 (subst (λ (d : Database). AreTeamsSound (contents d.trees)) (sym first.0.same) sound)

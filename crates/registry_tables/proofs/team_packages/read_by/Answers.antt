@@ -21,11 +21,11 @@ loop-row-preserved-in-Continue-branch-2 g c =
       stays = stays_then g.S.Store c.args.tx.now at.tx c.is_read.new.tx at.invariant.stays c.is_read.ensures.stays;
       kept = λ clean.
           let were : HasCleanDisk (shown g.S.Store at.tx) = omega (arith, c.is_read.ensures.stays.survives.clean, clean) in
-          let it = c.in_ok-is_read.ensures.tells clean in
+          let it = c.in_ok-is_read.ensures.loads clean in
           before_then (shown g.S.Store c.args.tx.now) (shown g.S.Store at.tx) (shown g.S.Store c.is_read.new.tx) (at.invariant.kept were) (reads_nothing_new (shown g.S.Store at.tx) (shown g.S.Store c.is_read.new.tx) it.0);
       told = λ clean sound.
           let were : HasCleanDisk (shown g.S.Store at.tx) = omega (arith, c.is_read.ensures.stays.survives.clean, clean) in
-          let it = c.in_ok-is_read.ensures.tells clean in
+          let it = c.in_ok-is_read.ensures.loads clean in
           let stored = stored_in g.S.Store c.args.tx.now in
           let who = c.args.caller.now in
           let all = into_iter_items c.into_iter-row-iterator.result in

@@ -4,7 +4,9 @@ use Rattle.registry_cache.specs.Caches.{AreRight, Cache}
 use Rattle.registry_cache.proofs.RightFacts.{new_right}
 use Rattle.registry_tables.specs.Archives.{HoldsArchives}
 use Rattle.registry_tables.specs.Contents.{registry_of}
+use Rattle.registry_tables.specs.Fresh.{fresh}
 use Rattle.registry_tables.specs.Needs.{HoldsNeeds}
+use Rattle.registry_tables.specs.Teams.{GrantsInScope}
 use Rattle.registry_rules.specs.Kept.{IsKept, IsSound}
 use Rattle.registry_rules.specs.State.{State}
 use Rattle.registry_rules.proofs.KeptFacts.{nothing_kept}
@@ -12,6 +14,7 @@ use Rattle.registry_rules.proofs.SoundSteps.{nothing_sound}
 use Rattle.registry_tables.proofs.LiveFacts.{fresh_is_nothing}
 use Rattle.registry_tables.proofs.HeldNeedFacts.{fresh_holds}
 use Rattle.registry_tables.proofs.KeptArchiveFacts.{fresh_archives}
+use Rattle.registry_tables.proofs.TeamFacts.{sound_teams}
 use Rattle.registry_desk.proofs.registry.Registry+MemStore.in_memory.Goals as goal
 
 pub invariant_of-result : goal.invariant_of-result
@@ -24,8 +27,14 @@ invariant_of-result c = record {
 pub returns-clause-fresh : goal.returns-clause-fresh
 returns-clause-fresh c = c.in_ok-create_tables.ensures.made (memory_is_clean c.create_tables.new.conn)
 
-pub returns-clause-needs : goal.returns-clause-needs
-returns-clause-needs c = subst HoldsNeeds (sym (c.in_ok-create_tables.ensures.made (memory_is_clean c.create_tables.new.conn))) fresh_holds
+-- nobody is granted anything
+pub returns-clause-sound : goal.returns-clause-sound
+returns-clause-sound c =
+    let made = c.in_ok-create_tables.ensures.made (memory_is_clean c.create_tables.new.conn) in
+    record {
+      grants = subst GrantsInScope (sym made) (sound_teams fresh (subst (λ (S : State). IsSound S.access) (sym fresh_is_nothing) nothing_sound)).grants;
+      needs = subst HoldsNeeds (sym made) fresh_holds;
+    }
 
 pub returns-clause-archives : goal.returns-clause-archives
 returns-clause-archives c = subst HoldsArchives (sym (c.in_ok-create_tables.ensures.made (memory_is_clean c.create_tables.new.conn))) fresh_archives
@@ -33,8 +42,8 @@ returns-clause-archives c = subst HoldsArchives (sym (c.in_ok-create_tables.ensu
 pub returns-clause-empty : goal.returns-clause-empty
 returns-clause-empty c = ap registry_of (c.in_ok-create_tables.ensures.made (memory_is_clean c.create_tables.new.conn)) ∙ fresh_is_nothing
 
-pub returns-clause-sound : goal.returns-clause-sound
-returns-clause-sound c = subst (λ (S : State). IsSound S.access) (sym (ap registry_of (c.in_ok-create_tables.ensures.made (memory_is_clean c.create_tables.new.conn)) ∙ fresh_is_nothing)) nothing_sound
+pub returns-clause-refers : goal.returns-clause-refers
+returns-clause-refers c = subst (λ (S : State). IsSound S.access) (sym (ap registry_of (c.in_ok-create_tables.ensures.made (memory_is_clean c.create_tables.new.conn)) ∙ fresh_is_nothing)) nothing_sound
 
 pub returns-clause-form : goal.returns-clause-form
 returns-clause-form c = subst IsKept (sym (ap registry_of (c.in_ok-create_tables.ensures.made (memory_is_clean c.create_tables.new.conn)) ∙ fresh_is_nothing)) nothing_kept

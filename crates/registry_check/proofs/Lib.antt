@@ -1,0 +1,6 @@
+mod EachFacts
+mod LoadFacts
+mod PremiseFacts
+mod QueryFacts
+mod ScopeFacts
+mod SearchFacts

@@ -1,0 +1,22 @@
+use Rattle.std.proofs.Common.{arith}
+use Rattle.sqlite.specs.State.{State as Shown, HasCleanDisk}
+use Rattle.registry_tables.specs.Effects.{shown, stored_in}
+use Rattle.registry_check.specs.Loaded.{AreGroups, ArePackages, AreVersions}
+use Rattle.registry_check.proofs.LoadFacts.{all_tables, then_told}
+use Rattle.registry_check.proofs.loads.load_tables.Goals as goal
+
+pub returns-clause-loads : goal.returns-clause-loads
+returns-clause-loads g c clean =
+    let s0 : Shown = shown g.S.Store c.args.tx.now in
+    let s1 : Shown = shown g.S.Store c.load_accounts.new.tx in
+    let s2 : Shown = shown g.S.Store c.load_groups.new.tx in
+    let s3 : Shown = shown g.S.Store c.load_packages.new.tx in
+    let s4 : Shown = shown g.S.Store c.load_versions.new.tx in
+    let w3 : HasCleanDisk s3 = omega (arith, c.load_versions.ensures.stays.survives.clean, clean) in
+    let w2 : HasCleanDisk s2 = omega (arith, c.load_packages.ensures.stays.survives.clean, w3) in
+    let w1 : HasCleanDisk s1 = omega (arith, c.load_groups.ensures.stays.survives.clean, w2) in
+    let r1 = c.in_ok-accounts.ensures.loads w1 in
+    let r2 = then_told s0 s1 s2 (AreGroups c.in_ok-groups.groups) r1.0 (c.in_ok-groups.ensures.loads w2) in
+    let r3 = then_told s0 s2 s3 (ArePackages c.in_ok-packages.packages) r2.0 (c.in_ok-packages.ensures.loads w3) in
+    let r4 = then_told s0 s3 s4 (AreVersions c.in_ok-versions.versions) r3.0 (c.in_ok-versions.ensures.loads clean) in
+    (r4.0, all_tables c.in_ok-accounts.accounts c.in_ok-groups.groups c.in_ok-packages.packages c.in_ok-versions.versions (stored_in g.S.Store c.args.tx.now) r1.1 r2.1 r3.1 r4.1)

@@ -1,0 +1,37 @@
+-- When loaded rows are those of all that is stored.
+use Rattle.std.specs.Prelude.{◌≡◌, map}
+use Rattle.registry_access.specs.RowMaps.{grant_entry, maintainer_entry, member_entry, organisation_entry, package_entry, team_entry, team_member_entry}
+use Rattle.registry_names.specs.Maps.{entries}
+use Rattle.registry_tables.specs.Contents.{Contents}
+use Rattle.registry_check.specs.Premises.{rows_in}
+use Rattle.registry_check.specs.Rows.{archive_entry, held_entry, live_entry, need_entry, rows_of, token_entry, user_entry}
+use Rattle.registry_check.specs.declared.tables.Accounts.{Accounts}
+use Rattle.registry_check.specs.declared.tables.Groups.{Groups}
+use Rattle.registry_check.specs.declared.tables.Packages.{Packages}
+use Rattle.registry_check.specs.declared.tables.Tables.{Tables}
+use Rattle.registry_check.specs.declared.tables.Versions.{Versions}
+
+pub record AreAccounts (accounts : Accounts) (c : Contents) : Type 0 where
+  pub users : map user_entry accounts.users.items ≡ entries c.users
+  pub tokens : map token_entry accounts.tokens.items ≡ entries c.tokens
+  pub organisations : map organisation_entry accounts.organisations.items ≡ entries c.organisations
+
+pub record AreGroups (groups : Groups) (c : Contents) : Type 0 where
+  pub members : map member_entry groups.members.items ≡ entries c.members
+  pub teams : map team_entry groups.teams.items ≡ entries c.teams
+  pub team_members : map team_member_entry groups.team_members.items ≡ entries c.team_members
+
+pub record ArePackages (packages : Packages) (c : Contents) : Type 0 where
+  pub published : map package_entry packages.published.items ≡ entries c.packages
+  pub grants : map grant_entry packages.grants.items ≡ entries c.grants
+  pub maintainers : map maintainer_entry packages.maintainers.items ≡ entries c.owners
+
+pub record AreVersions (versions : Versions) (c : Contents) : Type 0 where
+  pub live : map live_entry versions.live.items ≡ entries c.versions
+  pub needs : map need_entry versions.needs.items ≡ entries c.need_ranges
+  pub held : map held_entry versions.held.items ≡ entries c.held
+  pub archives : map archive_entry versions.archives.items ≡ entries c.archives
+
+-- all of them
+abbrev pub AreTables : Tables → Contents → Type 0
+AreTables tables c = rows_of tables ≡ rows_in c

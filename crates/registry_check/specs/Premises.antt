@@ -1,0 +1,50 @@
+-- What requests suppose of all that is stored, and the rows that say it.
+use Rattle.std.specs.Prelude.{◌≡◌, List, []}
+use Rattle.registry_names.specs.Maps.{entries}
+use Rattle.registry_rules.specs.Kept.{IsSound}
+use Rattle.registry_tables.specs.Archives.{HoldsArchives}
+use Rattle.registry_tables.specs.Contents.{Contents, access_of}
+use Rattle.registry_tables.specs.Needs.{HoldsNeeds}
+use Rattle.registry_tables.specs.Teams.{GrantsInScope}
+use Rattle.registry_check.specs.Problems.{problems}
+use Rattle.registry_check.specs.Rows.{Rows}
+use Rattle.registry_check.specs.declared.problem.Problem.{Problem}
+
+-- the rows of all that is stored, in the order of their keys
+abbrev pub rows_in : Contents → Rows
+rows_in c = record {
+  users = entries c.users;
+  tokens = entries c.tokens;
+  organisations = entries c.organisations;
+  members = entries c.members;
+  teams = entries c.teams;
+  team_members = entries c.team_members;
+  packages = entries c.packages;
+  grants = entries c.grants;
+  maintainers = entries c.owners;
+  live = entries c.versions;
+  needs = entries c.need_ranges;
+  held = entries c.held;
+  archives = entries c.archives;
+}
+
+-- References hold, and what each organisation and each package needs is there; each grant is on a
+-- package of its organisation's scope; the needs and the archives that are stored are those of live
+-- versions.
+pub record MeetsPremises (c : Contents) : Type 0 where
+  pub references : IsSound (access_of c)
+  pub grants : GrantsInScope c
+  pub needs : HoldsNeeds c
+  pub archives : HoldsArchives c
+
+-- these are the problems of all that is stored
+abbrev pub AreProblems : List Problem → Contents → Type 0
+AreProblems found c = found ≡ problems (rows_in c)
+
+-- there is none exactly where the premises hold
+abbrev pub TellsPremises : List Problem → Contents → Type 0
+TellsPremises found c = (found ≡ [] → MeetsPremises c) × (MeetsPremises c → found ≡ [])
+
+-- the law of all contents
+abbrev pub NoneMeansPremises : Type 0
+NoneMeansPremises = (c : Contents) → TellsPremises (problems (rows_in c)) c

@@ -1,0 +1,109 @@
+-- What breaks a rule: of each row, each rule that is tried on it and doesn't hold.
+use Rattle.std.specs.Prelude.{ℤ, List, [], ◌∷◌, ◌++◌, if◌then◌else◌}
+use Rattle.std.specs.List.{flat_map}
+use Rattle.registry_names.specs.Keys.{Pair, Triple}
+use Rattle.registry_names.specs.Texts.{Text}
+use Rattle.registry_names.specs.declared.status.Status.{Status}
+use Rattle.registry_access.specs.declared.grant.Grant.{Grant}
+use Rattle.registry_access.specs.declared.role.Role.{Role}
+use Rattle.registry_rules.specs.State.{Release}
+use Rattle.registry_tables.specs.Contents.{Archive}
+use Rattle.registry_check.specs.Rows.{NeedKey, Rows}
+use Rattle.registry_check.specs.Rules.{token_tests, organisation_tests, member_tests, team_tests, team_member_tests, package_tests, grant_tests, maintainer_tests, live_tests, need_tests, held_tests, archive_tests}
+use Rattle.registry_check.specs.declared.problem.Problem.{Problem}
+use Rattle.registry_check.specs.declared.problem.Test.{Test}
+use Rattle.registry_check.specs.declared.problem.Thing.{Thing}
+use Rattle.registry_check.specs.declared.problem.Thing.TheVariants as thing
+
+-- the rule, where it doesn't hold
+abbrev pub fault_of : Thing → Test → List Problem
+fault_of thing t = if t.holds then [] else record { rule = t.rule; thing = thing } ∷ []
+
+-- the rules that do not hold of a thing
+abbrev pub broken : Thing → List Test → List Problem
+broken thing tests = flat_map (fault_of thing) tests
+
+-- each row's problems, one row after another
+abbrev pub problems_of : {E : Type 0} → (E → Thing) → (E → List Test) → List E → List Problem
+problems_of thing tests rows = flat_map (λ e. broken (thing e) (tests e)) rows
+
+-- ---- what each row is about
+
+abbrev pub token : Text × Text → Thing
+token e = thing.Token e.0
+
+abbrev pub organisation : Text × Unit {0} → Thing
+organisation e = thing.Organisation e.0
+
+abbrev pub member : Pair × Role → Thing
+member e = thing.Member e.0.0 e.0.1
+
+abbrev pub team : Pair × Unit {0} → Thing
+team e = thing.Team e.0.0 e.0.1
+
+abbrev pub team_member : Triple × Unit {0} → Thing
+team_member e = thing.TeamMember e.0.0 e.0.1.0 e.0.1.1
+
+abbrev pub package_of : Text × Status → Thing
+package_of e = thing.Package e.0
+
+abbrev pub grant : Triple × Grant → Thing
+grant e = thing.Grant e.0.0 e.0.1.0 e.0.1.1
+
+abbrev pub maintainer : Pair × Unit {0} → Thing
+maintainer e = thing.Maintainer e.0.0 e.0.1
+
+abbrev pub version : Pair × Release → Thing
+version e = thing.Version e.0.0 e.0.1
+
+abbrev pub need : NeedKey × Unit {0} → Thing
+need e = thing.Need e.0.0 e.0.1.0 e.0.1.1.0 e.0.1.1.1
+
+abbrev pub held : Pair × ℤ → Thing
+held e = thing.Held e.0.0 e.0.1
+
+abbrev pub archive : ℤ × Archive → Thing
+archive e = thing.Archive e.0
+
+-- ---- the problems of each table
+
+abbrev pub token_problems : Rows → List Problem
+token_problems R = problems_of token (token_tests R) R.tokens
+
+abbrev pub organisation_problems : Rows → List Problem
+organisation_problems R = problems_of organisation (organisation_tests R) R.organisations
+
+abbrev pub member_problems : Rows → List Problem
+member_problems R = problems_of member (member_tests R) R.members
+
+abbrev pub team_problems : Rows → List Problem
+team_problems R = problems_of team (team_tests R) R.teams
+
+abbrev pub team_member_problems : Rows → List Problem
+team_member_problems R = problems_of team_member (team_member_tests R) R.team_members
+
+abbrev pub published_problems : Rows → List Problem
+published_problems R = problems_of package_of (package_tests R) R.packages
+
+abbrev pub grant_problems : Rows → List Problem
+grant_problems R = problems_of grant (grant_tests R) R.grants
+
+abbrev pub maintainer_problems : Rows → List Problem
+maintainer_problems R = problems_of maintainer (maintainer_tests R) R.maintainers
+
+abbrev pub live_problems : Rows → List Problem
+live_problems R = problems_of version (live_tests R) R.live
+
+abbrev pub need_problems : Rows → List Problem
+need_problems R = problems_of need (need_tests R) R.needs
+
+abbrev pub held_problems : Rows → List Problem
+held_problems R = problems_of held (held_tests R) R.held
+
+abbrev pub archive_problems : Rows → List Problem
+archive_problems R = problems_of archive (archive_tests R) R.archives
+
+-- of all of them
+abbrev pub problems : Rows → List Problem
+problems R = token_problems R ++ organisation_problems R ++ member_problems R ++ team_problems R ++ team_member_problems R
+    ++ published_problems R ++ grant_problems R ++ maintainer_problems R ++ live_problems R ++ need_problems R ++ held_problems R ++ archive_problems R

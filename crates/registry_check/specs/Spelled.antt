@@ -1,0 +1,45 @@
+-- What a row of each table spells, column by column: its key and its value.
+use Rattle.std.specs.Prelude.{ℤ}
+use Rattle.sqlite_value.specs.Order.{Row, column}
+use Rattle.registry_names.specs.Keys.{Pair, Triple}
+use Rattle.registry_names.specs.Texts.{Text}
+use Rattle.registry_names.specs.declared.status.Status.{Status}
+use Rattle.registry_access.specs.declared.grant.Grant.{Grant}
+use Rattle.registry_access.specs.declared.role.Role.{Role}
+use Rattle.registry_rules.specs.State.{Release}
+use Rattle.registry_rows.specs.Columns.{blob_in, int_in, number_in, text_in}
+use Rattle.registry_tables.specs.Contents.{Archive, grant_of, release_in, role_of, status_of}
+use Rattle.registry_check.specs.Rows.{NeedKey}
+
+abbrev pub name_spelled : Row → Text × Unit {0}
+name_spelled r = (text_in (column r 0), tt)
+
+abbrev pub token_spelled : Row → Text × Text
+token_spelled r = (blob_in (column r 0), text_in (column r 1))
+
+abbrev pub pair_spelled : Row → Pair × Unit {0}
+pair_spelled r = ((text_in (column r 0), text_in (column r 1)), tt)
+
+abbrev pub triple_spelled : Row → Triple × Unit {0}
+triple_spelled r = ((text_in (column r 0), (text_in (column r 1), text_in (column r 2))), tt)
+
+abbrev pub member_spelled : Row → Pair × Role
+member_spelled r = ((text_in (column r 0), text_in (column r 1)), role_of (number_in (column r 2)))
+
+abbrev pub package_spelled : Row → Text × Status
+package_spelled r = (text_in (column r 0), status_of (number_in (column r 1)))
+
+abbrev pub grant_spelled : Row → Triple × Grant
+grant_spelled r = ((text_in (column r 0), (text_in (column r 1), text_in (column r 2))), grant_of (number_in (column r 3)))
+
+abbrev pub live_spelled : Row → Pair × Release
+live_spelled r = ((text_in (column r 0), text_in (column r 1)), release_in r)
+
+abbrev pub need_spelled : Row → NeedKey × Unit {0}
+need_spelled r = ((text_in (column r 0), (text_in (column r 1), (text_in (column r 2), text_in (column r 3)))), tt)
+
+abbrev pub held_spelled : Row → Pair × ℤ
+held_spelled r = ((text_in (column r 0), text_in (column r 1)), int_in (column r 2))
+
+abbrev pub archive_spelled : Row → ℤ × Archive
+archive_spelled r = (int_in (column r 0), record { integrity = text_in (column r 1); bytes = blob_in (column r 2) })

@@ -1,0 +1,111 @@
+//! What breaks a rule.
+
+use crate::rule::Rule;
+use registry_names::{Blob, Text};
+
+/// A thing that a row of a table is about.
+#[derive(Debug, PartialEq, Eq, Drop)]
+pub enum Thing {
+    /// A token, by the SHA-256 of its text.
+    Token {
+        /// The digest.
+        digest: Blob,
+    },
+    /// An organisation.
+    Organisation {
+        /// Its name.
+        organisation: Text,
+    },
+    /// A member of an organisation.
+    Member {
+        /// The organisation.
+        organisation: Text,
+        /// The member.
+        user: Text,
+    },
+    /// A team of an organisation.
+    Team {
+        /// The organisation.
+        organisation: Text,
+        /// The team.
+        team: Text,
+    },
+    /// A user who is in a team.
+    TeamMember {
+        /// The organisation.
+        organisation: Text,
+        /// The team.
+        team: Text,
+        /// The user.
+        user: Text,
+    },
+    /// A package that was published, now or once.
+    Package {
+        /// Its name.
+        package: Text,
+    },
+    /// What a team is granted on a package.
+    Grant {
+        /// The organisation.
+        organisation: Text,
+        /// The team.
+        team: Text,
+        /// The package.
+        package: Text,
+    },
+    /// A maintainer of a package.
+    Maintainer {
+        /// The package.
+        package: Text,
+        /// The maintainer.
+        user: Text,
+    },
+    /// A live version of a package.
+    Version {
+        /// The package.
+        package: Text,
+        /// The version.
+        version: Text,
+    },
+    /// What is stored of a version's needs.
+    Need {
+        /// The package.
+        package: Text,
+        /// The version.
+        version: Text,
+        /// The package that it needs.
+        target: Text,
+        /// The versions of that.
+        range: Text,
+    },
+    /// That a version has an archive.
+    Held {
+        /// The package.
+        package: Text,
+        /// The version.
+        version: Text,
+    },
+    /// An archive that is stored.
+    Archive {
+        /// Its number.
+        number: i64,
+    },
+}
+
+/// A rule that is broken, and what breaks it.
+#[derive(Debug, PartialEq, Eq, Drop)]
+pub struct Problem {
+    /// The rule.
+    pub rule: Rule,
+    /// What breaks it.
+    pub thing: Thing,
+}
+
+/// Whether a rule holds of some row.
+#[derive(Clone, Copy, Drop)]
+pub(crate) struct Test {
+    /// The rule.
+    pub(crate) rule: Rule,
+    /// Whether it holds.
+    pub(crate) holds: bool,
+}

@@ -1,0 +1,86 @@
+//! The rules that what is stored keeps.
+
+ghost use Rattle.std.specs.Prelude.{◌≡◌, Some};
+ghost use Rattle.registry_check.specs.Words.{rule_text};
+
+use std::fmt;
+
+/// What is so of each row of a kind, in a registry that only requests have written.
+#[derive(Clone, Copy, Debug, PartialEq, Eq)]
+pub enum Rule {
+    /// The user that it names is there.
+    HasUser,
+    /// The organisation that it names is there.
+    HasOrganisation,
+    /// The team that it names is there.
+    HasTeam,
+    /// The package that it names was published, now or once.
+    HasPackage,
+    /// An organisation has an owner.
+    HasOwner,
+    /// An organisation has the team `developers`.
+    HasFirstTeam,
+    /// Who is in a team is a member of its organisation.
+    IsMember,
+    /// A package without a scope is public.
+    IsPublic,
+    /// A package without a scope has a maintainer.
+    HasMaintainer,
+    /// What is granted is on a package of the organisation's scope.
+    IsInScope,
+    /// A need that is stored is one that the manifest of its version names.
+    IsNamed,
+    /// Each need that the manifest of a version names is stored.
+    HasNeeds,
+    /// A version has an archive.
+    HasArchive,
+    /// The row of a version holds no bytes of its own.
+    IsBare,
+    /// The version that has an archive lives.
+    Lives,
+    /// The archive that a version has is stored.
+    IsStored,
+    /// An archive that is stored is some version's.
+    IsHeld,
+    /// The integrity of an archive is that of its bytes.
+    HasIntegrity,
+    /// No archive before it has its integrity and its bytes.
+    IsFirst,
+}
+
+impl Rule {
+    /// What is wrong where it is broken, in words.
+    pub fn text(self) -> &'static str
+        ensures { result.now ≡ rule_text self }
+    {
+        match self {
+            Rule::HasUser => "names a user who is not there",
+            Rule::HasOrganisation => "names an organisation that is not there",
+            Rule::HasTeam => "names a team that is not there",
+            Rule::HasPackage => "names a package that was never published",
+            Rule::HasOwner => "has no owner",
+            Rule::HasFirstTeam => "has no team developers",
+            Rule::IsMember => "names a user who is no member of the organisation",
+            Rule::IsPublic => "has no scope and is not public",
+            Rule::HasMaintainer => "has no scope and no maintainer",
+            Rule::IsInScope => "is on a package of another scope",
+            Rule::IsNamed => "is named by no manifest of that version",
+            Rule::HasNeeds => "has a need in its manifest that is not stored",
+            Rule::HasArchive => "has no archive",
+            Rule::IsBare => "has bytes in its own row",
+            Rule::Lives => "is of a version that does not live",
+            Rule::IsStored => "names an archive that is not stored",
+            Rule::IsHeld => "is the archive of no version",
+            Rule::HasIntegrity => "has another integrity than its bytes",
+            Rule::IsFirst => "is stored under a lower number, too",
+        }
+    }
+}
+
+impl fmt::Display for Rule {
+    ghost output = { λ rule. Some (rule_text rule) };
+
+    fn fmt<W: fmt::Write>(&self, f: &mut fmt::Formatter<W>) -> fmt::Result {
+        f.write_str(self.text())
+    }
+}

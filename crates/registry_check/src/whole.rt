@@ -1,0 +1,81 @@
+//! All rules, tried on all rows.
+
+ghost use Rattle.std.specs.Prelude.{◌≡◌, ◌++◌, IfOk, OnOk};
+ghost use Rattle.registry_rows.specs.Frames.{Stays};
+ghost use Rattle.registry_tables.specs.Effects.{InForm, Loads};
+ghost use Rattle.registry_check.specs.Premises.{AreProblems, TellsPremises};
+ghost use Rattle.registry_check.specs.Problems as spec;
+ghost use Rattle.registry_check.specs.Rows.{rows_of};
+
+use crate::archives::{Archives, Held};
+use crate::checked::push_problems;
+use crate::loads::load_tables;
+use crate::packages::{Grants, Maintainers, Published};
+use crate::people::{Members, Organisations, TeamMembers, Teams, Tokens};
+use crate::problem::Problem;
+use crate::tables::Tables;
+use crate::versions::{Live, Needs};
+use registry_names::Fault;
+use sqlite::{Alter, Transaction};
+use std::alloc::Global;
+
+/// Tries all rules on all that is stored, and answers what breaks one, in the order of the tables
+/// and of their keys.
+///
+/// There is no problem exactly where all that a request supposes of the tables is so. Nothing is
+/// changed. A fault says nothing of what is stored.
+pub fn check<S: Alter>(alloc: Global, tx: &mut Transaction<'_, S>) -> Result<Vec<Problem>, Fault>
+    requires in_form { InForm S.Store tx.old }
+    ensures stays { Stays S.Store tx.old tx.new }
+    ensures loads { Loads S.Store tx.old tx.new result (λ found c. AreProblems found.items c) }
+    ensures met { Loads S.Store tx.old tx.new result (λ found c. TellsPremises found.items c) }
+{
+    let tables = load_tables(alloc, tx)?;
+    problems_in(alloc, &tables)
+}
+
+// What breaks a rule in these tables.
+fn problems_in(alloc: Global, all: &Tables) -> Result<Vec<Problem>, Fault>
+    ensures { IfOk result (λ problems. problems.items ≡ spec.problems (rows_of all.now)) }
+{
+    let mut problems = Vec::new(alloc);
+    push_people(alloc, &mut problems, all)?;
+    push_packages(alloc, &mut problems, all)?;
+    push_versions(alloc, &mut problems, all)?;
+    Ok(problems)
+}
+
+fn push_people(alloc: Global, problems: &mut Vec<Problem>, all: &Tables) -> Result<(), Fault>
+    ensures { OnOk result (problems.new.items
+        ≡ problems.old.items ++ spec.token_problems (rows_of all.now)
+        ++ spec.organisation_problems (rows_of all.now) ++ spec.member_problems (rows_of all.now)
+        ++ spec.team_problems (rows_of all.now) ++ spec.team_member_problems (rows_of all.now)) }
+{
+    push_problems::<Tokens>(alloc, problems, &all.accounts.tokens, all)?;
+    push_problems::<Organisations>(alloc, problems, &all.accounts.organisations, all)?;
+    push_problems::<Members>(alloc, problems, &all.groups.members, all)?;
+    push_problems::<Teams>(alloc, problems, &all.groups.teams, all)?;
+    push_problems::<TeamMembers>(alloc, problems, &all.groups.team_members, all)
+}
+
+fn push_packages(alloc: Global, problems: &mut Vec<Problem>, all: &Tables) -> Result<(), Fault>
+    ensures { OnOk result (problems.new.items
+        ≡ problems.old.items ++ spec.published_problems (rows_of all.now)
+        ++ spec.grant_problems (rows_of all.now) ++ spec.maintainer_problems (rows_of all.now)) }
+{
+    push_problems::<Published>(alloc, problems, &all.packages.published, all)?;
+    push_problems::<Grants>(alloc, problems, &all.packages.grants, all)?;
+    push_problems::<Maintainers>(alloc, problems, &all.packages.maintainers, all)
+}
+
+fn push_versions(alloc: Global, problems: &mut Vec<Problem>, all: &Tables) -> Result<(), Fault>
+    ensures { OnOk result (problems.new.items
+        ≡ problems.old.items ++ spec.live_problems (rows_of all.now)
+        ++ spec.need_problems (rows_of all.now) ++ spec.held_problems (rows_of all.now)
+        ++ spec.archive_problems (rows_of all.now)) }
+{
+    push_problems::<Live>(alloc, problems, &all.versions.live, all)?;
+    push_problems::<Needs>(alloc, problems, &all.versions.needs, all)?;
+    push_problems::<Held>(alloc, problems, &all.versions.held, all)?;
+    push_problems::<Archives>(alloc, problems, &all.versions.archives, all)
+}

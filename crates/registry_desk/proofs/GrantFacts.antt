@@ -1,0 +1,172 @@
+-- Each grant stays on a package of its organisation's scope, whatever is asked.
+use Rattle.std.specs.Option.{option_to_list}
+use Rattle.std.specs.Prelude.{IsSome}
+use Rattle.std.proofs.Common.{◌≡◌, ◌∙◌, ℕ, Bool, true, false, cond, List, [], ◌∷◌, ◌++◌, map, is_some, refl, sym, ap, subst, true≢false, Option, Some, None}
+use Rattle.registry_names.specs.Greatest.{greatest}
+use Rattle.registry_names.specs.Maps.{at, put}
+use Rattle.registry_names.specs.Names.{scope_of}
+use Rattle.registry_names.specs.Tags.{latest}
+use Rattle.registry_names.specs.Texts.{Text, is}
+use Rattle.registry_names.specs.Versions.{text_of_version}
+use Rattle.registry_names.specs.declared.status.Status.{Status}
+use Rattle.registry_names.proofs.KeyFacts.{triple_key}
+use Rattle.registry_names.proofs.MapFacts.{at-erase, at-keep}
+use Rattle.registry_names.proofs.PutFacts.{some_before}
+use Rattle.registry_access.specs.declared.caller.Caller.{Caller}
+use Rattle.registry_access.specs.declared.caller.Caller.TheVariants.{Operator, User, Anonymous}
+use Rattle.registry_access.specs.declared.role.Role.{Role}
+use Rattle.registry_publish.specs.Form.{FormParts}
+use Rattle.registry_rules.specs.Actions.{version_of}
+use Rattle.registry_rules.specs.Callers.{caller_of}
+use Rattle.registry_rules.specs.Changes.{Change, AddVersion, DropGrant, DropTag, DropTeam, PutGrant, PutTag}
+use Rattle.registry_rules.specs.Effects.{deprecation, effects, effects_for, first_right, freed, joining, maintaining, membership, put_status, right_to, withdrawal}
+use Rattle.registry_rules.specs.Refusals.{refusal, refusal_by, refusal_for}
+use Rattle.registry_rules.specs.State.{State, has_maintainer, has_team, is_in_team, is_published}
+use Rattle.registry_rules.specs.Withdrawals.{live_versions, others, published_at, selected, tags_of}
+use Rattle.registry_rules.specs.declared.request.Action.{Action}
+use Rattle.registry_rules.specs.declared.request.Action.TheVariants as command
+use Rattle.registry_rules.specs.declared.request.Action.TheVariants.{OrgSet, TeamAdd, OwnerAdd, Publish, Withdraw, Deprecate}
+use Rattle.registry_rules.specs.declared.request.Request.{Request}
+use Rattle.registry_rules.proofs.AllowedFacts.{may_grant, state_passed}
+use Rattle.registry_tables.specs.Changes.{all_stored, stored_by}
+use Rattle.registry_tables.specs.Contents.{Contents, registry_of}
+use Rattle.registry_tables.specs.Teams.{GrantsInScope}
+use Rattle.registry_history.specs.Runs.{Outcome, IsAnswer, enters}
+use Rattle.registry_history.proofs.RunFacts.{accepted}
+use Rattle.registry_desk.specs.Resting.{next_stored, stepped}
+
+-- ---- changes
+
+-- it grants nothing outside of the organisation's scope
+abbrev IsInScope : Change → Type 0
+IsInScope (PutGrant o t p grant stands) = scope_of p ≡ Some o
+IsInScope _ = Unit {0}
+
+abbrev AreInScope : List Change → Type 0
+AreInScope [] = Unit {0}
+AreInScope (change ∷ changes) = IsInScope change × AreInScope changes
+
+left_there : {X : Type 0} (b : Bool) (old : Option X) → IsSome (cond b None old) → IsSome old
+left_there true old h = absurd (true≢false (sym h))
+left_there false old h = h
+
+kept_there : {X : Type 0} (b : Bool) (old : Option X) → IsSome (cond b old None) → IsSome old
+kept_there true old h = h
+kept_there false old h = absurd (true≢false (sym h))
+
+put_keeps : (c : Contents) (o t p : Text) (grant : _) → scope_of p ≡ Some o → GrantsInScope c → GrantsInScope (record c { grants = put c.grants (o, (t, p)) grant })
+put_keeps c o t p grant within scoped r s q there =
+    some_before triple_key c.grants (o, (t, p)) grant (λ k. scope_of k.1.1 ≡ Some k.0) (λ k h. scoped k.0 k.1.0 k.1.1 h) within (r, (s, q)) there
+
+change_keeps : (change : Change) (c : Contents) → IsInScope change → GrantsInScope c → GrantsInScope (stored_by change c)
+change_keeps (PutGrant o t p grant true) c within scoped = amended_keeps (is_some (at c.grants (o, (t, p))))
+  where
+    amended_keeps : (b : Bool) → GrantsInScope (record c { grants = cond b (put c.grants (o, (t, p)) grant) c.grants })
+    amended_keeps true = put_keeps c o t p grant within scoped
+    amended_keeps false = scoped
+change_keeps (PutGrant o t p grant false) c within scoped = put_keeps c o t p grant within scoped
+change_keeps (DropGrant o t p) c within scoped = λ r s q there. scoped r s q (left_there _ _ (sym (ap is_some (at-erase triple_key c.grants (o, (t, p)) (r, (s, q)))) ∙ there))
+change_keeps (DropTeam o t) c within scoped = λ r s q there. scoped r s q (kept_there _ _ (sym (ap is_some (at-keep triple_key c.grants _ (r, (s, q)))) ∙ there))
+change_keeps _ c within scoped = scoped
+
+changes_keep : (changes : List Change) (c : Contents) → AreInScope changes → GrantsInScope c → GrantsInScope (all_stored changes c)
+changes_keep [] c are scoped = scoped
+changes_keep (change ∷ changes) c are scoped = changes_keep changes (stored_by change c) are.1 (change_keeps change c are.0 scoped)
+
+-- ---- what requests change
+
+both_in_scope : (cs ds : List Change) → AreInScope cs → AreInScope ds → AreInScope (cs ++ ds)
+both_in_scope [] ds are more = more
+both_in_scope (c ∷ cs) ds are more = (are.0, both_in_scope cs ds are.1 more)
+
+status_in_scope : (p : Text) (status old : Option Status) → AreInScope (put_status p status old)
+status_in_scope p None old = tt
+status_in_scope p (Some status) old = (tt, tt)
+
+right_in_scope : (who : Caller) (p : Text) (scope : Option Text) → scope_of p ≡ scope → AreInScope (option_to_list (right_to who p scope))
+right_in_scope who p (Some o) is = (is, tt)
+right_in_scope (User u) p None is = (tt, tt)
+right_in_scope Operator p None is = tt
+right_in_scope Anonymous p None is = tt
+
+first_in_scope : (who : Caller) (p : Text) (old : Option Status) → AreInScope (option_to_list (first_right who p old))
+first_in_scope who p (Some old) = tt
+first_in_scope who p None = right_in_scope who p (scope_of p) refl
+
+tags_in_scope : (p t v : Text) (kept stood : Bool) → AreInScope (cond kept [] (PutTag p latest v false ∷ []) ++ PutTag p t v stood ∷ [])
+tags_in_scope p t v true stood = (tt, tt)
+tags_in_scope p t v false stood = (tt, (tt, tt))
+
+publication_in_scope : (who : Caller) (f : FormParts) (now : ℕ) (status old : Option Status) (kept stood : Bool)
+    → AreInScope (put_status f.name status old ++ option_to_list (first_right who f.name old) ++ AddVersion f now ∷ (cond kept [] (PutTag f.name latest (version_of f) false ∷ []) ++ PutTag f.name f.tag (version_of f) stood ∷ []))
+publication_in_scope who f now status old kept stood =
+    let status_put = put_status f.name status old in
+    let right = option_to_list (first_right who f.name old) in
+    let tags = cond kept [] (PutTag f.name latest (version_of f) false ∷ []) ++ PutTag f.name f.tag (version_of f) stood ∷ [] in
+    both_in_scope (status_put ++ right) (AddVersion f now ∷ tags) (both_in_scope status_put right (status_in_scope f.name status old) (first_in_scope who f.name old)) (tt, tags_in_scope f.name f.tag (version_of f) kept stood)
+
+membership_in_scope : (o u : Text) (role : Role) (old : Option Role) → AreInScope (membership o u role old)
+membership_in_scope o u role (Some was) = (tt, tt)
+membership_in_scope o u role None = (tt, (tt, tt))
+
+joining_in_scope : (o t u : Text) (already : Bool) → AreInScope (joining o t u already)
+joining_in_scope o t u true = tt
+joining_in_scope o t u false = (tt, tt)
+
+maintaining_in_scope : (p u : Text) (already : Bool) → AreInScope (maintaining p u already)
+maintaining_in_scope p u true = tt
+maintaining_in_scope p u false = (tt, tt)
+
+freed_in_scope : (p : Text) (other : Option Text) (t : Text) → IsInScope (freed p other t)
+freed_in_scope p None t = tt
+freed_in_scope p (Some other) t = by_name (is t latest)
+  where
+    by_name : (b : Bool) → IsInScope (cond b (PutTag p t other true) (DropTag p t))
+    by_name true = tt
+    by_name false = tt
+
+all_freed_in_scope : (p : Text) (other : Option Text) (tags : List Text) → AreInScope (map (freed p other) tags)
+all_freed_in_scope p other [] = tt
+all_freed_in_scope p other (t ∷ tags) = (freed_in_scope p other t, all_freed_in_scope p other tags)
+
+withdrawal_in_scope : (now : ℕ) (p v : Text) (since : Option ℕ) (live tags : List Text) → AreInScope (withdrawal now p v since live tags)
+withdrawal_in_scope now p v None live tags = tt
+withdrawal_in_scope now p v (Some published) live tags = both_in_scope _ _ (all_freed_in_scope p (greatest (others live v)) tags) (tt, tt)
+
+deprecation_in_scope : (p message : Text) (vs : List Text) → AreInScope (deprecation p message vs)
+deprecation_in_scope p message [] = tt
+deprecation_in_scope p message (v ∷ vs) = (tt, deprecation_in_scope p message vs)
+
+effects_in_scope : (S : State) (now : ℕ) (who : Caller) (what : Action) → refusal_by S now who what ≡ None → AreInScope (effects S now who what)
+effects_in_scope S now who (command.Grant o t p grant) may = ((may_grant (has_team S o t) (is_published S p) o p (state_passed S now who (command.Grant o t p grant) may)).2, tt)
+effects_in_scope S now who (Publish f) may = publication_in_scope who f now _ _ _ _
+effects_in_scope S now who (OrgSet o u role) may = membership_in_scope o u role (at S.access.roles (o, u))
+effects_in_scope S now who (TeamAdd o t u) may = joining_in_scope o t u (is_in_team S o t u)
+effects_in_scope S now who (OwnerAdd p u) may = maintaining_in_scope p u (has_maintainer S p u)
+effects_in_scope S now who (Withdraw p v) may = withdrawal_in_scope now p (text_of_version v) (published_at S p (text_of_version v)) (live_versions S p) (tags_of S p (text_of_version v))
+effects_in_scope S now who (Deprecate p selector message) may = deprecation_in_scope p message (selected (live_versions S p) selector)
+effects_in_scope S now who (command.UserAdd u) may = (tt, tt)
+effects_in_scope S now who (command.TokenAdd u digest) may = (tt, tt)
+effects_in_scope S now who (command.OrgCreate o u) may = (tt, (tt, (tt, (tt, tt))))
+effects_in_scope S now who (command.OrgRemove o u) may = (tt, tt)
+effects_in_scope S now who (command.TeamCreate o t) may = (tt, tt)
+effects_in_scope S now who (command.TeamDestroy o t) may = (tt, tt)
+effects_in_scope S now who (command.TeamRemove o t u) may = (tt, tt)
+effects_in_scope S now who (command.Revoke o t p) may = (tt, tt)
+effects_in_scope S now who (command.SetAccess p status) may = (tt, tt)
+effects_in_scope S now who (command.OwnerRemove p u) may = (tt, tt)
+effects_in_scope S now who (command.TagSet p t v) may = (tt, tt)
+effects_in_scope S now who (command.TagRemove p t) may = (tt, tt)
+effects_in_scope S now who _ may = tt
+
+stepped_keeps : (c : Contents) (r : Request) (who : Option Caller) → refusal_for (registry_of c) r.at who r.what ≡ None → GrantsInScope c → GrantsInScope (all_stored (effects_for (registry_of c) r.at who r.what) c)
+stepped_keeps c r None may scoped = scoped
+stepped_keeps c r (Some who) may scoped = changes_keep (effects (registry_of c) r.at who r.what) c (effects_in_scope (registry_of c) r.at who r.what may) scoped
+
+keeps_if : (b : Bool) (c : Contents) (r : Request) → (b ≡ true → refusal (registry_of c) r ≡ None) → GrantsInScope c → GrantsInScope (cond b (stepped r c) c)
+keeps_if true c r allowed scoped = stepped_keeps c r (caller_of (registry_of c) r.who) (allowed refl) scoped
+keeps_if false c r allowed scoped = scoped
+
+-- what an outcome leaves
+pub grants_next : (c d : Contents) (r : Request) (o : Outcome) → IsAnswer (registry_of c) r o → d ≡ next_stored r o c → GrantsInScope c → GrantsInScope d
+grants_next c d r o answered is scoped = subst GrantsInScope (sym is) (keeps_if (enters r o) c r (accepted (registry_of c) r o answered) scoped)
