@@ -3,3 +3,5 @@ mod SocketFacts
 mod StateFacts
 mod VisitFacts
 mod WorldFacts
+mod PhaseFacts
+mod IdleFacts

@@ -3,11 +3,15 @@ use Rattle.std.proofs.Common.{◌≡◌, ◌⊎◌, ◌++◌, ◌∙◌, [], ℕ
 use Rattle.std.proofs.lemmas.Bool.{false≢true}
 use Rattle.std.proofs.lemmas.List.{take-append-drop}
 use Rattle.std.specs.Io.KnownBytes.{append_known}
-use Rattle.registry_service.specs.Turns.{Answering, TurnsAway, no_memory}
+use Rattle.registry_wire.specs.Spelling.{IsUnfinished}
+use Rattle.registry_service.specs.Turns.{Answering}
 use Rattle.registry_service.specs.declared.turning.End.{End}
-use Rattle.registry_service.specs.declared.turning.Turned.{Turned}
-use Rattle.registry_server.specs.ConnectionStates.{IsStarved, MayTakeTurn, Pending, TakesNone, TakesTurn, holding, sending}
-use Rattle.registry_server.specs.Connections.{AnswersOnce, Drops, Keeps, OpenConnection, Receives, SendsDue, StarvesOnce, TurnsOnce, Visits}
+use Rattle.registry_server.specs.ConnectionStates.{IsStarved, MayTakeTurn, Pending, TakesNone, holding, sending}
+use Rattle.registry_server.specs.Connections.{AnswersOnce, Drops, Keeps, OpenConnection, Receives, SendsDue, StarvesOnce, TakesOne, Visits}
+use Rattle.registry_server.specs.Phases.{LookedAt, entered}
+use Rattle.registry_server.specs.declared.phase.Phase.{Phase}
+use Rattle.registry_server.specs.declared.phase.Stage.TheVariants.{Begun, Next}
+use Rattle.registry_server.proofs.PhaseFacts.{entered-same, heard-looked, stays-or-enters}
 use Rattle.registry_server.proofs.StateFacts.{starved-turn}
 
 -- nothing more is known of the same bytes
@@ -38,26 +42,19 @@ ends-or-not : (e : Option End) → (e ≡ None) ⊎ IsSome e
 ends-or-not None = inl refl
 ends-or-not (Some x) = inr refl
 
-away-ends : (t : Turned) → TurnsAway no_memory t → IsSome t.end
-away-ends t away = some-is t.end _ away.is_turn.1
-
-starved-ends : (old due : Pending) → IsStarved old due → IsSome due.ends
-starved-ends old due s = subst IsSome (sym (ap (λ (p : Pending). p.ends) s.state)) (away-ends s.turned s.away)
-
-nothing-kept : (p : Pending) (over : Bool) (ends : Option End) → p.ends ≡ ends → Keeps [] p over p ends
-nothing-kept p over ends same =
-    elim (ends-or-not p.ends) [ inl none ↦ inl (none, none-held p, λ _. refl) | inr some ↦ inr (subst IsSome same some, refl) ]
+nothing-kept : (p due : Pending) (over : Bool) → Keeps [] p over p due
+nothing-kept p due over = elim (ends-or-not p.ends) [ inl none ↦ inl (none, none-held p, λ _. refl) | inr some ↦ inr (refl, inl some) ]
 
 module _ {S : Type 0} (received sent : S → Option (List ℕ)) {D : Type 0} (answers : Answering D) where
-  no-turn : (p : Pending) (M : D) (r : Option (List ℕ)) (over : Bool) → TurnsOnce answers p p M M r r over
-  no-turn p M r over = inr (record { state = refl; service = refl; unasked = refl })
+  none-taken : (p : Pending) (M : D) (r : Option (List ℕ)) → TakesNone answers p p M M r r
+  none-taken p M r = record { state = refl; service = refl; unasked = refl }
 
   -- no turn was taken, and nothing was sent
-  pub answered-none : (old new : OpenConnection S) (M N : D) (r r2 : Option (List ℕ)) → TakesNone answers old.state new.state M N r r2
-      → new.socket ≡ old.socket → new.is_over ≡ old.is_over → AnswersOnce received sent answers old new M N r r2
-  answered-none old new M N r r2 none socket over = record {
+  pub answered-none : (now : ℕ) (old new : OpenConnection S) (M N : D) (r r2 : Option (List ℕ)) → TakesNone answers old.state new.state M N r r2
+      → LookedAt now old.phase new.phase → new.socket ≡ old.socket → new.is_over ≡ old.is_over → AnswersOnce received sent answers now old new M N r r2
+  answered-none now old new M N r r2 none looked socket over = record {
     due = new.state;
-    turns = inr none;
+    turns = inr (none, looked);
     put = [];
     took = ap sent socket ∙ none-added (sent old.socket);
     unread = ap received socket;
@@ -66,15 +63,16 @@ module _ {S : Type 0} (received sent : S → Option (List ℕ)) {D : Type 0} (an
   }
 
   -- bytes were received, and no turn may be taken yet
-  pub visit-received : (old new : OpenConnection S) (M : D) (r : Option (List ℕ)) → Receives received sent old new true → MayTakeTurn old.state
-      → Visits received sent answers old new M M r r
-  visit-received old new M r h may = record {
+  pub visit-received : (now : ℕ) (old new : OpenConnection S) (M : D) (r : Option (List ℕ)) → Receives received sent now old new true → MayTakeTurn old.state
+      → IsUnfinished old.state.held → Visits received sent answers now old new M M r r
+  visit-received now old new M r h may waits = record {
     got = h.got;
     gave = h.gave;
+    lean = inl waits;
     read = new.state;
-    keeps = inl (may.goes_on, h.state, h.none);
     due = new.state;
-    turns = no-turn new.state M r new.is_over;
+    keeps = inl (may.goes_on, h.state, h.none);
+    turns = inr (none-taken new.state M r, stays-or-enters Next now old.phase new.phase h.times);
     put = [];
     took = h.unsent ∙ none-added (sent old.socket);
     sends = refl;
@@ -82,15 +80,19 @@ module _ {S : Type 0} (received sent : S → Option (List ℕ)) {D : Type 0} (an
   }
 
   -- bytes were received, and a turn was taken
-  pub visit-answered : (old mid new : OpenConnection S) (M N : D) (r r2 : Option (List ℕ)) → Receives received sent old mid true → MayTakeTurn old.state
-      → AnswersOnce received sent answers mid new M N r r2 → Visits received sent answers old new M N r r2
-  visit-answered old mid new M N r r2 h may a = record {
+  pub visit-answered : (now : ℕ) (old mid new : OpenConnection S) (M N : D) (r r2 : Option (List ℕ)) → Receives received sent now old mid true → MayTakeTurn old.state
+      → IsUnfinished old.state.held → AnswersOnce received sent answers now mid new M N r r2 → Visits received sent answers now old new M N r r2
+  visit-answered now old mid new M N r r2 h may waits a = record {
     got = h.got;
     gave = a.unread ∙ h.gave;
+    lean = inl waits;
     read = mid.state;
-    keeps = inl (may.goes_on, h.state, h.none);
     due = a.due;
-    turns = subst (λ (b : Bool). TurnsOnce answers mid.state a.due M N r r2 b) (sym a.over) a.turns;
+    keeps = inl (may.goes_on, h.state, h.none);
+    turns = elim a.turns [
+      | inl t ↦ inl (subst (λ (b : Bool). TakesOne answers now mid.state a.due new.phase M N r r2 b) (sym a.over) t)
+      | inr t ↦ inr (t.0, heard-looked now old.phase mid.phase new.phase h.times t.1)
+    ];
     put = a.put;
     took = a.took ∙ ap (λ (known : Option (List ℕ)). append_known known a.put) h.unsent;
     sends = a.sends;
@@ -98,15 +100,19 @@ module _ {S : Type 0} (received sent : S → Option (List ℕ)) {D : Type 0} (an
   }
 
   -- a turn was taken of what was held
-  pub visit-turned : (old new : OpenConnection S) (M N : D) (r r2 : Option (List ℕ)) → MayTakeTurn old.state
-      → AnswersOnce received sent answers old new M N r r2 → Visits received sent answers old new M N r r2
-  visit-turned old new M N r r2 may a = record {
+  pub visit-turned : (now : ℕ) (old new : OpenConnection S) (M N : D) (r r2 : Option (List ℕ)) → MayTakeTurn old.state
+      → AnswersOnce received sent answers now old new M N r r2 → Visits received sent answers now old new M N r r2
+  visit-turned now old new M N r r2 may a = record {
     got = [];
     gave = a.unread ∙ none-added (received old.socket);
+    lean = inr (inl refl);
     read = old.state;
-    keeps = inl (may.goes_on, none-held old.state, λ _. refl);
     due = a.due;
-    turns = subst (λ (b : Bool). TurnsOnce answers old.state a.due M N r r2 b) (sym a.over) a.turns;
+    keeps = inl (may.goes_on, none-held old.state, λ _. refl);
+    turns = elim a.turns [
+      | inl t ↦ inl (subst (λ (b : Bool). TakesOne answers now old.state a.due new.phase M N r r2 b) (sym a.over) t)
+      | inr t ↦ inr (t.0, stays-or-enters Begun now old.phase new.phase t.1)
+    ];
     put = a.put;
     took = a.took;
     sends = a.sends;
@@ -114,17 +120,18 @@ module _ {S : Type 0} (received sent : S → Option (List ℕ)) {D : Type 0} (an
   }
 
   -- there was no memory for what was received
-  pub visit-starved : (old mid new : OpenConnection S) (M : D) (r : Option (List ℕ)) → Receives received sent old mid false → MayTakeTurn old.state
-      → StarvesOnce received sent mid new → Visits received sent answers old new M M r r
-  visit-starved old mid new M r h may s =
+  pub visit-starved : (now : ℕ) (old mid new : OpenConnection S) (M : D) (r : Option (List ℕ)) → Receives received sent now old mid false → MayTakeTurn old.state
+      → IsUnfinished old.state.held → StarvesOnce received sent now mid new → Visits received sent answers now old new M M r r
+  visit-starved now old mid new M r h may waits s =
       let starved : IsStarved old.state s.due = subst (λ (p : Pending). IsStarved p s.due) h.state s.starved in
       record {
         got = h.got;
         gave = s.unread ∙ h.gave;
+        lean = inl waits;
         read = old.state;
-        keeps = inr (subst IsSome (ap (λ (p : Pending). p.ends) s.sends) (starved-ends old.state s.due starved), refl);
         due = s.due;
-        turns = inl (may, starved-turn answers M r new.is_over old.state s.due starved);
+        keeps = inr (refl, inr starved);
+        turns = inl (record { may = may; takes = starved-turn answers M r new.is_over old.state s.due starved; times = s.times });
         put = s.put;
         took = s.took ∙ ap (λ (known : Option (List ℕ)). append_known known s.put) h.unsent;
         sends = s.sends;
@@ -132,14 +139,15 @@ module _ {S : Type 0} (received sent : S → Option (List ℕ)) {D : Type 0} (an
       }
 
   -- some of what was due was sent
-  pub visit-sent : (old new : OpenConnection S) (M : D) (r : Option (List ℕ)) → SendsDue received sent old new → Visits received sent answers old new M M r r
-  visit-sent old new M r s = record {
+  pub visit-sent : (now : ℕ) (old new : OpenConnection S) (M : D) (r : Option (List ℕ)) → SendsDue received sent now old new → Visits received sent answers now old new M M r r
+  visit-sent now old new M r s = record {
     got = [];
     gave = s.unread ∙ none-added (received old.socket);
+    lean = inr (inl refl);
     read = old.state;
-    keeps = nothing-kept old.state old.is_over new.state.ends (ap (λ (p : Pending). p.ends) s.state);
     due = old.state;
-    turns = no-turn old.state M r new.is_over;
+    keeps = nothing-kept old.state old.state old.is_over;
+    turns = inr (none-taken old.state M r, s.times);
     put = s.put;
     took = s.took;
     sends = s.state;
@@ -147,15 +155,16 @@ module _ {S : Type 0} (received sent : S → Option (List ℕ)) {D : Type 0} (an
   }
 
   -- what was received was dropped
-  pub visit-dropped : (old new : OpenConnection S) (M : D) (r : Option (List ℕ)) → Drops received sent old new → IsSome new.state.ends
-      → Visits received sent answers old new M M r r
-  visit-dropped old new M r d some = record {
+  pub visit-dropped : (now : ℕ) (old new : OpenConnection S) (M : D) (r : Option (List ℕ)) → Drops received sent old new → IsSome old.state.ends
+      → Visits received sent answers now old new M M r r
+  visit-dropped now old new M r d some = record {
     got = d.got;
     gave = d.gave;
+    lean = inr (inr some);
     read = old.state;
-    keeps = inr (some, refl);
     due = old.state;
-    turns = no-turn old.state M r new.is_over;
+    keeps = inr (refl, inl some);
+    turns = inr (none-taken old.state M r, subst (λ (x : Phase). x ≡ entered old.phase x.stage now) (sym d.times) (entered-same old.phase now));
     put = [];
     took = d.unsent ∙ none-added (sent old.socket);
     sends = sym d.state;

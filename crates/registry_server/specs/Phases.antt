@@ -1,5 +1,5 @@
 -- How long a connection has time, and since when it is idle.
-use Rattle.std.specs.Prelude.{ℕ, ◌+◌, ◌-◌, ◌^◌, min, nat_le, Bool, true, false, Option, Some, None, if◌then◌else◌}
+use Rattle.std.specs.Prelude.{◌≡◌, ◌⊎◌, ℕ, ◌+◌, ◌-◌, ◌^◌, min, nat_le, Bool, true, false, Option, Some, None, if◌then◌else◌}
 use Rattle.registry_server.specs.declared.phase.Phase.{Phase}
 use Rattle.registry_server.specs.declared.phase.Stage.{Stage}
 use Rattle.registry_server.specs.declared.phase.Stage.TheVariants.{Idle, Begun, Next, Sends, Drains}
@@ -8,7 +8,7 @@ use Rattle.registry_server.specs.declared.phase.Stage.TheVariants.{Idle, Begun, 
 abbrev pub limit_of : Stage → ℕ
 limit_of Idle = 60_000
 limit_of Begun = 10_000
-limit_of Next = 60_000
+limit_of Next = 10_000
 limit_of Sends = 60_000
 limit_of Drains = 2_000
 
@@ -16,21 +16,37 @@ limit_of Drains = 2_000
 abbrev pub after : ℕ → ℕ → ℕ
 after millis now = min (now + millis) (2 ^ 64 - 1)
 
-abbrev pub is_same : Stage → Stage → Bool
-is_same Idle Idle = true
-is_same Begun Begun = true
-is_same Next Next = true
-is_same Sends Sends = true
-is_same Drains Drains = true
-is_same _ _ = false
+-- Whether two stages have one time. A request that was begun has one, whether or not what is held
+-- of it was looked at.
+abbrev pub share_time : Stage → Stage → Bool
+share_time Idle Idle = true
+share_time Begun Begun = true
+share_time Begun Next = true
+share_time Next Begun = true
+share_time Next Next = true
+share_time Sends Sends = true
+share_time Drains Drains = true
+share_time _ _ = false
+
+-- a stage whose time begins now
+abbrev pub started : Stage → ℕ → Phase
+started stage now = record { stage = stage; until = after (limit_of stage) now }
 
 -- a connection on which nothing is begun, from this time on
 abbrev pub first_phase : ℕ → Phase
-first_phase now = record { stage = Idle; until = after (limit_of Idle) now }
+first_phase now = started Idle now
 
 -- a stage is entered at this time; one that lasts keeps its time
 abbrev pub entered : Phase → Stage → ℕ → Phase
-entered old stage now = if is_same old.stage stage then old else record { stage = stage; until = after (limit_of stage) now }
+entered old stage now = record { stage = stage; until = if share_time old.stage stage then old.until else after (limit_of stage) now }
+
+-- bytes came, or none
+abbrev pub HeardAt : ℕ → Phase → Phase → Type 0
+HeardAt now old new = (new ≡ old) ⊎ (new ≡ entered old Next now)
+
+-- what is held was looked at, and no request was whole
+abbrev pub LookedAt : ℕ → Phase → Phase → Type 0
+LookedAt now old new = (new ≡ old) ⊎ (new ≡ entered old Begun now)
 
 -- its time is up
 abbrev pub is_late : Phase → ℕ → Bool
@@ -54,3 +70,11 @@ takes_turns Begun = true
 takes_turns Next = true
 takes_turns Sends = false
 takes_turns Drains = false
+
+-- whether more is received at a stage: no whole request is held
+abbrev pub receives : Stage → Bool
+receives Idle = true
+receives Begun = true
+receives Next = false
+receives Sends = false
+receives Drains = false

@@ -1,23 +1,72 @@
--- Places for connections, and which of them a new one takes.
-use Rattle.std.specs.Prelude.{◌≡◌, ◌<◌, ◌≤◌, ℕ, Bool, List, Option, Some, None, is_none, length, nat_le, position, slice_get, MatchOption, if◌then◌else◌}
-use Rattle.registry_server.specs.Connections.{OpenConnection}
-use Rattle.registry_server.specs.Phases.{idle_since}
+-- Places for connections: which of them a new one takes, who is visited, and who is let go.
+use Rattle.std.specs.Prelude.{◌≡◌, ◌<◌, ◌≤◌, ◌∷◌, [], ℕ, zero, suc, Bool, true, false, List, Option, Some, None, is_none, length, nat_le, position, slice_get, MatchOption, if◌then◌else◌}
+use Rattle.registry_service.specs.Turns.{Answering}
+use Rattle.registry_server.specs.ConnectionStates.{fresh}
+use Rattle.registry_server.specs.Connections.{IsLost, OpenConnection, Visits, connected}
+use Rattle.registry_server.specs.Phases.{first_phase, idle_since, is_late}
+use Rattle.registry_server.specs.declared.connection.Visit.{Visit}
+use Rattle.registry_server.specs.declared.connection.Visit.TheVariants.{Again, Rests, Over}
 use Rattle.registry_server.specs.declared.pool.Place.{Place}
+
+-- the most connections that are open at once
+abbrev pub place_count : ℕ
+place_count = 512
+
+abbrev pub placed : {S : Type 0} → Option (OpenConnection S) → Bool → Place S
+placed connection is_ready = record { connection = connection; is_ready = is_ready }
+
+-- no connection is there, and none is to be visited
+abbrev pub free : {S : Type 0} → Place S
+free = placed None false
+
+-- a new connection, which is to be visited
+abbrev pub new_at : {S : Type 0} → ℕ → S → Place S
+new_at now socket = placed (Some (connected socket fresh (first_phase now) false)) true
+
+-- it is to be visited
+abbrev pub woken : {S : Type 0} → Place S → Place S
+woken p = placed p.connection true
+
+-- the places, one of them changed, if it is one of them
+abbrev pub at_place : {A : Type 0} → (A → A) → List A → ℕ → List A
+at_place change [] number = []
+at_place change (p ∷ places) zero = change p ∷ places
+at_place change (p ∷ places) (suc number) = p ∷ at_place change places number
 
 -- no connection is there
 abbrev pub is_free : {S : Type 0} → Place S → Bool
 is_free p = is_none p.connection
+
+-- it is to be visited
+abbrev pub is_ready : {S : Type 0} → Place S → Bool
+is_ready p = p.is_ready
+
+-- ---- who is let go
+
+-- a connection ends when its time is up
+abbrev pub in_time : {S : Type 0} → ℕ → Option (OpenConnection S) → Option (OpenConnection S)
+in_time now None = None
+in_time now (Some c) = if is_late c.phase now then None else Some c
+
+abbrev pub kept_at : {S : Type 0} → ℕ → Place S → Place S
+kept_at now p = placed (in_time now p.connection) p.is_ready
+
+-- ---- which place a new connection takes
 
 -- since when nothing is begun on a connection, where one is there
 abbrev pub idle_with : {S : Type 0} → Option (OpenConnection S) → Option ℕ
 idle_with None = None
 idle_with (Some c) = idle_since c.phase
 
+-- the same, where it isn't to be visited
+abbrev pub idle_in : {S : Type 0} → Place S → Option ℕ
+idle_in p = if p.is_ready then None else idle_with p.connection
+
 abbrev pub idle_at : {S : Type 0} → Option (Place S) → Option ℕ
 idle_at None = None
-idle_at (Some p) = idle_with p.connection
+idle_at (Some p) = idle_in p
 
--- since when nothing is begun at the place of a number
+-- the same at the place of a number
 abbrev pub idle_times : {S : Type 0} → List (Place S) → ℕ → Option ℕ
 idle_times places k = idle_at (slice_get places k)
 
@@ -43,3 +92,50 @@ earlier (Some best) n (Some t) = if nat_le best.1 t then Some best else Some (n,
 -- for longest
 abbrev pub IsPlaceFor : {S : Type 0} → List (Place S) → Option ℕ → Type 0
 IsPlaceFor places r = MatchOption (position is_free places) (IsIdleLongest (idle_times places) (length places) r) (λ k. r ≡ Some k)
+
+-- ---- who is visited
+
+-- what is at a place after a visit that ended so
+abbrev pub after_visit : {S : Type 0} → Visit → OpenConnection S → Place S
+after_visit Again c = placed (Some c) true
+after_visit Rests c = placed (Some c) false
+after_visit Over c = free
+
+module _ {S : Type 0} (received sent : S → Option (List ℕ)) (is_ended is_broken : S → Bool) {D : Type 0} (answers : Answering D) where
+  -- A connection was visited: it goes on at once, waits for its socket, or ends. It ends only where
+  -- the other side sends no more, or where it is broken.
+  pub record VisitsOne (now : ℕ) (old : OpenConnection S) (new : Place S) (M N : D) (readings readings2 : Option (List ℕ)) : Type 0 where
+    pub connection : OpenConnection S
+    pub visits : Visits received sent answers now old connection M N readings readings2
+    pub visit : Visit
+    pub place : new ≡ after_visit visit connection
+    pub over : visit ≡ Over → IsLost is_ended is_broken connection
+
+  -- nothing was visited, and the place is as this one
+  pub record VisitsNone (old new : Place S) (M N : D) (readings readings2 : Option (List ℕ)) : Type 0 where
+    pub place : new ≡ old
+    pub service : N ≡ M
+    pub unasked : readings2 ≡ readings
+
+  -- at a place that is to be visited, with this connection, if one is there
+  abbrev pub VisitsThere : ℕ → Option (OpenConnection S) → Place S → D → D → Option (List ℕ) → Option (List ℕ) → Type 0
+  VisitsThere now None new M N readings readings2 = VisitsNone free new M N readings readings2
+  VisitsThere now (Some c) new M N readings readings2 = VisitsOne now c new M N readings readings2
+
+  abbrev pub VisitsIf : Bool → ℕ → Place S → Place S → D → D → Option (List ℕ) → Option (List ℕ) → Type 0
+  VisitsIf true now old new M N readings readings2 = VisitsThere now old.connection new M N readings readings2
+  VisitsIf false now old new M N readings readings2 = VisitsNone old new M N readings readings2
+
+  -- a place is visited where it is to be
+  abbrev pub VisitsAt : ℕ → Place S → Place S → D → D → Option (List ℕ) → Option (List ℕ) → Type 0
+  VisitsAt now old new M N readings readings2 = VisitsIf old.is_ready now old new M N readings readings2
+
+  -- Each connection that is to be visited is visited, once, in the order of their places, and no
+  -- other is.
+  abbrev pub VisitsAll : ℕ → List (Place S) → List (Place S) → D → D → Option (List ℕ) → Option (List ℕ) → Type 0
+  VisitsAll now [] [] M N readings readings2 = (N ≡ M) × (readings2 ≡ readings)
+  VisitsAll now (p ∷ places) (q ∷ places2) M N readings readings2 =
+      (between : D) × (readings1 : Option (List ℕ)) × VisitsAt now p q M between readings readings1
+      × VisitsAll now places places2 between N readings1 readings2
+  VisitsAll now [] (q ∷ places2) M N readings readings2 = ⊥
+  VisitsAll now (p ∷ places) [] M N readings readings2 = ⊥

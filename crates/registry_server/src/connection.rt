@@ -1,10 +1,13 @@
 //! One open connection.
 
-ghost use Rattle.std.specs.Prelude.{◌≡◌, [], true, false, IsSome, OnOk, OnErr};
+ghost use Rattle.std.specs.Prelude.{◌≡◌, ◌≢◌, [], true, false, IfOk, IsSome, OnOk, OnErr};
+ghost use Rattle.registry_wire.specs.Spelling.{IsUnfinished};
 ghost use Rattle.registry_server.specs.ConnectionStates.{Does, MayTakeTurn, fresh};
-ghost use Rattle.registry_server.specs.Connections.{AnswersOnce, Drops, Receives, SendsDue, StarvesOnce, Visits, connected};
+ghost use Rattle.registry_server.specs.Connections.{AnswersOnce, Drops, IsLost, Receives, SendsDue, StarvesOnce, Visits, connected};
 ghost use Rattle.registry_server.specs.Phases as phases;
+ghost use Rattle.registry_server.specs.declared.connection.Visit.TheVariants as visits;
 ghost use Rattle.registry_server.specs.declared.phase.Stage.TheVariants as stages;
+ghost use Rattle.registry_server.specs.declared.socket.Flow.TheVariants as flows;
 ghost use Rattle.registry_server.specs.declared.state.Progress.TheVariants as progress;
 
 use crate::phase::{Phase, Stage};
@@ -83,8 +86,10 @@ impl<S: Socket> Connection<S> {
         buffer: &mut [u8],
         now: u64,
     ) -> Visit
-        ensures visits { Visits S.received S.sent D.answers self.old self.new
+        ensures visits { Visits S.received S.sent D.answers now self.old self.new
             service.old service.new (C.readings clock.old) (C.readings clock.new) }
+        ensures rests { result ≡ visits.Rests → self.new.phase.stage ≢ stages.Next }
+        ensures over { result ≡ visits.Over → IsLost S.is_ended S.is_broken self.new }
     {
         match self.phase.stage {
             Stage::Idle | Stage::Begun => match self.receive(buffer, now) {
@@ -101,11 +106,15 @@ impl<S: Socket> Connection<S> {
 
     // Receives what has come, and holds it. After an error it isn't held.
     fn receive(&mut self, buffer: &mut [u8], now: u64) -> Result<Flow, AllocError>
-        requires { phases.takes_turns self.old.phase.stage ≡ true }
+        requires turns { phases.takes_turns self.old.phase.stage ≡ true }
+        requires receives { phases.receives self.old.phase.stage ≡ true }
         ensures may { MayTakeTurn self.old.state }
-        ensures kept { OnOk result (Receives S.received S.sent self.old self.new true) }
-        ensures lost { OnErr result (Receives S.received S.sent self.old self.new false) }
+        ensures waits { IsUnfinished self.old.state.held }
+        ensures kept { OnOk result (Receives S.received S.sent now self.old self.new true) }
+        ensures lost { OnErr result (Receives S.received S.sent now self.old self.new false) }
         ensures stage { phases.takes_turns self.new.phase.stage ≡ true }
+        ensures quiet { IfOk result (λ flow. flow ≡ flows.Waits → phases.receives self.new.phase.stage ≡ true) }
+        ensures broken { IfOk result (λ flow. flow ≡ flows.Broken → S.is_broken self.new.socket ≡ true) }
     {
         if self.is_over {
             return Ok(Flow::Ended);
@@ -114,7 +123,7 @@ impl<S: Socket> Connection<S> {
         match flow {
             Flow::Moved(0) | Flow::Waits | Flow::Broken => {}
             Flow::Moved(count) => {
-                self.phase.enter(Stage::Begun, now);
+                self.phase.enter(Stage::Next, now);
                 self.state.came(&buffer[..count])?;
             }
             Flow::Ended => self.is_over = true,
@@ -132,8 +141,10 @@ impl<S: Socket> Connection<S> {
     ) -> Visit
         requires { phases.takes_turns self.old.phase.stage ≡ true }
         ensures may { MayTakeTurn self.old.state }
-        ensures answers { AnswersOnce S.received S.sent D.answers self.old self.new
+        ensures answers { AnswersOnce S.received S.sent D.answers now self.old self.new
             service.old service.new (C.readings clock.old) (C.readings clock.new) }
+        ensures rests { result ≡ visits.Rests → self.new.phase.stage ≢ stages.Next }
+        ensures over { result ≡ visits.Over → IsLost S.is_ended S.is_broken self.new }
     {
         match self.take_turn(alloc, service, clock, now) {
             Progress::Answered => self.send(now),
@@ -154,7 +165,9 @@ impl<S: Socket> Connection<S> {
         ensures may { MayTakeTurn self.old.state }
         ensures does { Does D.answers self.old.state self.new.state service.old service.new
             (C.readings clock.old) (C.readings clock.new) self.old.is_over result }
-        ensures sends { result ≡ progress.Answered → self.new.phase.stage ≡ stages.Sends }
+        ensures sends { result ≡ progress.Answered → self.new.phase ≡ phases.started stages.Sends now }
+        ensures looked { result ≢ progress.Answered → phases.LookedAt now self.old.phase self.new.phase }
+        ensures lost { result ≡ progress.Closed → S.is_ended self.new.socket ≡ true }
         ensures socket { self.new.socket ≡ self.old.socket }
         ensures over { self.new.is_over ≡ self.old.is_over }
     {
@@ -169,7 +182,10 @@ impl<S: Socket> Connection<S> {
 
     // Answers that there was no memory for what came.
     fn starve(&mut self, now: u64) -> Visit
-        ensures { StarvesOnce S.received S.sent self.old self.new }
+        requires { phases.takes_turns self.old.phase.stage ≡ true }
+        ensures starves { StarvesOnce S.received S.sent now self.old self.new }
+        ensures rests { result ≡ visits.Rests → self.new.phase.stage ≢ stages.Next }
+        ensures over { result ≡ visits.Over → IsLost S.is_ended S.is_broken self.new }
     {
         self.phase.enter(Stage::Sends, now);
         self.state.starve();
@@ -179,7 +195,9 @@ impl<S: Socket> Connection<S> {
     // Sends once.
     fn send(&mut self, now: u64) -> Visit
         requires { self.old.phase.stage ≡ stages.Sends }
-        ensures { SendsDue S.received S.sent self.old self.new }
+        ensures sends { SendsDue S.received S.sent now self.old self.new }
+        ensures rests { result ≡ visits.Rests → self.new.phase.stage ≢ stages.Next }
+        ensures over { result ≡ visits.Over → IsLost S.is_ended S.is_broken self.new }
     {
         let (head, body) = self.state.outgoing().parts();
         match self.socket.send(head, body) {
@@ -203,6 +221,9 @@ impl<S: Socket> Connection<S> {
         ensures sent { S.sent self.new.socket ≡ S.sent self.old.socket }
         ensures received { S.received self.new.socket ≡ S.received self.old.socket }
         ensures over { self.new.is_over ≡ self.old.is_over }
+        ensures times { self.new.phase ≡ phases.entered self.old.phase self.new.phase.stage now }
+        ensures rests { result ≢ visits.Rests }
+        ensures lost { result ≡ visits.Over → S.is_broken self.new.socket ≡ true }
     {
         if self.state.ends().is_some() {
             if !self.socket.shut() {
@@ -221,7 +242,9 @@ impl<S: Socket> Connection<S> {
     fn drain(&mut self, buffer: &mut [u8]) -> Visit
         requires { self.old.phase.stage ≡ stages.Drains }
         ensures drops { Drops S.received S.sent self.old self.new }
-        ensures ended { IsSome self.new.state.ends }
+        ensures ended { IsSome self.old.state.ends }
+        ensures stage { self.new.phase.stage ≡ stages.Drains }
+        ensures over { result ≡ visits.Over → IsLost S.is_ended S.is_broken self.new }
     {
         match self.socket.receive(buffer) {
             Flow::Moved(_) => Visit::Again,

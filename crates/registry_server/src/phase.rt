@@ -23,7 +23,7 @@ pub enum Stage {
     Idle,
     /// A request was begun and isn't whole.
     Begun,
-    /// The request before was answered, and more is held, which wasn't looked at.
+    /// A request was begun, and what is held of it wasn't looked at.
     Next,
     /// A response is being sent.
     Sends,
@@ -37,10 +37,21 @@ impl Stage {
         ensures { result ≡ limit_of self }
     {
         match self {
-            Stage::Idle | Stage::Next => IDLE_LIMIT,
-            Stage::Begun => REQUEST_TIME_LIMIT,
+            Stage::Idle => IDLE_LIMIT,
+            Stage::Begun | Stage::Next => REQUEST_TIME_LIMIT,
             Stage::Sends => RESPONSE_LIMIT,
             Stage::Drains => DRAIN_LIMIT,
+        }
+    }
+
+    // Whether two stages have one time. A request that was begun has one, whether or not what is
+    // held of it was looked at.
+    fn shares_time(self, other: Stage) -> bool
+        ensures { result ≡ spec.share_time self other }
+    {
+        match (self, other) {
+            (Stage::Begun | Stage::Next, Stage::Begun | Stage::Next) => true,
+            _ => self == other,
         }
     }
 }
@@ -68,10 +79,10 @@ impl Phase {
         ensures entered { self.new ≡ entered self.old stage now }
         ensures stage { self.new.stage ≡ stage }
     {
-        if self.stage != stage {
-            self.stage = stage;
+        if !self.stage.shares_time(stage) {
             self.until = now.saturating_add(stage.limit());
         }
+        self.stage = stage;
     }
 
     /// Whether its time is up.

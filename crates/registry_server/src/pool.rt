@@ -1,25 +1,23 @@
 //! The open connections, and who of them can go on.
 
-ghost use Rattle.std.specs.Prelude.{◌≡◌, length, position};
-ghost use Rattle.std.specs.List.{list_all};
+ghost use Rattle.std.specs.Prelude.{◌≡◌, IfOk, length, map, position, replicate};
+ghost use Rattle.std.specs.List.{list_all, list_any};
 ghost use Rattle.registry_server.specs.Pools as spec;
-ghost use Rattle.registry_server.specs.Pools.{IsIdleLongest, IsPlaceFor, idle_times};
+ghost use Rattle.registry_server.specs.Pools.{IsIdleLongest, IsPlaceFor, VisitsAll, VisitsAt, at_place, idle_times, new_at, place_count};
 
 use crate::connection::{Connection, Visit};
 use crate::socket::Socket;
 use registry_service::{Clock, Service};
 use std::alloc::{AllocError, Global};
-use std::collections::VecDeque;
 
 /// The most connections that are open at once.
 pub const CONNECTION_COUNT: usize = 512;
 
-/// A place for a connection.
+/// A place for a connection, and whether it is to be visited.
 #[derive(Drop)]
 struct Place<S: Socket> {
     connection: Option<Connection<S>>,
-    // It is in the list of those to visit.
-    is_listed: bool,
+    is_ready: bool,
 }
 
 impl<S: Socket> Place<S> {
@@ -29,12 +27,52 @@ impl<S: Socket> Place<S> {
         self.connection.is_none()
     }
 
+    // Since when nothing is begun, where a connection is there and isn't to be visited.
     fn idle_since(&self) -> Option<u64>
-        ensures { result ≡ spec.idle_with self.now.connection }
+        ensures { result ≡ spec.idle_in self.now }
     {
         match &self.connection {
-            Some(connection) => connection.idle_since(),
-            None => None,
+            Some(connection) if !self.is_ready => connection.idle_since(),
+            _ => None,
+        }
+    }
+
+    // Visits the connection, if one is there and is to be visited.
+    fn visit<D: Service, C: Clock>(
+        &mut self,
+        alloc: Global,
+        service: &mut D,
+        clock: &mut C,
+        buffer: &mut [u8],
+        now: u64,
+    )
+        ensures { VisitsAt S.received S.sent S.is_ended S.is_broken D.answers now self.old self.new
+            service.old service.new (C.readings clock.old) (C.readings clock.new) }
+    {
+        if !self.is_ready {
+            return;
+        }
+        self.is_ready = false;
+        let Some(connection) = &mut self.connection else {
+            return;
+        };
+        match connection.visit(alloc, service, clock, buffer, now) {
+            Visit::Again => self.is_ready = true,
+            Visit::Rests => {}
+            Visit::Over => self.connection = None,
+        }
+    }
+
+    // Ends the connection if its time is up.
+    fn end_late(&mut self, now: u64)
+        ensures { self.new ≡ spec.kept_at now self.old }
+    {
+        let is_late = match &self.connection {
+            Some(connection) => connection.is_late(now),
+            None => false,
+        };
+        if is_late {
+            self.connection = None;
         }
     }
 }
@@ -43,24 +81,21 @@ impl<S: Socket> Place<S> {
 #[derive(Drop)]
 pub struct ConnectionPool<S: Socket> {
     places: Vec<Place<S>>,
-    // The places to visit, each of them once, in their order.
-    ready: VecDeque<usize>,
 }
 
 impl<S: Socket> ConnectionPool<S> {
     /// A pool with every place free.
-    pub fn new(alloc: Global) -> Result<ConnectionPool<S>, AllocError> {
+    pub fn new(alloc: Global) -> Result<ConnectionPool<S>, AllocError>
+        ensures { IfOk result (λ pool. pool.places.items ≡ replicate place_count spec.free) }
+    {
         let mut places = Vec::with_capacity(alloc, CONNECTION_COUNT)?;
         for _ in 0..CONNECTION_COUNT {
             places.push(Place {
                 connection: None,
-                is_listed: false,
+                is_ready: false,
             })?;
         }
-        Ok(ConnectionPool {
-            places,
-            ready: VecDeque::with_capacity(alloc, CONNECTION_COUNT)?,
-        })
+        Ok(ConnectionPool { places })
     }
 
     /// Whether every place is free.
@@ -70,13 +105,16 @@ impl<S: Socket> ConnectionPool<S> {
         self.places.iter().all(|place| place.is_free())
     }
 
-    /// Whether a connection may go on at once.
-    pub fn is_busy(&self) -> bool {
-        !self.ready.is_empty()
+    /// Whether a connection is to be visited.
+    pub fn is_busy(&self) -> bool
+        ensures { result ≡ list_any spec.is_ready self.now.places.items }
+    {
+        self.places.iter().any(|place| place.is_ready)
     }
 
     /// Where a new connection can be put: a place that is free, or else that of the connection
-    /// on which nothing was begun for longest. None where something is begun on each.
+    /// on which nothing was begun for longest, of those that aren't to be visited. None where there
+    /// is no such.
     pub fn place(&self) -> Option<usize>
         ensures { IsPlaceFor self.now.places.items result }
     {
@@ -94,28 +132,29 @@ impl<S: Socket> ConnectionPool<S> {
     }
 
     /// A new connection takes a place, at this time, and is to be visited. The one that was there
-    /// ends.
-    pub fn add(&mut self, alloc: Global, number: usize, socket: S, now: u64) {
-        if let Some(place) = self.places.get_mut(number) {
-            place.connection = Some(Connection::new(alloc, socket, now));
-        }
-        self.wake(number);
-    }
-
-    /// The connection at a place is to be visited. Where there is no memory to list it, it ends.
-    pub fn wake(&mut self, number: usize) {
-        if let Some(place) = self.places.get_mut(number) {
-            if place.is_listed {
-                return;
-            }
-            place.is_listed = self.ready.push_back(number).is_ok();
-            if !place.is_listed {
-                place.connection = None;
-            }
+    /// ends, and no other.
+    pub fn add(&mut self, alloc: Global, number: usize, socket: S, now: u64)
+        ensures { self.new.places.items
+            ≡ at_place (λ _. new_at now socket) self.old.places.items number }
+    {
+        if number < self.places.len() {
+            self.places[number] = Place {
+                connection: Some(Connection::new(alloc, socket, now)),
+                is_ready: true,
+            };
         }
     }
 
-    /// Visits each connection that was to be visited when the call began, once.
+    /// The connection at a place is to be visited.
+    pub fn wake(&mut self, number: usize)
+        ensures { self.new.places.items ≡ at_place spec.woken self.old.places.items number }
+    {
+        if number < self.places.len() {
+            self.places[number].is_ready = true;
+        }
+    }
+
+    /// Visits each connection that is to be visited, once, in the order of their places.
     pub fn visit_all<D: Service, C: Clock>(
         &mut self,
         alloc: Global,
@@ -123,47 +162,22 @@ impl<S: Socket> ConnectionPool<S> {
         clock: &mut C,
         buffer: &mut [u8],
         now: u64,
-    ) {
-        for _ in 0..self.ready.len() {
-            if let Some(number) = self.ready.pop_front() {
-                self.visit(alloc, number, service, clock, buffer, now);
-            }
-        }
-    }
-
-    fn visit<D: Service, C: Clock>(
-        &mut self,
-        alloc: Global,
-        number: usize,
-        service: &mut D,
-        clock: &mut C,
-        buffer: &mut [u8],
-        now: u64,
-    ) {
-        let Some(place) = self.places.get_mut(number) else {
-            return;
-        };
-        place.is_listed = false;
-        let Some(connection) = &mut place.connection else {
-            return;
-        };
-        match connection.visit(alloc, service, clock, buffer, now) {
-            Visit::Again => self.wake(number),
-            Visit::Rests => {}
-            Visit::Over => place.connection = None,
-        }
-    }
-
-    /// Ends each connection whose time is up.
-    pub fn end_late(&mut self, now: u64) {
+    )
+        ensures { VisitsAll S.received S.sent S.is_ended S.is_broken D.answers now
+            self.old.places.items self.new.places.items service.old service.new
+            (C.readings clock.old) (C.readings clock.new) }
+    {
         for place in self.places.iter_mut() {
-            if place
-                .connection
-                .as_ref()
-                .is_some_and(|connection| connection.is_late(now))
-            {
-                place.connection = None;
-            }
+            place.visit(alloc, service, clock, buffer, now);
+        }
+    }
+
+    /// Ends each connection whose time is up, and no other.
+    pub fn end_late(&mut self, now: u64)
+        ensures { self.new.places.items ≡ map (spec.kept_at now) self.old.places.items }
+    {
+        for place in self.places.iter_mut() {
+            place.end_late(now);
         }
     }
 }

@@ -12,4 +12,5 @@ returns-clause-drops g c =
       unsent = c.receive.ensures.sent;
       state = refl;
       over = refl;
+      times = refl;
     })

@@ -1,4 +1,4 @@
-use Rattle.std.proofs.Common.{take, subst}
+use Rattle.std.proofs.Common.{inr, take, subst}
 use Rattle.registry_names.proofs.ByteStreamFacts.{on_err}
 use Rattle.std.proofs.Common.{true, false}
 use Rattle.registry_server.specs.Connections.{OpenConnection, Receives, connected}
@@ -8,7 +8,7 @@ use Rattle.registry_server.proofs.connection.Connection.receive.Goals as goal
 pub returns-in_err-came-in-Moved-clause-lost : goal.returns-in_err-came-in-Moved-clause-lost
 returns-in_err-came-in-Moved-clause-lost g c =
     on_err _
-    (subst (λ (old : OpenConnection g.row.S.Denot). Receives g.S.Socket.received g.S.Socket.sent old (connected c.receive-flow.new.self c.came.new.self c.enter.new.self c.self.inside.is_over) false) c.self.view_is
+    (subst (λ (old : OpenConnection g.row.S.Denot). Receives g.S.Socket.received g.S.Socket.sent c.args.now old (connected c.receive-flow.new.self c.came.new.self c.enter.new.self c.self.inside.is_over) false) c.self.view_is
     (record {
       got = take c.in-Moved.count c.receive-flow.new.buffer;
       gave = c.in-Moved.ensures.received;
@@ -16,11 +16,12 @@ returns-in_err-came-in-Moved-clause-lost g c =
       state = c.in_err-came-in-Moved.ensures.err;
       none = λ over. never c.self.inside.is_over c.if-self.false over;
       over = λ over. over;
+      times = inr c.enter.ensures.entered;
     }))
 
 pub returns-in_ok-came-in-Moved-clause-kept : goal.returns-in_ok-came-in-Moved-clause-kept
 returns-in_ok-came-in-Moved-clause-kept g c =
-    subst (λ (old : OpenConnection g.row.S.Denot). Receives g.S.Socket.received g.S.Socket.sent old (connected c.receive-flow.new.self c.came.new.self c.enter.new.self c.self.inside.is_over) true) c.self.view_is
+    subst (λ (old : OpenConnection g.row.S.Denot). Receives g.S.Socket.received g.S.Socket.sent c.args.now old (connected c.receive-flow.new.self c.came.new.self c.enter.new.self c.self.inside.is_over) true) c.self.view_is
     (record {
       got = take c.in-Moved.count c.receive-flow.new.buffer;
       gave = c.in-Moved.ensures.received;
@@ -28,4 +29,5 @@ returns-in_ok-came-in-Moved-clause-kept g c =
       state = c.in_ok-came-in-Moved.ensures.ok;
       none = λ over. never c.self.inside.is_over c.if-self.false over;
       over = λ over. over;
+      times = inr c.enter.ensures.entered;
     })

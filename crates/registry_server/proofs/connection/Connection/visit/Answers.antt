@@ -1,32 +1,36 @@
-use Rattle.registry_server.proofs.VisitFacts.{visit-dropped, visit-received, visit-sent, visit-starved, visit-turned}
+use Rattle.std.proofs.Common.{◌∙◌, ap, rules, sym}
+use Rattle.std.proofs.lemmas.Bool.{false≢true}
+use Rattle.registry_server.specs.Phases.{receives}
+use Rattle.registry_server.proofs.VisitFacts.{visit-answered, visit-dropped, visit-received, visit-sent, visit-starved, visit-turned}
 use Rattle.registry_server.proofs.connection.Connection.visit.Goals as goal
 
-pub returns-in-Ok-Waits : goal.returns-in-Ok-Waits
-returns-in-Ok-Waits g c = record {
-  visits = visit-received g.S.Socket.received g.S.Socket.sent g.D.Service.answers _ _ _ _ c.in-Ok-Waits.ensures.kept c.in-Ok-Waits.ensures.may;
-}
+pub returns-in-Ok-Waits-clause-visits : goal.returns-in-Ok-Waits-clause-visits
+returns-in-Ok-Waits-clause-visits g c =
+    visit-received g.S.Socket.received g.S.Socket.sent g.D.Service.answers _ _ _ _ _ c.in-Ok-Waits.ensures.kept c.in-Ok-Waits.ensures.may c.in-Ok-Waits.ensures.waits
 
-pub returns-in-Ok-Broken : goal.returns-in-Ok-Broken
-returns-in-Ok-Broken g c = record {
-  visits = visit-received g.S.Socket.received g.S.Socket.sent g.D.Service.answers _ _ _ _ c.in-Ok-Broken.ensures.kept c.in-Ok-Broken.ensures.may;
-}
+pub returns-in-Ok-Broken-clause-visits : goal.returns-in-Ok-Broken-clause-visits
+returns-in-Ok-Broken-clause-visits g c =
+    visit-received g.S.Socket.received g.S.Socket.sent g.D.Service.answers _ _ _ _ _ c.in-Ok-Broken.ensures.kept c.in-Ok-Broken.ensures.may c.in-Ok-Broken.ensures.waits
 
-pub returns-in-Err : goal.returns-in-Err
-returns-in-Err g c = record {
-  visits = visit-starved g.S.Socket.received g.S.Socket.sent g.D.Service.answers _ _ _ _ _ c.in-Err.ensures.lost c.in-Err.ensures.may c.starve.ensures;
-}
+pub returns-in-Err-clause-visits : goal.returns-in-Err-clause-visits
+returns-in-Err-clause-visits g c =
+    visit-starved g.S.Socket.received g.S.Socket.sent g.D.Service.answers _ _ _ _ _ _ c.in-Err.ensures.lost c.in-Err.ensures.may c.in-Err.ensures.waits c.starve.ensures.starves
 
-pub returns-in-Next : goal.returns-in-Next
-returns-in-Next g c = record {
-  visits = visit-turned g.S.Socket.received g.S.Socket.sent g.D.Service.answers _ _ _ _ _ _ c.answer-in-Next.ensures.may c.answer-in-Next.ensures.answers;
-}
+pub returns-in-Next-clause-visits : goal.returns-in-Next-clause-visits
+returns-in-Next-clause-visits g c =
+    visit-turned g.S.Socket.received g.S.Socket.sent g.D.Service.answers _ _ _ _ _ _ _ c.answer-in-Next.ensures.may c.answer-in-Next.ensures.answers
 
-pub returns-in-Sends : goal.returns-in-Sends
-returns-in-Sends g c = record {
-  visits = visit-sent g.S.Socket.received g.S.Socket.sent g.D.Service.answers _ _ _ _ c.send.ensures;
-}
+pub returns-in-Sends-clause-visits : goal.returns-in-Sends-clause-visits
+returns-in-Sends-clause-visits g c =
+    visit-sent g.S.Socket.received g.S.Socket.sent g.D.Service.answers _ _ _ _ _ c.send.ensures.sends
 
-pub returns-in-Drains : goal.returns-in-Drains
-returns-in-Drains g c = record {
-  visits = visit-dropped g.S.Socket.received g.S.Socket.sent g.D.Service.answers _ _ _ _ c.drain.ensures.drops c.drain.ensures.ended;
-}
+pub returns-in-Drains-clause-visits : goal.returns-in-Drains-clause-visits
+returns-in-Drains-clause-visits g c =
+    visit-dropped g.S.Socket.received g.S.Socket.sent g.D.Service.answers _ _ _ _ _ c.drain.ensures.drops c.drain.ensures.ended
+
+pub returns-in-Ok-Moved-clause-visits : goal.returns-in-Ok-Moved-clause-visits
+returns-in-Ok-Moved-clause-visits g c =
+    visit-answered g.S.Socket.received g.S.Socket.sent g.D.Service.answers _ _ _ _ _ _ _ _ c.in-Ok-Moved.ensures.kept c.in-Ok-Moved.ensures.may c.in-Ok-Moved.ensures.waits c.answer.ensures.answers
+
+pub returns-in-Ok-Waits-clause-rests : goal.returns-in-Ok-Waits-clause-rests
+returns-in-Ok-Waits-clause-rests g c rests next = absurd (false≢true (ap receives (sym next) ∙ c.in-Ok-Waits.ensures.quiet (search rules)))

@@ -1,0 +1,19 @@
+use Rattle.std.proofs.Common.{◌≡◌, ◌<◌, ap, get_or, length, arith}
+use Rattle.registry_server.specs.declared.pool.Place.{Place}
+use Rattle.registry_server.proofs.PoolFacts.{rest-step, visits-step}
+use Rattle.registry_server.proofs.pool.ConnectionPool.visit_all.Goals as goal
+
+pub loop-place-preserved : goal.loop-place-preserved
+loop-place-preserved g c =
+    let socket = g.S.Socket in
+    let old = c.args.self.now.places.items in
+    let items = c.loop-place.place-items in
+    let i = c.loop-place.place-index in
+    let here = get_or items i c.place-item.result in
+    let within : i < length old = grind (arith, c.loop-place-test.true, c.loop-place.auto.place-items, c.deref_mut-place-items.ensures.value, c.deref_mut-place-items.ensures.len) in
+    let len : length items ≡ length old = grind (arith, c.loop-place-test.true, c.loop-place.auto.place-items, c.deref_mut-place-items.ensures.value, c.deref_mut-place-items.ensures.len) in
+    record {
+      visited = visits-step socket.received socket.sent socket.is_ended socket.is_broken g.D.Service.answers c.args.now old items i here _ _ _ _ _ _ _ within len
+          c.loop-place.invariant.rest (ap (λ (d : Place g.row.S.Denot). get_or items i d) c.place-item.is) c.loop-place.invariant.visited c.visit.ensures;
+      rest = rest-step old items i _ c.loop-place.invariant.rest;
+    }

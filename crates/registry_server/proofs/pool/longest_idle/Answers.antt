@@ -1,0 +1,13 @@
+use Rattle.std.proofs.Common.{◌≡◌, ◌<◌, ◌+◌, ◌∙◌, ℕ, Option, length, subst, sym, arith}
+use Rattle.registry_server.specs.Pools.{IsLongestOf, idle_times}
+use Rattle.registry_server.proofs.PoolFacts.{idle-read, longest-step}
+use Rattle.registry_server.proofs.pool.longest_idle.Goals as goal
+
+pub loop-number-preserved : goal.loop-number-preserved
+loop-number-preserved g c =
+    let places = c.args.places.now in
+    let n = c.loop-number.number in
+    let within : n < length places = omega (arith, c.loop-number-test.true) in
+    let read : idle_times places n ≡ c.idle_since.result = idle-read places n c.index-places-number.result within c.index-places-number.is ∙ sym c.idle_since.ensures in
+    subst (λ (r : Option (ℕ × ℕ)). IsLongestOf (idle_times places) (n + 1) r) (sym c.earlier-longest.ensures)
+    (longest-step (idle_times places) n c.loop-number.longest c.idle_since.result c.loop-number.invariant read)
