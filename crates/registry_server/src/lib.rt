@@ -23,6 +23,7 @@ mod socket;
 mod state;
 
 pub use crate::connection::{Connection, Visit};
+pub use crate::listener::UNCOUNTED;
 pub use crate::outgoing::Outgoing;
 pub use crate::phase::{DRAIN_LIMIT, IDLE_LIMIT, Phase, REQUEST_TIME_LIMIT, RESPONSE_LIMIT, Stage};
 pub use crate::pool::CONNECTION_COUNT;
