@@ -1,28 +1,23 @@
 //! The runner: requests on an empty registry, by `run` and by `apply` one by one.
 
 mod archives;
-mod body;
 mod connections;
 mod everything;
 mod files;
-mod outcome;
 mod people;
 mod program;
 mod replies;
 mod rounds;
-mod rows;
 mod sizes;
-mod tables;
 mod withdrawals;
 
 use crate::example::{Ask, Expected, Step, Who};
-use body::{ABC, body_of};
-use outcome::{otherwise, same};
 use people::{action_of, digest_of};
 use registry_desk::Registry;
 use registry_names::{Fault, Ident, Moment, Name, Stop, TagText, Ver};
 use registry_publish::PublishForm;
 use registry_rules::{Action, Asked, Credential, Reply, Request};
+use registry_test_support::{ABC, body_of, otherwise, same};
 use sqlite::Alter;
 use std::alloc::Global;
 use std::test::Fail;

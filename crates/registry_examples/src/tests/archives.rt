@@ -3,8 +3,8 @@
 use crate::beginnings::LAB_KIT;
 use crate::example::{Ask, Expected, Step, Who};
 use crate::tests::all_have_their_reply;
-use crate::tests::outcome::same;
 use registry_desk::Registry;
+use registry_test_support::same;
 use sqlite::{Alter, Connection, Error, MemStore};
 use std::alloc::Global;
 use std::test::Fail;

@@ -9,13 +9,13 @@ mod source;
 ghost use Rattle.std.specs.Prelude.{None};
 
 use super::all_have_their_reply;
-use super::outcome::{otherwise, same};
 use crate::beginnings::LAB_KIT;
 use registry_desk::Registry;
 use registry_http::RegistryService;
 use registry_names::{ByteIn, Fault, FromRead, Moment, ToWrite};
 use registry_rules::{Reply, Request};
 use registry_service::{Clock, End, Served, Service, serve};
+use registry_test_support::{otherwise, same};
 use registry_wire::Inbox;
 use source::Source;
 use sqlite::MemStore;

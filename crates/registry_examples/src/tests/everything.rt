@@ -2,11 +2,11 @@
 
 use crate::beginnings::LAB_KIT;
 use crate::example::{Ask, Who};
-use crate::tests::outcome::same;
 use crate::tests::{Outcome, both_ways, request_at, requests_of};
 use registry_access::{Grant, Role};
 use registry_names::{Status, Stop};
 use registry_rules::Request;
+use registry_test_support::same;
 use std::alloc::Global;
 use std::test::Fail;
 

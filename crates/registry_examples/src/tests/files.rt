@@ -4,12 +4,12 @@
 ghost use Rattle.std.specs.Prelude.{IsTrue};
 ghost use Rattle.sqlite_disk.specs.Memory.{memory_is_usable};
 
-use super::outcome::same;
 use super::{Outcome, has_its_reply, outcome_of};
 use crate::example::{Ask, Expected, Step, Who};
 use registry_desk::Registry;
 use registry_names::{Fault, Refusal, Stop};
 use registry_rules::Reply;
+use registry_test_support::same;
 use sqlite::{Alter, Connection, Error, FileStore, Files, Options};
 use sqlite_disk::{Disk, Memory};
 use std::alloc::Global;

@@ -2,10 +2,10 @@
 
 use crate::beginnings::{KIT_BODY, LAB};
 use crate::example::Who;
-use crate::tests::outcome::same;
 use crate::tests::{Outcome, all_at_once, credential_of, publish, requests_of};
 use registry_names::{Moment, Refusal, Stop};
 use registry_rules::{Reply, Request};
+use registry_test_support::same;
 use std::alloc::{AllocError, Global};
 use std::test::Fail;
 

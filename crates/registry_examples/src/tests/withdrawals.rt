@@ -1,11 +1,11 @@
 //! Actions about versions, from their texts.
 
 use crate::example::Ask;
-use crate::tests::body::ABC;
 use crate::tests::{publish, version_of};
 use registry_names::{Message, Name, Refusal, Stop};
 use registry_ranges::Selector;
 use registry_rules::Action;
+use registry_test_support::ABC;
 use std::alloc::{AllocError, Global};
 
 /// The action about versions that is asked. None of the others is.

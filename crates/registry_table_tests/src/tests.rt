@@ -1,0 +1,4 @@
+//! Tables of cases, and their runners.
+
+mod rows;
+mod tables;
