@@ -1,11 +1,11 @@
 -- What tests of all rows of a map say of its keys.
-use Rattle.std.proofs.Common.{◌≡◌, ◌∙◌, Bool, true, false, cond, ◌&&◌, ◌||◌, List, [], ◌∷◌, ◌++◌, find, is_some, refl, sym, ap, ap₂, subst, true≢false, Ordering, Some, None, Option, IsSome, All, if◌then◌else◌}
+use Rattle.std.proofs.Common.{◌≡◌, ◌∙◌, Bool, true, false, cond, ◌||◌, List, [], ◌∷◌, ◌++◌, find, is_some, refl, sym, ap, ap₂, subst, true≢false, Ordering, Some, None, Option, IsSome, All, if◌then◌else◌}
 use Rattle.std.specs.List.{AllByRecursion, list_all, list_any}
 use Rattle.std.proofs.lemmas.Bool.{and_from, and_parts, or_left, or_right}
 use Rattle.std.proofs.lemmas.List.Elements.{All-head, All-tail}
 use Rattle.registry_names.specs.Keys.{IsKey}
 use Rattle.registry_names.specs.Maps.{MapBy, at, entries, first_at}
-use Rattle.registry_names.proofs.KeyFacts.{same_self, same_true}
+use Rattle.registry_names.proofs.KeyFacts.{same_true}
 use Rattle.registry_names.proofs.MapFacts.{at-entries}
 use Rattle.registry_names.proofs.EntryFacts.{IsFoundIn, among_keys, entries_rise, rows_found}
 use Rattle.registry_check.specs.Problems.{broken, fault_of, problems_of}

@@ -1,5 +1,5 @@
 -- One look-up after another loads of what was stored at first.
-use Rattle.std.proofs.Common.{◌≡◌, map, refl, subst}
+use Rattle.std.proofs.Common.{subst}
 use Rattle.sqlite.specs.Effect.{Database}
 use Rattle.sqlite.specs.State.{State as Shown}
 use Rattle.registry_rows.specs.Ready.{Reads}

@@ -1,8 +1,8 @@
 -- No row breaks a rule exactly where the premises hold.
-use Rattle.std.proofs.Common.{◌≡◌, ◌∙◌, ◌==◌, ℕ, suc, ℤ, Bool, true, false, cond, not, ◌&&◌, ◌||◌, List, [], ◌∷◌, ◌++◌, find, length, is_none, is_some, option_and_then, option_map, arith, refl, sym, ap, ap₂, subst, true≢false, Some, None, Option, IsSome}
+use Rattle.std.proofs.Common.{◌≡◌, ◌∙◌, ◌==◌, ℕ, suc, ℤ, Bool, true, false, not, ◌&&◌, ◌||◌, List, [], ◌∷◌, ◌++◌, find, length, is_none, is_some, option_and_then, option_map, arith, refl, sym, ap, ap₂, subst, true≢false, Some, None, Option, IsSome}
 use Rattle.std.specs.Cmp.{both_ways}
-use Rattle.std.specs.List.{list_all, list_any}
-use Rattle.std.specs.Ordering.{int_cmp, int_eq}
+use Rattle.std.specs.List.{list_all}
+use Rattle.std.specs.Ordering.{int_eq}
 use Rattle.std.proofs.lemmas.Bool.{and_from, and_parts, eqb-true, or_left, or_right}
 use Rattle.registry_names.specs.Keys.{Pair, pair_is}
 use Rattle.registry_names.specs.Maps.{at, entries}
@@ -26,13 +26,10 @@ use Rattle.registry_rows.proofs.TextKeyFacts.{texts_key}
 use Rattle.registry_tables.specs.Archives.{HoldsArchives, is_archive}
 use Rattle.registry_tables.specs.Contents.{Archive, Contents, access_of}
 use Rattle.registry_tables.specs.Needs.{HoldsNeeds, is_needed, names_if_any, names_range}
-use Rattle.registry_tables.specs.Teams.{GrantsInScope}
 use Rattle.registry_check.specs.Premises.{MeetsPremises, TellsPremises, rows_in}
 use Rattle.registry_check.specs.Problems as spec
 use Rattle.registry_check.specs.Problems.{archive_problems, grant_problems, held_problems, live_problems, maintainer_problems, member_problems, need_problems, organisation_problems, problems, published_problems, team_member_problems, team_problems, token_problems}
 use Rattle.registry_check.specs.Rules.{archive_tests, are_stored, grant_tests, has, has_maintainer, has_owner, held_tests, is_first, is_held, is_named, is_public, live_tests, maintainer_tests, member_tests, need_is, need_tests, numbered, organisation_tests, package_tests, team_member_tests, team_tests, token_tests}
-use Rattle.registry_check.specs.declared.problem.Problem.{Problem}
-use Rattle.registry_check.specs.declared.problem.Test.{Test}
 use Rattle.registry_check.proofs.EachFacts.{all_hold, any_at, at_any, first_passes, has_at, means_none, nil_parts, none_means, there, value_of}
 
 -- ---- tests

@@ -1,5 +1,5 @@
 -- A search in rows is one in what contracts see of them.
-use Rattle.std.proofs.Common.{◌≡◌, ◌∙◌, Bool, true, false, cond, ◌||◌, List, [], ◌∷◌, map, refl, ap, Option, Some, None, option_map, find}
+use Rattle.std.proofs.Common.{◌≡◌, Bool, true, false, cond, ◌||◌, List, [], ◌∷◌, map, refl, ap, Option, Some, option_map, find}
 use Rattle.std.specs.List.{list_any}
 
 module _ {X Y : Type 0} (f : Y → Bool) (g : X → Y) where

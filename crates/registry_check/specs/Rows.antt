@@ -1,5 +1,5 @@
 -- The rows of the tables as contracts see them: each a key with its value, in the order of the keys.
-use Rattle.std.specs.Prelude.{ℕ, ℤ, List, map}
+use Rattle.std.specs.Prelude.{ℤ, List, map}
 use Rattle.registry_names.specs.Keys.{Pair, Triple}
 use Rattle.registry_names.specs.Texts.{Text}
 use Rattle.registry_names.specs.declared.status.Status.{Status}

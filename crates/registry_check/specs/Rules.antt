@@ -1,6 +1,6 @@
 -- The rules: for each kind of row which ones it keeps, of all the rows that there are. `R` is all
 -- rows, and the row is a key `k` with a value `v`.
-use Rattle.std.specs.Prelude.{◌==◌, ℕ, ℤ, Bool, true, false, not, ◌&&◌, ◌||◌, List, [], ◌∷◌, Option, Some, None, is_none, length, find, option_map}
+use Rattle.std.specs.Prelude.{◌==◌, ℤ, Bool, true, false, not, ◌&&◌, ◌||◌, List, [], ◌∷◌, Option, Some, None, is_none, length, find, option_map}
 use Rattle.std.specs.List.{list_any, list_all}
 use Rattle.std.specs.Ordering.{int_eq}
 use Rattle.registry_names.specs.Keys.{Pair, Triple, pair_is, triple_is, both}

@@ -13,7 +13,7 @@ use Rattle.registry_rules.specs.declared.request.Action.{Action}
 use Rattle.registry_rules.specs.declared.request.Action.TheVariants.{Publish, Withdraw, Deprecate}
 use Rattle.registry_rules.specs.declared.request.Request.{Request}
 use Rattle.registry_history.specs.History.{Entry, Legal, after}
-use Rattle.registry_history.specs.Lasting.{IsSameRelease, Lasts, LivesOn, HistoriesLast, RunsLast}
+use Rattle.registry_history.specs.Lasting.{IsSameRelease, Lasts, LivesOrWasWithdrawn, HistoriesLast, RunsLast}
 use Rattle.registry_history.specs.Readings.{or_before, unless_ended, published, published_by, recorded, last_withdrawal, moments_if, noted, chooses, IsOnce}
 use Rattle.registry_history.specs.Runs.{Outcome, enters, entered, grown, history, next, HaveOutcomes, end_of}
 use Rattle.registry_history.proofs.RunFacts.{legal_history}
@@ -123,7 +123,7 @@ if_there None P f = tt
 if_there (Some x) P f = f x refl
 
 module _ (g h : List Entry) (legal : Legal (g ++ h)) where
-  lives_on : (k : Pair) (old : Release) → at (after h).live k ≡ Some old → LivesOn (after (g ++ h)) k old
+  lives_on : (k : Pair) (old : Release) → at (after h).live k ≡ Some old → LivesOrWasWithdrawn (after (g ++ h)) k old
   lives_on k old there = elim (lives_after g h legal k old (sym ((has_records h).records k) ∙ there)) [
     | inl (new, here, same) ↦ inl (new, (has_records (g ++ h)).records k ∙ here, same)
     | inr (w, gone, moment) ↦ inr (w, (has_records (g ++ h)).withdrawals k ∙ gone, moment)
@@ -132,7 +132,7 @@ module _ (g h : List Entry) (legal : Legal (g ++ h)) where
   gone_after : (k : Pair) (w : Withdrawal) → at (after (g ++ h)).spent k ≡ Some w → at (after (g ++ h)).live k ≡ None
   gone_after k w gone = none_left _ (not_both _ _ ((has_versions (g ++ h) legal).apart k) (ap is_some gone))
 
-  same_release : (k : Pair) (old new : Release) → LivesOn (after (g ++ h)) k old → at (after (g ++ h)).live k ≡ Some new → IsSameRelease old new
+  same_release : (k : Pair) (old new : Release) → LivesOrWasWithdrawn (after (g ++ h)) k old → at (after (g ++ h)).live k ≡ Some new → IsSameRelease old new
   same_release k old new (inl (other, there, same)) here = subst (IsSameRelease old) (some_same other new (sym there ∙ here)) same
   same_release k old new (inr (w, gone, moment)) here = absurd (true≢false (ap is_some (sym here ∙ gone_after k w gone)))
 

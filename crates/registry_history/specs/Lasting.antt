@@ -15,15 +15,15 @@ pub record IsSameRelease (old new : Release) : Type 0 where
 
 -- a version that is live in S: in T it is live and the same, or withdrawn, with the moment at which
 -- it was published
-abbrev pub LivesOn : State → Pair → Release → Type 0
-LivesOn T k old = ((new : Release) × (at T.live k ≡ Some new) × IsSameRelease old new) ⊎ ((gone : Withdrawal) × (at T.spent k ≡ Some gone) × (gone.published ≡ old.at))
+abbrev pub LivesOrWasWithdrawn : State → Pair → Release → Type 0
+LivesOrWasWithdrawn T k old = ((new : Release) × (at T.live k ≡ Some new) × IsSameRelease old new) ⊎ ((gone : Withdrawal) × (at T.spent k ≡ Some gone) × (gone.published ≡ old.at))
 
 -- T comes later than S: a version that is live in both has the same moment, manifest and archive in
 -- both. One that is live in S may be withdrawn in T, and isn't gone otherwise. One that is withdrawn
 -- in S is in T too, with the same moments, and not live.
 pub record Lasts (S T : State) : Type 0 where
   pub same : (k : Pair) (old new : Release) → at S.live k ≡ Some old → at T.live k ≡ Some new → IsSameRelease old new
-  pub live : (k : Pair) → IfSome (at S.live k) (LivesOn T k)
+  pub live : (k : Pair) → IfSome (at S.live k) (LivesOrWasWithdrawn T k)
   pub withdrawn : (k : Pair) → IfSome (at S.spent k) (λ gone. (at T.spent k ≡ Some gone) × (at T.live k ≡ None))
 
 -- a legal history goes on from an older one

@@ -1,5 +1,5 @@
 -- The laws of bars and spaces, of the prereleases that a text names, and of selectors.
-use Rattle.std.proofs.Common.{◌≡◌, ◌++◌, ◌==◌, ◌<◌, ℕ, suc, List, [], ◌∷◌, Option, Some, None, Bool, true, false, refl, sym, ap, ◌∙◌, inl, inr, arith, length, nat_cmp, append-nil}
+use Rattle.std.proofs.Common.{◌≡◌, ◌++◌, ◌==◌, ◌<◌, ℕ, suc, List, [], ◌∷◌, Some, true, refl, sym, ap, ◌∙◌, inl, inr, arith, length, nat_cmp}
 use Rattle.std.proofs.lemmas.Bool.{and_from, or_cases, or_left, or_right}
 use Rattle.std.proofs.lemmas.Bool.Decides.{nat_tests}
 use Rattle.std.proofs.lemmas.Grind.{flat_map-append}
@@ -14,15 +14,13 @@ use Rattle.registry_ranges.specs.declared.relation.Relation.TheVariants as relat
 use Rattle.registry_ranges.specs.declared.simple.Operator.{Operator}
 use Rattle.registry_ranges.specs.declared.simple.Operator.TheVariants as op
 use Rattle.registry_ranges.specs.Comparators.{Comparator, comparator, lower, same, high_end, comparators_of_simple, comparators_of_part, comparators_of_range, comparators_of_others, comparators_of, holds, is_near, range_allows, set_allows, Allows}
-use Rattle.registry_ranges.specs.Grammar.{IsRangeText}
-use Rattle.registry_ranges.specs.Laws.{IsInForm, IsRelease, BarsAreUnions, EndsAreSpaced, AreSimplesText, ReleasesMeet, PrereleasesMeet, NamesPrerelease, NamesInPart, NamesInRanges, PrereleasesAreNamed, SelectorsAgree}
+use Rattle.registry_ranges.specs.Laws.{IsInForm, IsRelease, BarsAreUnions, EndsAreSpaced, AreSimplesText, ReleasesMeet, PrereleasesMeet, NamesInPart, PrereleasesAreNamed, SelectorsAgree}
 use Rattle.registry_ranges.specs.Prefixes.{Prefix, any, major, minor, full}
-use Rattle.registry_ranges.specs.Selectors.{Condition, compared, agreement, comparison, condition_of, condition_of_simple, conditions_of_range, conditions_of_others, conditions_of, meets_condition, set_selects, HasConditions, Selects, IsSelector}
+use Rattle.registry_ranges.specs.Selectors.{Condition, compared, agreement, comparison, condition_of, conditions_of_range, conditions_of_others, meets_condition, set_selects}
 use Rattle.registry_ranges.specs.Values.{Part, simple, hyphen, nothing, Ranges, IsRangeOf, parts_of}
 use Rattle.registry_ranges.proofs.FormFacts.{allowed-hold, allowed-near, release-allowed, near-allowed, simple-named, low-named, high-named, same-compares, and-true}
 use Rattle.registry_ranges.proofs.LawFacts.{range-of}
 use Rattle.registry_ranges.proofs.PartialFacts.{bind_some, some-value}
-use Rattle.registry_ranges.proofs.ReadingFacts.{unambiguous}
 use Rattle.registry_ranges.proofs.SpellingFacts.{value-allows, simples-value, spaced-value, parts_in, bars-value, padded-value}
 
 -- ---- bars

@@ -1,11 +1,11 @@
 -- What the comparators of each form ask of a version: which numbers hold, and which prereleases
 -- are near.
-use Rattle.std.proofs.Common.{◌≡◌, ◌≢◌, ◌≤◌, ◌+◌, ◌==◌, ℕ, zero, suc, List, [], ◌∷◌, Bool, true, false, refl, sym, ap, ◌∙◌, inl, inr, arith, length, take, nat_cmp, Ordering}
+use Rattle.std.proofs.Common.{◌≡◌, ◌+◌, ◌==◌, ℕ, zero, suc, List, [], ◌∷◌, Bool, true, false, refl, sym, ap, ◌∙◌, inl, inr, arith, length, take, nat_cmp}
 use Rattle.std.proofs.lemmas.Bool.{and_from, cases_Bool, eqb-true, or_cases}
 use Rattle.std.proofs.lemmas.Bool.Decides.{nat_tests}
 use Rattle.std.proofs.lemmas.List.{nil_from_length}
 use Rattle.std.specs.List.{list_all, list_any}
-use Rattle.std.specs.Prelude.{◌⊎◌, ◌↔◌, ◌&&◌, ◌||◌, not}
+use Rattle.std.specs.Prelude.{◌⊎◌, ◌↔◌, ◌&&◌}
 use Rattle.std.specs.Ordering.{is_eq, is_lt, is_le, is_gt, is_ge, ordering_then}
 use Rattle.semver.proofs.Segments.{and-left, and-right}
 use Rattle.registry_names.specs.Versions.{VersionParts, precedence}
@@ -13,10 +13,10 @@ use Rattle.registry_ranges.specs.declared.relation.Relation.{Relation}
 use Rattle.registry_ranges.specs.declared.relation.Relation.TheVariants as relation
 use Rattle.registry_ranges.specs.declared.simple.Operator.{Operator}
 use Rattle.registry_ranges.specs.declared.simple.Operator.TheVariants.{Bare, Less as LessSign, Greater as GreaterSign, LessEq, GreaterEq, Equal as EqualSign, Tilde, TildeGreater, Caret}
-use Rattle.registry_ranges.specs.Comparators.{Comparator, comparator, below, lower, same, tilde, caret_end, caret, greater, less, at_most, high_end, comparators_of_simple, comparators_of_part, comparators_of, holds, is_near, range_allows, set_allows}
+use Rattle.registry_ranges.specs.Comparators.{Comparator, comparator, below, lower, same, tilde, caret_end, caret, greater, less, at_most, high_end, comparators_of_simple, holds, is_near, range_allows}
 use Rattle.registry_ranges.specs.Laws.{IsInForm, IsRelease, IsFrom, release, three_numbers, numbers_of, start_of, compared, NamesPrerelease, IsOpenTo, BeginWith, KeepLeftmost}
 use Rattle.registry_ranges.specs.Prefixes.{Prefix, any, major, minor, full}
-use Rattle.registry_ranges.specs.Values.{Part, simple, hyphen, nothing}
+use Rattle.registry_ranges.specs.Values.{simple}
 use Rattle.registry_ranges.proofs.BelowFacts.{numbers-decide}
 use Rattle.registry_ranges.proofs.OrderFacts.{release-cmp, ge-none, ge-major, ge-minor, gt-major, gt-minor, lt-none, lt-major, lt-minor, le-major, le-minor, eq-both, AreFrom, AreBelow, from-numbers, below-numbers, numbers-below, below-differ, same-numbers, keeps-major, keeps-minor, keeps-patch}
 

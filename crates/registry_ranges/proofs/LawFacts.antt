@@ -13,11 +13,11 @@ use Rattle.registry_names.specs.Versions.{VersionParts, precedence}
 use Rattle.registry_ranges.specs.declared.relation.Relation.TheVariants as relation
 use Rattle.registry_ranges.specs.declared.simple.Operator.{Operator}
 use Rattle.registry_ranges.specs.declared.simple.Operator.TheVariants as op
-use Rattle.registry_ranges.specs.Comparators.{Comparator, lower, at_most, high_end, tilde, caret, comparators_of_simple, comparators_of_part, comparators_of_range, comparators_of_others, comparators_of, holds, is_near, range_allows, set_allows, Allows}
-use Rattle.registry_ranges.specs.Grammar.{print_operator, IsRangeText}
-use Rattle.registry_ranges.specs.Laws.{IsInForm, IsRelease, IsFrom, release, Says, numbers_of, start_of, compared, NamesPrerelease, IsOpenTo, AllowTheSame, AllowsCompared, AllowsCaret, AllowsTilde, hyphened, AllowsHyphened, IsOpenAbove, IsOpenBelow, IsBetween, AllowsItself, AllowsReleases, WildcardsAllowReleases, AllowsNothing}
+use Rattle.registry_ranges.specs.Comparators.{lower, at_most, high_end, tilde, caret, comparators_of_simple, comparators_of_part, comparators_of_range, comparators_of, holds, is_near, range_allows, set_allows, Allows}
+use Rattle.registry_ranges.specs.Grammar.{print_operator}
+use Rattle.registry_ranges.specs.Laws.{IsInForm, IsRelease, IsFrom, release, Says, start_of, compared, NamesPrerelease, IsOpenTo, AllowsCompared, AllowsCaret, AllowsTilde, hyphened, AllowsHyphened, IsOpenAbove, IsOpenBelow, IsBetween, AllowsItself, AllowsReleases, WildcardsAllowReleases, AllowsNothing}
 use Rattle.registry_ranges.specs.Prefixes.{Prefix, any, major, minor, full}
-use Rattle.registry_ranges.specs.Values.{Part, simple, hyphen, nothing, Ranges, IsRangeOf}
+use Rattle.registry_ranges.specs.Values.{Part, simple, hyphen, nothing, IsRangeOf}
 use Rattle.registry_ranges.proofs.FormFacts.{allowed-hold, allowed-near, release-allowed, near-allowed, simple-named, simple-near, low-named, low-near, high-named, high-near, lower-compares, greater-compares, less-compares, at_most-compares, same-compares, high-compares, lower-from, tilde-keeps, caret-keeps, and-true, named-near}
 use Rattle.registry_ranges.proofs.OrderFacts.{above-zeros, ge-none, release-cmp}
 use Rattle.registry_ranges.proofs.SpellingFacts.{value-allows, empty-value, simple-value, hyphen-value, between-value}

@@ -9,7 +9,7 @@ use Rattle.registry_ranges.specs.Comparators.{Allows, comparators_of, set_allows
 use Rattle.registry_ranges.specs.Grammar.{spaces, print_operator, Simple, print_simple, AreSimples, print_more, Hyphen, Range, empty, simples, between, IsRange, print_range, Spaced, print_spaced, AreRanges, print_others, RangeSet, print_set}
 use Rattle.registry_ranges.specs.Laws.{Says, hyphened, AreSimplesText}
 use Rattle.registry_ranges.specs.Prefixes.{Prefix, prefix_of}
-use Rattle.registry_ranges.specs.Values.{Part, simple, hyphen, nothing, Ranges, IsRangeOf, part_of, parts_of_range, parts_of_more, parts_of_others, parts_of}
+use Rattle.registry_ranges.specs.Values.{Part, simple, hyphen, nothing, Ranges, IsRangeOf, part_of, parts_of_range, parts_of_more, parts_of_others}
 use Rattle.registry_ranges.proofs.ReadingFacts.{unambiguous}
 
 -- a text allows what its one value does

@@ -1,5 +1,5 @@
 -- A row has the row that it refers to.
-use Rattle.std.proofs.Common.{◌≡◌, ℕ, List, [], ◌∷◌, true, false, Option, Some, sym, subst}
+use Rattle.std.proofs.Common.{◌≡◌, ℕ, List, true, false, Some, sym, subst}
 use Rattle.sqlite_value.specs.Order.{Row}
 use Rattle.sqlite_value.specs.Keys.{plain}
 use Rattle.sqlite_schema.specs.declared.schema.Constraint.TheVariants.{ForeignKey}

@@ -2,7 +2,7 @@
 -- Nothing is asked of how names are spelled.
 use Rattle.std.proofs.Common.{◌≡◌, ◌≢◌, Bool, true, false, cond, not, ◌&&◌, Option, Some, None, is_some, refl, sym, ap, ◌∙◌, subst, true≢false}
 use Rattle.std.proofs.lemmas.Bool.{and_right}
-use Rattle.std.specs.Prelude.{length, IsSome, IsTrue}
+use Rattle.std.specs.Prelude.{IsSome}
 use Rattle.registry_names.specs.Keys.{Pair, Triple, pair_is}
 use Rattle.registry_names.specs.Maps.{PairMap, at, put, erase, keep}
 use Rattle.registry_names.specs.Texts.{Text, is}

@@ -5,7 +5,7 @@ use Rattle.std.proofs.lemmas.Bool.{eqb-false}
 use Rattle.registry_names.specs.ByteStreams.{Writes, WritesPrefix}
 use Rattle.registry_names.specs.declared.refusal.Refusal.{Refusal}
 use Rattle.registry_names.proofs.ByteStreamFacts.{Reads-append, Reads-nothing, Writes-append, Writes-nothing}
-use Rattle.registry_wire.specs.Reading.{ReadsNoMoreThanNeeded, TakenOf}
+use Rattle.registry_wire.specs.Reading.{ReadsWhileUnfinished, TakenOf}
 use Rattle.registry_wire.specs.Spelling.{EndsWith, IsBad}
 use Rattle.registry_wire.specs.declared.first.Ending.TheVariants as ending
 use Rattle.registry_wire.proofs.RequestFacts.{request-more, bad-more}
@@ -186,7 +186,7 @@ module _ {D : Type 0} (answers : Answering D) where
     pub lean : ReadsFor old.held ts course.got
 
   -- what is read after turns that go on
-  reads-on : (old mid : Side D) (ts : List Turn) (led : Led old mid ts) (newer : List ℕ) → GoOn ts → ReadsNoMoreThanNeeded mid.held newer → ReadsOn old.held ts (led.course.got ++ newer)
+  reads-on : (old mid : Side D) (ts : List Turn) (led : Led old mid ts) (newer : List ℕ) → GoOn ts → ReadsWhileUnfinished mid.held newer → ReadsOn old.held ts (led.course.got ++ newer)
   reads-on old mid ts led newer on lean =
       let c = led.course in
       record {

@@ -5,7 +5,7 @@ use Rattle.std.specs.Io.KnownBytes.{IsAtEnd}
 use Rattle.registry_names.specs.ByteStreams.{Reads, RisesBetween, Writes}
 use Rattle.registry_names.specs.declared.stop.Fault.TheVariants.{Memory}
 use Rattle.registry_wire.specs.Inboxes.{failures_admitted}
-use Rattle.registry_wire.specs.Reading.{CountsInterrupted, ReadsNoMoreThanNeeded, TakenOf}
+use Rattle.registry_wire.specs.Reading.{CountsInterrupted, ReadsWhileUnfinished, TakenOf}
 use Rattle.registry_wire.specs.Spelling.{EndsWith, IsUnfinished}
 use Rattle.registry_wire.specs.declared.first.Ending.TheVariants as ending
 use Rattle.registry_wire.specs.declared.inbox.Taken.{Taken}
@@ -68,7 +68,7 @@ pub record ReadsAfter (held : List ℕ) (ts : List Turn) (got : List ℕ) (ForTu
   pub before : ForTurns older
   pub rest : List ℕ
   pub left : Took (held ++ older) ts rest ⊥
-  pub lean : ReadsNoMoreThanNeeded rest newer
+  pub lean : ReadsWhileUnfinished rest newer
 
 -- What was read for the turns, one after the other: for each of them no more than it needed.
 abbrev pub ReadsFor : List ℕ → List Turn → List ℕ → Type 0
@@ -154,7 +154,7 @@ module _ {D : Type 0} (answers : Answering D) where
     pub cause : Cause
     pub got : List ℕ
     pub gave : Reads old.left new.left new.unknown got
-    pub lean : ReadsNoMoreThanNeeded old.held got
+    pub lean : ReadsWhileUnfinished old.held got
     pub took : TakenOf (old.held ++ got) new.held (AtEndOf new) (taken_for cause)
     pub turns : Turns answers old.service cause last t new.service
     pub asked : Gave old.readings new.readings (moment_of cause)
@@ -163,7 +163,7 @@ module _ {D : Type 0} (answers : Answering D) where
   pub record Rests (old new : Side D) (e : End) : Type 0 where
     pub got : List ℕ
     pub gave : Reads old.left new.left new.unknown got
-    pub lean : ReadsNoMoreThanNeeded old.held got
+    pub lean : ReadsWhileUnfinished old.held got
     pub held : new.held ≡ old.held ++ got
     pub service : new.service ≡ old.service
     pub readings : new.readings ≡ old.readings

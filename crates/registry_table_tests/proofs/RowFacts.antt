@@ -1,10 +1,10 @@
 -- What the statements of the tests leave, whose rows no call puts.
-use Rattle.std.proofs.Common.{◌≡◌, ℕ, ℤ, List, [], ◌∷◌, pos, Ok, refl, codes}
+use Rattle.std.proofs.Common.{ℕ, ℤ, List, [], ◌∷◌, pos, Ok, refl, codes}
 use Rattle.sqlite.specs.declared.types.Value.TheVariants.{Null, Int, Text as Stored}
 use Rattle.sqlite.specs.Command.TheVariants.{Insert}
 use Rattle.sqlite.specs.Source.TheVariants.{Values}
 use Rattle.sqlite.specs.Listing.{understood}
-use Rattle.sqlite.specs.State.{State, HasCleanDisk}
+use Rattle.sqlite.specs.State.{State}
 use Rattle.sqlite_tied.specs.Compute.{everything}
 use Rattle.sqlite_sql.specs.Term.{Term, lit, col}
 use Rattle.registry_names.specs.Texts.{Text}

@@ -2,7 +2,7 @@
 use Rattle.std.specs.Prelude.{◌≡◌, ◌<◌, ◌≤◌, ◌+◌, ◌⊎◌, ℕ, Bool, List, ◌++◌, Option, length}
 use Rattle.registry_names.specs.ByteStreams.{Reads, raised}
 use Rattle.registry_wire.specs.Inboxes.{Unread, interruption_limit, piece_limit}
-use Rattle.registry_wire.specs.Reading.{ReadsNoMoreThanNeeded}
+use Rattle.registry_wire.specs.Reading.{ReadsWhileUnfinished}
 use Rattle.registry_wire.specs.declared.inbox.Piece.{Piece}
 use Rattle.registry_wire.specs.declared.inbox.Piece.TheVariants.{More, End, Broken, Memory}
 
@@ -18,7 +18,7 @@ pub record Moves (held : List ℕ) (left : Option (List ℕ)) (held2 : List ℕ)
 pub record Gathers (held : List ℕ) (left : Option (List ℕ)) (held2 : List ℕ) (left2 : Option (List ℕ)) (unknown : Bool) : Type 0 where
   pub got : List ℕ
   pub gave : Reads left left2 unknown got
-  pub lean : ReadsNoMoreThanNeeded held got
+  pub lean : ReadsWhileUnfinished held got
   pub holds : held2 ≡ held ++ got
 
 -- nothing more is held, and nothing was interrupted

@@ -28,16 +28,16 @@ IsEndOf all (taken.Faulted fault) = ⊥
 
 -- Reads gave these bytes. Each read gave a piece of them, and was made where what was held did not
 -- decide the request: it was neither whole nor refused yet.
-pub data ReadsNoMoreThanNeeded (held : List ℕ) : List ℕ → Type 0 where
-  nothing : ReadsNoMoreThanNeeded held []
-  one_more : (got piece : List ℕ) → ReadsNoMoreThanNeeded held got → IsUnfinished (held ++ got) → length piece ≤ piece_limit → ReadsNoMoreThanNeeded held (got ++ piece)
+pub data ReadsWhileUnfinished (held : List ℕ) : List ℕ → Type 0 where
+  nothing : ReadsWhileUnfinished held []
+  one_more : (got piece : List ℕ) → ReadsWhileUnfinished held got → IsUnfinished (held ++ got) → length piece ≤ piece_limit → ReadsWhileUnfinished held (got ++ piece)
 
 -- The reader gave some bytes, no more than the request needed, and they are held after those that
 -- were held before.
 pub record Takes (held : List ℕ) (left : Option (List ℕ)) (held2 : List ℕ) (left2 : Option (List ℕ)) (unknown : Bool) (r : Taken) : Type 0 where
   pub got : List ℕ
   pub gave : Reads left left2 unknown got
-  pub lean : ReadsNoMoreThanNeeded held got
+  pub lean : ReadsWhileUnfinished held got
   pub bounded : length held2 < held_limit
   pub took : TakenOf (held ++ got) held2 (unknown ≡ false → IsAtEnd left2) r
 

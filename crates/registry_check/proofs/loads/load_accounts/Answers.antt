@@ -3,7 +3,7 @@ use Rattle.sqlite.specs.State.{State as Shown, HasCleanDisk}
 use Rattle.registry_names.specs.Maps.{entries}
 use Rattle.registry_access.specs.RowMaps.{organisation_entry}
 use Rattle.registry_tables.specs.Effects.{shown}
-use Rattle.registry_check.specs.Rows.{token_entry, user_entry}
+use Rattle.registry_check.specs.Rows.{token_entry}
 use Rattle.registry_check.proofs.LoadFacts.{then_told}
 use Rattle.registry_check.proofs.loads.load_accounts.Goals as goal
 

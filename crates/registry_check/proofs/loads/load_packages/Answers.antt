@@ -1,7 +1,7 @@
 use Rattle.std.proofs.Common.{◌≡◌, arith, map}
 use Rattle.sqlite.specs.State.{State as Shown, HasCleanDisk}
 use Rattle.registry_names.specs.Maps.{entries}
-use Rattle.registry_access.specs.RowMaps.{grant_entry, maintainer_entry, package_entry}
+use Rattle.registry_access.specs.RowMaps.{grant_entry, maintainer_entry}
 use Rattle.registry_tables.specs.Effects.{shown}
 use Rattle.registry_check.proofs.LoadFacts.{then_told}
 use Rattle.registry_check.proofs.loads.load_packages.Goals as goal

@@ -2,7 +2,7 @@ use Rattle.std.proofs.Common.{◌≡◌, arith, map}
 use Rattle.sqlite.specs.State.{State as Shown, HasCleanDisk}
 use Rattle.registry_names.specs.Maps.{entries}
 use Rattle.registry_tables.specs.Effects.{shown}
-use Rattle.registry_check.specs.Rows.{archive_entry, held_entry, live_entry, need_entry}
+use Rattle.registry_check.specs.Rows.{archive_entry, held_entry, need_entry}
 use Rattle.registry_check.proofs.LoadFacts.{then_told}
 use Rattle.registry_check.proofs.loads.load_versions.Goals as goal
 

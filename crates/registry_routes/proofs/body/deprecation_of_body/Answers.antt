@@ -1,4 +1,4 @@
-use Rattle.std.proofs.Common.{sym, ap, Err, ◌∙◌}
+use Rattle.std.proofs.Common.{sym, ap, Err}
 use Rattle.std.proofs.lemmas.Result.{err_from_is_err_and}
 use Rattle.serde_json.specs.View.{view}
 use Rattle.registry_routes.specs.Bodies.{IsDeprecationBody}

@@ -1,6 +1,4 @@
 use Rattle.std.proofs.Common.{rules}
-use Rattle.sqlite.specs.Held.{state}
-use Rattle.registry_rows.specs.Frames.{Stays}
 use Rattle.registry_rows.proofs.QueryFacts.{failed_keeps}
 use Rattle.registry_rows.proofs.statement.read.Goals as goal
 
