@@ -1,5 +1,5 @@
 -- Where no byte is held, more may come.
-use Rattle.std.proofs.Common.{rules, ◌≡◌, ◌==◌, ◌<◌, ◌≤◌, ◌++◌, ◌∷◌, [], ℕ, true, List, None, length, codes, refl, ap, subst, sym, inl, lit<, lit≤, append-nil, arith, length-append}
+use Rattle.std.proofs.Common.{rules, ◌≡◌, ◌==◌, ◌<◌, ◌++◌, ◌∷◌, [], ℕ, true, List, None, length, codes, refl, ap, subst, sym, inl, lit<, lit≤, append-nil, arith, length-append}
 use Rattle.std.proofs.lemmas.Bool.Decides.{nat_tests}
 use Rattle.std.proofs.lemmas.Str.{IsUtf8-from_ascii}
 use Rattle.std.proofs.lemmas.Str.Ascii.{IsAscii-from_all}

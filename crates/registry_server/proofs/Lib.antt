@@ -5,3 +5,4 @@ mod VisitFacts
 mod WorldFacts
 mod PhaseFacts
 mod IdleFacts
+mod TimeFacts

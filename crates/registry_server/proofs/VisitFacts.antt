@@ -1,18 +1,16 @@
 -- What the steps of a visit come to.
-use Rattle.std.proofs.Common.{◌≡◌, ◌⊎◌, ◌++◌, ◌∙◌, [], ℕ, Bool, true, false, List, Option, None, Some, IsSome, take, drop, refl, ap, subst, sym, inl, inr, append-nil}
+use Rattle.std.proofs.Common.{◌≡◌, ◌⊎◌, ◌++◌, ◌∙◌, [], ℕ, Bool, true, false, List, Option, None, Some, IsSome, length, take, drop, refl, ap, subst, sym, inl, inr, append-nil}
 use Rattle.std.proofs.lemmas.Bool.{false≢true}
 use Rattle.std.proofs.lemmas.List.{take-append-drop}
 use Rattle.std.specs.Io.KnownBytes.{append_known}
 use Rattle.registry_wire.specs.Spelling.{IsUnfinished}
-use Rattle.registry_service.specs.Turns.{Answering, TurnsAway, no_memory}
+use Rattle.registry_service.specs.Turns.{Answering}
 use Rattle.registry_service.specs.declared.turning.End.{End}
-use Rattle.registry_service.specs.declared.turning.Turned.{Turned}
 use Rattle.registry_server.specs.ConnectionStates.{IsStarved, MayTakeTurn, Pending, TakesNone, holding, sending}
 use Rattle.registry_server.specs.Connections.{AnswersOnce, Drops, Keeps, OpenConnection, Receives, SendsDue, StarvesOnce, TakesOne, Visits}
-use Rattle.registry_server.specs.Phases.{LookedAt, entered}
+use Rattle.registry_server.specs.Phases.{LookedAt, SentAt, takes_turns}
 use Rattle.registry_server.specs.declared.phase.Phase.{Phase}
-use Rattle.registry_server.specs.declared.phase.Stage.TheVariants.{Begun, Next}
-use Rattle.registry_server.proofs.PhaseFacts.{entered-same, heard-looked, stays-or-enters}
+use Rattle.registry_server.proofs.PhaseFacts.{heard-looked, heard-sends, heard-sent, looked-sent, sent-still}
 use Rattle.registry_server.proofs.StateFacts.{starved-turn}
 
 -- nothing more is known of the same bytes
@@ -55,7 +53,7 @@ module _ {S : Type 0} (received sent : S → Option (List ℕ)) {D : Type 0} (an
       → LookedAt now old.phase new.phase → new.socket ≡ old.socket → new.is_over ≡ old.is_over → AnswersOnce received sent answers now old new M N r r2
   answered-none now old new M N r r2 none looked socket over = record {
     due = new.state;
-    turns = inr (none, looked);
+    turns = inr (none, refl, looked);
     put = [];
     took = ap sent socket ∙ none-added (sent old.socket);
     unread = ap received socket;
@@ -73,7 +71,7 @@ module _ {S : Type 0} (received sent : S → Option (List ℕ)) {D : Type 0} (an
     read = new.state;
     due = new.state;
     keeps = inl (may.goes_on, h.state, h.none);
-    turns = inr (none-taken new.state M r, stays-or-enters Next now old.phase new.phase h.times);
+    turns = inr (none-taken new.state M r, heard-sent now old.phase new.phase h.times);
     put = [];
     took = h.unsent ∙ none-added (sent old.socket);
     sends = refl;
@@ -82,8 +80,8 @@ module _ {S : Type 0} (received sent : S → Option (List ℕ)) {D : Type 0} (an
 
   -- bytes were received, and a turn was taken
   pub visit-answered : (now : ℕ) (old mid new : OpenConnection S) (M N : D) (r r2 : Option (List ℕ)) → Receives received sent now old mid true → MayTakeTurn old.state
-      → IsUnfinished old.state.held → AnswersOnce received sent answers now mid new M N r r2 → Visits received sent answers now old new M N r r2
-  visit-answered now old mid new M N r r2 h may waits a = record {
+      → IsUnfinished old.state.held → takes_turns old.phase.stage ≡ true → AnswersOnce received sent answers now mid new M N r r2 → Visits received sent answers now old new M N r r2
+  visit-answered now old mid new M N r r2 h may waits turning a = record {
     got = h.got;
     gave = a.unread ∙ h.gave;
     lean = inl waits;
@@ -91,8 +89,8 @@ module _ {S : Type 0} (received sent : S → Option (List ℕ)) {D : Type 0} (an
     due = a.due;
     keeps = inl (may.goes_on, h.state, h.none);
     turns = elim a.turns [
-      | inl t ↦ inl (subst (λ (b : Bool). TakesOne answers now mid.state a.due new.phase M N r r2 b) (sym a.over) t)
-      | inr t ↦ inr (t.0, heard-looked now old.phase mid.phase new.phase h.times t.1)
+      | inl t ↦ inl (subst (λ (b : Bool). TakesOne answers mid.state a.due M N r r2 b) (sym a.over) t.0, subst (λ (x : Phase). SentAt now (length a.put) x new.phase) (heard-sends now old.phase mid.phase turning h.times) t.1)
+      | inr t ↦ inr (t.0, subst (λ (l : List ℕ). SentAt now (length l) old.phase new.phase) (sym t.1) (heard-looked now old.phase mid.phase new.phase h.times t.2))
     ];
     put = a.put;
     took = a.took ∙ ap (λ (known : Option (List ℕ)). append_known known a.put) h.unsent;
@@ -111,8 +109,8 @@ module _ {S : Type 0} (received sent : S → Option (List ℕ)) {D : Type 0} (an
     due = a.due;
     keeps = inl (may.goes_on, none-held old.state, λ _. refl);
     turns = elim a.turns [
-      | inl t ↦ inl (subst (λ (b : Bool). TakesOne answers now old.state a.due new.phase M N r r2 b) (sym a.over) t)
-      | inr t ↦ inr (t.0, stays-or-enters Begun now old.phase new.phase t.1)
+      | inl t ↦ inl (subst (λ (b : Bool). TakesOne answers old.state a.due M N r r2 b) (sym a.over) t.0, t.1)
+      | inr t ↦ inr (t.0, subst (λ (l : List ℕ). SentAt now (length l) old.phase new.phase) (sym t.1) (looked-sent now old.phase new.phase t.2))
     ];
     put = a.put;
     took = a.took;
@@ -122,8 +120,8 @@ module _ {S : Type 0} (received sent : S → Option (List ℕ)) {D : Type 0} (an
 
   -- there was no memory for what was received
   pub visit-starved : (now : ℕ) (old mid new : OpenConnection S) (M : D) (r : Option (List ℕ)) → Receives received sent now old mid false → MayTakeTurn old.state
-      → IsUnfinished old.state.held → StarvesOnce received sent now mid new → Visits received sent answers now old new M M r r
-  visit-starved now old mid new M r h may waits s =
+      → IsUnfinished old.state.held → takes_turns old.phase.stage ≡ true → StarvesOnce received sent now mid new → Visits received sent answers now old new M M r r
+  visit-starved now old mid new M r h may waits turning s =
       let starved : IsStarved old.state s.due = subst (λ (p : Pending). IsStarved p s.due) h.state s.starved in
       record {
         got = h.got;
@@ -132,7 +130,10 @@ module _ {S : Type 0} (received sent : S → Option (List ℕ)) {D : Type 0} (an
         read = old.state;
         due = s.due;
         keeps = inr (refl, inr starved);
-        turns = inl (record { may = may; takes = starved-turn answers M r new.is_over old.state s.due starved; times = s.times });
+        turns = inl (
+          record { may = may; takes = starved-turn answers M r new.is_over old.state s.due starved },
+          subst (λ (x : Phase). SentAt now (length s.put) x new.phase) (heard-sends now old.phase mid.phase turning h.times) s.times,
+        );
         put = s.put;
         took = s.took ∙ ap (λ (known : Option (List ℕ)). append_known known s.put) h.unsent;
         sends = s.sends;
@@ -165,7 +166,7 @@ module _ {S : Type 0} (received sent : S → Option (List ℕ)) {D : Type 0} (an
     read = old.state;
     due = old.state;
     keeps = inr (refl, inl some);
-    turns = inr (none-taken old.state M r, subst (λ (x : Phase). x ≡ entered old.phase x.stage now) (sym d.times) (entered-same old.phase now));
+    turns = inr (none-taken old.state M r, subst (λ (x : Phase). SentAt now 0 old.phase x) (sym d.times) (sent-still now old.phase));
     put = [];
     took = d.unsent ∙ none-added (sent old.socket);
     sends = sym d.state;

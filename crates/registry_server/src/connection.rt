@@ -108,6 +108,7 @@ impl<S: Socket> Connection<S> {
     fn receive(&mut self, buffer: &mut [u8], now: u64) -> Result<Flow, AllocError>
         requires turns { phases.takes_turns self.old.phase.stage ≡ true }
         requires receives { phases.receives self.old.phase.stage ≡ true }
+        ensures turning { phases.takes_turns self.old.phase.stage ≡ true }
         ensures may { MayTakeTurn self.old.state }
         ensures waits { IsUnfinished self.old.state.held }
         ensures kept { OnOk result (Receives S.received S.sent now self.old self.new true) }
@@ -165,7 +166,7 @@ impl<S: Socket> Connection<S> {
         ensures may { MayTakeTurn self.old.state }
         ensures does { Does D.answers self.old.state self.new.state service.old service.new
             (C.readings clock.old) (C.readings clock.new) self.old.is_over result }
-        ensures sends { result ≡ progress.Answered → self.new.phase ≡ phases.started stages.Sends now }
+        ensures sends { result ≡ progress.Answered → self.new.phase ≡ phases.entered self.old.phase stages.Sends now }
         ensures looked { result ≢ progress.Answered → phases.LookedAt now self.old.phase self.new.phase }
         ensures lost { result ≡ progress.Closed → S.is_ended self.new.socket ≡ true }
         ensures socket { self.new.socket ≡ self.old.socket }
@@ -182,7 +183,6 @@ impl<S: Socket> Connection<S> {
 
     // Answers that there was no memory for what came.
     fn starve(&mut self, now: u64) -> Visit
-        requires { phases.takes_turns self.old.phase.stage ≡ true }
         ensures starves { StarvesOnce S.received S.sent now self.old self.new }
         ensures rests { result ≡ visits.Rests → self.new.phase.stage ≢ stages.Next }
         ensures over { result ≡ visits.Over → IsLost S.is_ended S.is_broken self.new }
@@ -203,6 +203,7 @@ impl<S: Socket> Connection<S> {
         match self.socket.send(head, body) {
             Flow::Moved(count) => {
                 self.state.sent(count);
+                self.phase.pay(count, now);
                 if self.state.outgoing().is_empty() {
                     self.go_on(now)
                 } else {
@@ -210,7 +211,8 @@ impl<S: Socket> Connection<S> {
                 }
             }
             Flow::Waits => Visit::Rests,
-            Flow::Ended | Flow::Broken => Visit::Over,
+            Flow::Ended => Visit::Over,
+            Flow::Broken => Visit::Over,
         }
     }
 

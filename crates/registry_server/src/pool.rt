@@ -1,6 +1,6 @@
 //! The open connections, and who of them can go on.
 
-ghost use Rattle.std.specs.Prelude.{◌≡◌, IfOk, length, map, position, replicate};
+ghost use Rattle.std.specs.Prelude.{◌≡◌, IfOk, is_none, length, map, position, replicate};
 ghost use Rattle.std.specs.List.{list_all, list_any};
 ghost use Rattle.registry_server.specs.Pools as spec;
 ghost use Rattle.registry_server.specs.Pools.{IsIdleLongest, IsPlaceFor, VisitsAll, VisitsAt, at_place, idle_times, new_at, place_count};
@@ -103,6 +103,13 @@ impl<S: Socket> ConnectionPool<S> {
         ensures { result ≡ list_all spec.is_free self.now.places.items }
     {
         self.places.iter().all(|place| place.is_free())
+    }
+
+    /// Whether every place is taken.
+    pub fn is_full(&self) -> bool
+        ensures { result ≡ is_none (position spec.is_free self.now.places.items) }
+    {
+        self.free_place().is_none()
     }
 
     /// Whether a connection is to be visited.

@@ -1,4 +1,4 @@
-use Rattle.std.proofs.Common.{◌≡◌, ap, false, true}
+use Rattle.std.proofs.Common.{ap}
 use Rattle.std.proofs.lemmas.Bool.{false≢true}
 use Rattle.registry_server.specs.declared.phase.Phase.{Phase}
 use Rattle.registry_server.proofs.IdleFacts.{fresh-in-order}

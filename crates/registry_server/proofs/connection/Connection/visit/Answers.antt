@@ -14,7 +14,7 @@ returns-in-Ok-Broken-clause-visits g c =
 
 pub returns-in-Err-clause-visits : goal.returns-in-Err-clause-visits
 returns-in-Err-clause-visits g c =
-    visit-starved g.S.Socket.received g.S.Socket.sent g.D.Service.answers _ _ _ _ _ _ c.in-Err.ensures.lost c.in-Err.ensures.may c.in-Err.ensures.waits c.starve.ensures.starves
+    visit-starved g.S.Socket.received g.S.Socket.sent g.D.Service.answers _ _ _ _ _ _ c.in-Err.ensures.lost c.in-Err.ensures.may c.in-Err.ensures.waits c.in-Err.ensures.turning c.starve.ensures.starves
 
 pub returns-in-Next-clause-visits : goal.returns-in-Next-clause-visits
 returns-in-Next-clause-visits g c =
@@ -30,7 +30,7 @@ returns-in-Drains-clause-visits g c =
 
 pub returns-in-Ok-Moved-clause-visits : goal.returns-in-Ok-Moved-clause-visits
 returns-in-Ok-Moved-clause-visits g c =
-    visit-answered g.S.Socket.received g.S.Socket.sent g.D.Service.answers _ _ _ _ _ _ _ _ c.in-Ok-Moved.ensures.kept c.in-Ok-Moved.ensures.may c.in-Ok-Moved.ensures.waits c.answer.ensures.answers
+    visit-answered g.S.Socket.received g.S.Socket.sent g.D.Service.answers _ _ _ _ _ _ _ _ c.in-Ok-Moved.ensures.kept c.in-Ok-Moved.ensures.may c.in-Ok-Moved.ensures.waits c.in-Ok-Moved.ensures.turning c.answer.ensures.answers
 
 pub returns-in-Ok-Waits-clause-rests : goal.returns-in-Ok-Waits-clause-rests
 returns-in-Ok-Waits-clause-rests g c rests next = absurd (false≢true (ap receives (sym next) ∙ c.in-Ok-Waits.ensures.quiet (search rules)))
