@@ -1,5 +1,5 @@
 -- An open connection with its socket, and what a visit makes of both.
-use Rattle.std.specs.Prelude.{◌≡◌, ◌⊎◌, ◌++◌, [], ℕ, Bool, true, List, Option, None, IsSome, length, if◌then◌else◌}
+use Rattle.std.specs.Prelude.{◌≡◌, ◌≢◌, ◌≤◌, ◌==◌, ◌⊎◌, ◌++◌, [], ℕ, Bool, true, List, Option, None, IsSome, is_some, length, if◌then◌else◌}
 use Rattle.std.specs.Io.KnownBytes.{append_known}
 use Rattle.registry_wire.specs.Spelling.{IsUnfinished}
 use Rattle.registry_service.specs.Turns.{Answering}
@@ -7,7 +7,7 @@ use Rattle.registry_server.specs.ConnectionStates.{IsStarved, MayTakeTurn, Pendi
 use Rattle.registry_server.specs.Phases.{HeardAt, LookedAt, SentAt, entered, receives, takes_turns}
 use Rattle.registry_server.specs.declared.phase.Phase.{Phase}
 use Rattle.registry_server.specs.declared.phase.Stage.{Stage}
-use Rattle.registry_server.specs.declared.phase.Stage.TheVariants.{Sends, Drains}
+use Rattle.registry_server.specs.declared.phase.Stage.TheVariants.{Idle, Begun, Next, Sends, Drains}
 
 -- a socket, what of the connection isn't done, what it is at and until when, and whether the other
 -- side sends no more
@@ -20,23 +20,31 @@ pub record OpenConnection (S : Type 0) : Type 0 where
 abbrev pub connected : {S : Type 0} → S → Pending → Phase → Bool → OpenConnection S
 connected socket state phase is_over = record { socket = socket; state = state; phase = phase; is_over = is_over }
 
--- A connection is in order: at a stage in which it takes turns all is sent and it goes on; at one in
--- which more has to come no whole request is held; and what still comes is dropped only once it has
--- ended
+-- What is held and due at each stage. Where a connection takes turns all is sent and it goes on;
+-- where more has to come no whole request is held.
 pub record IsInOrder (stage : Stage) (p : Pending) : Type 0 where
   pub turns : takes_turns stage ≡ true → MayTakeTurn p
   pub waits : receives stage ≡ true → IsUnfinished p.held
-  pub drains : stage ≡ Drains → IsSome p.ends
+  pub idle : stage ≡ Idle → p.held ≡ []
+  pub begun : stage ≡ Begun → p.held ≢ []
+  pub next : stage ≡ Next → p.held ≢ []
+  pub sends : stage ≡ Sends → p.outgoing ≢ []
+  pub drains : stage ≡ Drains → (p.outgoing ≡ []) × IsSome p.ends
+
+-- what a connection is at once all is sent
+abbrev pub stage_after : Pending → Stage
+stage_after p = if is_some p.ends then Drains else (if length p.held == 0 then Idle else Next)
 
 -- The other side sends no more, or the connection is broken.
 abbrev pub IsLost : {S : Type 0} → (S → Bool) → (S → Bool) → OpenConnection S → Type 0
 IsLost is_ended is_broken c = (is_broken c.socket ≡ true) ⊎ (is_ended c.socket ≡ true)
 
 module _ {S : Type 0} (received sent : S → Option (List ℕ)) where
-  -- Bytes were received, and are held after those that were held before. Where there was no memory
-  -- for them none of them is.
-  pub record Receives (now : ℕ) (old new : OpenConnection S) (kept : Bool) : Type 0 where
+  -- So many bytes at most were received, and are held after those that were held before. Where there
+  -- was no memory for them none of them is.
+  pub record Receives (now most : ℕ) (old new : OpenConnection S) (kept : Bool) : Type 0 where
     pub got : List ℕ
+    pub few : length got ≤ most
     pub gave : received new.socket ≡ append_known (received old.socket) got
     pub unsent : sent new.socket ≡ sent old.socket
     pub state : new.state ≡ (if kept then holding old.state (old.state.held ++ got) else old.state)
@@ -64,9 +72,10 @@ module _ {S : Type 0} (received sent : S → Option (List ℕ)) where
     pub over : new.is_over ≡ old.is_over
     pub times : SentAt now (length put) (entered old.phase Sends now) new.phase
 
-  -- Bytes were received and dropped.
-  pub record Drops (old new : OpenConnection S) : Type 0 where
+  -- So many bytes at most were received and dropped.
+  pub record Drops (most : ℕ) (old new : OpenConnection S) : Type 0 where
     pub got : List ℕ
+    pub few : length got ≤ most
     pub gave : received new.socket ≡ append_known (received old.socket) got
     pub unsent : sent new.socket ≡ sent old.socket
     pub state : new.state ≡ old.state
@@ -80,9 +89,10 @@ Keeps got old over read due =
     ((old.ends ≡ None) × (read ≡ holding old (old.held ++ got)) × (over ≡ true → got ≡ []))
     ⊎ ((read ≡ old) × (IsSome old.ends ⊎ IsStarved old due))
 
--- No more is received than is needed: only where no whole request is held, or to be dropped.
+-- No more is received than is needed: only where all is sent, and no whole request is held or what
+-- comes is dropped.
 abbrev pub ReceivesLean : List ℕ → Pending → Type 0
-ReceivesLean got old = IsUnfinished old.held ⊎ ((got ≡ []) ⊎ IsSome old.ends)
+ReceivesLean got old = (got ≡ []) ⊎ ((old.outgoing ≡ []) × (IsUnfinished old.held ⊎ IsSome old.ends))
 
 module _ {D : Type 0} (answers : Answering D) where
   -- A turn is taken, where all is sent and the connection goes on.
@@ -103,11 +113,13 @@ module _ {S : Type 0} (received sent : S → Option (List ℕ)) {D : Type 0} (an
     pub over : new.is_over ≡ old.is_over
 
   -- A visit of a connection: exactly the bytes that it received from its socket are held after the
-  -- others, or dropped where it had ended, and no more are received than are needed; a turn is taken
-  -- of what is held, or none; and what is due is exactly what the socket took to send, and then what
-  -- isn't sent yet. A stage that lasts keeps its time, and that of a response begins with its turn.
-  pub record Visits (now : ℕ) (old new : OpenConnection S) (M N : D) (readings readings2 : Option (List ℕ)) : Type 0 where
+  -- others, or dropped where it had ended, and no more are received than are needed, nor than so
+  -- many; a turn is taken of what is held, or none; and what is due is exactly what the socket took
+  -- to send, and then what isn't sent yet. A stage that lasts keeps its time, and that of a response
+  -- begins with its turn.
+  pub record Visits (now most : ℕ) (old new : OpenConnection S) (M N : D) (readings readings2 : Option (List ℕ)) : Type 0 where
     pub got : List ℕ
+    pub few : length got ≤ most
     pub gave : received new.socket ≡ append_known (received old.socket) got
     pub lean : ReceivesLean got old.state
     pub read : Pending

@@ -46,7 +46,8 @@ impl<S: Socket> Place<S> {
         buffer: &mut [u8],
         now: u64,
     )
-        ensures { VisitsAt S.received S.sent S.is_ended S.is_broken D.answers now self.old self.new
+        ensures { VisitsAt S.received S.sent S.must_wait S.is_ended S.is_broken D.answers
+            now (length buffer.new) self.old self.new
             service.old service.new (C.readings clock.old) (C.readings clock.new) }
     {
         if !self.is_ready {
@@ -170,8 +171,8 @@ impl<S: Socket> ConnectionPool<S> {
         buffer: &mut [u8],
         now: u64,
     )
-        ensures { VisitsAll S.received S.sent S.is_ended S.is_broken D.answers now
-            self.old.places.items self.new.places.items service.old service.new
+        ensures { VisitsAll S.received S.sent S.must_wait S.is_ended S.is_broken D.answers
+            now (length buffer.new) self.old.places.items self.new.places.items service.old service.new
             (C.readings clock.old) (C.readings clock.new) }
     {
         for place in self.places.iter_mut() {
