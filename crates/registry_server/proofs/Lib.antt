@@ -6,3 +6,4 @@ mod WorldFacts
 mod PhaseFacts
 mod IdleFacts
 mod TimeFacts
+mod OrderFacts

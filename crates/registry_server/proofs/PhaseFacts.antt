@@ -47,6 +47,11 @@ pub sent-front-at : (now count : ℕ) (bytes : List ℕ) (old new : Phase) → c
 sent-front-at now count bytes old new few e =
     subst (λ (n : ℕ). new ≡ entered (paid old n now) new.stage now) (omega (arith, length-take count bytes, few)) e
 
+-- another stage was entered
+pub moved-on : (now : ℕ) (s : Stage) (p q r x : Phase) → p ≡ q → r ≡ entered p s now → r.stage ≡ s → x ≡ r → x ≡ entered q x.stage now
+moved-on now s p q r x same entering stage last =
+    last ∙ entering ∙ ap (λ (y : Phase). entered y s now) same ∙ ap (λ (t : Stage). entered q t now) (sym stage ∙ ap (λ (y : Phase). y.stage) (sym last))
+
 pub heard-sent : (now : ℕ) (old new : Phase) → HeardAt now old new → SentAt now 0 old new
 heard-sent now old new h = sent-none now old new (stays-or-enters Next now old new h)
 

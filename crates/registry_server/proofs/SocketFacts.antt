@@ -163,10 +163,10 @@ module _ {S : Type 0} (received sent : S → Option (List ℕ)) {D : Type 0} (an
     others = λ j c e shows. shows-still w g.world j c (g.others j e) shows;
   }
 
-  keeps-leads : (M : D) (w : World D) (k now : ℕ) (old new : OpenConnection S) (N : D) (readings readings2 : Option (List ℕ)) → Reached answers M w → SocketShows received sent w k old
-      → (v : Visits received sent answers now old new w.service N readings readings2) → Keeps v.got old.state old.is_over v.read v.due
+  keeps-leads : (M : D) (w : World D) (k now most : ℕ) (old new : OpenConnection S) (N : D) (readings readings2 : Option (List ℕ)) → Reached answers M w → SocketShows received sent w k old
+      → (v : Visits received sent answers now most old new w.service N readings readings2) → Keeps v.got old.state old.is_over v.read v.due
       → VisitLeadsTo received sent answers M w k new N
-  keeps-leads M w k now old new N readings readings2 r s v (inl held) =
+  keeps-leads M w k now most old new N readings readings2 r s v (inl held) =
       let l = w.transcripts k in
       let g : Goes answers M w k new.is_over new.state (l.came ++ v.got) (l.sent ++ v.put) N =
       goes-after answers M w k old.is_over new.is_over v.read v.due new.state (SentAt now (length v.put) (entered old.phase Sends now) new.phase) (SentAt now (length v.put) old.phase new.phase) v.put (l.came ++ v.got) l.sent w.service N readings readings2 v.over v.turns v.sends
@@ -174,7 +174,7 @@ module _ {S : Type 0} (received sent : S → Option (List ℕ)) {D : Type 0} (an
       leads-as M w k old new N v.put (l.came ++ v.got) s v.took g
       (subst (λ (known : Option (List ℕ)). ShowsReceived known (g.world.transcripts k) new.state.ends) (sym v.gave)
       (received-held (received old.socket) l (g.world.transcripts k) v.got old.state.ends new.state.ends s.received_so_far held.0 g.came_so_far))
-  keeps-leads M w k now old new N readings readings2 r s v (inr dropped) =
+  keeps-leads M w k now most old new N readings readings2 r s v (inr dropped) =
       let l = w.transcripts k in
       let g : Goes answers M w k new.is_over new.state l.came (l.sent ++ v.put) N =
       goes-after answers M w k old.is_over new.is_over v.read v.due new.state (SentAt now (length v.put) (entered old.phase Sends now) new.phase) (SentAt now (length v.put) old.phase new.phase) v.put l.came l.sent w.service N readings readings2 v.over v.turns v.sends
@@ -186,4 +186,4 @@ module _ {S : Type 0} (received sent : S → Option (List ℕ)) {D : Type 0} (an
       (received-dropped (received old.socket) l (g.world.transcripts k) v.got old.state.ends new.state.ends s.received_so_far ended g.came_so_far))
 
   pub visits-lead : VisitsLead received sent answers
-  visits-lead M w k now old new N readings readings2 r s v = keeps-leads M w k now old new N readings readings2 r s v v.keeps
+  visits-lead M w k now most old new N readings readings2 r s v = keeps-leads M w k now most old new N readings readings2 r s v v.keeps

@@ -1,7 +1,7 @@
 -- What the steps of a visit come to.
-use Rattle.std.proofs.Common.{◌≡◌, ◌⊎◌, ◌++◌, ◌∙◌, [], ℕ, Bool, true, false, List, Option, None, Some, IsSome, length, take, drop, refl, ap, subst, sym, inl, inr, append-nil}
+use Rattle.std.proofs.Common.{◌≡◌, ◌≤◌, ◌⊎◌, ◌++◌, ◌∙◌, [], ℕ, Bool, true, false, List, Option, None, Some, IsSome, length, take, drop, refl, ap, subst, sym, inl, inr, lit≤, arith, append-nil}
 use Rattle.std.proofs.lemmas.Bool.{false≢true}
-use Rattle.std.proofs.lemmas.List.{take-append-drop}
+use Rattle.std.proofs.lemmas.List.{length-take, take-append-drop}
 use Rattle.std.specs.Io.KnownBytes.{append_known}
 use Rattle.registry_wire.specs.Spelling.{IsUnfinished}
 use Rattle.registry_service.specs.Turns.{Answering}
@@ -9,7 +9,10 @@ use Rattle.registry_service.specs.declared.turning.End.{End}
 use Rattle.registry_server.specs.ConnectionStates.{IsStarved, MayTakeTurn, Pending, TakesNone, holding, sending}
 use Rattle.registry_server.specs.Connections.{AnswersOnce, Drops, Keeps, OpenConnection, Receives, SendsDue, StarvesOnce, TakesOne, Visits}
 use Rattle.registry_server.specs.Phases.{LookedAt, SentAt, takes_turns}
+use Rattle.registry_server.specs.Sockets.{moved}
 use Rattle.registry_server.specs.declared.phase.Phase.{Phase}
+use Rattle.registry_server.specs.declared.socket.Flow.{Flow}
+use Rattle.registry_server.specs.declared.socket.Flow.TheVariants.{Moved, Waits, Ended, Broken}
 use Rattle.registry_server.proofs.PhaseFacts.{heard-looked, heard-sends, heard-sent, looked-sent, sent-still}
 use Rattle.registry_server.proofs.StateFacts.{starved-turn}
 
@@ -26,6 +29,16 @@ none-held p = ap (holding p) (sym (append-nil p.held))
 pub sent-front : (p q : Pending) (count : ℕ) → q ≡ sending p (drop count p.outgoing) → p ≡ sending q (take count p.outgoing ++ q.outgoing)
 sent-front p q count is =
     ap (sending p) (sym (take-append-drop count p.outgoing)) ∙ ap (λ (x : Pending). sending x (take count p.outgoing ++ x.outgoing)) (sym is)
+
+-- no more than there are
+pub few-taken : (count : ℕ) (bytes : List ℕ) → length (take count bytes) ≤ length bytes
+few-taken count bytes = omega (arith, length-take count bytes)
+
+pub few-moved : (flow : Flow) (bytes : List ℕ) → length (moved flow bytes) ≤ length bytes
+few-moved (Moved count) bytes = few-taken count bytes
+few-moved Waits bytes = omega arith
+few-moved Ended bytes = omega arith
+few-moved Broken bytes = omega arith
 
 -- it does not hold
 pub never : {A : Type 0} (b : Bool) → b ≡ false → b ≡ true → A
@@ -62,12 +75,13 @@ module _ {S : Type 0} (received sent : S → Option (List ℕ)) {D : Type 0} (an
   }
 
   -- bytes were received, and no turn may be taken yet
-  pub visit-received : (now : ℕ) (old new : OpenConnection S) (M : D) (r : Option (List ℕ)) → Receives received sent now old new true → MayTakeTurn old.state
-      → IsUnfinished old.state.held → Visits received sent answers now old new M M r r
-  visit-received now old new M r h may waits = record {
+  pub visit-received : (now most : ℕ) (old new : OpenConnection S) (M : D) (r : Option (List ℕ)) → Receives received sent now most old new true → MayTakeTurn old.state
+      → IsUnfinished old.state.held → Visits received sent answers now most old new M M r r
+  visit-received now most old new M r h may waits = record {
     got = h.got;
+    few = h.few;
     gave = h.gave;
-    lean = inl waits;
+    lean = inr (may.all_sent, inl waits);
     read = new.state;
     due = new.state;
     keeps = inl (may.goes_on, h.state, h.none);
@@ -79,12 +93,13 @@ module _ {S : Type 0} (received sent : S → Option (List ℕ)) {D : Type 0} (an
   }
 
   -- bytes were received, and a turn was taken
-  pub visit-answered : (now : ℕ) (old mid new : OpenConnection S) (M N : D) (r r2 : Option (List ℕ)) → Receives received sent now old mid true → MayTakeTurn old.state
-      → IsUnfinished old.state.held → takes_turns old.phase.stage ≡ true → AnswersOnce received sent answers now mid new M N r r2 → Visits received sent answers now old new M N r r2
-  visit-answered now old mid new M N r r2 h may waits turning a = record {
+  pub visit-answered : (now most : ℕ) (old mid new : OpenConnection S) (M N : D) (r r2 : Option (List ℕ)) → Receives received sent now most old mid true → MayTakeTurn old.state
+      → IsUnfinished old.state.held → takes_turns old.phase.stage ≡ true → AnswersOnce received sent answers now mid new M N r r2 → Visits received sent answers now most old new M N r r2
+  visit-answered now most old mid new M N r r2 h may waits turning a = record {
     got = h.got;
+    few = h.few;
     gave = a.unread ∙ h.gave;
-    lean = inl waits;
+    lean = inr (may.all_sent, inl waits);
     read = mid.state;
     due = a.due;
     keeps = inl (may.goes_on, h.state, h.none);
@@ -99,12 +114,13 @@ module _ {S : Type 0} (received sent : S → Option (List ℕ)) {D : Type 0} (an
   }
 
   -- a turn was taken of what was held
-  pub visit-turned : (now : ℕ) (old new : OpenConnection S) (M N : D) (r r2 : Option (List ℕ)) → MayTakeTurn old.state
-      → AnswersOnce received sent answers now old new M N r r2 → Visits received sent answers now old new M N r r2
-  visit-turned now old new M N r r2 may a = record {
+  pub visit-turned : (now most : ℕ) (old new : OpenConnection S) (M N : D) (r r2 : Option (List ℕ)) → MayTakeTurn old.state
+      → AnswersOnce received sent answers now old new M N r r2 → Visits received sent answers now most old new M N r r2
+  visit-turned now most old new M N r r2 may a = record {
     got = [];
+    few = lit≤ tt;
     gave = a.unread ∙ none-added (received old.socket);
-    lean = inr (inl refl);
+    lean = inl refl;
     read = old.state;
     due = a.due;
     keeps = inl (may.goes_on, none-held old.state, λ _. refl);
@@ -119,14 +135,15 @@ module _ {S : Type 0} (received sent : S → Option (List ℕ)) {D : Type 0} (an
   }
 
   -- there was no memory for what was received
-  pub visit-starved : (now : ℕ) (old mid new : OpenConnection S) (M : D) (r : Option (List ℕ)) → Receives received sent now old mid false → MayTakeTurn old.state
-      → IsUnfinished old.state.held → takes_turns old.phase.stage ≡ true → StarvesOnce received sent now mid new → Visits received sent answers now old new M M r r
-  visit-starved now old mid new M r h may waits turning s =
+  pub visit-starved : (now most : ℕ) (old mid new : OpenConnection S) (M : D) (r : Option (List ℕ)) → Receives received sent now most old mid false → MayTakeTurn old.state
+      → IsUnfinished old.state.held → takes_turns old.phase.stage ≡ true → StarvesOnce received sent now mid new → Visits received sent answers now most old new M M r r
+  visit-starved now most old mid new M r h may waits turning s =
       let starved : IsStarved old.state s.due = subst (λ (p : Pending). IsStarved p s.due) h.state s.starved in
       record {
         got = h.got;
+        few = h.few;
         gave = s.unread ∙ h.gave;
-        lean = inl waits;
+        lean = inr (may.all_sent, inl waits);
         read = old.state;
         due = s.due;
         keeps = inr (refl, inr starved);
@@ -141,11 +158,12 @@ module _ {S : Type 0} (received sent : S → Option (List ℕ)) {D : Type 0} (an
       }
 
   -- some of what was due was sent
-  pub visit-sent : (now : ℕ) (old new : OpenConnection S) (M : D) (r : Option (List ℕ)) → SendsDue received sent now old new → Visits received sent answers now old new M M r r
-  visit-sent now old new M r s = record {
+  pub visit-sent : (now most : ℕ) (old new : OpenConnection S) (M : D) (r : Option (List ℕ)) → SendsDue received sent now old new → Visits received sent answers now most old new M M r r
+  visit-sent now most old new M r s = record {
     got = [];
+    few = lit≤ tt;
     gave = s.unread ∙ none-added (received old.socket);
-    lean = inr (inl refl);
+    lean = inl refl;
     read = old.state;
     due = old.state;
     keeps = nothing-kept old.state old.state old.is_over;
@@ -157,12 +175,13 @@ module _ {S : Type 0} (received sent : S → Option (List ℕ)) {D : Type 0} (an
   }
 
   -- what was received was dropped
-  pub visit-dropped : (now : ℕ) (old new : OpenConnection S) (M : D) (r : Option (List ℕ)) → Drops received sent old new → IsSome old.state.ends
-      → Visits received sent answers now old new M M r r
-  visit-dropped now old new M r d some = record {
+  pub visit-dropped : (now most : ℕ) (old new : OpenConnection S) (M : D) (r : Option (List ℕ)) → Drops received sent most old new → old.state.outgoing ≡ [] → IsSome old.state.ends
+      → Visits received sent answers now most old new M M r r
+  visit-dropped now most old new M r d all_sent some = record {
     got = d.got;
+    few = d.few;
     gave = d.gave;
-    lean = inr (inr some);
+    lean = inr (all_sent, inr some);
     read = old.state;
     due = old.state;
     keeps = inr (refl, inl some);

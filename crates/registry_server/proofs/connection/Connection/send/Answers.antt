@@ -3,7 +3,7 @@ use Rattle.std.specs.Io.KnownBytes.{append_known}
 use Rattle.registry_server.specs.Connections.{OpenConnection, SendsDue, connected}
 use Rattle.registry_server.specs.Phases.{entered}
 use Rattle.registry_server.specs.declared.phase.Phase.{Phase}
-use Rattle.registry_server.proofs.PhaseFacts.{entered-same, sent-front-at, sent-still}
+use Rattle.registry_server.proofs.PhaseFacts.{entered-same, moved-on, sent-front-at, sent-still}
 use Rattle.registry_server.proofs.VisitFacts.{sent-front}
 use Rattle.registry_server.proofs.connection.Connection.send.Goals as goal
 
@@ -21,7 +21,7 @@ returns-then-is_empty-clause-sends g c =
       unread = c.go_on.ensures.received ∙ c.in-Moved.ensures.received;
       state = sent-front p c.go_on.new.self.state count (c.go_on.ensures.state ∙ c.sent.ensures);
       over = c.go_on.ensures.over;
-      times = sent-front-at c.args.now count p.outgoing c.self.inside.phase c.go_on.new.self.phase few (c.go_on.ensures.times ∙ ap (λ (q : Phase). entered q c.go_on.new.self.phase.stage c.args.now) c.pay.ensures);
+      times = sent-front-at c.args.now count p.outgoing c.self.inside.phase c.go_on.new.self.phase few (moved-on c.args.now c.next_stage.result c.pay.new.self _ c.enter.new.self c.go_on.new.self.phase c.pay.ensures c.enter.ensures.entered c.enter.ensures.stage c.go_on.ensures.phase);
     })
 
 pub returns-else-is_empty-clause-sends : goal.returns-else-is_empty-clause-sends

@@ -13,7 +13,7 @@ loop-place-preserved g c =
     let within : i < length old = grind (arith, c.loop-place-test.true, c.loop-place.auto.place-items, c.deref_mut-place-items.ensures.value, c.deref_mut-place-items.ensures.len) in
     let len : length items ≡ length old = grind (arith, c.loop-place-test.true, c.loop-place.auto.place-items, c.deref_mut-place-items.ensures.value, c.deref_mut-place-items.ensures.len) in
     record {
-      visited = visits-step socket.received socket.sent socket.is_ended socket.is_broken g.D.Service.answers c.args.now old items i here _ _ _ _ _ _ _ within len
+      visited = visits-step socket.received socket.sent socket.must_wait socket.is_ended socket.is_broken g.D.Service.answers c.args.now _ old items i here _ _ _ _ _ _ _ within len
           c.loop-place.invariant.rest (ap (λ (d : Place g.row.S.Denot). get_or items i d) c.place-item.is) c.loop-place.invariant.visited c.visit.ensures;
       rest = rest-step old items i _ c.loop-place.invariant.rest;
     }
