@@ -20,6 +20,7 @@ order-idle Idle p is held may = record {
   next = λ e. absurd (cc);
   sends = λ e. absurd (cc);
   drains = λ e. absurd (cc);
+  ends = λ e. absurd (cc);
 }
 order-idle Begun p is held may = absurd (cc)
 order-idle Next p is held may = absurd (cc)
@@ -36,6 +37,7 @@ order-begun Begun p is some unfinished may = record {
   next = λ e. absurd (cc);
   sends = λ e. absurd (cc);
   drains = λ e. absurd (cc);
+  ends = λ e. absurd (cc);
 }
 order-begun Idle p is some unfinished may = absurd (cc)
 order-begun Next p is some unfinished may = absurd (cc)
@@ -52,6 +54,7 @@ order-next Next p is some may = record {
   next = λ e. some;
   sends = λ e. absurd (cc);
   drains = λ e. absurd (cc);
+  ends = λ e. absurd (cc);
 }
 order-next Idle p is some may = absurd (cc)
 order-next Begun p is some may = absurd (cc)
@@ -68,6 +71,7 @@ order-sends Sends p is due = record {
   next = λ e. absurd (cc);
   sends = λ e. due;
   drains = λ e. absurd (cc);
+  ends = λ e. absurd (cc);
 }
 order-sends Idle p is due = absurd (cc)
 order-sends Begun p is due = absurd (cc)
@@ -83,7 +87,8 @@ order-drains Drains p is sent ended = record {
   begun = λ e. absurd (cc);
   next = λ e. absurd (cc);
   sends = λ e. absurd (cc);
-  drains = λ e. (sent, ended);
+  drains = λ e. sent;
+  ends = λ e. ended;
 }
 order-drains Idle p is sent ended = absurd (cc)
 order-drains Begun p is sent ended = absurd (cc)

@@ -1,5 +1,5 @@
 -- What the steps of a visit come to.
-use Rattle.std.proofs.Common.{◌≡◌, ◌≤◌, ◌⊎◌, ◌++◌, ◌∙◌, [], ℕ, Bool, true, false, List, Option, None, Some, IsSome, length, take, drop, refl, ap, subst, sym, inl, inr, lit≤, arith, append-nil}
+use Rattle.std.proofs.Common.{◌≡◌, ◌≤◌, ◌⊎◌, ◌++◌, ◌∙◌, [], ℕ, Bool, true, false, List, Option, None, Some, IsSome, length, take, drop, refl, ap, subst, sym, inl, inr, arith, append-nil}
 use Rattle.std.proofs.lemmas.Bool.{false≢true}
 use Rattle.std.proofs.lemmas.List.{length-take, take-append-drop}
 use Rattle.std.specs.Io.KnownBytes.{append_known}
@@ -31,14 +31,14 @@ sent-front p q count is =
     ap (sending p) (sym (take-append-drop count p.outgoing)) ∙ ap (λ (x : Pending). sending x (take count p.outgoing ++ x.outgoing)) (sym is)
 
 -- no more than there are
-pub few-taken : (count : ℕ) (bytes : List ℕ) → length (take count bytes) ≤ length bytes
-few-taken count bytes = omega (arith, length-take count bytes)
+pub few-taken : (count : ℕ) (bytes before : List ℕ) → length bytes ≡ length before → length (take count bytes) ≤ length before
+few-taken count bytes before same = omega (arith, length-take count bytes, same)
 
-pub few-moved : (flow : Flow) (bytes : List ℕ) → length (moved flow bytes) ≤ length bytes
-few-moved (Moved count) bytes = few-taken count bytes
-few-moved Waits bytes = omega arith
-few-moved Ended bytes = omega arith
-few-moved Broken bytes = omega arith
+pub few-moved : (flow : Flow) (bytes before : List ℕ) → length bytes ≡ length before → length (moved flow bytes) ≤ length before
+few-moved (Moved count) bytes before same = few-taken count bytes before same
+few-moved Waits bytes before same = omega arith
+few-moved Ended bytes before same = omega arith
+few-moved Broken bytes before same = omega arith
 
 -- it does not hold
 pub never : {A : Type 0} (b : Bool) → b ≡ false → b ≡ true → A
@@ -118,7 +118,7 @@ module _ {S : Type 0} (received sent : S → Option (List ℕ)) {D : Type 0} (an
       → AnswersOnce received sent answers now old new M N r r2 → Visits received sent answers now most old new M N r r2
   visit-turned now most old new M N r r2 may a = record {
     got = [];
-    few = lit≤ tt;
+    few = omega arith;
     gave = a.unread ∙ none-added (received old.socket);
     lean = inl refl;
     read = old.state;
@@ -161,7 +161,7 @@ module _ {S : Type 0} (received sent : S → Option (List ℕ)) {D : Type 0} (an
   pub visit-sent : (now most : ℕ) (old new : OpenConnection S) (M : D) (r : Option (List ℕ)) → SendsDue received sent now old new → Visits received sent answers now most old new M M r r
   visit-sent now most old new M r s = record {
     got = [];
-    few = lit≤ tt;
+    few = omega arith;
     gave = s.unread ∙ none-added (received old.socket);
     lean = inl refl;
     read = old.state;

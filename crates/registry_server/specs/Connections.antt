@@ -29,7 +29,8 @@ pub record IsInOrder (stage : Stage) (p : Pending) : Type 0 where
   pub begun : stage ≡ Begun → p.held ≢ []
   pub next : stage ≡ Next → p.held ≢ []
   pub sends : stage ≡ Sends → p.outgoing ≢ []
-  pub drains : stage ≡ Drains → (p.outgoing ≡ []) × IsSome p.ends
+  pub drains : stage ≡ Drains → p.outgoing ≡ []
+  pub ends : stage ≡ Drains → IsSome p.ends
 
 -- what a connection is at once all is sent
 abbrev pub stage_after : Pending → Stage

@@ -86,7 +86,7 @@ impl<S: Socket> Connection<S> {
         buffer: &mut [u8],
         now: u64,
     ) -> Visit
-        ensures visits { Visits S.received S.sent D.answers now (length buffer.new) self.old self.new
+        ensures visits { Visits S.received S.sent D.answers now (length buffer.old) self.old self.new
             service.old service.new (C.readings clock.old) (C.readings clock.new) }
         ensures rests { result ≡ visits.Rests → self.new.phase.stage ≢ stages.Next }
         ensures waits { result ≡ visits.Rests → S.must_wait self.new.socket ≡ true }
@@ -112,8 +112,8 @@ impl<S: Socket> Connection<S> {
         ensures turning { phases.takes_turns self.old.phase.stage ≡ true }
         ensures may { MayTakeTurn self.old.state }
         ensures waits { IsUnfinished self.old.state.held }
-        ensures kept { OnOk result (Receives S.received S.sent now (length buffer.new) self.old self.new true) }
-        ensures lost { OnErr result (Receives S.received S.sent now (length buffer.new) self.old self.new false) }
+        ensures kept { OnOk result (Receives S.received S.sent now (length buffer.old) self.old self.new true) }
+        ensures lost { OnErr result (Receives S.received S.sent now (length buffer.old) self.old self.new false) }
         ensures stage { phases.takes_turns self.new.phase.stage ≡ true }
         ensures quiet { IfOk result (λ flow. flow ≡ flows.Waits → phases.receives self.new.phase.stage ≡ true) }
         ensures must_wait { IfOk result (λ flow. flow ≡ flows.Waits → S.must_wait self.new.socket ≡ true) }
@@ -241,7 +241,7 @@ impl<S: Socket> Connection<S> {
     // Receives what comes after the last response, and drops it.
     fn drain(&mut self, buffer: &mut [u8]) -> Visit
         requires { self.old.phase.stage ≡ stages.Drains }
-        ensures drops { Drops S.received S.sent (length buffer.new) self.old self.new }
+        ensures drops { Drops S.received S.sent (length buffer.old) self.old self.new }
         ensures all_sent { self.old.state.outgoing ≡ [] }
         ensures ended { IsSome self.old.state.ends }
         ensures stage { self.new.phase.stage ≡ stages.Drains }

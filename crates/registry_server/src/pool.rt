@@ -47,7 +47,7 @@ impl<S: Socket> Place<S> {
         now: u64,
     )
         ensures { VisitsAt S.received S.sent S.must_wait S.is_ended S.is_broken D.answers
-            now (length buffer.new) self.old self.new
+            now (length buffer.old) self.old self.new
             service.old service.new (C.readings clock.old) (C.readings clock.new) }
     {
         if !self.is_ready {
@@ -172,7 +172,7 @@ impl<S: Socket> ConnectionPool<S> {
         now: u64,
     )
         ensures { VisitsAll S.received S.sent S.must_wait S.is_ended S.is_broken D.answers
-            now (length buffer.new) self.old.places.items self.new.places.items service.old service.new
+            now (length buffer.old) self.old.places.items self.new.places.items service.old service.new
             (C.readings clock.old) (C.readings clock.new) }
     {
         for place in self.places.iter_mut() {
