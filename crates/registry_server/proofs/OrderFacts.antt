@@ -1,10 +1,11 @@
 -- What is held and due at each stage.
-use Rattle.std.proofs.Common.{◌≡◌, ◌≢◌, ◌<◌, ◌++◌, ◌∷◌, ◌∙◌, [], ℕ, List, Option, None, Some, IsSome, codes, length, refl, ap, subst, sym, arith, lit<}
+use Rattle.std.proofs.Common.{◌≡◌, ◌≢◌, ◌<◌, ◌==◌, ◌++◌, ◌∷◌, ◌∙◌, [], ℕ, Bool, false, List, Option, None, Some, IsSome, codes, length, refl, ap, subst, sym, arith, lit<}
 use Rattle.registry_wire.specs.Spelling.{IsUnfinished}
 use Rattle.registry_service.specs.Servings.{bytes_of}
+use Rattle.registry_service.specs.Turns.{Answering}
 use Rattle.registry_service.specs.declared.turning.End.{End}
 use Rattle.registry_service.specs.declared.turning.Turned.{Turned}
-use Rattle.registry_server.specs.ConnectionStates.{MayTakeTurn, Pending, fresh, pending}
+use Rattle.registry_server.specs.ConnectionStates.{IsStarved, MayTakeTurn, Pending, TakesTurn, fresh, holding, pending}
 use Rattle.registry_server.specs.Connections.{IsInOrder, stage_after}
 use Rattle.registry_server.specs.declared.phase.Stage.{Stage}
 use Rattle.registry_server.specs.declared.phase.Stage.TheVariants.{Idle, Begun, Next, Sends, Drains}
@@ -125,3 +126,37 @@ some-bytes t = some-before _ _ (some-before _ _ (some-before (codes "HTTP/1.1 ")
 -- it is due
 pub response-due : (p : Pending) (t : Turned) → p.outgoing ≡ bytes_of t → p.outgoing ≢ []
 response-due p t is none = not-none (bytes_of t) (some-bytes t) (sym is ∙ none)
+
+some-held : (l : List ℕ) → (length l == 0) ≡ false → l ≢ []
+some-held [] some none = absurd (cc)
+some-held (x ∷ l) some none = absurd (cc)
+
+-- ---- after each step of a visit
+
+-- bytes came
+pub came-in-order : (s : Stage) (p q : Pending) (bytes : List ℕ) → s ≡ Next → MayTakeTurn p → q ≡ holding p (p.held ++ bytes) → 0 < length bytes → IsInOrder s q
+came-in-order s p q bytes is may came some =
+    subst (λ (x : Pending). IsInOrder s x) (sym came)
+    (order-next s (holding p (p.held ++ bytes)) is (none-before p.held bytes some) (record { all_sent = may.all_sent; goes_on = may.goes_on }))
+
+-- nothing changed
+pub still-in-order : (s : Stage) (p q : Pending) → q ≡ p → IsInOrder s p → IsInOrder s q
+still-in-order s p q same order = subst (λ (x : Pending). IsInOrder s x) (sym same) order
+
+-- what is held was looked at
+pub begun-in-order : (s : Stage) (p q : Pending) → s ≡ Begun → q ≡ p → IsUnfinished p.held → MayTakeTurn p → (length q.held == 0) ≡ false → IsInOrder s q
+begun-in-order s p q is same unfinished may some =
+    order-begun s q is (some-held q.held some) (subst (λ (x : Pending). IsUnfinished x.held) (sym same) unfinished) (subst MayTakeTurn (sym same) may)
+
+-- a turn was taken
+pub answered-in-order : {D : Type 0} (answers : Answering D) (s : Stage) (p q : Pending) (M N : D) (r r2 : Option (List ℕ)) (over : Bool) → s ≡ Sends
+    → TakesTurn answers p q M N r r2 over → IsInOrder s q
+answered-in-order answers s p q M N r r2 over is t = order-sends s q is (response-due q t.turned t.outgoing)
+
+-- there was no memory for what came
+pub starved-in-order : (s : Stage) (p q : Pending) → s ≡ Sends → IsStarved p q → IsInOrder s q
+starved-in-order s p q is t = order-sends s q is (response-due q t.turned (ap (λ (x : Pending). x.outgoing) t.state))
+
+-- some was sent, and not all
+pub rest-in-order : (s : Stage) (p : Pending) → s ≡ Sends → (length p.outgoing == 0) ≡ false → IsInOrder s p
+rest-in-order s p is some = order-sends s p is (some-held p.outgoing some)
