@@ -4,7 +4,7 @@
 #     examples/backup.sh FILE COPY [SERVER]
 #
 # SERVER is the process number of the server that has the file. It is halted while both are copied,
-# and then goes on: its clients wait for so long. Without it no process may have the file. The copy
+# and then goes on: its clients wait for so long, and none of them is dropped for it. Without it no process may have the file. The copy
 # is checked by opening it, which reads every page, and the status is 0 where it opens. The program
 # is out/registry, or what REGISTRY names.
 set -eu

@@ -1,5 +1,5 @@
 -- Where no byte is held, more may come.
-use Rattle.std.proofs.Common.{rules, ◌≡◌, ◌==◌, ◌<◌, ◌≤◌, ◌++◌, ◌∷◌, [], ℕ, true, List, None, length, codes, refl, ap, subst, sym, inl, lit<, lit≤, append-nil, arith, length-append}
+use Rattle.std.proofs.Common.{rules, ◌≡◌, ◌==◌, ◌<◌, ◌++◌, ◌∷◌, [], ℕ, true, List, length, codes, refl, ap, sym, inl, lit<, lit≤, append-nil, arith, length-append}
 use Rattle.std.proofs.lemmas.Bool.Decides.{nat_tests}
 use Rattle.std.proofs.lemmas.Str.{IsUtf8-from_ascii}
 use Rattle.std.proofs.lemmas.Str.Ascii.{IsAscii-from_all}
@@ -8,15 +8,11 @@ use Rattle.std.proofs.lemmas.List.Elements.{All-nil, All-push}
 use Rattle.httparse.proofs.OnLiterals.{httparse_on_literals}
 use Rattle.httparse.specs.Grammar.{HasNoRequest, IsField, IsRequestHead, MayBecomeRequest, RequestHead, crlf, is_token_byte, is_uri_byte, print_request}
 use Rattle.registry_wire.specs.Spelling.{IsUnfinished}
-use Rattle.registry_server.specs.ConnectionStates.{Pending, fresh}
-use Rattle.registry_server.specs.Connections.{IsInOrder}
-use Rattle.registry_server.specs.declared.phase.Stage.{Stage}
-use Rattle.registry_server.specs.declared.phase.Stage.TheVariants.{Idle, Drains}
 
-some-after : (a b : List ℕ) → 0 < length b → 0 < length (a ++ b)
+pub some-after : (a b : List ℕ) → 0 < length b → 0 < length (a ++ b)
 some-after a b some = omega (arith, length-append a b, some)
 
-some-before : (a b : List ℕ) → 0 < length a → 0 < length (a ++ b)
+pub some-before : (a b : List ℕ) → 0 < length a → 0 < length (a ++ b)
 some-before a b some = omega (arith, length-append a b, some)
 
 -- a head has a byte
@@ -45,21 +41,6 @@ may-come = inl (print_request plain, plain, (plain-valid, sym (append-nil (print
 
 pub nothing-unfinished : IsUnfinished []
 nothing-unfinished = inl (record { none = none-yet; may_come = may-come; short = lit< tt })
-
-not-both : {A : Type 0} (s : Stage) → s ≡ Idle → s ≡ Drains → A
-not-both s idle drains = absurd (cc)
-
--- nothing is held, and all is sent
-pub idle-in-order : (s : Stage) (p : Pending) → s ≡ Idle → p.held ≡ [] → p.outgoing ≡ [] → p.ends ≡ None → IsInOrder s p
-idle-in-order s p idle held sent goes = record {
-  turns = λ _. record { all_sent = sent; goes_on = goes };
-  waits = λ _. subst IsUnfinished (sym held) nothing-unfinished;
-  drains = λ drains. not-both s idle drains;
-}
-
-pub fresh-in-order : (s : Stage) (p : Pending) → s ≡ Idle → p ≡ fresh → IsInOrder s p
-fresh-in-order s p idle new =
-    idle-in-order s p idle (ap (λ (q : Pending). q.held) new) (ap (λ (q : Pending). q.outgoing) new) (ap (λ (q : Pending). q.ends) new)
 
 -- no byte is held
 pub held-none : (l : List ℕ) → (length l == 0) ≡ true → l ≡ []

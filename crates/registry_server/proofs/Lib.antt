@@ -5,3 +5,5 @@ mod VisitFacts
 mod WorldFacts
 mod PhaseFacts
 mod IdleFacts
+mod TimeFacts
+mod OrderFacts

@@ -1,5 +1,5 @@
 -- What a visit of one connection makes of all of them.
-use Rattle.std.proofs.Common.{◌≡◌, ◌⊎◌, ◌==◌, ◌++◌, ◌∙◌, [], ℕ, Bool, true, false, List, Option, None, Some, IsSome, refl, ap, subst, sym, inl, inr, append-nil, append_assoc}
+use Rattle.std.proofs.Common.{◌≡◌, ◌⊎◌, ◌++◌, ◌∙◌, [], ℕ, Bool, true, false, List, length, Option, None, Some, IsSome, refl, ap, subst, sym, inl, inr, append-nil, append_assoc}
 use Rattle.std.proofs.lemmas.Bool.{false≢true}
 use Rattle.std.specs.Io.KnownBytes.{append_known}
 use Rattle.registry_service.specs.Histories.{Reached, Transcript, World}
@@ -7,8 +7,8 @@ use Rattle.registry_service.specs.Turns.{Answering}
 use Rattle.registry_service.specs.declared.turning.End.{End}
 use Rattle.registry_server.specs.ConnectionStates.{IsStarved, Pending, TakesNone, TakesTurn, holding, sending}
 use Rattle.registry_server.specs.Connections.{Keeps, OpenConnection, TakesOne, Visits}
-use Rattle.registry_server.specs.Phases.{entered}
-use Rattle.registry_server.specs.declared.phase.Phase.{Phase}
+use Rattle.registry_server.specs.Phases.{SentAt, entered}
+use Rattle.registry_server.specs.declared.phase.Stage.TheVariants.{Sends}
 use Rattle.registry_server.specs.Worlds.{ShowsReceived, ShowsSent, SocketShows, StateShows, VisitLeadsTo, VisitsLead}
 use Rattle.registry_server.proofs.WorldFacts.{Goes, IsSame, goes-by-comes, goes-by-sends, goes-by-shuts, goes-by-turns, same-after, stands-still}
 
@@ -97,14 +97,14 @@ module _ {D : Type 0} (answers : Answering D) where
   then-shuts M w k true false p came sent N stays g = absurd (false≢true (stays refl))
 
   -- a turn is taken, or none
-  then-turns : (M : D) (w : World D) (k now : ℕ) (over : Bool) (p q : Pending) (stages : Phase) (A : Type 0) (came sent : List ℕ) (N N2 : D) (readings readings2 : Option (List ℕ))
-      → TakesOne answers now p q stages N N2 readings readings2 over ⊎ (TakesNone answers p q N N2 readings readings2 × A) → Goes answers M w k over p came sent N → Goes answers M w k over q came sent N2
-  then-turns M w k now over p q stages A came sent N N2 readings readings2 (inl t) g =
+  then-turns : (M : D) (w : World D) (k : ℕ) (over : Bool) (p q : Pending) (A B : Type 0) (came sent : List ℕ) (N N2 : D) (readings readings2 : Option (List ℕ))
+      → (TakesOne answers p q N N2 readings readings2 over × A) ⊎ (TakesNone answers p q N N2 readings readings2 × B) → Goes answers M w k over p came sent N → Goes answers M w k over q came sent N2
+  then-turns M w k over p q A B came sent N N2 readings readings2 (inl t) g =
       chained M w k over over p q came sent _ _ came sent N N2 g
-      (goes-by-turns answers M g.world k over p q N2 readings readings2 g.reached g.stands t.may.goes_on t.may.all_sent
-      (subst (λ (n : D). TakesTurn answers p q n N2 readings readings2 over) (sym g.service) t.takes))
+      (goes-by-turns answers M g.world k over p q N2 readings readings2 g.reached g.stands t.0.may.goes_on t.0.may.all_sent
+      (subst (λ (n : D). TakesTurn answers p q n N2 readings readings2 over) (sym g.service) t.0.takes))
       g.came_so_far g.sent_so_far
-  then-turns M w k now over p q stages A came sent N N2 readings readings2 (inr t) g =
+  then-turns M w k over p q A B came sent N N2 readings readings2 (inr t) g =
       subst (λ (n : D). Goes answers M w k over q came sent n) (sym t.0.service) (with-state M w k over p q came sent N (sym t.0.state) g)
 
   -- some of what is due is sent
@@ -118,23 +118,23 @@ module _ {D : Type 0} (answers : Answering D) where
       g.came_so_far (ap (λ (b : List ℕ). b ++ put) g.sent_so_far)))
 
   -- all of them but the first
-  goes-after : (M : D) (w : World D) (k now : ℕ) (over over2 : Bool) (read due new : Pending) (stages : Phase) (A : Type 0) (put came sent : List ℕ) (N N2 : D) (readings readings2 : Option (List ℕ))
-      → (over ≡ true → over2 ≡ true) → TakesOne answers now read due stages N N2 readings readings2 over2 ⊎ (TakesNone answers read due N N2 readings readings2 × A)
+  goes-after : (M : D) (w : World D) (k : ℕ) (over over2 : Bool) (read due new : Pending) (A B : Type 0) (put came sent : List ℕ) (N N2 : D) (readings readings2 : Option (List ℕ))
+      → (over ≡ true → over2 ≡ true) → (TakesOne answers read due N N2 readings readings2 over2 × A) ⊎ (TakesNone answers read due N N2 readings readings2 × B)
       → due ≡ sending new (put ++ new.outgoing)
       → Goes answers M w k over read came sent N → Goes answers M w k over2 new came (sent ++ put) N2
-  goes-after M w k now over over2 read due new stages A put came sent N N2 readings readings2 stays turned sends g =
+  goes-after M w k over over2 read due new A B put came sent N N2 readings readings2 stays turned sends g =
       then-sends M w k over2 due new put came sent N2 sends
-      (then-turns M w k now over2 read due stages A came sent N N2 readings readings2 turned
+      (then-turns M w k over2 read due A B came sent N N2 readings readings2 turned
       (then-shuts M w k over over2 read came sent N stays g))
 
   -- what was dropped ends the connection, or it had ended
-  drops-ended : (now : ℕ) (old read due : Pending) (stages : Phase) (A : Type 0) (M N : D) (readings readings2 : Option (List ℕ)) (over : Bool)
-      → TakesOne answers now read due stages M N readings readings2 over ⊎ (TakesNone answers read due M N readings readings2 × A)
+  drops-ended : (old read due : Pending) (A B : Type 0) (M N : D) (readings readings2 : Option (List ℕ)) (over : Bool)
+      → (TakesOne answers read due M N readings readings2 over × A) ⊎ (TakesNone answers read due M N readings readings2 × B)
       → read ≡ old → IsSome old.ends ⊎ IsStarved old due → IsSome due.ends
-  drops-ended now old read due stages A M N readings readings2 over turned same (inr starved) = starved-ends old due starved
-  drops-ended now old read due stages A M N readings readings2 over (inl t) same (inl some) =
-      absurd (some-not-none old.ends some (ap (λ (p : Pending). p.ends) (sym same) ∙ t.may.goes_on))
-  drops-ended now old read due stages A M N readings readings2 over (inr t) same (inl some) =
+  drops-ended old read due A B M N readings readings2 over turned same (inr starved) = starved-ends old due starved
+  drops-ended old read due A B M N readings readings2 over (inl t) same (inl some) =
+      absurd (some-not-none old.ends some (ap (λ (p : Pending). p.ends) (sym same) ∙ t.0.may.goes_on))
+  drops-ended old read due A B M N readings readings2 over (inr t) same (inl some) =
       subst IsSome (ap (λ (p : Pending). p.ends) (sym (t.0.state ∙ same))) some
 
 module _ {S : Type 0} (received sent : S → Option (List ℕ)) {D : Type 0} (answers : Answering D) where
@@ -163,27 +163,27 @@ module _ {S : Type 0} (received sent : S → Option (List ℕ)) {D : Type 0} (an
     others = λ j c e shows. shows-still w g.world j c (g.others j e) shows;
   }
 
-  keeps-leads : (M : D) (w : World D) (k now : ℕ) (old new : OpenConnection S) (N : D) (readings readings2 : Option (List ℕ)) → Reached answers M w → SocketShows received sent w k old
-      → (v : Visits received sent answers now old new w.service N readings readings2) → Keeps v.got old.state old.is_over v.read v.due
+  keeps-leads : (M : D) (w : World D) (k now most : ℕ) (old new : OpenConnection S) (N : D) (readings readings2 : Option (List ℕ)) → Reached answers M w → SocketShows received sent w k old
+      → (v : Visits received sent answers now most old new w.service N readings readings2) → Keeps v.got old.state old.is_over v.read v.due
       → VisitLeadsTo received sent answers M w k new N
-  keeps-leads M w k now old new N readings readings2 r s v (inl held) =
+  keeps-leads M w k now most old new N readings readings2 r s v (inl held) =
       let l = w.transcripts k in
       let g : Goes answers M w k new.is_over new.state (l.came ++ v.got) (l.sent ++ v.put) N =
-      goes-after answers M w k now old.is_over new.is_over v.read v.due new.state new.phase (new.phase ≡ entered old.phase new.phase.stage now) v.put (l.came ++ v.got) l.sent w.service N readings readings2 v.over v.turns v.sends
+      goes-after answers M w k old.is_over new.is_over v.read v.due new.state (SentAt now (length v.put) (entered old.phase Sends now) new.phase) (SentAt now (length v.put) old.phase new.phase) v.put (l.came ++ v.got) l.sent w.service N readings readings2 v.over v.turns v.sends
       (reads answers M w k old.is_over old.state v.read v.got r s.state held.1 held.2) in
       leads-as M w k old new N v.put (l.came ++ v.got) s v.took g
       (subst (λ (known : Option (List ℕ)). ShowsReceived known (g.world.transcripts k) new.state.ends) (sym v.gave)
       (received-held (received old.socket) l (g.world.transcripts k) v.got old.state.ends new.state.ends s.received_so_far held.0 g.came_so_far))
-  keeps-leads M w k now old new N readings readings2 r s v (inr dropped) =
+  keeps-leads M w k now most old new N readings readings2 r s v (inr dropped) =
       let l = w.transcripts k in
       let g : Goes answers M w k new.is_over new.state l.came (l.sent ++ v.put) N =
-      goes-after answers M w k now old.is_over new.is_over v.read v.due new.state new.phase (new.phase ≡ entered old.phase new.phase.stage now) v.put l.came l.sent w.service N readings readings2 v.over v.turns v.sends
+      goes-after answers M w k old.is_over new.is_over v.read v.due new.state (SentAt now (length v.put) (entered old.phase Sends now) new.phase) (SentAt now (length v.put) old.phase new.phase) v.put l.came l.sent w.service N readings readings2 v.over v.turns v.sends
       (goes-nowhere answers M w k old.is_over v.read r (subst (λ (p : Pending). StateShows w k old.is_over p) (sym dropped.0) s.state)) in
       let ended : IsSome new.state.ends = subst IsSome (ap (λ (p : Pending). p.ends) v.sends)
-      (drops-ended answers now old.state v.read v.due new.phase (new.phase ≡ entered old.phase new.phase.stage now) w.service N readings readings2 new.is_over v.turns dropped.0 dropped.1) in
+      (drops-ended answers old.state v.read v.due (SentAt now (length v.put) (entered old.phase Sends now) new.phase) (SentAt now (length v.put) old.phase new.phase) w.service N readings readings2 new.is_over v.turns dropped.0 dropped.1) in
       leads-as M w k old new N v.put l.came s v.took g
       (subst (λ (known : Option (List ℕ)). ShowsReceived known (g.world.transcripts k) new.state.ends) (sym v.gave)
       (received-dropped (received old.socket) l (g.world.transcripts k) v.got old.state.ends new.state.ends s.received_so_far ended g.came_so_far))
 
   pub visits-lead : VisitsLead received sent answers
-  visits-lead M w k now old new N readings readings2 r s v = keeps-leads M w k now old new N readings readings2 r s v v.keeps
+  visits-lead M w k now most old new N readings readings2 r s v = keeps-leads M w k now most old new N readings readings2 r s v v.keeps

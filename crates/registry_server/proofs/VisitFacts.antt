@@ -1,18 +1,19 @@
 -- What the steps of a visit come to.
-use Rattle.std.proofs.Common.{◌≡◌, ◌⊎◌, ◌++◌, ◌∙◌, [], ℕ, Bool, true, false, List, Option, None, Some, IsSome, take, drop, refl, ap, subst, sym, inl, inr, append-nil}
+use Rattle.std.proofs.Common.{◌≡◌, ◌≤◌, ◌⊎◌, ◌++◌, ◌∙◌, [], ℕ, Bool, true, false, List, Option, None, Some, IsSome, length, take, drop, refl, ap, subst, sym, inl, inr, arith, append-nil}
 use Rattle.std.proofs.lemmas.Bool.{false≢true}
-use Rattle.std.proofs.lemmas.List.{take-append-drop}
+use Rattle.std.proofs.lemmas.List.{length-take, take-append-drop}
 use Rattle.std.specs.Io.KnownBytes.{append_known}
 use Rattle.registry_wire.specs.Spelling.{IsUnfinished}
-use Rattle.registry_service.specs.Turns.{Answering, TurnsAway, no_memory}
+use Rattle.registry_service.specs.Turns.{Answering}
 use Rattle.registry_service.specs.declared.turning.End.{End}
-use Rattle.registry_service.specs.declared.turning.Turned.{Turned}
 use Rattle.registry_server.specs.ConnectionStates.{IsStarved, MayTakeTurn, Pending, TakesNone, holding, sending}
 use Rattle.registry_server.specs.Connections.{AnswersOnce, Drops, Keeps, OpenConnection, Receives, SendsDue, StarvesOnce, TakesOne, Visits}
-use Rattle.registry_server.specs.Phases.{LookedAt, entered}
+use Rattle.registry_server.specs.Phases.{LookedAt, SentAt, takes_turns}
+use Rattle.registry_server.specs.Sockets.{moved}
 use Rattle.registry_server.specs.declared.phase.Phase.{Phase}
-use Rattle.registry_server.specs.declared.phase.Stage.TheVariants.{Begun, Next}
-use Rattle.registry_server.proofs.PhaseFacts.{entered-same, heard-looked, stays-or-enters}
+use Rattle.registry_server.specs.declared.socket.Flow.{Flow}
+use Rattle.registry_server.specs.declared.socket.Flow.TheVariants.{Moved, Waits, Ended, Broken}
+use Rattle.registry_server.proofs.PhaseFacts.{heard-looked, heard-sends, heard-sent, looked-sent, sent-still}
 use Rattle.registry_server.proofs.StateFacts.{starved-turn}
 
 -- nothing more is known of the same bytes
@@ -28,6 +29,16 @@ none-held p = ap (holding p) (sym (append-nil p.held))
 pub sent-front : (p q : Pending) (count : ℕ) → q ≡ sending p (drop count p.outgoing) → p ≡ sending q (take count p.outgoing ++ q.outgoing)
 sent-front p q count is =
     ap (sending p) (sym (take-append-drop count p.outgoing)) ∙ ap (λ (x : Pending). sending x (take count p.outgoing ++ x.outgoing)) (sym is)
+
+-- no more than there are
+pub few-taken : (count : ℕ) (bytes before : List ℕ) → length bytes ≡ length before → length (take count bytes) ≤ length before
+few-taken count bytes before same = omega (arith, length-take count bytes, same)
+
+pub few-moved : (flow : Flow) (bytes before : List ℕ) → length bytes ≡ length before → length (moved flow bytes) ≤ length before
+few-moved (Moved count) bytes before same = few-taken count bytes before same
+few-moved Waits bytes before same = omega arith
+few-moved Ended bytes before same = omega arith
+few-moved Broken bytes before same = omega arith
 
 -- it does not hold
 pub never : {A : Type 0} (b : Bool) → b ≡ false → b ≡ true → A
@@ -55,7 +66,7 @@ module _ {S : Type 0} (received sent : S → Option (List ℕ)) {D : Type 0} (an
       → LookedAt now old.phase new.phase → new.socket ≡ old.socket → new.is_over ≡ old.is_over → AnswersOnce received sent answers now old new M N r r2
   answered-none now old new M N r r2 none looked socket over = record {
     due = new.state;
-    turns = inr (none, looked);
+    turns = inr (none, refl, looked);
     put = [];
     took = ap sent socket ∙ none-added (sent old.socket);
     unread = ap received socket;
@@ -64,16 +75,17 @@ module _ {S : Type 0} (received sent : S → Option (List ℕ)) {D : Type 0} (an
   }
 
   -- bytes were received, and no turn may be taken yet
-  pub visit-received : (now : ℕ) (old new : OpenConnection S) (M : D) (r : Option (List ℕ)) → Receives received sent now old new true → MayTakeTurn old.state
-      → IsUnfinished old.state.held → Visits received sent answers now old new M M r r
-  visit-received now old new M r h may waits = record {
+  pub visit-received : (now most : ℕ) (old new : OpenConnection S) (M : D) (r : Option (List ℕ)) → Receives received sent now most old new true → MayTakeTurn old.state
+      → IsUnfinished old.state.held → Visits received sent answers now most old new M M r r
+  visit-received now most old new M r h may waits = record {
     got = h.got;
+    few = h.few;
     gave = h.gave;
-    lean = inl waits;
+    lean = inr (may.all_sent, inl waits);
     read = new.state;
     due = new.state;
     keeps = inl (may.goes_on, h.state, h.none);
-    turns = inr (none-taken new.state M r, stays-or-enters Next now old.phase new.phase h.times);
+    turns = inr (none-taken new.state M r, heard-sent now old.phase new.phase h.times);
     put = [];
     took = h.unsent ∙ none-added (sent old.socket);
     sends = refl;
@@ -81,18 +93,19 @@ module _ {S : Type 0} (received sent : S → Option (List ℕ)) {D : Type 0} (an
   }
 
   -- bytes were received, and a turn was taken
-  pub visit-answered : (now : ℕ) (old mid new : OpenConnection S) (M N : D) (r r2 : Option (List ℕ)) → Receives received sent now old mid true → MayTakeTurn old.state
-      → IsUnfinished old.state.held → AnswersOnce received sent answers now mid new M N r r2 → Visits received sent answers now old new M N r r2
-  visit-answered now old mid new M N r r2 h may waits a = record {
+  pub visit-answered : (now most : ℕ) (old mid new : OpenConnection S) (M N : D) (r r2 : Option (List ℕ)) → Receives received sent now most old mid true → MayTakeTurn old.state
+      → IsUnfinished old.state.held → takes_turns old.phase.stage ≡ true → AnswersOnce received sent answers now mid new M N r r2 → Visits received sent answers now most old new M N r r2
+  visit-answered now most old mid new M N r r2 h may waits turning a = record {
     got = h.got;
+    few = h.few;
     gave = a.unread ∙ h.gave;
-    lean = inl waits;
+    lean = inr (may.all_sent, inl waits);
     read = mid.state;
     due = a.due;
     keeps = inl (may.goes_on, h.state, h.none);
     turns = elim a.turns [
-      | inl t ↦ inl (subst (λ (b : Bool). TakesOne answers now mid.state a.due new.phase M N r r2 b) (sym a.over) t)
-      | inr t ↦ inr (t.0, heard-looked now old.phase mid.phase new.phase h.times t.1)
+      | inl t ↦ inl (subst (λ (b : Bool). TakesOne answers mid.state a.due M N r r2 b) (sym a.over) t.0, subst (λ (x : Phase). SentAt now (length a.put) x new.phase) (heard-sends now old.phase mid.phase turning h.times) t.1)
+      | inr t ↦ inr (t.0, subst (λ (l : List ℕ). SentAt now (length l) old.phase new.phase) (sym t.1) (heard-looked now old.phase mid.phase new.phase h.times t.2))
     ];
     put = a.put;
     took = a.took ∙ ap (λ (known : Option (List ℕ)). append_known known a.put) h.unsent;
@@ -101,18 +114,19 @@ module _ {S : Type 0} (received sent : S → Option (List ℕ)) {D : Type 0} (an
   }
 
   -- a turn was taken of what was held
-  pub visit-turned : (now : ℕ) (old new : OpenConnection S) (M N : D) (r r2 : Option (List ℕ)) → MayTakeTurn old.state
-      → AnswersOnce received sent answers now old new M N r r2 → Visits received sent answers now old new M N r r2
-  visit-turned now old new M N r r2 may a = record {
+  pub visit-turned : (now most : ℕ) (old new : OpenConnection S) (M N : D) (r r2 : Option (List ℕ)) → MayTakeTurn old.state
+      → AnswersOnce received sent answers now old new M N r r2 → Visits received sent answers now most old new M N r r2
+  visit-turned now most old new M N r r2 may a = record {
     got = [];
+    few = omega arith;
     gave = a.unread ∙ none-added (received old.socket);
-    lean = inr (inl refl);
+    lean = inl refl;
     read = old.state;
     due = a.due;
     keeps = inl (may.goes_on, none-held old.state, λ _. refl);
     turns = elim a.turns [
-      | inl t ↦ inl (subst (λ (b : Bool). TakesOne answers now old.state a.due new.phase M N r r2 b) (sym a.over) t)
-      | inr t ↦ inr (t.0, stays-or-enters Begun now old.phase new.phase t.1)
+      | inl t ↦ inl (subst (λ (b : Bool). TakesOne answers old.state a.due M N r r2 b) (sym a.over) t.0, t.1)
+      | inr t ↦ inr (t.0, subst (λ (l : List ℕ). SentAt now (length l) old.phase new.phase) (sym t.1) (looked-sent now old.phase new.phase t.2))
     ];
     put = a.put;
     took = a.took;
@@ -121,18 +135,22 @@ module _ {S : Type 0} (received sent : S → Option (List ℕ)) {D : Type 0} (an
   }
 
   -- there was no memory for what was received
-  pub visit-starved : (now : ℕ) (old mid new : OpenConnection S) (M : D) (r : Option (List ℕ)) → Receives received sent now old mid false → MayTakeTurn old.state
-      → IsUnfinished old.state.held → StarvesOnce received sent now mid new → Visits received sent answers now old new M M r r
-  visit-starved now old mid new M r h may waits s =
+  pub visit-starved : (now most : ℕ) (old mid new : OpenConnection S) (M : D) (r : Option (List ℕ)) → Receives received sent now most old mid false → MayTakeTurn old.state
+      → IsUnfinished old.state.held → takes_turns old.phase.stage ≡ true → StarvesOnce received sent now mid new → Visits received sent answers now most old new M M r r
+  visit-starved now most old mid new M r h may waits turning s =
       let starved : IsStarved old.state s.due = subst (λ (p : Pending). IsStarved p s.due) h.state s.starved in
       record {
         got = h.got;
+        few = h.few;
         gave = s.unread ∙ h.gave;
-        lean = inl waits;
+        lean = inr (may.all_sent, inl waits);
         read = old.state;
         due = s.due;
         keeps = inr (refl, inr starved);
-        turns = inl (record { may = may; takes = starved-turn answers M r new.is_over old.state s.due starved; times = s.times });
+        turns = inl (
+          record { may = may; takes = starved-turn answers M r new.is_over old.state s.due starved },
+          subst (λ (x : Phase). SentAt now (length s.put) x new.phase) (heard-sends now old.phase mid.phase turning h.times) s.times,
+        );
         put = s.put;
         took = s.took ∙ ap (λ (known : Option (List ℕ)). append_known known s.put) h.unsent;
         sends = s.sends;
@@ -140,11 +158,12 @@ module _ {S : Type 0} (received sent : S → Option (List ℕ)) {D : Type 0} (an
       }
 
   -- some of what was due was sent
-  pub visit-sent : (now : ℕ) (old new : OpenConnection S) (M : D) (r : Option (List ℕ)) → SendsDue received sent now old new → Visits received sent answers now old new M M r r
-  visit-sent now old new M r s = record {
+  pub visit-sent : (now most : ℕ) (old new : OpenConnection S) (M : D) (r : Option (List ℕ)) → SendsDue received sent now old new → Visits received sent answers now most old new M M r r
+  visit-sent now most old new M r s = record {
     got = [];
+    few = omega arith;
     gave = s.unread ∙ none-added (received old.socket);
-    lean = inr (inl refl);
+    lean = inl refl;
     read = old.state;
     due = old.state;
     keeps = nothing-kept old.state old.state old.is_over;
@@ -156,16 +175,17 @@ module _ {S : Type 0} (received sent : S → Option (List ℕ)) {D : Type 0} (an
   }
 
   -- what was received was dropped
-  pub visit-dropped : (now : ℕ) (old new : OpenConnection S) (M : D) (r : Option (List ℕ)) → Drops received sent old new → IsSome old.state.ends
-      → Visits received sent answers now old new M M r r
-  visit-dropped now old new M r d some = record {
+  pub visit-dropped : (now most : ℕ) (old new : OpenConnection S) (M : D) (r : Option (List ℕ)) → Drops received sent most old new → old.state.outgoing ≡ [] → IsSome old.state.ends
+      → Visits received sent answers now most old new M M r r
+  visit-dropped now most old new M r d all_sent some = record {
     got = d.got;
+    few = d.few;
     gave = d.gave;
-    lean = inr (inr some);
+    lean = inr (all_sent, inr some);
     read = old.state;
     due = old.state;
     keeps = inr (refl, inl some);
-    turns = inr (none-taken old.state M r, subst (λ (x : Phase). x ≡ entered old.phase x.stage now) (sym d.times) (entered-same old.phase now));
+    turns = inr (none-taken old.state M r, subst (λ (x : Phase). SentAt now 0 old.phase x) (sym d.times) (sent-still now old.phase));
     put = [];
     took = d.unsent ∙ none-added (sent old.socket);
     sends = sym d.state;

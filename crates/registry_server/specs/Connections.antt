@@ -1,14 +1,13 @@
 -- An open connection with its socket, and what a visit makes of both.
-use Rattle.std.specs.Prelude.{◌≡◌, ◌⊎◌, ◌++◌, [], ℕ, Bool, true, List, Option, Some, None, IsSome, if◌then◌else◌}
+use Rattle.std.specs.Prelude.{◌≡◌, ◌≢◌, ◌≤◌, ◌==◌, ◌⊎◌, ◌++◌, [], ℕ, Bool, true, List, Option, None, IsSome, is_some, length, if◌then◌else◌}
 use Rattle.std.specs.Io.KnownBytes.{append_known}
 use Rattle.registry_wire.specs.Spelling.{IsUnfinished}
 use Rattle.registry_service.specs.Turns.{Answering}
-use Rattle.registry_service.specs.declared.turning.End.{End}
 use Rattle.registry_server.specs.ConnectionStates.{IsStarved, MayTakeTurn, Pending, TakesNone, TakesTurn, holding, sending}
-use Rattle.registry_server.specs.Phases.{HeardAt, LookedAt, entered, receives, started, takes_turns}
+use Rattle.registry_server.specs.Phases.{HeardAt, LookedAt, SentAt, entered, receives, takes_turns}
 use Rattle.registry_server.specs.declared.phase.Phase.{Phase}
 use Rattle.registry_server.specs.declared.phase.Stage.{Stage}
-use Rattle.registry_server.specs.declared.phase.Stage.TheVariants.{Drains}
+use Rattle.registry_server.specs.declared.phase.Stage.TheVariants.{Idle, Begun, Next, Sends, Drains}
 
 -- a socket, what of the connection isn't done, what it is at and until when, and whether the other
 -- side sends no more
@@ -21,23 +20,32 @@ pub record OpenConnection (S : Type 0) : Type 0 where
 abbrev pub connected : {S : Type 0} → S → Pending → Phase → Bool → OpenConnection S
 connected socket state phase is_over = record { socket = socket; state = state; phase = phase; is_over = is_over }
 
--- A connection is in order: at a stage in which it takes turns all is sent and it goes on; at one in
--- which more has to come no whole request is held; and what still comes is dropped only once it has
--- ended
+-- What is held and due at each stage. Where a connection takes turns all is sent and it goes on;
+-- where more has to come no whole request is held.
 pub record IsInOrder (stage : Stage) (p : Pending) : Type 0 where
   pub turns : takes_turns stage ≡ true → MayTakeTurn p
   pub waits : receives stage ≡ true → IsUnfinished p.held
-  pub drains : stage ≡ Drains → IsSome p.ends
+  pub idle : stage ≡ Idle → p.held ≡ []
+  pub begun : stage ≡ Begun → p.held ≢ []
+  pub next : stage ≡ Next → p.held ≢ []
+  pub sends : stage ≡ Sends → p.outgoing ≢ []
+  pub drains : stage ≡ Drains → p.outgoing ≡ []
+  pub ends : stage ≡ Drains → IsSome p.ends
+
+-- what a connection is at once all is sent
+abbrev pub stage_after : Pending → Stage
+stage_after p = if is_some p.ends then Drains else (if length p.held == 0 then Idle else Next)
 
 -- The other side sends no more, or the connection is broken.
 abbrev pub IsLost : {S : Type 0} → (S → Bool) → (S → Bool) → OpenConnection S → Type 0
 IsLost is_ended is_broken c = (is_broken c.socket ≡ true) ⊎ (is_ended c.socket ≡ true)
 
 module _ {S : Type 0} (received sent : S → Option (List ℕ)) where
-  -- Bytes were received, and are held after those that were held before. Where there was no memory
-  -- for them none of them is.
-  pub record Receives (now : ℕ) (old new : OpenConnection S) (kept : Bool) : Type 0 where
+  -- So many bytes at most were received, and are held after those that were held before. Where there
+  -- was no memory for them none of them is.
+  pub record Receives (now most : ℕ) (old new : OpenConnection S) (kept : Bool) : Type 0 where
     pub got : List ℕ
+    pub few : length got ≤ most
     pub gave : received new.socket ≡ append_known (received old.socket) got
     pub unsent : sent new.socket ≡ sent old.socket
     pub state : new.state ≡ (if kept then holding old.state (old.state.held ++ got) else old.state)
@@ -52,7 +60,7 @@ module _ {S : Type 0} (received sent : S → Option (List ℕ)) where
     pub unread : received new.socket ≡ received old.socket
     pub state : old.state ≡ sending new.state (put ++ new.state.outgoing)
     pub over : new.is_over ≡ old.is_over
-    pub times : new.phase ≡ entered old.phase new.phase.stage now
+    pub times : SentAt now (length put) old.phase new.phase
 
   -- Want of memory for what was received was answered, and the socket took some of what is due then.
   pub record StarvesOnce (now : ℕ) (old new : OpenConnection S) : Type 0 where
@@ -63,11 +71,12 @@ module _ {S : Type 0} (received sent : S → Option (List ℕ)) where
     pub unread : received new.socket ≡ received old.socket
     pub sends : due ≡ sending new.state (put ++ new.state.outgoing)
     pub over : new.is_over ≡ old.is_over
-    pub times : new.phase ≡ started new.phase.stage now
+    pub times : SentAt now (length put) (entered old.phase Sends now) new.phase
 
-  -- Bytes were received and dropped.
-  pub record Drops (old new : OpenConnection S) : Type 0 where
+  -- So many bytes at most were received and dropped.
+  pub record Drops (most : ℕ) (old new : OpenConnection S) : Type 0 where
     pub got : List ℕ
+    pub few : length got ≤ most
     pub gave : received new.socket ≡ append_known (received old.socket) got
     pub unsent : sent new.socket ≡ sent old.socket
     pub state : new.state ≡ old.state
@@ -81,43 +90,45 @@ Keeps got old over read due =
     ((old.ends ≡ None) × (read ≡ holding old (old.held ++ got)) × (over ≡ true → got ≡ []))
     ⊎ ((read ≡ old) × (IsSome old.ends ⊎ IsStarved old due))
 
--- No more is received than is needed: only where no whole request is held, or to be dropped.
+-- No more is received than is needed: only where all is sent, and no whole request is held or what
+-- comes is dropped.
 abbrev pub ReceivesLean : List ℕ → Pending → Type 0
-ReceivesLean got old = IsUnfinished old.held ⊎ ((got ≡ []) ⊎ IsSome old.ends)
+ReceivesLean got old = (got ≡ []) ⊎ ((old.outgoing ≡ []) × (IsUnfinished old.held ⊎ IsSome old.ends))
 
 module _ {D : Type 0} (answers : Answering D) where
-  -- A turn is taken, where all is sent and the connection goes on, and the stage after it begins now.
-  pub record TakesOne (now : ℕ) (old new : Pending) (stages : Phase) (M N : D) (readings readings2 : Option (List ℕ)) (over : Bool) : Type 0 where
+  -- A turn is taken, where all is sent and the connection goes on.
+  pub record TakesOne (old new : Pending) (M N : D) (readings readings2 : Option (List ℕ)) (over : Bool) : Type 0 where
     pub may : MayTakeTurn old
     pub takes : TakesTurn answers old new M N readings readings2 over
-    pub times : stages ≡ started stages.stage now
 
 module _ {S : Type 0} (received sent : S → Option (List ℕ)) {D : Type 0} (answers : Answering D) where
   -- A turn was taken, or none, and the socket took some of what is due then.
   pub record AnswersOnce (now : ℕ) (old new : OpenConnection S) (M N : D) (readings readings2 : Option (List ℕ)) : Type 0 where
     pub due : Pending
-    pub turns : TakesOne answers now old.state due new.phase M N readings readings2 old.is_over
-        ⊎ (TakesNone answers old.state due M N readings readings2 × LookedAt now old.phase new.phase)
     pub put : List ℕ
+    pub turns : (TakesOne answers old.state due M N readings readings2 old.is_over × SentAt now (length put) (entered old.phase Sends now) new.phase)
+        ⊎ (TakesNone answers old.state due M N readings readings2 × (put ≡ []) × LookedAt now old.phase new.phase)
     pub took : sent new.socket ≡ append_known (sent old.socket) put
     pub unread : received new.socket ≡ received old.socket
     pub sends : due ≡ sending new.state (put ++ new.state.outgoing)
     pub over : new.is_over ≡ old.is_over
 
   -- A visit of a connection: exactly the bytes that it received from its socket are held after the
-  -- others, or dropped where it had ended, and no more are received than are needed; a turn is taken
-  -- of what is held, or none; and what is due is exactly what the socket took to send, and then what
-  -- isn't sent yet. Where no turn is taken, a stage that lasts keeps its time.
-  pub record Visits (now : ℕ) (old new : OpenConnection S) (M N : D) (readings readings2 : Option (List ℕ)) : Type 0 where
+  -- others, or dropped where it had ended, and no more are received than are needed, nor than so
+  -- many; a turn is taken of what is held, or none; and what is due is exactly what the socket took
+  -- to send, and then what isn't sent yet. A stage that lasts keeps its time, and that of a response
+  -- begins with its turn.
+  pub record Visits (now most : ℕ) (old new : OpenConnection S) (M N : D) (readings readings2 : Option (List ℕ)) : Type 0 where
     pub got : List ℕ
+    pub few : length got ≤ most
     pub gave : received new.socket ≡ append_known (received old.socket) got
     pub lean : ReceivesLean got old.state
     pub read : Pending
     pub due : Pending
     pub keeps : Keeps got old.state old.is_over read due
-    pub turns : TakesOne answers now read due new.phase M N readings readings2 new.is_over
-        ⊎ (TakesNone answers read due M N readings readings2 × (new.phase ≡ entered old.phase new.phase.stage now))
     pub put : List ℕ
+    pub turns : (TakesOne answers read due M N readings readings2 new.is_over × SentAt now (length put) (entered old.phase Sends now) new.phase)
+        ⊎ (TakesNone answers read due M N readings readings2 × SentAt now (length put) old.phase new.phase)
     pub took : sent new.socket ≡ append_known (sent old.socket) put
     pub sends : due ≡ sending new.state (put ++ new.state.outgoing)
     pub over : old.is_over ≡ true → new.is_over ≡ true

@@ -1,11 +1,12 @@
 -- Places for connections: which of them a new one takes, who is visited, and who is let go.
-use Rattle.std.specs.Prelude.{◌≡◌, ◌<◌, ◌≤◌, ◌∷◌, [], ℕ, zero, suc, Bool, true, false, List, Option, Some, None, is_none, length, nat_le, position, slice_get, MatchOption, if◌then◌else◌}
+use Rattle.std.specs.Prelude.{◌≡◌, ◌≢◌, ◌<◌, ◌≤◌, ◌∷◌, [], ℕ, zero, suc, Bool, true, false, List, Option, Some, None, is_none, length, nat_le, position, slice_get, MatchOption, if◌then◌else◌}
 use Rattle.registry_service.specs.Turns.{Answering}
 use Rattle.registry_server.specs.ConnectionStates.{fresh}
 use Rattle.registry_server.specs.Connections.{IsLost, OpenConnection, Visits, connected}
 use Rattle.registry_server.specs.Phases.{first_phase, idle_since, is_late}
 use Rattle.registry_server.specs.declared.connection.Visit.{Visit}
 use Rattle.registry_server.specs.declared.connection.Visit.TheVariants.{Again, Rests, Over}
+use Rattle.registry_server.specs.declared.phase.Stage.TheVariants.{Next}
 use Rattle.registry_server.specs.declared.pool.Place.{Place}
 
 -- the most connections that are open at once
@@ -101,14 +102,17 @@ after_visit Again c = placed (Some c) true
 after_visit Rests c = placed (Some c) false
 after_visit Over c = free
 
-module _ {S : Type 0} (received sent : S → Option (List ℕ)) (is_ended is_broken : S → Bool) {D : Type 0} (answers : Answering D) where
-  -- A connection was visited: it goes on at once, waits for its socket, or ends. It ends only where
-  -- the other side sends no more, or where it is broken.
-  pub record VisitsOne (now : ℕ) (old : OpenConnection S) (new : Place S) (M N : D) (readings readings2 : Option (List ℕ)) : Type 0 where
+module _ {S : Type 0} (received sent : S → Option (List ℕ)) (must_wait is_ended is_broken : S → Bool) {D : Type 0} (answers : Answering D) where
+  -- A connection was visited: it goes on at once, rests, or ends. It rests only where its socket has
+  -- to wait, and what is held of a next request was looked at. It ends only where the other side
+  -- sends no more, or where it is broken.
+  pub record VisitsOne (now most : ℕ) (old : OpenConnection S) (new : Place S) (M N : D) (readings readings2 : Option (List ℕ)) : Type 0 where
     pub connection : OpenConnection S
-    pub visits : Visits received sent answers now old connection M N readings readings2
+    pub visits : Visits received sent answers now most old connection M N readings readings2
     pub visit : Visit
     pub place : new ≡ after_visit visit connection
+    pub rests : visit ≡ Rests → connection.phase.stage ≢ Next
+    pub waits : visit ≡ Rests → must_wait connection.socket ≡ true
     pub over : visit ≡ Over → IsLost is_ended is_broken connection
 
   -- nothing was visited, and the place is as this one
@@ -118,24 +122,24 @@ module _ {S : Type 0} (received sent : S → Option (List ℕ)) (is_ended is_bro
     pub unasked : readings2 ≡ readings
 
   -- at a place that is to be visited, with this connection, if one is there
-  abbrev pub VisitsThere : ℕ → Option (OpenConnection S) → Place S → D → D → Option (List ℕ) → Option (List ℕ) → Type 0
-  VisitsThere now None new M N readings readings2 = VisitsNone free new M N readings readings2
-  VisitsThere now (Some c) new M N readings readings2 = VisitsOne now c new M N readings readings2
+  abbrev pub VisitsThere : ℕ → ℕ → Option (OpenConnection S) → Place S → D → D → Option (List ℕ) → Option (List ℕ) → Type 0
+  VisitsThere now most None new M N readings readings2 = VisitsNone free new M N readings readings2
+  VisitsThere now most (Some c) new M N readings readings2 = VisitsOne now most c new M N readings readings2
 
-  abbrev pub VisitsIf : Bool → ℕ → Place S → Place S → D → D → Option (List ℕ) → Option (List ℕ) → Type 0
-  VisitsIf true now old new M N readings readings2 = VisitsThere now old.connection new M N readings readings2
-  VisitsIf false now old new M N readings readings2 = VisitsNone old new M N readings readings2
+  abbrev pub VisitsIf : Bool → ℕ → ℕ → Place S → Place S → D → D → Option (List ℕ) → Option (List ℕ) → Type 0
+  VisitsIf true now most old new M N readings readings2 = VisitsThere now most old.connection new M N readings readings2
+  VisitsIf false now most old new M N readings readings2 = VisitsNone old new M N readings readings2
 
   -- a place is visited where it is to be
-  abbrev pub VisitsAt : ℕ → Place S → Place S → D → D → Option (List ℕ) → Option (List ℕ) → Type 0
-  VisitsAt now old new M N readings readings2 = VisitsIf old.is_ready now old new M N readings readings2
+  abbrev pub VisitsAt : ℕ → ℕ → Place S → Place S → D → D → Option (List ℕ) → Option (List ℕ) → Type 0
+  VisitsAt now most old new M N readings readings2 = VisitsIf old.is_ready now most old new M N readings readings2
 
   -- Each connection that is to be visited is visited, once, in the order of their places, and no
-  -- other is.
-  abbrev pub VisitsAll : ℕ → List (Place S) → List (Place S) → D → D → Option (List ℕ) → Option (List ℕ) → Type 0
-  VisitsAll now [] [] M N readings readings2 = (N ≡ M) × (readings2 ≡ readings)
-  VisitsAll now (p ∷ places) (q ∷ places2) M N readings readings2 =
-      (between : D) × (readings1 : Option (List ℕ)) × VisitsAt now p q M between readings readings1
-      × VisitsAll now places places2 between N readings1 readings2
-  VisitsAll now [] (q ∷ places2) M N readings readings2 = ⊥
-  VisitsAll now (p ∷ places) [] M N readings readings2 = ⊥
+  -- other is. Of each so many bytes are received at most.
+  abbrev pub VisitsAll : ℕ → ℕ → List (Place S) → List (Place S) → D → D → Option (List ℕ) → Option (List ℕ) → Type 0
+  VisitsAll now most [] [] M N readings readings2 = (N ≡ M) × (readings2 ≡ readings)
+  VisitsAll now most (p ∷ places) (q ∷ places2) M N readings readings2 =
+      (between : D) × (readings1 : Option (List ℕ)) × VisitsAt now most p q M between readings readings1
+      × VisitsAll now most places places2 between N readings1 readings2
+  VisitsAll now most [] (q ∷ places2) M N readings readings2 = ⊥
+  VisitsAll now most (p ∷ places) [] M N readings readings2 = ⊥

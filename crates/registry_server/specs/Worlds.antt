@@ -94,6 +94,6 @@ module _ {S : Type 0} (received sent : S → Option (List ℕ)) {D : Type 0} (an
 
   -- a visit
   abbrev pub VisitsLead : Type 0
-  VisitsLead = (M : D) (w : World D) (k now : ℕ) (old new : OpenConnection S) (N : D) (readings readings2 : Option (List ℕ))
-      → Reached answers M w → SocketShows received sent w k old → Visits received sent answers now old new w.service N readings readings2
+  VisitsLead = (M : D) (w : World D) (k now most : ℕ) (old new : OpenConnection S) (N : D) (readings readings2 : Option (List ℕ))
+      → Reached answers M w → SocketShows received sent w k old → Visits received sent answers now most old new w.service N readings readings2
       → VisitLeadsTo M w k new N

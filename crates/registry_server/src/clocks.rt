@@ -1,6 +1,6 @@
 //! The clocks of a server. One that can't be read gives its last reading again.
 
-ghost use Rattle.std.specs.Prelude.{◌≡◌, ◌≤◌};
+ghost use Rattle.std.specs.Prelude.{◌≡◌, ◌≤◌, ◌+◌};
 
 use registry_names::Moment;
 use registry_service::Clock;
@@ -41,11 +41,13 @@ pub fn clamped_moment<R: time::Clock>(source: &R) -> io::Result<Moment> {
     Ok(Moment::clamped(i64::try_from(seconds).unwrap_or(i64::MAX)))
 }
 
-/// The milliseconds since a time. They never go back.
+/// The time of a server, in milliseconds. A round counts for as long as it took, and for no more
+/// than it should have: so a round that was slow, or a halt of the process, ends nobody.
 #[derive(Drop)]
 pub struct Timer<'a, R: time::Clock> {
     source: &'a R,
     start: Instant,
+    read: u64,
     last: u64,
 }
 
@@ -55,17 +57,22 @@ impl<'a, R: time::Clock> Timer<'a, R> {
         Timer {
             source,
             start,
+            read: 0,
             last: 0,
         }
     }
 
-    pub fn now(&mut self) -> u64
+    /// A round is over, which counts for no more than `most`. What its time is now.
+    pub fn pass(&mut self, most: u64) -> u64
         ensures last { self.new.last ≡ result }
         ensures forward { self.old.last ≤ result }
+        ensures few { result ≤ self.old.last + most }
     {
         if let Ok(passed) = self.start.elapsed(self.source) {
-            let millis = u64::try_from(passed.as_millis()).unwrap_or(u64::MAX);
-            self.last = self.last.max(millis);
+            let read = u64::try_from(passed.as_millis()).unwrap_or(u64::MAX);
+            let took = read.saturating_sub(self.read);
+            self.read = read;
+            self.last = self.last.saturating_add(took.min(most));
         }
         self.last
     }

@@ -1,9 +1,9 @@
 //! One open connection.
 
-ghost use Rattle.std.specs.Prelude.{◌≡◌, ◌≢◌, [], true, false, IfOk, IsSome, OnOk, OnErr};
+ghost use Rattle.std.specs.Prelude.{◌≡◌, ◌≢◌, [], true, false, IfOk, IsSome, OnOk, OnErr, length};
 ghost use Rattle.registry_wire.specs.Spelling.{IsUnfinished};
 ghost use Rattle.registry_server.specs.ConnectionStates.{Does, MayTakeTurn, fresh};
-ghost use Rattle.registry_server.specs.Connections.{AnswersOnce, Drops, IsLost, Receives, SendsDue, StarvesOnce, Visits, connected};
+ghost use Rattle.registry_server.specs.Connections.{AnswersOnce, Drops, IsLost, Receives, SendsDue, StarvesOnce, Visits, connected, stage_after};
 ghost use Rattle.registry_server.specs.Phases as phases;
 ghost use Rattle.registry_server.specs.declared.connection.Visit.TheVariants as visits;
 ghost use Rattle.registry_server.specs.declared.phase.Stage.TheVariants as stages;
@@ -86,9 +86,10 @@ impl<S: Socket> Connection<S> {
         buffer: &mut [u8],
         now: u64,
     ) -> Visit
-        ensures visits { Visits S.received S.sent D.answers now self.old self.new
+        ensures visits { Visits S.received S.sent D.answers now (length buffer.old) self.old self.new
             service.old service.new (C.readings clock.old) (C.readings clock.new) }
         ensures rests { result ≡ visits.Rests → self.new.phase.stage ≢ stages.Next }
+        ensures waits { result ≡ visits.Rests → S.must_wait self.new.socket ≡ true }
         ensures over { result ≡ visits.Over → IsLost S.is_ended S.is_broken self.new }
     {
         match self.phase.stage {
@@ -108,12 +109,14 @@ impl<S: Socket> Connection<S> {
     fn receive(&mut self, buffer: &mut [u8], now: u64) -> Result<Flow, AllocError>
         requires turns { phases.takes_turns self.old.phase.stage ≡ true }
         requires receives { phases.receives self.old.phase.stage ≡ true }
+        ensures turning { phases.takes_turns self.old.phase.stage ≡ true }
         ensures may { MayTakeTurn self.old.state }
         ensures waits { IsUnfinished self.old.state.held }
-        ensures kept { OnOk result (Receives S.received S.sent now self.old self.new true) }
-        ensures lost { OnErr result (Receives S.received S.sent now self.old self.new false) }
+        ensures kept { OnOk result (Receives S.received S.sent now (length buffer.old) self.old self.new true) }
+        ensures lost { OnErr result (Receives S.received S.sent now (length buffer.old) self.old self.new false) }
         ensures stage { phases.takes_turns self.new.phase.stage ≡ true }
         ensures quiet { IfOk result (λ flow. flow ≡ flows.Waits → phases.receives self.new.phase.stage ≡ true) }
+        ensures must_wait { IfOk result (λ flow. flow ≡ flows.Waits → S.must_wait self.new.socket ≡ true) }
         ensures broken { IfOk result (λ flow. flow ≡ flows.Broken → S.is_broken self.new.socket ≡ true) }
     {
         if self.is_over {
@@ -123,8 +126,8 @@ impl<S: Socket> Connection<S> {
         match flow {
             Flow::Moved(0) | Flow::Waits | Flow::Broken => {}
             Flow::Moved(count) => {
-                self.phase.enter(Stage::Next, now);
                 self.state.came(&buffer[..count])?;
+                self.phase.enter(Stage::Next, now);
             }
             Flow::Ended => self.is_over = true,
         }
@@ -144,6 +147,7 @@ impl<S: Socket> Connection<S> {
         ensures answers { AnswersOnce S.received S.sent D.answers now self.old self.new
             service.old service.new (C.readings clock.old) (C.readings clock.new) }
         ensures rests { result ≡ visits.Rests → self.new.phase.stage ≢ stages.Next }
+        ensures waits { result ≡ visits.Rests → S.must_wait self.new.socket ≡ true }
         ensures over { result ≡ visits.Over → IsLost S.is_ended S.is_broken self.new }
     {
         match self.take_turn(alloc, service, clock, now) {
@@ -165,7 +169,7 @@ impl<S: Socket> Connection<S> {
         ensures may { MayTakeTurn self.old.state }
         ensures does { Does D.answers self.old.state self.new.state service.old service.new
             (C.readings clock.old) (C.readings clock.new) self.old.is_over result }
-        ensures sends { result ≡ progress.Answered → self.new.phase ≡ phases.started stages.Sends now }
+        ensures sends { result ≡ progress.Answered → self.new.phase ≡ phases.entered self.old.phase stages.Sends now }
         ensures looked { result ≢ progress.Answered → phases.LookedAt now self.old.phase self.new.phase }
         ensures lost { result ≡ progress.Closed → S.is_ended self.new.socket ≡ true }
         ensures socket { self.new.socket ≡ self.old.socket }
@@ -182,9 +186,9 @@ impl<S: Socket> Connection<S> {
 
     // Answers that there was no memory for what came.
     fn starve(&mut self, now: u64) -> Visit
-        requires { phases.takes_turns self.old.phase.stage ≡ true }
         ensures starves { StarvesOnce S.received S.sent now self.old self.new }
         ensures rests { result ≡ visits.Rests → self.new.phase.stage ≢ stages.Next }
+        ensures waits { result ≡ visits.Rests → S.must_wait self.new.socket ≡ true }
         ensures over { result ≡ visits.Over → IsLost S.is_ended S.is_broken self.new }
     {
         self.phase.enter(Stage::Sends, now);
@@ -197,43 +201,39 @@ impl<S: Socket> Connection<S> {
         requires { self.old.phase.stage ≡ stages.Sends }
         ensures sends { SendsDue S.received S.sent now self.old self.new }
         ensures rests { result ≡ visits.Rests → self.new.phase.stage ≢ stages.Next }
+        ensures waits { result ≡ visits.Rests → S.must_wait self.new.socket ≡ true }
         ensures over { result ≡ visits.Over → IsLost S.is_ended S.is_broken self.new }
     {
         let (head, body) = self.state.outgoing().parts();
         match self.socket.send(head, body) {
             Flow::Moved(count) => {
                 self.state.sent(count);
+                self.phase.pay(count, now);
                 if self.state.outgoing().is_empty() {
-                    self.go_on(now)
+                    self.phase.enter(next_stage(&self.state), now);
+                    self.go_on()
                 } else {
                     Visit::Again
                 }
             }
             Flow::Waits => Visit::Rests,
-            Flow::Ended | Flow::Broken => Visit::Over,
+            Flow::Ended => Visit::Over,
+            Flow::Broken => Visit::Over,
         }
     }
 
-    // The whole response was sent.
-    fn go_on(&mut self, now: u64) -> Visit
-        requires { self.old.state.outgoing ≡ [] }
+    // The whole response was sent. After the last one this is said to the other side.
+    fn go_on(&mut self) -> Visit
         ensures state { self.new.state ≡ self.old.state }
         ensures sent { S.sent self.new.socket ≡ S.sent self.old.socket }
         ensures received { S.received self.new.socket ≡ S.received self.old.socket }
         ensures over { self.new.is_over ≡ self.old.is_over }
-        ensures times { self.new.phase ≡ phases.entered self.old.phase self.new.phase.stage now }
+        ensures phase { self.new.phase ≡ self.old.phase }
         ensures rests { result ≢ visits.Rests }
         ensures lost { result ≡ visits.Over → S.is_broken self.new.socket ≡ true }
     {
-        if self.state.ends().is_some() {
-            if !self.socket.shut() {
-                return Visit::Over;
-            }
-            self.phase.enter(Stage::Drains, now);
-        } else if self.state.is_empty() {
-            self.phase.enter(Stage::Idle, now);
-        } else {
-            self.phase.enter(Stage::Next, now);
+        if self.phase.stage == Stage::Drains && !self.socket.shut() {
+            return Visit::Over;
         }
         Visit::Again
     }
@@ -241,9 +241,11 @@ impl<S: Socket> Connection<S> {
     // Receives what comes after the last response, and drops it.
     fn drain(&mut self, buffer: &mut [u8]) -> Visit
         requires { self.old.phase.stage ≡ stages.Drains }
-        ensures drops { Drops S.received S.sent self.old self.new }
+        ensures drops { Drops S.received S.sent (length buffer.old) self.old self.new }
+        ensures all_sent { self.old.state.outgoing ≡ [] }
         ensures ended { IsSome self.old.state.ends }
         ensures stage { self.new.phase.stage ≡ stages.Drains }
+        ensures waits { result ≡ visits.Rests → S.must_wait self.new.socket ≡ true }
         ensures over { result ≡ visits.Over → IsLost S.is_ended S.is_broken self.new }
     {
         match self.socket.receive(buffer) {
@@ -251,5 +253,18 @@ impl<S: Socket> Connection<S> {
             Flow::Waits => Visit::Rests,
             Flow::Ended | Flow::Broken => Visit::Over,
         }
+    }
+}
+
+// What a connection is at once all of a response is sent.
+fn next_stage(state: &ConnectionState) -> Stage
+    ensures { result ≡ stage_after state.now }
+{
+    if state.ends().is_some() {
+        Stage::Drains
+    } else if state.is_empty() {
+        Stage::Idle
+    } else {
+        Stage::Next
     }
 }

@@ -1,5 +1,6 @@
 //! Laws of connections. Each is the contract of a function that does nothing.
 
+ghost use Rattle.registry_server.specs.Phases.{BytesGive, NeverGiveMore, ResponseTimePasses, StagesGiveNone};
 ghost use Rattle.registry_server.specs.Worlds.{Begins, Comes, Sends, Shuts, Starves, TakesTurns, VisitsLead};
 
 use crate::socket::Socket;
@@ -24,4 +25,14 @@ pub fn connections_make_one_history<D: Service>()
 /// another one's socket, none is lost, and none is there twice.
 pub fn visits_make_one_history<S: Socket, D: Service>()
     ensures { VisitsLead S.received S.sent D.answers }
+{}
+
+/// The responses of a connection have one time together. It passes while one is being sent; no other
+/// stage gives more of it; what is taken gives a millisecond for each 16 bytes, and never more than
+/// there was at first.
+pub fn responses_have_one_time()
+    ensures passes { ResponseTimePasses }
+    ensures stages { StagesGiveNone }
+    ensures bytes { BytesGive }
+    ensures most { NeverGiveMore }
 {}

@@ -23,8 +23,11 @@ mod socket;
 mod state;
 
 pub use crate::connection::{Connection, Visit};
+pub use crate::listener::UNCOUNTED;
 pub use crate::outgoing::Outgoing;
-pub use crate::phase::{DRAIN_LIMIT, IDLE_LIMIT, Phase, REQUEST_TIME_LIMIT, RESPONSE_LIMIT, Stage};
+pub use crate::phase::{
+    DRAIN_LIMIT, IDLE_LIMIT, LEAST_RATE, Phase, REQUEST_TIME_LIMIT, RESPONSE_LIMIT, Stage,
+};
 pub use crate::pool::CONNECTION_COUNT;
 pub use crate::server::Server;
 pub use crate::socket::{Flow, Socket};

@@ -1,7 +1,8 @@
 //! Where connections come in.
 
-ghost use Rattle.std.specs.Prelude.{◌≡◌, ◌==◌, ◌-◌, ◌+◌, ◌&&◌, true, max, nat_lt, IfOk, IfSome, IfNone, MatchOption};
-ghost use Rattle.registry_server.specs.Listening.{expecting};
+ghost use Rattle.std.specs.Prelude.{◌≡◌, ◌&&◌, true, not, IfOk, IfSome, IfNone};
+ghost use Rattle.registry_server.specs.Listening as spec;
+ghost use Rattle.registry_server.specs.Listening.{counted, expecting, lets_in, one_less};
 
 use mio::net::{TcpListener, TcpStream};
 use mio::{Interest, Registry, Token};
@@ -10,30 +11,33 @@ use std::io::ErrorKind;
 use std::marker::Model;
 use std::net::{Ipv4Addr, Net, SocketAddr};
 
-/// A port of 127.0.0.1, and how many more connections are to come in. It is closed once the last
-/// was taken.
+/// From this number on connections aren't counted.
+pub const UNCOUNTED: u64 = 1_000_000;
+
+/// A port of 127.0.0.1, and how many more connections are to come in, where they are counted. It is
+/// closed once the last was taken.
 #[derive(Drop)]
 pub struct Listener {
     listener: Option<TcpListener>,
-    left: u64,
+    left: Option<u64>,
     // More may wait than have been taken.
     is_asked: bool,
 }
 
 impl Model for Listener {
-    ghost use Rattle.std.specs.Prelude.{◌≡◌, nat_lt, is_some};
-    ghost use Rattle.registry_server.specs.Listening.{Expected, expecting};
+    ghost use Rattle.std.specs.Prelude.{◌≡◌, is_some};
+    ghost use Rattle.registry_server.specs.Listening.{Expected, expecting, lets_in};
 
     ghost Value = { Expected };
 
     ghost view = { λ l. expecting l.left l.is_asked };
 
-    ghost invariant = { λ l. is_some l.listener ≡ nat_lt 0 l.left };
+    ghost invariant = { λ l. is_some l.listener ≡ lets_in l.left };
 }
 
 impl Listener {
     /// Listens at the port, or at any that is free where it is 0, for `count` connections, one at
-    /// least. The errors are those of the system.
+    /// least; from [`UNCOUNTED`] on for all that come. The errors are those of the system.
     pub fn open<R: Net>(
         rt: &R,
         registry: &Registry,
@@ -41,13 +45,13 @@ impl Listener {
         port: u16,
         count: u64,
     ) -> io::Result<Listener>
-        ensures { IfOk result (λ l. l ≡ expecting (max count 1) true) }
+        ensures { IfOk result (λ l. l ≡ expecting (counted count) true) }
     {
         let mut listener = TcpListener::bind(rt, SocketAddr::from((Ipv4Addr::LOCALHOST, port)))?;
         registry.register(&mut listener, token, Interest::READABLE)?;
         Ok(Listener {
             listener: Some(listener),
-            left: count.max(1),
+            left: counted(count),
             is_asked: true,
         })
     }
@@ -69,28 +73,28 @@ impl Listener {
 
     /// Whether somebody may be there.
     pub fn is_asked(&self) -> bool
-        ensures { result ≡ self.now.is_asked && nat_lt 0 self.now.left }
+        ensures { result ≡ self.now.is_asked && lets_in self.now.left }
     {
         self.is_asked && self.listener.is_some()
     }
 
     /// Whether the last connection has come in.
     pub fn is_shut(&self) -> bool
-        ensures { result ≡ (self.now.left == 0) }
+        ensures { result ≡ not (lets_in self.now.left) }
     {
         self.listener.is_none()
     }
 
     /// Lets one connection in, if one is there. The last one closes the listener.
     pub fn admit(&mut self) -> Option<TcpStream>
-        ensures some { IfSome result (λ _. self.new ≡ expecting (self.old.left - 1) self.old.is_asked) }
-        ensures left { IfSome result (λ _. self.new.left + 1 ≡ self.old.left) }
+        ensures some { IfSome result (λ _. self.new ≡ expecting (one_less self.old.left) self.old.is_asked) }
+        ensures lets_in { IfSome result (λ _. lets_in self.old.left ≡ true) }
         ensures none { IfNone result (self.new.left ≡ self.old.left) }
     {
         match self.listener.as_ref()?.accept() {
             Ok((stream, _)) => {
-                self.left -= 1;
-                if self.left == 0 {
+                self.left = one_less(self.left);
+                if !may_come(self.left) {
                     self.listener = None;
                 }
                 Some(stream)
@@ -102,5 +106,36 @@ impl Listener {
                 None
             }
         }
+    }
+}
+
+// How many connections are to come in, where they are counted.
+fn counted(count: u64) -> Option<u64>
+    ensures { result ≡ spec.counted count }
+{
+    if count < UNCOUNTED {
+        Some(count.max(1))
+    } else {
+        None
+    }
+}
+
+// One came in.
+fn one_less(left: Option<u64>) -> Option<u64>
+    ensures { result ≡ spec.one_less left }
+{
+    match left {
+        Some(left) => Some(left.saturating_sub(1)),
+        None => None,
+    }
+}
+
+// Whether one more may come in.
+fn may_come(left: Option<u64>) -> bool
+    ensures { result ≡ spec.lets_in left }
+{
+    match left {
+        Some(left) => left > 0,
+        None => true,
     }
 }

@@ -2,7 +2,7 @@
 
 ghost use Rattle.std.specs.Prelude.{◌≡◌};
 ghost use Rattle.registry_server.specs.Phases as spec;
-ghost use Rattle.registry_server.specs.Phases.{entered, first_phase, limit_of};
+ghost use Rattle.registry_server.specs.Phases.{entered, first_phase, left_at, limit_of, paid};
 
 /// A connection with nothing begun ends after so many milliseconds.
 pub const IDLE_LIMIT: u64 = 60_000;
@@ -10,8 +10,12 @@ pub const IDLE_LIMIT: u64 = 60_000;
 /// A request that was begun is whole after so many milliseconds, or its connection ends.
 pub const REQUEST_TIME_LIMIT: u64 = 10_000;
 
-/// A response was taken after so many milliseconds, or its connection ends.
+/// All responses of a connection together were taken after so many milliseconds, or it ends. More
+/// is given for what is taken of them, and this is also the most that is left.
 pub const RESPONSE_LIMIT: u64 = 60_000;
+
+/// For so many bytes that are taken of a response, a millisecond more is given.
+pub const LEAST_RATE: usize = 16;
 
 /// For so many milliseconds at most, what comes after the last response is read and dropped.
 pub const DRAIN_LIMIT: u64 = 2_000;
@@ -32,14 +36,14 @@ pub enum Stage {
 }
 
 impl Stage {
-    // How many milliseconds it may last.
-    fn limit(self) -> u64
-        ensures { result ≡ limit_of self }
+    // How many milliseconds it may last, where responses have so many left.
+    fn limit(self, spare: u64) -> u64
+        ensures { result ≡ limit_of self spare }
     {
         match self {
             Stage::Idle => IDLE_LIMIT,
             Stage::Begun | Stage::Next => REQUEST_TIME_LIMIT,
-            Stage::Sends => RESPONSE_LIMIT,
+            Stage::Sends => spare,
             Stage::Drains => DRAIN_LIMIT,
         }
     }
@@ -56,11 +60,13 @@ impl Stage {
     }
 }
 
-/// What a connection is at, and until when, in milliseconds.
+/// What a connection is at, and until when, in milliseconds, and how many of them its responses
+/// have left where none is being sent.
 #[derive(Drop)]
 pub struct Phase {
     pub stage: Stage,
     pub until: u64,
+    pub spare: u64,
 }
 
 impl Phase {
@@ -71,18 +77,40 @@ impl Phase {
         Phase {
             stage: Stage::Idle,
             until: now.saturating_add(IDLE_LIMIT),
+            spare: RESPONSE_LIMIT,
         }
     }
 
-    /// The time of a stage begins when it is entered, and not again while it lasts.
+    // How many milliseconds the responses have left.
+    fn left(&self, now: u64) -> u64
+        ensures { result ≡ left_at self.now now }
+    {
+        match self.stage {
+            Stage::Sends => self.until.saturating_sub(now),
+            _ => self.spare,
+        }
+    }
+
+    /// The time of a stage begins when it is entered, and not again while it lasts. The responses
+    /// of a connection have one time together.
     pub fn enter(&mut self, stage: Stage, now: u64)
         ensures entered { self.new ≡ entered self.old stage now }
         ensures stage { self.new.stage ≡ stage }
     {
         if !self.stage.shares_time(stage) {
-            self.until = now.saturating_add(stage.limit());
+            self.spare = self.left(now);
+            self.until = now.saturating_add(stage.limit(self.spare));
         }
         self.stage = stage;
+    }
+
+    /// So many bytes of a response were taken, for which there is more time.
+    pub fn pay(&mut self, count: usize, now: u64)
+        ensures { self.new ≡ paid self.old count now }
+    {
+        let more = self.until.saturating_add((count / LEAST_RATE) as u64);
+        let most = now.saturating_add(RESPONSE_LIMIT);
+        self.until = self.until.max(more.min(most));
     }
 
     /// Whether its time is up.

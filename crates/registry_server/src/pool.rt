@@ -1,6 +1,6 @@
 //! The open connections, and who of them can go on.
 
-ghost use Rattle.std.specs.Prelude.{◌≡◌, IfOk, length, map, position, replicate};
+ghost use Rattle.std.specs.Prelude.{◌≡◌, IfOk, is_none, length, map, position, replicate};
 ghost use Rattle.std.specs.List.{list_all, list_any};
 ghost use Rattle.registry_server.specs.Pools as spec;
 ghost use Rattle.registry_server.specs.Pools.{IsIdleLongest, IsPlaceFor, VisitsAll, VisitsAt, at_place, idle_times, new_at, place_count};
@@ -46,7 +46,8 @@ impl<S: Socket> Place<S> {
         buffer: &mut [u8],
         now: u64,
     )
-        ensures { VisitsAt S.received S.sent S.is_ended S.is_broken D.answers now self.old self.new
+        ensures { VisitsAt S.received S.sent S.must_wait S.is_ended S.is_broken D.answers
+            now (length buffer.old) self.old self.new
             service.old service.new (C.readings clock.old) (C.readings clock.new) }
     {
         if !self.is_ready {
@@ -103,6 +104,13 @@ impl<S: Socket> ConnectionPool<S> {
         ensures { result ≡ list_all spec.is_free self.now.places.items }
     {
         self.places.iter().all(|place| place.is_free())
+    }
+
+    /// Whether every place is taken.
+    pub fn is_full(&self) -> bool
+        ensures { result ≡ is_none (position spec.is_free self.now.places.items) }
+    {
+        self.free_place().is_none()
     }
 
     /// Whether a connection is to be visited.
@@ -163,8 +171,8 @@ impl<S: Socket> ConnectionPool<S> {
         buffer: &mut [u8],
         now: u64,
     )
-        ensures { VisitsAll S.received S.sent S.is_ended S.is_broken D.answers now
-            self.old.places.items self.new.places.items service.old service.new
+        ensures { VisitsAll S.received S.sent S.must_wait S.is_ended S.is_broken D.answers
+            now (length buffer.old) self.old.places.items self.new.places.items service.old service.new
             (C.readings clock.old) (C.readings clock.new) }
     {
         for place in self.places.iter_mut() {

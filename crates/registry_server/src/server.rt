@@ -1,5 +1,7 @@
 //! The loop over all connections.
 
+ghost use Rattle.std.specs.Prelude.{◌≤◌};
+
 use crate::clocks::{Timer, WallClock, clamped_moment};
 use crate::listener::Listener;
 use crate::pool::{CONNECTION_COUNT, ConnectionPool};
@@ -14,14 +16,17 @@ use std::{io, time};
 /// The token of the listener. Those of connections are their places.
 const LISTENER: Token = Token(CONNECTION_COUNT);
 
-/// The most events of one wait.
-const EVENT_COUNT: usize = 256;
+/// The most events of one wait: one of each connection, and one of the listener.
+const EVENT_COUNT: usize = CONNECTION_COUNT + 1;
 
 /// The most bytes of one read.
 const BUFFER_LEN: usize = 16_384;
 
 /// So many milliseconds pass at most between two looks at which connections are late.
 const LOOK_TIME: u64 = 250;
+
+/// So many milliseconds of a round count at most, beside those in which it waited.
+const ROUND_TIME: u64 = 25;
 
 /// A port of 127.0.0.1, and the connections that came in there.
 #[derive(Drop)]
@@ -35,7 +40,8 @@ pub struct Server {
 
 impl Server {
     /// Listens at the port, or at any that is free where it is 0, for `count` connections, one at
-    /// least. The errors are those of the system.
+    /// least; from [`UNCOUNTED`](crate::UNCOUNTED) on for all that come. The errors are those of
+    /// the system.
     pub fn bind<R: Net>(rt: &R, alloc: Global, port: u16, count: u64) -> io::Result<Server> {
         let poll = Poll::new(rt)?;
         let listener = Listener::open(rt, poll.registry(), LISTENER, port, count)?;
@@ -52,7 +58,8 @@ impl Server {
         self.listener.port()
     }
 
-    /// Serves with a service until the last connection has come in and all have ended. An error
+    /// Serves with a service until the last connection has come in and all have ended, if they are
+    /// counted. An error
     /// comes where a clock can't be read at first, or the system can't be asked what is ready.
     pub fn run<R: time::Clock, D: Service>(
         mut self,
@@ -68,13 +75,12 @@ impl Server {
         let mut buffer = [0; BUFFER_LEN];
         for _ in 0..u64::MAX {
             let patience = self.patience();
-            self.poll.poll(&mut events, Some(patience))?;
-            let now = timer.now();
-            self.wake(&events);
-            self.admit(alloc, now);
+            self.look(&mut events, patience)?;
+            let now = timer.pass(patience + ROUND_TIME);
             self.pool
                 .visit_all(alloc, service, &mut clock, &mut buffer, now);
             self.end_late(now);
+            self.let_in(alloc, &mut events, now)?;
             if self.listener.is_shut() && self.pool.is_empty() {
                 break;
             }
@@ -82,16 +88,17 @@ impl Server {
         Ok(())
     }
 
-    // How long to wait for what is ready: not at all while a connection may go on.
-    fn patience(&self) -> Duration {
-        if self.pool.is_busy() {
-            Duration::from_millis(0)
-        } else {
-            Duration::from_millis(LOOK_TIME)
-        }
+    // How many milliseconds to wait for what is ready: none while a connection may go on.
+    fn patience(&self) -> u64
+        ensures { result ≤ 250 }
+    {
+        if self.pool.is_busy() { 0 } else { LOOK_TIME }
     }
 
-    fn wake(&mut self, events: &Events) {
+    // Waits for so many milliseconds until something is ready. What is ready is to be visited.
+    fn look(&mut self, events: &mut Events, patience: u64) -> io::Result<()> {
+        self.poll
+            .poll(events, Some(Duration::from_millis(patience)))?;
         for event in events.iter() {
             if event.token() == LISTENER {
                 self.listener.ask();
@@ -99,6 +106,19 @@ impl Server {
                 self.pool.wake(event.token().0);
             }
         }
+        Ok(())
+    }
+
+    // Lets in who is there. Where every place is taken it is looked first on which connections
+    // something has come, so that none of these ends for a new one.
+    fn let_in(&mut self, alloc: Global, events: &mut Events, now: u64) -> io::Result<()> {
+        if self.listener.is_asked() {
+            if self.pool.is_full() {
+                self.look(events, 0)?;
+            }
+            self.admit(alloc, now);
+        }
+        Ok(())
     }
 
     // Lets in who is there, as long as there are places.

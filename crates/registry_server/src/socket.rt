@@ -3,7 +3,7 @@
 ghost use Rattle.std.specs.Prelude.{◌≡◌, ◌++◌, ℕ, List, Option, Bool, true, false, length};
 ghost use Rattle.std.specs.Io.KnownBytes.{append_known};
 ghost use Rattle.registry_server.specs.Sockets.{MovesAtMost, moved};
-ghost use Rattle.registry_server.specs.declared.socket.Flow.TheVariants.{Ended, Broken};
+ghost use Rattle.registry_server.specs.declared.socket.Flow.TheVariants.{Waits, Ended, Broken};
 
 use mio::net::TcpStream;
 use std::io;
@@ -35,6 +35,9 @@ pub trait Socket: Drop {
     // The bytes that it took to send so far, where they are known.
     ghost sent: { Self → Option (List ℕ) };
 
+    // Whether it may have nothing to give or take now.
+    ghost must_wait: { Self → Bool };
+
     // Whether the other side may have said that it sends no more.
     ghost is_ended: { Self → Bool };
 
@@ -47,6 +50,7 @@ pub trait Socket: Drop {
         ensures received { received self.new
             ≡ append_known (received self.old) (moved result buffer.new) }
         ensures sent { sent self.new ≡ sent self.old }
+        ensures waits { result ≡ Waits → must_wait self.new ≡ true }
         ensures ended { result ≡ Ended → is_ended self.new ≡ true }
         ensures still_ended { is_ended self.old ≡ true → is_ended self.new ≡ true }
         ensures broken { result ≡ Broken → is_broken self.new ≡ true };
@@ -57,6 +61,7 @@ pub trait Socket: Drop {
         ensures sent { sent self.new
             ≡ append_known (sent self.old) (moved result (head.now ++ body.now)) }
         ensures received { received self.new ≡ received self.old }
+        ensures waits { result ≡ Waits → must_wait self.new ≡ true }
         ensures ended { result ≡ Ended → is_ended self.new ≡ true }
         ensures still_ended { is_ended self.old ≡ true → is_ended self.new ≡ true }
         ensures broken { result ≡ Broken → is_broken self.new ≡ true };
@@ -75,6 +80,8 @@ impl Socket for TcpStream {
     ghost received = { λ _. None };
 
     ghost sent = { λ _. None };
+
+    ghost must_wait = { λ _. true };
 
     ghost is_ended = { λ _. true };
 

@@ -1,6 +1,6 @@
 //! One connection, apart from its socket.
 
-ghost use Rattle.std.specs.Prelude.{◌≡◌, ◌≤◌, ◌-◌, ◌==◌, ◌++◌, ◌∷◌, ◌↔◌, [], ℕ, length, drop, IsTrue, OnOk, OnErr};
+ghost use Rattle.std.specs.Prelude.{◌≡◌, ◌≤◌, ◌-◌, ◌==◌, ◌++◌, ◌∷◌, ◌↔◌, [], ℕ, length, drop, IfOk, IsTrue, OnOk, OnErr};
 ghost use Rattle.registry_service.specs.Courses.{Gave};
 ghost use Rattle.registry_service.specs.Servings.{bytes_of};
 ghost use Rattle.registry_service.specs.Turns.{Turns, request};
@@ -15,7 +15,7 @@ use registry_wire::{Ending, First, Wanted, ending_of, first_in};
 use std::alloc::{AllocError, Global};
 use std::marker::Model;
 
-/// The most bytes of memory that are kept where none is held.
+/// A buffer of more bytes is given back once no more than these are held in it.
 const KEPT_LIMIT: usize = 16_384;
 
 /// What came on a connection and isn't used yet, what isn't sent of a response, how many requests
@@ -174,14 +174,33 @@ impl ConnectionState {
         Progress::Answered
     }
 
-    // These bytes are used. What is kept of memory for none is little.
+    // These bytes are used.
     fn drop_first(&mut self, alloc: Global, used: usize)
         requires { used ≤ length self.old.held }
         ensures { self.new ≡ holding self.old (drop used self.old.held) }
     {
         self.held.drain(..used);
-        if self.held.is_empty() && self.held.capacity() > KEPT_LIMIT {
-            self.held = Vec::new(alloc);
+        let is_grown = self.held.capacity() > KEPT_LIMIT;
+        if is_grown && self.held.len() <= KEPT_LIMIT {
+            shrink(alloc, &mut self.held);
         }
     }
+}
+
+// Moves bytes to a buffer of their own size, where there is memory for one.
+fn shrink(alloc: Global, bytes: &mut Vec<u8>)
+    ensures { bytes.new.items ≡ bytes.old.items }
+{
+    if let Ok(small) = copied(alloc, bytes) {
+        *bytes = small;
+    }
+}
+
+// The same bytes, in no more memory than they need.
+fn copied(alloc: Global, bytes: &[u8]) -> Result<Vec<u8>, AllocError>
+    ensures { IfOk result (λ small. small.items ≡ bytes.now) }
+{
+    let mut small = Vec::with_capacity(alloc, bytes.len())?;
+    small.extend_from_slice(bytes)?;
+    Ok(small)
 }

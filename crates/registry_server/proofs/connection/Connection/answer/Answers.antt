@@ -1,3 +1,7 @@
+use Rattle.std.proofs.Common.{◌∙◌, length, ap, inl, refl, subst}
+use Rattle.std.specs.Io.KnownBytes.{append_known}
+use Rattle.registry_server.specs.Phases.{SentAt}
+use Rattle.registry_server.specs.declared.phase.Phase.{Phase}
 use Rattle.registry_server.proofs.VisitFacts.{answered-none}
 use Rattle.registry_server.proofs.connection.Connection.answer.Goals as goal
 
@@ -10,3 +14,19 @@ pub returns-in-Closed-clause-answers : goal.returns-in-Closed-clause-answers
 returns-in-Closed-clause-answers g c =
     answered-none g.S.Socket.received g.S.Socket.sent g.D.Service.answers _ _ _ _ _ _ _
     c.in-Closed.ensures.does.0 (c.in-Closed.ensures.looked (λ same. absurd (cc))) c.take_turn.ensures.socket c.take_turn.ensures.over
+
+pub returns-in-Answered-clause-answers : goal.returns-in-Answered-clause-answers
+returns-in-Answered-clause-answers g c =
+    let s = c.send.ensures.sends in
+    record {
+      due = c.take_turn.new.self.state;
+      put = s.put;
+      turns = inl (
+        record { may = c.take_turn.ensures.may; takes = c.in-Answered.ensures.does },
+        subst (λ (p : Phase). SentAt c.args.now (length s.put) p c.send.new.self.phase) (c.in-Answered.ensures.sends refl) s.times,
+      );
+      took = s.took ∙ ap (λ (x : g.row.S.Denot). append_known (g.S.Socket.sent x) s.put) c.take_turn.ensures.socket;
+      unread = s.unread ∙ ap g.S.Socket.received c.take_turn.ensures.socket;
+      sends = s.state;
+      over = s.over ∙ c.take_turn.ensures.over;
+    }

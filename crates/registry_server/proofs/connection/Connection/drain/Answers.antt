@@ -1,13 +1,15 @@
-use Rattle.std.proofs.Common.{refl, subst}
+use Rattle.std.proofs.Common.{refl, rules, subst}
 use Rattle.registry_server.specs.Connections.{Drops, OpenConnection, connected}
 use Rattle.registry_server.specs.Sockets.{moved}
+use Rattle.registry_server.proofs.VisitFacts.{few-moved}
 use Rattle.registry_server.proofs.connection.Connection.drain.Goals as goal
 
 pub returns-clause-drops : goal.returns-clause-drops
 returns-clause-drops g c =
-    subst (λ (old : OpenConnection g.row.S.Denot). Drops g.S.Socket.received g.S.Socket.sent old (connected c.receive.new.self c.self.inside.state c.self.inside.phase c.self.inside.is_over)) c.self.view_is
+    subst (λ (old : OpenConnection g.row.S.Denot). Drops g.S.Socket.received g.S.Socket.sent _ old (connected c.receive.new.self c.self.inside.state c.self.inside.phase c.self.inside.is_over)) c.self.view_is
     (record {
       got = moved c.receive.result c.receive.new.buffer;
+      few = few-moved c.receive.result c.receive.new.buffer c.args.buffer.now (search rules);
       gave = c.receive.ensures.received;
       unsent = c.receive.ensures.sent;
       state = refl;

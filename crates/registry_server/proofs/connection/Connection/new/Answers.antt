@@ -1,7 +1,7 @@
-use Rattle.std.proofs.Common.{◌≡◌, ap, false, true}
+use Rattle.std.proofs.Common.{ap}
 use Rattle.std.proofs.lemmas.Bool.{false≢true}
 use Rattle.registry_server.specs.declared.phase.Phase.{Phase}
-use Rattle.registry_server.proofs.IdleFacts.{fresh-in-order}
+use Rattle.registry_server.proofs.OrderFacts.{fresh-in-order}
 use Rattle.registry_server.proofs.connection.Connection.new.Goals as goal
 
 pub invariant_of-result : goal.invariant_of-result

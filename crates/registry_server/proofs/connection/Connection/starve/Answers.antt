@@ -1,6 +1,6 @@
-use Rattle.std.proofs.Common.{◌≡◌, ◌∙◌, subst, sym, true}
-use Rattle.registry_server.specs.Phases.{takes_turns}
-use Rattle.registry_server.proofs.PhaseFacts.{sends-started, started-next}
+use Rattle.std.proofs.Common.{length, subst}
+use Rattle.registry_server.specs.Phases.{SentAt}
+use Rattle.registry_server.specs.declared.phase.Phase.{Phase}
 use Rattle.registry_server.specs.Connections.{OpenConnection, StarvesOnce}
 use Rattle.registry_server.proofs.connection.Connection.starve.Goals as goal
 
@@ -15,5 +15,5 @@ returns-clause-starves g c =
       unread = c.send.ensures.sends.unread;
       sends = c.send.ensures.sends.state;
       over = c.send.ensures.sends.over;
-      times = started-next c.args.now c.enter.new.self c.send.new.self.phase (c.enter.ensures.entered ∙ sends-started c.self.inside.phase c.args.now (subst (λ (old : OpenConnection g.row.S.Denot). takes_turns old.phase.stage ≡ true) (sym c.self.view_is) c.requires)) c.send.ensures.sends.times;
+      times = subst (λ (p : Phase). SentAt c.args.now (length c.send.ensures.sends.put) p c.send.new.self.phase) c.enter.ensures.entered c.send.ensures.sends.times;
     })

@@ -1,4 +1,4 @@
-use Rattle.std.proofs.Common.{◌≡◌, take, drop}
+use Rattle.std.proofs.Common.{◌≡◌, take, drop, length}
 use Rattle.registry_server.specs.Pools.{VisitsAll}
 use Rattle.registry_server.proofs.pool.ConnectionPool.visit_all.Given as goal
 
@@ -7,6 +7,6 @@ invariant-loop-place g l =
     let socket = g.S.Socket in
     let old = l.fn.self.places.items in
     record {
-      visited : VisitsAll socket.received socket.sent socket.is_ended socket.is_broken g.D.Service.answers l.now (take l.place-index old) (take l.place-index l.place-items) l.fn.service l.service (g.C.Clock.readings l.fn.clock) (g.C.Clock.readings l.clock);
+      visited : VisitsAll socket.received socket.sent socket.must_wait socket.is_ended socket.is_broken g.D.Service.answers l.now (length l.fn.buffer) (take l.place-index old) (take l.place-index l.place-items) l.fn.service l.service (g.C.Clock.readings l.fn.clock) (g.C.Clock.readings l.clock);
       rest : drop l.place-index l.place-items ≡ drop l.place-index old;
     }
