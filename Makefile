@@ -8,7 +8,7 @@ PACKUMENT := examples/lab-kit-1.0.0.packument.json
 BODY := $(EXAMPLE)
 FILES := *.txt
 
-.PHONY: help try run build test check stories plants fmt npm kill files limits bench compare examples kit
+.PHONY: help try run build test check stories plants fmt npm kill files limits soak bench compare examples kit
 
 help:
 	@echo 'Build:'
@@ -27,7 +27,8 @@ help:
 	@echo '  make npm      publishes and installs with the stock npm client: a minute'
 	@echo '  make kill     kills a server 500 times while versions are published: 6 minutes'
 	@echo '  make files    fills a disk, and opens files that hold no registry'
-	@echo '  make limits   tries the limits of connections: a minute and a half'
+	@echo '  make limits   tries the limits of connections, and hostile clients: 4 minutes'
+	@echo '  make soak     a hundred clients for ten minutes, and whether memory and answers hold'
 	@echo
 	@echo 'Measure the built program out/registry:'
 	@echo '  make bench    how long requests and the reading of bodies take: 5 minutes'
@@ -70,6 +71,9 @@ files: out/registry
 
 limits: out/registry
 	@tools/measure_limits --program out/registry
+
+soak: out/registry
+	@tools/soak --program out/registry
 
 compare: out/registry
 	@echo 'measuring the program out/registry: this is no part of the gate' >&2

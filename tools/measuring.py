@@ -66,6 +66,12 @@ def milliseconds(seconds):
     return figure(seconds * 1000)
 
 
+def in_turn(rounds, *calls):
+    """The medians of what these calls give, each called once a round, with the round's number."""
+    runs = [[call(number) for call in calls] for number in range(rounds)]
+    return [median(values) for values in zip(*runs)]
+
+
 class Registry:
     """A registry in a file, with the user bob, a token of bob's, and the organisation lab, which bob owns."""
 
@@ -88,19 +94,20 @@ class Registry:
             fail(f'{" ".join(words)} ended with {run.returncode}: {said}')
         return wall, use.ru_utime + use.ru_stime
 
-    def serve(self):
-        return Server(self)
+    def serve(self, *options, errors=None):
+        return Server(self, options, errors)
 
 
 class Server:
-    """`registry serve` on a registry's file. It listens, and `opened` is how long that took."""
+    """`registry serve` on a registry's file. It listens, and `opened` is how long that took. What it
+    says on standard error goes to `errors`."""
 
-    def __init__(self, registry):
+    def __init__(self, registry, options=(), errors=None):
         with socket.create_server(('127.0.0.1', 0)) as door:
             self.port = door.getsockname()[1]
         began = time.perf_counter()
-        self.process = subprocess.Popen([registry.program, '--db', registry.db, 'serve', '--port', str(self.port)],
-                                        stdout=subprocess.PIPE)
+        self.process = subprocess.Popen([registry.program, '--db', registry.db, 'serve', '--port', str(self.port), *options],
+                                        stdout=subprocess.PIPE, stderr=errors)
         if self.process.stdout.readline() != f'listening 127.0.0.1:{self.port}\n'.encode():
             fail('the server does not listen')
         self.opened = time.perf_counter() - began

@@ -1,0 +1,58 @@
+"""Tries of the number of connections after which a server ends, or doesn't."""
+
+from tries import *
+
+MILLION = 1_000_000
+
+
+def run(ground, tries, slack):
+    for one in tries:
+        one.run(ground.registry('count'))
+
+
+def counted(registry):
+    """A server of five connections: it ends once they have come and ended, and says why."""
+    with registry.serve('--connections', '5', errors=subprocess.PIPE) as server:
+        for _ in range(5):
+            come_and_go(server)
+        try:
+            status = server.process.wait(5)
+        except subprocess.TimeoutExpired:
+            raise Otherwise('it serves on') from None
+        lines = server.process.stderr.read().decode().splitlines()
+    return want(status == 0 and len(lines) == 1, f'status {status}, and on standard error {lines or "nothing"}')
+
+
+def uncounted(registry):
+    return serves_on(registry, 5_000)
+
+
+def million(registry):
+    return serves_on(registry, MILLION + 1)
+
+
+def serves_on(registry, count):
+    """So many connections come and go, each with an answer, and the server is still there."""
+    with registry.serve() as server:
+        for number in range(count):
+            come_and_go(server)
+            if number % 100_000 == 99_999:
+                say(f'{number + 1:,} connections')
+        want(server.process.poll() is None, f'it ended with status {server.process.returncode}')
+        must_answer(connect(server.port), NOBODY)
+    return f'it serves on after {count:,}'
+
+
+def come_and_go(server):
+    """A connection with one answer. It is reset, so that the system keeps nothing of it."""
+    connection = connect(server.port)
+    must_answer(connection, NOBODY)
+    reset(connection)
+
+
+TRIES = [
+    Try('counted', '`serve --connections 5`, once five connections have come and ended',
+        'status 0, and a line on standard error', counted),
+    Try('uncounted', '5,000 connections to `serve` by its default', 'it serves on', uncounted),
+    Try('million', '1,000,001 connections to `serve` by its default', 'it serves on', million),
+]
