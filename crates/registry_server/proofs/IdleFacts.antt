@@ -12,7 +12,7 @@ use Rattle.registry_wire.specs.Spelling.{IsUnfinished}
 pub some-after : (a b : List ℕ) → 0 < length b → 0 < length (a ++ b)
 some-after a b some = omega (arith, length-append a b, some)
 
-pub some-before : (a b : List ℕ) → 0 < length a → 0 < length (a ++ b)
+some-before : (a b : List ℕ) → 0 < length a → 0 < length (a ++ b)
 some-before a b some = omega (arith, length-append a b, some)
 
 -- a head has a byte

@@ -7,3 +7,4 @@ mod PhaseFacts
 mod IdleFacts
 mod TimeFacts
 mod OrderFacts
+mod RestFacts

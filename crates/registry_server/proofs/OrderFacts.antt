@@ -1,5 +1,6 @@
 -- What is held and due at each stage.
-use Rattle.std.proofs.Common.{◌≡◌, ◌≢◌, ◌<◌, ◌==◌, ◌++◌, ◌∷◌, ◌∙◌, [], ℕ, Bool, false, List, Option, None, Some, IsSome, codes, length, refl, ap, subst, sym, arith, lit<}
+use Rattle.std.proofs.Common.{◌≡◌, ◌≢◌, ◌<◌, ◌==◌, ◌++◌, ◌∷◌, ◌∙◌, [], ℕ, suc, Bool, true, false, List, Option, None, Some, IsSome, length, refl, ap, subst, sym, arith, if◌then◌else◌}
+use Rattle.std.proofs.lemmas.Bool.Decides.{nat_tests}
 use Rattle.registry_wire.specs.Spelling.{IsUnfinished}
 use Rattle.registry_service.specs.Servings.{bytes_of}
 use Rattle.registry_service.specs.Turns.{Answering}
@@ -9,7 +10,7 @@ use Rattle.registry_server.specs.ConnectionStates.{IsStarved, MayTakeTurn, Pendi
 use Rattle.registry_server.specs.Connections.{IsInOrder, stage_after}
 use Rattle.registry_server.specs.declared.phase.Stage.{Stage}
 use Rattle.registry_server.specs.declared.phase.Stage.TheVariants.{Idle, Begun, Next, Sends, Drains}
-use Rattle.registry_server.proofs.IdleFacts.{nothing-unfinished, some-after, some-before}
+use Rattle.registry_server.proofs.IdleFacts.{nothing-unfinished, some-after}
 
 -- nothing is held, and a turn may be taken
 pub order-idle : (s : Stage) (p : Pending) → s ≡ Idle → p.held ≡ [] → MayTakeTurn p → IsInOrder s p
@@ -100,10 +101,17 @@ pub fresh-in-order : (s : Stage) (p : Pending) → s ≡ Idle → p ≡ fresh �
 fresh-in-order s p is new = order-idle s p is (ap (λ (q : Pending). q.held) new)
     (record { all_sent = ap (λ (q : Pending). q.outgoing) new; goes_on = ap (λ (q : Pending). q.ends) new })
 
+never-zero : (n : ℕ) (b : Bool) → (suc n == 0) ≡ b → b ≡ false
+never-zero n true is = absurd (grind (arith, nat_tests, is))
+never-zero n false is = refl
+
 all-sent : (held outgoing : List ℕ) (left : ℕ) (ends : Option End) → outgoing ≡ [] → IsInOrder (stage_after (pending held outgoing left ends)) (pending held outgoing left ends)
 all-sent held outgoing left (Some e) sent = order-drains Drains (pending held outgoing left (Some e)) refl sent refl
 all-sent [] outgoing left None sent = order-idle Idle (pending [] outgoing left None) refl refl (record { all_sent = sent; goes_on = refl })
-all-sent (x ∷ held) outgoing left None sent = order-next Next (pending (x ∷ held) outgoing left None) refl (λ e. absurd (cc)) (record { all_sent = sent; goes_on = refl })
+all-sent (x ∷ held) outgoing left None sent =
+    let some : (length (x ∷ held) == 0) ≡ false = never-zero (length held) (length (x ∷ held) == 0) refl in
+    subst (λ (b : Bool). IsInOrder (if b then Idle else Next) (pending (x ∷ held) outgoing left None)) (sym some)
+    (order-next Next (pending (x ∷ held) outgoing left None) refl (λ e. absurd (cc)) (record { all_sent = sent; goes_on = refl }))
 
 -- once all is sent
 pub sent-in-order : (s : Stage) (p : Pending) → s ≡ stage_after p → p.outgoing ≡ [] → IsInOrder s p
@@ -119,13 +127,17 @@ not-none l some none = omega (arith, some, ap length none)
 pub none-before : (a b : List ℕ) → 0 < length b → a ++ b ≢ []
 none-before a b some = not-none (a ++ b) (some-after a b some)
 
+abbrev HasBytes : List ℕ → Type 0
+HasBytes [] = ⊥
+HasBytes (x ∷ l) = Unit {0}
+
 -- a response has bytes
-pub some-bytes : (t : Turned) → 0 < length (bytes_of t)
-some-bytes t = some-before _ _ (some-before _ _ (some-before (codes "HTTP/1.1 ") _ (lit< tt)))
+pub some-bytes : (t : Turned) → bytes_of t ≢ []
+some-bytes t none = subst HasBytes none tt
 
 -- it is due
 pub response-due : (p : Pending) (t : Turned) → p.outgoing ≡ bytes_of t → p.outgoing ≢ []
-response-due p t is none = not-none (bytes_of t) (some-bytes t) (sym is ∙ none)
+response-due p t is none = some-bytes t (sym is ∙ none)
 
 some-held : (l : List ℕ) → (length l == 0) ≡ false → l ≢ []
 some-held [] some none = absurd (cc)

@@ -1,12 +1,12 @@
 -- Places for connections: which of them a new one takes, who is visited, and who is let go.
-use Rattle.std.specs.Prelude.{◌≡◌, ◌≢◌, ◌<◌, ◌≤◌, ◌∷◌, [], ℕ, zero, suc, Bool, true, false, List, Option, Some, None, is_none, length, nat_le, position, slice_get, MatchOption, if◌then◌else◌}
+use Rattle.std.specs.Prelude.{◌≡◌, ◌≢◌, ◌<◌, ◌≤◌, ◌∷◌, [], ℕ, zero, suc, Bool, true, false, List, Option, Some, None, is_none, All, length, map, nat_le, position, replicate, slice_get, MatchOption, if◌then◌else◌}
 use Rattle.registry_service.specs.Turns.{Answering}
 use Rattle.registry_server.specs.ConnectionStates.{fresh}
 use Rattle.registry_server.specs.Connections.{IsLost, OpenConnection, Visits, connected}
 use Rattle.registry_server.specs.Phases.{first_phase, idle_since, is_late}
 use Rattle.registry_server.specs.declared.connection.Visit.{Visit}
 use Rattle.registry_server.specs.declared.connection.Visit.TheVariants.{Again, Rests, Over}
-use Rattle.registry_server.specs.declared.phase.Stage.TheVariants.{Next}
+use Rattle.registry_server.specs.declared.phase.Stage.TheVariants.{Idle, Next}
 use Rattle.registry_server.specs.declared.pool.Place.{Place}
 
 -- the most connections that are open at once
@@ -143,3 +143,39 @@ module _ {S : Type 0} (received sent : S → Option (List ℕ)) (must_wait is_en
       × VisitsAll now most places places2 between N readings1 readings2
   VisitsAll now most [] (q ∷ places2) M N readings readings2 = ⊥
   VisitsAll now most (p ∷ places) [] M N readings readings2 = ⊥
+
+-- ---- whom a new connection ends
+
+-- A connection that isn't to be visited rests: its socket had to wait when it was asked last.
+abbrev pub IsAtRest : {S : Type 0} → (S → Bool) → Place S → Type 0
+IsAtRest {S} must_wait p = (c : OpenConnection S) → p.is_ready ≡ false → p.connection ≡ Some c → must_wait c.socket ≡ true
+
+-- so it is in a new pool
+abbrev pub NewPoolRests : {S : Type 0} → (S → Bool) → Type 0
+NewPoolRests must_wait = All (IsAtRest must_wait) (replicate place_count free)
+
+-- and still once a connection came in
+abbrev pub NewConnectionsLeaveRest : {S : Type 0} → (S → Bool) → Type 0
+NewConnectionsLeaveRest {S} must_wait = (now : ℕ) (socket : S) (places : List (Place S)) (k : ℕ)
+    → All (IsAtRest must_wait) places → All (IsAtRest must_wait) (at_place (λ _. new_at now socket) places k)
+
+-- once one is to be visited
+abbrev pub WakesLeaveRest : {S : Type 0} → (S → Bool) → Type 0
+WakesLeaveRest {S} must_wait = (places : List (Place S)) (k : ℕ) → All (IsAtRest must_wait) places → All (IsAtRest must_wait) (at_place woken places k)
+
+-- and once those ended whose time is up
+abbrev pub EndsLeaveRest : {S : Type 0} → (S → Bool) → Type 0
+EndsLeaveRest {S} must_wait = (now : ℕ) (places : List (Place S)) → All (IsAtRest must_wait) places → All (IsAtRest must_wait) (map (kept_at now) places)
+
+module _ {S : Type 0} (received sent : S → Option (List ℕ)) (must_wait is_ended is_broken : S → Bool) {D : Type 0} (answers : Answering D) where
+  -- and after visits
+  abbrev pub VisitsLeaveRest : Type 0
+  VisitsLeaveRest = (now most : ℕ) (old new : List (Place S)) (M N : D) (readings readings2 : Option (List ℕ)) → All (IsAtRest must_wait) old
+      → VisitsAll received sent must_wait is_ended is_broken answers now most old new M N readings readings2 → All (IsAtRest must_wait) new
+
+-- A new connection ends no other but one that isn't to be visited, whose socket had to wait when it
+-- was asked last, and on which nothing is begun.
+abbrev pub NewcomersEndIdle : {S : Type 0} → (S → Bool) → Type 0
+NewcomersEndIdle {S} must_wait = (places : List (Place S)) (k : ℕ) (p : Place S) (c : OpenConnection S)
+    → All (IsAtRest must_wait) places → IsPlaceFor places (Some k) → slice_get places k ≡ Some p → p.connection ≡ Some c
+    → (p.is_ready ≡ false) × (must_wait c.socket ≡ true) × (c.phase.stage ≡ Idle)

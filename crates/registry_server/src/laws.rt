@@ -1,6 +1,7 @@
 //! Laws of connections. Each is the contract of a function that does nothing.
 
 ghost use Rattle.registry_server.specs.Phases.{BytesGive, NeverGiveMore, ResponseTimePasses, StagesGiveNone};
+ghost use Rattle.registry_server.specs.Pools.{EndsLeaveRest, NewConnectionsLeaveRest, NewPoolRests, NewcomersEndIdle, VisitsLeaveRest, WakesLeaveRest};
 ghost use Rattle.registry_server.specs.Worlds.{Begins, Comes, Sends, Shuts, Starves, TakesTurns, VisitsLead};
 
 use crate::socket::Socket;
@@ -35,4 +36,17 @@ pub fn responses_have_one_time()
     ensures stages { StagesGiveNone }
     ensures bytes { BytesGive }
     ensures most { NeverGiveMore }
+{}
+
+/// No new connection ends one that is to be visited. Each connection that isn't rests: its socket
+/// had to wait when it was asked last. So it is in a new pool, and new connections, wakes, ends and
+/// visits leave it so. And a new connection takes the place of another one only where that rests
+/// and nothing is begun on it.
+pub fn newcomers_end_idle_connections<S: Socket, D: Service>()
+    ensures begins { NewPoolRests S.must_wait }
+    ensures comes { NewConnectionsLeaveRest S.must_wait }
+    ensures wakes { WakesLeaveRest S.must_wait }
+    ensures late { EndsLeaveRest S.must_wait }
+    ensures visits { VisitsLeaveRest S.received S.sent S.must_wait S.is_ended S.is_broken D.answers }
+    ensures ended { NewcomersEndIdle S.must_wait }
 {}

@@ -1,16 +1,20 @@
-use Rattle.std.proofs.Common.{true, false, inl, inr, refl, rules, take, subst}
+use Rattle.std.proofs.Common.{◌≡◌, ◌<◌, ◌∙◌, true, false, inl, inr, refl, ap, arith, length, take, subst}
+use Rattle.std.proofs.lemmas.Bool.Decides.{nat_tests}
+use Rattle.std.proofs.lemmas.List.{length-take}
 use Rattle.registry_names.proofs.ByteStreamFacts.{on_err}
 use Rattle.registry_server.specs.Connections.{OpenConnection, Receives, connected}
+use Rattle.registry_server.specs.Phases.{takes_turns}
+use Rattle.registry_server.proofs.OrderFacts.{came-in-order}
 use Rattle.registry_server.proofs.VisitFacts.{few-taken, never}
 use Rattle.registry_server.proofs.connection.Connection.receive.Goals as goal
 
 pub returns-in_err-came-in-Moved-clause-lost : goal.returns-in_err-came-in-Moved-clause-lost
 returns-in_err-came-in-Moved-clause-lost g c =
     on_err _
-    (subst (λ (old : OpenConnection g.row.S.Denot). Receives g.S.Socket.received g.S.Socket.sent c.args.now _ old (connected c.receive-flow.new.self c.came.new.self c.self.inside.phase c.self.inside.is_over) false) c.self.view_is
+    (subst (λ (old : OpenConnection g.row.S.Denot). Receives g.S.Socket.received g.S.Socket.sent c.args.now (length c.args.buffer.now) old (connected c.receive-flow.new.self c.came.new.self c.self.inside.phase c.self.inside.is_over) false) c.self.view_is
     (record {
       got = take c.in-Moved.count c.receive-flow.new.buffer;
-      few = few-taken c.in-Moved.count c.receive-flow.new.buffer c.args.buffer.now (search rules);
+      few = few-taken c.in-Moved.count c.receive-flow.new.buffer c.args.buffer.now c.receive-flow.auto.buffer;
       gave = c.in-Moved.ensures.received;
       unsent = c.in-Moved.ensures.sent;
       state = c.in_err-came-in-Moved.ensures.err;
@@ -21,10 +25,10 @@ returns-in_err-came-in-Moved-clause-lost g c =
 
 pub returns-in_ok-came-in-Moved-clause-kept : goal.returns-in_ok-came-in-Moved-clause-kept
 returns-in_ok-came-in-Moved-clause-kept g c =
-    subst (λ (old : OpenConnection g.row.S.Denot). Receives g.S.Socket.received g.S.Socket.sent c.args.now _ old (connected c.receive-flow.new.self c.came.new.self c.enter.new.self c.self.inside.is_over) true) c.self.view_is
+    subst (λ (old : OpenConnection g.row.S.Denot). Receives g.S.Socket.received g.S.Socket.sent c.args.now (length c.args.buffer.now) old (connected c.receive-flow.new.self c.came.new.self c.enter.new.self c.self.inside.is_over) true) c.self.view_is
     (record {
       got = take c.in-Moved.count c.receive-flow.new.buffer;
-      few = few-taken c.in-Moved.count c.receive-flow.new.buffer c.args.buffer.now (search rules);
+      few = few-taken c.in-Moved.count c.receive-flow.new.buffer c.args.buffer.now c.receive-flow.auto.buffer;
       gave = c.in-Moved.ensures.received;
       unsent = c.in-Moved.ensures.sent;
       state = c.in_ok-came-in-Moved.ensures.ok;
@@ -32,3 +36,13 @@ returns-in_ok-came-in-Moved-clause-kept g c =
       over = λ over. over;
       times = inr c.enter.ensures.entered;
     })
+
+-- bytes came
+pub invariant_of-self-in_default-1 : goal.invariant_of-self-in_default-1
+invariant_of-self-in_default-1 g c =
+    let p = c.self.inside.state in
+    let count = c.in-Moved.count in
+    let bytes = take count c.receive-flow.new.buffer in
+    let turning : takes_turns c.self.inside.phase.stage ≡ true = ap (λ (x : OpenConnection g.row.S.Denot). takes_turns x.phase.stage) c.self.view_is ∙ c.requires.turns in
+    let some : 0 < length bytes = grind (arith, nat_tests, c.in-Moved.count-is, c.in-Moved.ensures.bound, length-take count c.receive-flow.new.buffer) in
+    (came-in-order c.enter.new.self.stage p c.came.new.self bytes c.enter.ensures.stage (c.self.invariant.0.turns turning) c.in_ok-came-in-Moved.ensures.ok some, λ over. never c.self.inside.is_over c.if-self.false over)

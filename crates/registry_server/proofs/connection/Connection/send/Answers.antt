@@ -1,11 +1,19 @@
-use Rattle.std.proofs.Common.{◌∙◌, ◌≤◌, [], List, ℕ, length, ap, refl, subst, take}
+use Rattle.std.proofs.Common.{◌≡◌, ◌∙◌, ◌≤◌, [], List, ℕ, length, ap, refl, subst, sym, take}
 use Rattle.std.specs.Io.KnownBytes.{append_known}
 use Rattle.registry_server.specs.Connections.{OpenConnection, SendsDue, connected}
 use Rattle.registry_server.specs.Phases.{entered}
 use Rattle.registry_server.specs.declared.phase.Phase.{Phase}
+use Rattle.registry_server.proofs.IdleFacts.{held-none}
+use Rattle.registry_server.proofs.OrderFacts.{sent-in-order}
 use Rattle.registry_server.proofs.PhaseFacts.{entered-same, moved-on, sent-front-at, sent-still}
 use Rattle.registry_server.proofs.VisitFacts.{sent-front}
 use Rattle.registry_server.proofs.connection.Connection.send.Goals as goal
+
+-- the whole response was sent
+pub invariant_of-self : goal.invariant_of-self
+invariant_of-self g c =
+    let none : c.sent.new.self.outgoing ≡ [] = sym c.outgoing-in-Moved.ensures ∙ held-none c.outgoing-in-Moved.result.now (sym c.is_empty.ensures ∙ c.if-is_empty.true) in
+    (sent-in-order c.enter.new.self.stage c.sent.new.self (c.enter.ensures.stage ∙ c.next_stage.ensures) none, λ over. c.in-Moved.ensures.still_ended (c.self.invariant.1 over))
 
 pub returns-then-is_empty-clause-sends : goal.returns-then-is_empty-clause-sends
 returns-then-is_empty-clause-sends g c =

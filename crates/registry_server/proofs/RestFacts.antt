@@ -1,0 +1,115 @@
+-- Whom a new connection ends.
+use Rattle.std.proofs.Common.{◌≡◌, ◌∷◌, ◌∙◌, [], ℕ, zero, suc, Bool, true, false, List, Option, None, Some, get_or, is_none, length, refl, ap, subst, sym, if◌then◌else◌}
+use Rattle.std.specs.Prelude.{All, MatchOption, position, slice_get}
+use Rattle.std.proofs.lemmas.Bool.{false≢true}
+use Rattle.std.proofs.lemmas.List.Elements.{All-cons, All-head, All-map, All-replicate, All-tail, All-weaker}
+use Rattle.std.proofs.lemmas.List.Quantifiers.{position-Some}
+use Rattle.std.proofs.lemmas.Option.{get_or_from_slice_get, slice_get_within}
+use Rattle.registry_service.specs.Turns.{Answering}
+use Rattle.registry_server.specs.Connections.{OpenConnection}
+use Rattle.registry_server.specs.Phases.{idle_from, is_late}
+use Rattle.registry_server.specs.Pools.{EndsLeaveRest, IsAtRest, IsIdleLongest, NewConnectionsLeaveRest, NewPoolRests, NewcomersEndIdle, VisitsAll, VisitsIf, VisitsLeaveRest, VisitsThere, WakesLeaveRest, after_visit, at_place, free, idle_at, idle_times, idle_with, in_time, is_free, kept_at, new_at, place_count, woken}
+use Rattle.registry_server.specs.declared.connection.Visit.{Visit}
+use Rattle.registry_server.specs.declared.connection.Visit.TheVariants.{Again, Rests, Over}
+use Rattle.registry_server.specs.declared.phase.Stage.{Stage}
+use Rattle.registry_server.specs.declared.phase.Stage.TheVariants.{Idle, Begun, Next, Sends, Drains}
+use Rattle.registry_server.specs.declared.pool.Place.{Place}
+
+none-some : {A B : Type 0} (x : A) → None ≡ Some x → B
+none-some x is = absurd (cc)
+
+idle-stage : (s : Stage) (until t : ℕ) → idle_from s until ≡ Some t → s ≡ Idle
+idle-stage Idle until t is = refl
+idle-stage Begun until t is = none-some t is
+idle-stage Next until t is = none-some t is
+idle-stage Sends until t is = none-some t is
+idle-stage Drains until t is = none-some t is
+
+module _ {S : Type 0} (must_wait : S → Bool) where
+  -- no connection is there
+  rest-free : IsAtRest must_wait free
+  rest-free c ready at = none-some c at
+
+  -- it is to be visited
+  rest-ready : (p : Place S) → p.is_ready ≡ true → IsAtRest must_wait p
+  rest-ready p is c ready at = absurd (false≢true (sym ready ∙ is))
+
+  at-rest : (change : Place S → Place S) (places : List (Place S)) (k : ℕ) → ((p : Place S) → IsAtRest must_wait (change p))
+      → All (IsAtRest must_wait) places → All (IsAtRest must_wait) (at_place change places k)
+  at-rest change [] k rests h = h
+  at-rest change (p ∷ places) zero rests h = All-cons (IsAtRest must_wait) (change p) places (rests p) (All-tail (IsAtRest must_wait) p places h)
+  at-rest change (p ∷ places) (suc k) rests h = All-cons (IsAtRest must_wait) p (at_place change places k)
+      (All-head (IsAtRest must_wait) p places h) (at-rest change places k rests (All-tail (IsAtRest must_wait) p places h))
+
+  kept-if : (b : Bool) (d c : OpenConnection S) → (if b then None else Some d) ≡ Some c → Some d ≡ Some c
+  kept-if true d c is = none-some c is
+  kept-if false d c is = is
+
+  was-there : (now : ℕ) (o : Option (OpenConnection S)) (c : OpenConnection S) → in_time now o ≡ Some c → o ≡ Some c
+  was-there now None c is = none-some c is
+  was-there now (Some d) c is = kept-if (is_late d.phase now) d c is
+
+  kept-rest : (now : ℕ) (p : Place S) → IsAtRest must_wait p → IsAtRest must_wait (kept_at now p)
+  kept-rest now p h c ready at = h c ready (was-there now p.connection c at)
+
+  pub new-pool-rests : NewPoolRests must_wait
+  new-pool-rests = All-replicate (IsAtRest must_wait) place_count free rest-free
+
+  pub new-connections-leave-rest : NewConnectionsLeaveRest must_wait
+  new-connections-leave-rest now socket places k h = at-rest (λ p. new_at now socket) places k (λ p. rest-ready (new_at now socket) refl) h
+
+  pub wakes-leave-rest : WakesLeaveRest must_wait
+  wakes-leave-rest places k h = at-rest woken places k (λ p. rest-ready (woken p) refl) h
+
+  pub ends-leave-rest : EndsLeaveRest must_wait
+  ends-leave-rest now places h = All-map (IsAtRest must_wait) (kept_at now) places
+      (All-weaker (IsAtRest must_wait) (λ p. IsAtRest must_wait (kept_at now p)) (kept-rest now) places h)
+
+  -- after a visit
+  after-rest : (v : Visit) (d : OpenConnection S) → (v ≡ Rests → must_wait d.socket ≡ true) → IsAtRest must_wait (after_visit v d)
+  after-rest Again d waits c ready at = absurd (false≢true (sym ready))
+  after-rest Rests d waits c ready at = let same : d ≡ c = cc in subst (λ (x : OpenConnection S). must_wait x.socket ≡ true) same (waits refl)
+  after-rest Over d waits c ready at = none-some c at
+
+  idle-if : (b : Bool) (o : Option (OpenConnection S)) (c : OpenConnection S) (t : ℕ) → o ≡ Some c → (if b then None else idle_with o) ≡ Some t → (b ≡ false) × (c.phase.stage ≡ Idle)
+  idle-if true o c t at is = none-some t is
+  idle-if false o c t at is = (refl, idle-stage c.phase.stage c.phase.until t (sym (ap idle_with at) ∙ is))
+
+  ends-idle : (places : List (Place S)) (k : ℕ) (p : Place S) (c : OpenConnection S) (o : Option ℕ) → slice_get places k ≡ Some p → p.connection ≡ Some c → position is_free places ≡ o
+      → MatchOption o (IsIdleLongest (idle_times places) (length places) (Some k)) (λ j. Some k ≡ Some j) → (p.is_ready ≡ false) × (c.phase.stage ≡ Idle)
+  ends-idle places k p c None there at first longest = idle-if p.is_ready p.connection c longest.0 at (sym (ap idle_at there) ∙ longest.2)
+  ends-idle places k p c (Some j) there at first same =
+      let one : j ≡ k = cc in
+      let empty : is_free (get_or places j p) ≡ true = (position-Some is_free places j p first).1 in
+      let here : get_or places j p ≡ p = ap (λ (n : ℕ). get_or places n p) one ∙ get_or_from_slice_get places k p p there in
+      let gone : is_free p ≡ true = ap is_free (sym here) ∙ empty in
+      absurd (false≢true (sym (ap (λ (m : Option (OpenConnection S)). is_none m) at) ∙ gone))
+
+  pub newcomers-end-idle : NewcomersEndIdle must_wait
+  newcomers-end-idle places k p c rests place there at =
+      let idle = ends-idle places k p c (position is_free places) there at refl place in
+      let rest : IsAtRest must_wait p = subst (IsAtRest must_wait) (get_or_from_slice_get places k p p there) (rests k p (slice_get_within places k p there)) in
+      (idle.0, rest c idle.0 at, idle.1)
+
+module _ {S : Type 0} (received sent : S → Option (List ℕ)) (must_wait is_ended is_broken : S → Bool) {D : Type 0} (answers : Answering D) where
+  there-rests : (now most : ℕ) (o : Option (OpenConnection S)) (q : Place S) (M N : D) (r r2 : Option (List ℕ))
+      → VisitsThere received sent must_wait is_ended is_broken answers now most o q M N r r2 → IsAtRest must_wait q
+  there-rests now most None q M N r r2 v = subst (IsAtRest must_wait) (sym v.place) (rest-free must_wait)
+  there-rests now most (Some c) q M N r r2 v = subst (IsAtRest must_wait) (sym v.place) (after-rest must_wait v.visit v.connection v.waits)
+
+  visited-rests : (b : Bool) (now most : ℕ) (p q : Place S) (M N : D) (r r2 : Option (List ℕ)) → IsAtRest must_wait p
+      → VisitsIf received sent must_wait is_ended is_broken answers b now most p q M N r r2 → IsAtRest must_wait q
+  visited-rests true now most p q M N r r2 h v = there-rests now most p.connection q M N r r2 v
+  visited-rests false now most p q M N r r2 h v = subst (IsAtRest must_wait) (sym v.place) h
+
+  visited-rest : (now most : ℕ) (ps qs : List (Place S)) (M N : D) (r r2 : Option (List ℕ)) → All (IsAtRest must_wait) ps
+      → VisitsAll received sent must_wait is_ended is_broken answers now most ps qs M N r r2 → All (IsAtRest must_wait) qs
+  visited-rest now most [] [] M N r r2 h v = h
+  visited-rest now most (p ∷ ps) (q ∷ qs) M N r r2 h v = All-cons (IsAtRest must_wait) q qs
+      (visited-rests p.is_ready now most p q M v.0 r v.1 (All-head (IsAtRest must_wait) p ps h) v.2)
+      (visited-rest now most ps qs v.0 N v.1 r2 (All-tail (IsAtRest must_wait) p ps h) v.3)
+  visited-rest now most [] (q ∷ qs) M N r r2 h v = absurd v
+  visited-rest now most (p ∷ ps) [] M N r r2 h v = absurd v
+
+  pub visits-leave-rest : VisitsLeaveRest received sent must_wait is_ended is_broken answers
+  visits-leave-rest now most old new M N r r2 h v = visited-rest now most old new M N r r2 h v

@@ -1,0 +1,20 @@
+use Rattle.registry_server.proofs.RestFacts.{ends-leave-rest, new-connections-leave-rest, new-pool-rests, newcomers-end-idle, visits-leave-rest, wakes-leave-rest}
+use Rattle.registry_server.proofs.laws.newcomers_end_idle_connections.Goals as goal
+
+pub returns-clause-begins : goal.returns-clause-begins
+returns-clause-begins g c = new-pool-rests g.S.Socket.must_wait
+
+pub returns-clause-comes : goal.returns-clause-comes
+returns-clause-comes g c = new-connections-leave-rest g.S.Socket.must_wait
+
+pub returns-clause-wakes : goal.returns-clause-wakes
+returns-clause-wakes g c = wakes-leave-rest g.S.Socket.must_wait
+
+pub returns-clause-late : goal.returns-clause-late
+returns-clause-late g c = ends-leave-rest g.S.Socket.must_wait
+
+pub returns-clause-visits : goal.returns-clause-visits
+returns-clause-visits g c = visits-leave-rest g.S.Socket.received g.S.Socket.sent g.S.Socket.must_wait g.S.Socket.is_ended g.S.Socket.is_broken g.D.Service.answers
+
+pub returns-clause-ended : goal.returns-clause-ended
+returns-clause-ended g c = newcomers-end-idle g.S.Socket.must_wait
