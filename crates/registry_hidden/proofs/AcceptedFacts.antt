@@ -35,12 +35,12 @@ use Rattle.registry_rules.specs.declared.request.Action.TheVariants.{OrgSet, Org
 use Rattle.registry_rules.specs.declared.request.Asked.{Asked}
 use Rattle.registry_rules.specs.declared.request.Asked.TheVariants.{Exact, Latest}
 use Rattle.registry_rules.proofs.AllowedFacts.{policy_passed, state_passed}
-use Rattle.registry_hidden.specs.Concerns.{concerns}
 use Rattle.registry_hidden.specs.Laws.{OthersAreAccepted}
 use Rattle.registry_hidden.specs.Without.{state_without}
 use Rattle.registry_hidden.proofs.KeepFacts.{at-kept}
 use Rattle.registry_hidden.proofs.NamedFacts.{other_pair, other_triple}
 use Rattle.registry_hidden.proofs.OtherFacts.{at_other, of_other, status_other}
+use Rattle.registry_hidden.proofs.Subjects.{concerns}
 
 abbrev pub withdraws_another : Action → Text → Bool
 withdraws_another (Withdraw q v) p = not (is q p)

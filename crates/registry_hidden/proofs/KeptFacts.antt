@@ -20,10 +20,11 @@ use Rattle.registry_rules.specs.State.{State, Release}
 use Rattle.registry_rules.specs.Withdrawals.{is_depended, is_need_of, is_too_old, needs_in, published_at}
 use Rattle.registry_rules.specs.declared.request.Action.{Action}
 use Rattle.registry_rules.specs.declared.request.Action.TheVariants.{Withdraw}
-use Rattle.registry_hidden.specs.Concerns.{concerns, is_kept_by, is_needed_by}
+use Rattle.registry_hidden.specs.Concerns.{is_kept_by, is_needed_by}
 use Rattle.registry_hidden.specs.Without.{state_without}
 use Rattle.registry_hidden.proofs.AcceptedFacts.{permission_other, refusal_other, same_published_at}
 use Rattle.registry_hidden.proofs.NamedFacts.{other_pair}
+use Rattle.registry_hidden.proofs.Subjects.{concerns}
 
 -- ---- a version is needed by the package, or by another
 

@@ -1,7 +1,8 @@
 -- What requests leave of two registries that agree in all but a package.
-use Rattle.std.proofs.Common.{◌≡◌, ℕ, Bool, true, false, not, ◌&&◌, ◌||◌, refl, sym, ap, ◌∙◌, subst, true≢false, Some, None, Ok, Option, List, is_none, if◌then◌else◌}
+use Rattle.std.proofs.Common.{◌≡◌, ℕ, Bool, true, false, not, ◌&&◌, ◌||◌, refl, sym, ap, ◌∙◌, subst, true≢false, Some, None, Ok, Err, Option, List, is_none, if◌then◌else◌}
 use Rattle.registry_names.specs.Texts.{Text}
 use Rattle.registry_names.specs.declared.refusal.Refusal.{Refusal}
+use Rattle.registry_names.specs.declared.stop.Fault.{Fault}
 use Rattle.registry_access.specs.declared.caller.Caller.{Caller}
 use Rattle.registry_rules.specs.Actions.{is_command, names_package}
 use Rattle.registry_rules.specs.Callers.{caller_of}
@@ -19,8 +20,8 @@ use Rattle.registry_history.specs.Answers.{answer, reply, reply_to, unless_refus
 use Rattle.registry_history.specs.History.{Entry, Legal, after}
 use Rattle.registry_history.specs.Runs.{IsAnswer, Outcome, accepts, enters, grown, next}
 use Rattle.registry_history.proofs.RunFacts.{legal_grown}
-use Rattle.registry_hidden.specs.Arrivals.{leaves_the_rest, may_change_more}
-use Rattle.registry_hidden.specs.Concerns.{concerns, is_held, is_kept_by, is_shown, is_taken, keeps_from, shows, shows_to}
+use Rattle.registry_hidden.specs.Arrivals.{leaves_the_rest}
+use Rattle.registry_hidden.specs.Concerns.{is_held, is_kept_by, is_shown, is_taken, keeps_from, shows, shows_to}
 use Rattle.registry_hidden.specs.Laws.{RestsAreAlike}
 use Rattle.registry_hidden.specs.Levels.{IsStranger}
 use Rattle.registry_hidden.specs.Runs.{DifferInPackage}
@@ -30,6 +31,7 @@ use Rattle.registry_hidden.proofs.KeptFacts.{refused_alike_in}
 use Rattle.registry_hidden.proofs.NamedFacts.{named_leave_the_rest}
 use Rattle.registry_hidden.proofs.OtherFacts.{others_make_the_same}
 use Rattle.registry_hidden.proofs.RestFacts.{Rests, histories_rest}
+use Rattle.registry_hidden.proofs.Subjects.{concerns}
 use Rattle.registry_hidden.proofs.UnheardFacts.{replies_are_alike, same_caller, shown, unheard, without_twice}
 use Rattle.registry_hidden.proofs.UntouchedFacts.{untouched_leave_the_rest}
 
@@ -121,14 +123,14 @@ rest_stays S p r o leaves = by (names_package r.what p) (enters r o) refl refl l
     by false false named entered leaves = stays S p r o entered
     by false true named entered leaves = absurd (true≢false (sym leaves))
 
--- so does what can't change more than the package
-pub leaves_rest : (r : Request) (o : Outcome) (p : Text) → may_change_more r p ≡ false → leaves_the_rest r o p ≡ true
-leaves_rest r o p less = by (is_command r.what) (names_package r.what p) (accepts o) less
+-- so does a fault
+pub fault_leaves : (r : Request) (f : Fault) (p : Text) → leaves_the_rest r (Err f) p ≡ true
+fault_leaves r f p = by (names_package r.what p) (is_command r.what)
   where
-    by : (b c d : Bool) → (b && not c) ≡ false → (c || not (b && d)) ≡ true
-    by b true d e = refl
-    by false false d e = refl
-    by true false d e = absurd (true≢false e)
+    by : (b c : Bool) → (b || not (c && false)) ≡ true
+    by true c = refl
+    by false true = refl
+    by false false = refl
 
 module _ (S T : State) (p : Text) (same : state_without S p ≡ state_without T p) where
   pub same_callers : (who : Credential) → caller_of S who ≡ caller_of T who

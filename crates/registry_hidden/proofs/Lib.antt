@@ -11,6 +11,7 @@ pub mod ReplyFacts
 pub mod RestFacts
 pub mod RunFacts
 pub mod StandingFacts
+pub mod Subjects
 pub mod TakenFacts
 pub mod UnheardFacts
 pub mod UntouchedFacts

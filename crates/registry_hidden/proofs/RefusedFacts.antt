@@ -30,11 +30,11 @@ use Rattle.registry_rules.specs.State.{State, has_grant, has_team, is_published}
 use Rattle.registry_rules.specs.declared.request.Action.{Action}
 use Rattle.registry_rules.specs.declared.request.Action.TheVariants as command
 use Rattle.registry_rules.specs.declared.request.Action.TheVariants.{Revoke, SetAccess, OwnerAdd, OwnerRemove, Publish, TagSet, TagRemove, Withdraw, Deprecate, Packument, VersionDoc, Archive, Tags}
-use Rattle.registry_hidden.specs.Concerns.{concerns}
 use Rattle.registry_hidden.specs.Without.{state_without}
 use Rattle.registry_hidden.proofs.AcceptedFacts.{same_role}
 use Rattle.registry_hidden.proofs.KeepFacts.{at-unkept}
 use Rattle.registry_hidden.proofs.NamedFacts.{other_triple}
+use Rattle.registry_hidden.proofs.Subjects.{concerns}
 
 -- whether a member of the package's scope publishes the package
 abbrev pub is_member_publish : State → Caller → Action → Text → Bool

@@ -25,12 +25,12 @@ use Rattle.registry_rules.specs.declared.request.Action.{Action}
 use Rattle.registry_rules.specs.declared.request.Action.TheVariants.{Deprecate, Packument, VersionDoc, Archive, Tags, TeamPackages}
 use Rattle.registry_rules.specs.declared.request.Asked.{Asked}
 use Rattle.registry_history.specs.Answers.{asked_release, dist_tag, listed_grant, reply, version_row}
-use Rattle.registry_hidden.specs.Concerns.{concerns}
 use Rattle.registry_hidden.specs.Without.{state_without}
 use Rattle.registry_hidden.proofs.AcceptedFacts.{position_other, same_asked}
 use Rattle.registry_hidden.proofs.NamedFacts.{other_triple}
 use Rattle.registry_hidden.proofs.OtherFacts.{at_other, of_other}
 use Rattle.registry_hidden.proofs.RefusedFacts.{nothing_left}
+use Rattle.registry_hidden.proofs.Subjects.{concerns}
 
 -- ---- levels
 

@@ -1,6 +1,6 @@
 -- Two runs of the requests of one caller alone, after histories that differ in what named a package
 -- that they don't read.
-use Rattle.std.proofs.Common.{◌≡◌, ◌⊎◌, inl, inr, ℕ, Bool, true, false, ◌&&◌, if◌then◌else◌, refl, sym, ap, ◌∙◌, subst, true≢false, Some, None, Option, Ok, Err, List, [], ◌∷◌, is_some}
+use Rattle.std.proofs.Common.{◌≡◌, ◌⊎◌, inl, inr, ℕ, Bool, true, false, ◌&&◌, if◌then◌else◌, refl, sym, ap, ap₂, ◌∙◌, subst, true≢false, Some, None, Option, Ok, Err, List, [], ◌∷◌, is_some}
 use Rattle.std.proofs.lemmas.Bool.{and_parts}
 use Rattle.registry_names.specs.Maps.{at}
 use Rattle.registry_names.specs.Names.{scope_of}
@@ -21,12 +21,12 @@ use Rattle.registry_rules.specs.declared.request.Action.{Action}
 use Rattle.registry_rules.specs.declared.request.Action.TheVariants.{Publish}
 use Rattle.registry_rules.specs.declared.request.Request.{Request}
 use Rattle.registry_history.specs.Answers.{answer}
-use Rattle.registry_history.specs.History.{after}
+use Rattle.registry_history.specs.History.{Entry, after}
 use Rattle.registry_history.specs.Runs.{HaveOutcomes, Outcome, enters, next}
 use Rattle.registry_history.proofs.RunFacts.{accepted}
 use Rattle.registry_hidden.specs.Concerns.{is_shown, shows, shows_to}
 use Rattle.registry_hidden.specs.Levels.{HasNoLevel}
-use Rattle.registry_hidden.specs.Runs.{AreAlikeTo, IsTheirs, RunsAreAlike}
+use Rattle.registry_hidden.specs.Runs.{AreAlikeTo, DifferInPackage, IsTheirs, RunsAreAlike}
 use Rattle.registry_hidden.specs.Without.{state_without}
 use Rattle.registry_hidden.proofs.AcceptedFacts.{same_role}
 use Rattle.registry_hidden.proofs.LeftFacts.{IsLeft, answers_alike, both_next, left_next, left_rests, left_start, same_callers, same_rest}
@@ -34,21 +34,6 @@ use Rattle.registry_hidden.proofs.RefusedFacts.{is_member_publish}
 use Rattle.registry_hidden.proofs.RestFacts.{without_new}
 use Rattle.registry_hidden.proofs.StandingFacts.{standing_kept}
 use Rattle.registry_hidden.proofs.UnheardFacts.{is_apart, shown_is, why_shown}
-
--- ---- two runs from one registry
-
-same_runs : (who : Caller) (p : Text) (S : State) (rs : List Request) (os qs : List Outcome) → HaveOutcomes S rs os → HaveOutcomes S rs qs → AreAlikeTo who p S S rs os qs
-same_runs who p S [] os qs a b = tt
-same_runs who p S (r ∷ rs) [] qs a b = tt
-same_runs who p S (r ∷ rs) (Err f ∷ os) qs a b = tt
-same_runs who p S (r ∷ rs) (Ok x ∷ os) [] a b = tt
-same_runs who p S (r ∷ rs) (Ok x ∷ os) (Err g ∷ qs) a b = tt
-same_runs who p S (r ∷ rs) (Ok x ∷ os) (Ok y ∷ qs) a b = λ theirs one.
-    let same = a.0 ∙ sym b.0 in (
-      same,
-      subst (λ z. AreAlikeTo who p (next S r (Ok x)) (next S r (Ok z)) rs os qs) same
-          (same_runs who p (next S r (Ok x)) rs os qs a.1 (subst (λ z. HaveOutcomes (next S r (Ok z)) rs qs) (sym same) b.1)),
-    )
 
 -- ---- a caller without a level on the package, which was published, gains none by a request
 
@@ -127,28 +112,34 @@ module _ (who : Caller) (p : Text) where
 
 -- ---- two runs
 
-record AreNear (who : Caller) (p : Text) (S T : State) : Type 0 where
+-- two registries that legal histories left and that agree in all but the package, on which the
+-- caller has no level in either
+pub record AreNearTo (who : Caller) (p : Text) (S T : State) : Type 0 where
   left : IsLeft S
   other_left : IsLeft T
   same : state_without S p ≡ state_without T p
   nothing : level_in S.access who p ≡ Nothing
   other_nothing : level_in T.access who p ≡ Nothing
 
+-- they are such, and the package was published in one of them, or they are one registry
+abbrev pub AreOneTo : Caller → Text → State → State → Type 0
+AreOneTo who p S T = (S ≡ T) ⊎ (AreNearTo who p S T × ((is_published S p ≡ true) ⊎ (is_published T p ≡ true)))
+
 turned : {A B : Type 0} → A ⊎ B → B ⊎ A
 turned (inl a) = inr a
 turned (inr b) = inl b
 
 module _ (who : Caller) (p : Text) where
-  theirs_there : (S T : State) (r : Request) → AreNear who p S T → IsTheirs who (caller_of S r.who) → IsTheirs who (caller_of T r.who)
+  theirs_there : (S T : State) (r : Request) → AreNearTo who p S T → IsTheirs who (caller_of S r.who) → IsTheirs who (caller_of T r.who)
   theirs_there S T r near theirs = subst (IsTheirs who) (same_callers S T p near.same r.who) theirs
 
-  one_reply : (S T : State) (r : Request) → AreNear who p S T → IsTheirs who (caller_of S r.who) → is_shown S r p ≡ is_shown T r p → answer S r ≡ answer T r
+  one_reply : (S T : State) (r : Request) → AreNearTo who p S T → IsTheirs who (caller_of S r.who) → is_shown S r p ≡ is_shown T r p → answer S r ≡ answer T r
   one_reply S T r near theirs one =
       answers_alike S T p near.same (left_rests S near.left) (left_rests T near.other_left) r (is_stranger S who p near.nothing (caller_of S r.who) theirs)
       (is_stranger T who p near.other_nothing (caller_of T r.who) (theirs_there S T r near theirs)) one
 
-  near_next : (S T : State) (r : Request) (a b : Reply) → AreNear who p S T → (is_published S p ≡ true) ⊎ (is_published T p ≡ true) → IsTheirs who (caller_of S r.who) → is_shown S r p ≡ is_shown T r p
-      → a ≡ answer S r → b ≡ answer T r → AreNear who p (next S r (Ok a)) (next T r (Ok b))
+  near_next : (S T : State) (r : Request) (a b : Reply) → AreNearTo who p S T → (is_published S p ≡ true) ⊎ (is_published T p ≡ true) → IsTheirs who (caller_of S r.who) → is_shown S r p ≡ is_shown T r p
+      → a ≡ answer S r → b ≡ answer T r → AreNearTo who p (next S r (Ok a)) (next T r (Ok b))
   near_next S T r a b near there theirs one answered answered' =
       let replies = answered ∙ one_reply S T r near theirs one ∙ sym answered' in
       record {
@@ -159,28 +150,38 @@ module _ (who : Caller) (p : Text) where
         other_nothing = keeps_none who p T S near.other_left near.left (sym near.same) near.other_nothing near.nothing (turned there) r b answered' (theirs_there S T r near theirs) (sym one);
       }
 
-  near_runs : (rs : List Request) (os qs : List Outcome) (S T : State) → AreNear who p S T → HaveOutcomes S rs os → HaveOutcomes T rs qs → AreAlikeTo who p S T rs os qs
-  near_runs [] os qs S T near a b = tt
-  near_runs (r ∷ rs) [] qs S T near a b = tt
-  near_runs (r ∷ rs) (Err f ∷ os) qs S T near a b = tt
-  near_runs (r ∷ rs) (Ok x ∷ os) [] S T near a b = tt
-  near_runs (r ∷ rs) (Ok x ∷ os) (Err g ∷ qs) S T near a b = tt
-  near_runs (r ∷ rs) (Ok x ∷ os) (Ok y ∷ qs) S T near a b =
-      by (λ later. near_runs rs os qs (next S r (Ok x)) (next T r (Ok y)) later a.1 b.1) (at S.access.statuses p) (at T.access.statuses p) refl refl
+  near_one : (S T : State) → AreNearTo who p S T → AreOneTo who p S T
+  near_one S T near = by (at S.access.statuses p) (at T.access.statuses p) refl refl
     where
-      goes_on : (AreNear who p (next S r (Ok x)) (next T r (Ok y)) → AreAlikeTo who p (next S r (Ok x)) (next T r (Ok y)) rs os qs)
-          → (is_published S p ≡ true) ⊎ (is_published T p ≡ true) → AreAlikeTo who p S T (r ∷ rs) (Ok x ∷ os) (Ok y ∷ qs)
-      goes_on later there theirs one = (a.0 ∙ one_reply S T r near theirs one ∙ sym b.0, later (near_next S T r x y near there theirs one a.0 b.0))
+      by : (s t : Option Status) → at S.access.statuses p ≡ s → at T.access.statuses p ≡ t → AreOneTo who p S T
+      by None None new new' = inl (sym (without_new S p (left_rests S near.left) new) ∙ near.same ∙ without_new T p (left_rests T near.other_left) new')
+      by (Some s) t here there = inr (near, inl (ap is_some here))
+      by None (Some t) here there = inr (near, inr (ap is_some there))
 
-      by : (AreNear who p (next S r (Ok x)) (next T r (Ok y)) → AreAlikeTo who p (next S r (Ok x)) (next T r (Ok y)) rs os qs)
-          → (s t : Option Status) → at S.access.statuses p ≡ s → at T.access.statuses p ≡ t → AreAlikeTo who p S T (r ∷ rs) (Ok x ∷ os) (Ok y ∷ qs)
-      by later None None new new' =
-          let one : S ≡ T = sym (without_new S p (left_rests S near.left) new) ∙ near.same ∙ without_new T p (left_rests T near.other_left) new' in
-          subst (λ U. HaveOutcomes U (r ∷ rs) (Ok y ∷ qs) → AreAlikeTo who p S U (r ∷ rs) (Ok x ∷ os) (Ok y ∷ qs)) one (same_runs who p S (r ∷ rs) (Ok x ∷ os) (Ok y ∷ qs) a) b
-      by later (Some s) t here there = goes_on later (inl (ap is_some here))
-      by later None (Some t) here there = goes_on later (inr (ap is_some there))
+  pub one_answer : (S T : State) (r : Request) → AreOneTo who p S T → IsTheirs who (caller_of S r.who) → is_shown S r p ≡ is_shown T r p → answer S r ≡ answer T r
+  one_answer S T r (inl same) theirs one = ap (λ U. answer U r) same
+  one_answer S T r (inr (near, there)) theirs one = one_reply S T r near theirs one
+
+  pub one_next : (S T : State) (r : Request) (a b : Reply) → AreOneTo who p S T → IsTheirs who (caller_of S r.who) → is_shown S r p ≡ is_shown T r p → a ≡ answer S r → b ≡ answer T r
+      → AreOneTo who p (next S r (Ok a)) (next T r (Ok b))
+  one_next S T r a b (inl same) theirs one answered answered' = inl (ap₂ (λ U x. next U r (Ok x)) same (answered ∙ ap (λ U. answer U r) same ∙ sym answered'))
+  one_next S T r a b (inr (near, there)) theirs one answered answered' = near_one (next S r (Ok a)) (next T r (Ok b)) (near_next S T r a b near there theirs one answered answered')
+
+  one_runs : (rs : List Request) (os qs : List Outcome) (S T : State) → AreOneTo who p S T → HaveOutcomes S rs os → HaveOutcomes T rs qs → AreAlikeTo who p S T rs os qs
+  one_runs [] os qs S T near a b = tt
+  one_runs (r ∷ rs) [] qs S T near a b = tt
+  one_runs (r ∷ rs) (Err f ∷ os) qs S T near a b = tt
+  one_runs (r ∷ rs) (Ok x ∷ os) [] S T near a b = tt
+  one_runs (r ∷ rs) (Ok x ∷ os) (Err g ∷ qs) S T near a b = tt
+  one_runs (r ∷ rs) (Ok x ∷ os) (Ok y ∷ qs) S T near a b = λ theirs one. (
+    a.0 ∙ one_answer S T r near theirs one ∙ sym b.0,
+    one_runs rs os qs (next S r (Ok x)) (next T r (Ok y)) (one_next S T r x y near theirs one a.0 b.0) a.1 b.1,
+  )
+
+pub one_start : (g h : List Entry) (p : Text) (who : Caller) → DifferInPackage g h p → level_in (after g).access who p ≡ Nothing → level_in (after h).access who p ≡ Nothing → AreOneTo who p (after g) (after h)
+one_start g h p who differ nothing nothing' =
+    near_one who p (after g) (after h)
+    (record { left = left_start g differ.legal; other_left = left_start h differ.other_legal; same = same_rest g h p differ; nothing = nothing; other_nothing = nothing' })
 
 pub runs_are_alike : RunsAreAlike
-runs_are_alike g h p who differ nothing nothing' rs os qs a b =
-    near_runs who p rs os qs (after g) (after h)
-    (record { left = left_start g differ.legal; other_left = left_start h differ.other_legal; same = same_rest g h p differ; nothing = nothing; other_nothing = nothing' }) a b
+runs_are_alike g h p who differ nothing nothing' rs os qs a b = one_runs who p rs os qs (after g) (after h) (one_start g h p who differ nothing nothing') a b

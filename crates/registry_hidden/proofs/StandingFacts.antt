@@ -35,9 +35,9 @@ use Rattle.registry_rules.specs.declared.request.Credential.TheVariants as crede
 use Rattle.registry_rules.proofs.AllowedFacts.{policy_passed}
 use Rattle.registry_rules.proofs.LawFacts.{commands_leave_other_packages}
 use Rattle.registry_history.proofs.LeftFacts.{left_by, left_is, joined}
-use Rattle.registry_hidden.specs.Concerns.{concerns}
 use Rattle.registry_hidden.specs.Without.{state_without}
 use Rattle.registry_hidden.proofs.RefusedFacts.{AreRefused, concerned_refused, is_member_publish}
+use Rattle.registry_hidden.proofs.Subjects.{concerns}
 
 -- ---- levels
 

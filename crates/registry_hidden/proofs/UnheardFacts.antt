@@ -27,7 +27,7 @@ use Rattle.registry_rules.specs.declared.request.Credential.TheVariants as crede
 use Rattle.registry_rules.specs.declared.request.Request.{Request}
 use Rattle.registry_history.specs.Answers.{answer, reply, reply_to, unless_refused}
 use Rattle.registry_history.specs.History.{after}
-use Rattle.registry_hidden.specs.Concerns.{concerns, is_kept_by, is_shown, is_taken, keeps_from, shows, shows_to}
+use Rattle.registry_hidden.specs.Concerns.{is_kept_by, is_shown, is_taken, keeps_from, shows, shows_to}
 use Rattle.registry_hidden.specs.Laws.{KeptIsDepended, RepliesAreAlike, TakenIsDenied}
 use Rattle.registry_hidden.specs.Levels.{HasNoLevel, IsStranger}
 use Rattle.registry_hidden.specs.Without.{state_without}
@@ -37,6 +37,7 @@ use Rattle.registry_hidden.proofs.NamedFacts.{other_pair, other_triple}
 use Rattle.registry_hidden.proofs.RefusedFacts.{concerned_refused, is_member_publish}
 use Rattle.registry_hidden.proofs.ReplyFacts.{reply_other}
 use Rattle.registry_hidden.proofs.RestFacts.{Rests, histories_rest, without_new}
+use Rattle.registry_hidden.proofs.Subjects.{concerns}
 use Rattle.registry_hidden.proofs.TakenFacts.{taken_is}
 
 pub same_caller : (S : State) (p : Text) (shown : Credential) → caller_of (state_without S p) shown ≡ caller_of S shown

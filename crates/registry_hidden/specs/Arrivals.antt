@@ -1,8 +1,8 @@
 -- Two runs in which many callers take turns, and which differ in requests on one package: what
 -- arrives in both, and what arrives in one of them alone.
-use Rattle.std.specs.Prelude.{◌≡◌, Bool, true, false, not, ◌&&◌, ◌||◌, List, [], ◌∷◌, Ok, if◌then◌else◌}
+use Rattle.std.specs.Prelude.{◌≡◌, Bool, true, not, ◌||◌, List, [], ◌∷◌, Ok, Err}
 use Rattle.registry_names.specs.Texts.{Text}
-use Rattle.registry_rules.specs.Actions.{is_command, names_package}
+use Rattle.registry_rules.specs.Actions.{names_package}
 use Rattle.registry_rules.specs.State.{State}
 use Rattle.registry_rules.specs.declared.request.Request.{Request}
 use Rattle.registry_history.specs.History.{Entry, after}
@@ -62,43 +62,29 @@ pub record AreRuns (S T : State) (p : Text) (xs : List Arrival) : Type 0 where
 
 -- ---- what strangers see
 
--- whether it may change more than the package
-abbrev pub may_change_more : Request → Text → Bool
-may_change_more r p = is_command r.what && not (names_package r.what p)
+-- Whoever has no level on the package when they ask, in both runs, or is nobody, gets one reply in
+-- both, except where the request shows the package in one of them alone. Of faults nothing is said
+abbrev pub IsAnsweredAlike : Text → State → State → Request → Outcome → Outcome → Type 0
+IsAnsweredAlike p S T r (Ok a) (Ok b) = IsStranger S r.who p → IsStranger T r.who p → is_shown S r p ≡ is_shown T r p → a ≡ b
+IsAnsweredAlike p S T r _ _ = Unit {0}
 
--- Whoever has no level on the package when they ask, in both runs, is answered alike, except where
--- the request shows the package in one of the runs alone. So on, until of a command that may change
--- more than the package one run has a fault, or the package alone keeps it from being done in one of
--- the runs: from there the runs differ in more than the package, and nothing is said
+-- Whether a request of both leaves them the same in all but the package. It may not where the
+-- package alone keeps it from being done in one of them, and where one of them has a fault, which
+-- changes nothing, and in the other the request changes more than the package
+abbrev pub StaysClose : Text → State → State → Request → Outcome → Outcome → Type 0
+StaysClose p S T r (Ok a) (Ok b) = is_held S r p ≡ is_held T r p
+StaysClose p S T r (Ok a) (Err g) = leaves_the_rest r (Ok a) p ≡ true
+StaysClose p S T r (Err f) (Ok b) = leaves_the_rest r (Ok b) p ≡ true
+StaysClose p S T r (Err f) (Err g) = Unit {0}
+
+-- Each request of both is answered so, up to the first after which the runs may differ in more than
+-- the package: from there nothing is said
 abbrev pub AreAlike : Text → State → State → List Arrival → Type 0
 AreAlike p S T [] = Unit {0}
-AreAlike p S T (in_both r (Ok a) (Ok b) ∷ xs) = (IsStranger S r.who p → IsStranger T r.who p → is_shown S r p ≡ is_shown T r p → a ≡ b)
-    × (is_held S r p ≡ is_held T r p → AreAlike p (next S r (Ok a)) (next T r (Ok b)) xs)
-AreAlike p S T (in_both r o q ∷ xs) = may_change_more r p ≡ false → AreAlike p (next S r o) (next T r q) xs
+AreAlike p S T (in_both r o q ∷ xs) = IsAnsweredAlike p S T r o q × (StaysClose p S T r o q → AreAlike p (next S r o) (next T r q) xs)
 AreAlike p S T (in_first r o ∷ xs) = AreAlike p (next S r o) T xs
 AreAlike p S T (in_second r q ∷ xs) = AreAlike p S (next T r q) xs
 
 -- so after all legal histories that differ in what named the package
 abbrev pub StrangersSeeTheSame : Type 0
 StrangersSeeTheSame = (g h : List Entry) (p : Text) → DifferInPackage g h p → (xs : List Arrival) → AreRuns (after g) (after h) p xs → AreAlike p (after g) (after h) xs
-
--- ---- two lists of requests
-
--- the requests of a run, except those that named the package and were accepted
-abbrev pub except_accepted : Text → List Request → List Outcome → List Request
-except_accepted p (r ∷ rs) (o ∷ os) = if names_package r.what p && enters r o then except_accepted p rs os else r ∷ except_accepted p rs os
-except_accepted p _ _ = []
-
--- the arrivals are these two runs
-pub record HaveArrivals (S T : State) (p : Text) (rs : List Request) (os : List Outcome) (qs : List Request) (ps : List Outcome) : Type 0 where
-  pub arrivals : List Arrival
-  pub requests : first_requests arrivals ≡ rs
-  pub outcomes : first_outcomes arrivals ≡ os
-  pub other_requests : second_requests arrivals ≡ qs
-  pub other_outcomes : second_outcomes arrivals ≡ ps
-  pub runs : AreRuns S T p arrivals
-
--- two runs whose requests are one list once these are dropped from both have arrivals
-abbrev pub ListsHaveArrivals : Type 0
-ListsHaveArrivals = (S T : State) (p : Text) (rs qs : List Request) (os ps : List Outcome) → HaveOutcomes S rs os → HaveOutcomes T qs ps
-    → except_accepted p rs os ≡ except_accepted p qs ps → HaveArrivals S T p rs os qs ps

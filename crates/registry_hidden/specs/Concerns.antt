@@ -1,5 +1,4 @@
--- Which package an action is about, and which of them show a package that their caller doesn't
--- read.
+-- Which requests show a package that their caller doesn't read.
 use Rattle.std.specs.Prelude.{ℕ, Bool, false, not, ◌&&◌, ◌||◌, is_none, is_some, Option, Some, None}
 use Rattle.std.specs.List.{list_any}
 use Rattle.registry_names.specs.Keys.{Pair}
@@ -9,23 +8,14 @@ use Rattle.registry_names.specs.Texts.{Text, is}
 use Rattle.registry_names.specs.Versions.{VersionParts}
 use Rattle.registry_access.specs.Positions.{scope_role}
 use Rattle.registry_access.specs.declared.caller.Caller.{Caller}
-use Rattle.registry_rules.specs.Actions.{names_package}
 use Rattle.registry_rules.specs.Callers.{caller_of}
 use Rattle.registry_rules.specs.Refusals.{refusal_by}
 use Rattle.registry_rules.specs.State.{State, Release, is_published}
 use Rattle.registry_rules.specs.Withdrawals.{is_need_of, needs_in}
 use Rattle.registry_rules.specs.declared.request.Action.{Action}
-use Rattle.registry_rules.specs.declared.request.Action.TheVariants.{Publish, Withdraw, Packument, VersionDoc, Archive, Tags}
+use Rattle.registry_rules.specs.declared.request.Action.TheVariants.{Publish, Withdraw}
 use Rattle.registry_rules.specs.declared.request.Request.{Request}
 use Rattle.registry_hidden.specs.Without.{state_without}
-
--- whether it is a command or a query about this package
-abbrev pub concerns : Action → Text → Bool
-concerns (Packument q) p = is q p
-concerns (VersionDoc q asked) p = is q p
-concerns (Archive q v) p = is q p
-concerns (Tags q) p = is q p
-concerns what p = names_package what p
 
 -- whether a live version of this package needs the version of the other
 abbrev pub is_needed_by : State → Text → Text → VersionParts → Bool

@@ -1,8 +1,9 @@
 //! Laws of hidden packages. Each function does nothing: what it ensures holds of the definitions
 //! themselves, and its proof is the law's.
 
-ghost use Rattle.registry_hidden.specs.Arrivals.{ListsHaveArrivals, StrangersSeeTheSame};
+ghost use Rattle.registry_hidden.specs.Arrivals.{StrangersSeeTheSame};
 ghost use Rattle.registry_hidden.specs.Laws.{KeptIsDepended, NamedLeaveTheRest, OthersAreAccepted, OthersMakeTheSame, RepliesAreAlike, RestsAreAlike, TakenIsDenied, UntouchedLeaveTheRest};
+ghost use Rattle.registry_hidden.specs.Lists.{ListsAreAnsweredAlike, ListsHaveArrivals};
 ghost use Rattle.registry_hidden.specs.Runs.{RunsAreAlike};
 
 /// A command that names a package leaves the registry without the package as it was. Any other
@@ -52,14 +53,24 @@ pub fn unread_packages_make_no_difference()
 /// anybody may ask more than in the other: what names the package, and what is no accepted command.
 /// All else is asked in both, in one order. Then each request that is asked in both, by a caller who
 /// has no level on the package at that point of either, is answered alike, except where it shows the
-/// package in one of the runs alone. Nothing is said from where, of a command that doesn't name the
-/// package, one run has a fault, or the package alone keeps it from being done in one run.
+/// package in one of the runs alone. Nothing is said of faults, and from where the package alone
+/// keeps a withdrawal from being done in one run, or a fault in one keeps a command undone that the
+/// other accepts, and that doesn't name the package.
 pub fn unread_packages_do_not_interfere()
     ensures { StrangersSeeTheSame }
 {}
 
 /// Such are any two runs whose requests are one list once those that named the package and were
-/// accepted are dropped from both.
+/// accepted are dropped from both: what is left is asked in both, and what was dropped in one alone.
 pub fn lists_have_arrivals()
     ensures { ListsHaveArrivals }
+{}
+
+/// So take two lists of requests, by any callers at any moments, after such histories, that are one
+/// list once the accepted requests that name the package are dropped from both. What is left is
+/// answered alike in both runs to every caller who has no level on the package at that point of
+/// both, whatever others did with it in between, with the same two exceptions and up to the same
+/// points.
+pub fn strangers_are_answered_alike()
+    ensures { ListsAreAnsweredAlike }
 {}

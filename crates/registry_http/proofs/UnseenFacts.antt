@@ -8,9 +8,7 @@ use Rattle.registry_rules.specs.declared.request.Request.{Request}
 use Rattle.registry_history.specs.History.{Entry, after}
 use Rattle.registry_history.specs.Runs.{HaveOutcomes, IsAnswer, Outcome, end_of, next}
 use Rattle.registry_history.proofs.RunFacts.{end_push}
-use Rattle.registry_hidden.specs.Arrivals.{may_change_more}
-use Rattle.registry_hidden.specs.Without.{state_without}
-use Rattle.registry_hidden.proofs.LeftFacts.{IsLeft, answers_alike, left_next, left_rests, left_start, leaves_rest, next_alike, rest_stays, same_rest}
+use Rattle.registry_hidden.proofs.ArrivalFacts.{AreNear, answered_alike, near_both, near_first, near_second, near_start}
 use Rattle.registry_service.specs.Courses.{written}
 use Rattle.registry_service.specs.Histories.{FollowAll, IsOneHistory, LogEntry, World, is_last, turns_of}
 use Rattle.registry_service.specs.HttpAnswers.{response_to}
@@ -18,14 +16,14 @@ use Rattle.registry_service.specs.Turns.{Answering, Cause, IsTurn, IsTurnFor, Tu
 use Rattle.registry_service.specs.declared.turning.End.{End}
 use Rattle.registry_service.proofs.HistoryFacts.{one-history}
 use Rattle.registry_http.specs.Services.{applied}
-use Rattle.registry_http.specs.Unseen.{DifferIn, IsSameTurn, IsStrangers, IsUnseen, IsWorldOf, LeavesRest, Meeting, StaysClose, StrangersAreAnsweredTheSame, and_outcome, and_request, first_left, first_log, first_outcomes, first_requests, in_both, in_first, in_second, second_left, second_log, second_outcomes, second_requests}
+use Rattle.registry_http.specs.Unseen.{DifferIn, IsSameTurn, IsStrangers, IsUnseen, IsWorldOf, LeavesRest, Meeting, StrangersAreAnsweredTheSame, and_outcome, and_request, first_left, first_log, first_outcomes, first_requests, in_both, in_first, in_second, second_left, second_log, second_outcomes, second_requests}
 
 same-number : (k j : ℕ) → (k == j) ≡ true → k ≡ j
 same-number k j here = grind (arith, nat_tests, here)
 
 -- ---- a run without its last request
 
-have-split : (S : State) (rs : List Request) (os : List Outcome) (r : Request) (o : Outcome) → HaveOutcomes S (rs ++ r ∷ []) (os ++ o ∷ []) → HaveOutcomes S rs os × IsAnswer (end_of S rs os) r o
+pub have-split : (S : State) (rs : List Request) (os : List Outcome) (r : Request) (o : Outcome) → HaveOutcomes S (rs ++ r ∷ []) (os ++ o ∷ []) → HaveOutcomes S rs os × IsAnswer (end_of S rs os) r o
 have-split S [] [] r o have = (tt, have.0)
 have-split S [] (p ∷ []) r o have = absurd have.1
 have-split S [] (p ∷ x ∷ os) r o have = absurd have.1
@@ -41,77 +39,97 @@ ends-alike answers (request w at) K L M N a b o e f last first second = first.en
 ends-alike answers (bad_input r) K L M N a b o e f last first second = first.0.1 ∙ sym second.0.1
 ends-alike answers no_memory K L M N a b o e f last first second = first.0.1 ∙ sym second.0.1
 
+-- so they are answered the same
+same-response : {D : Type 0} (answers : Answering D) (t u : Turn) (K L M N : D) (a b : Bool) → t.cause ≡ u.cause → t.outcome ≡ u.outcome → a ≡ b → IsTurn answers K a t L → IsTurn answers M b u N → response_of t ≡ response_of u
+same-response answers t u K L M N a b cause outcome last is is' =
+    let there : IsTurnFor answers t.cause M b t.outcome u.ended N = subst (λ o. IsTurnFor answers t.cause M b o u.ended N) (sym outcome) (subst (λ c. IsTurnFor answers c M b u.outcome u.ended N) (sym cause) is') in
+    ap₂ (λ o e. response_to o (is_some e)) outcome (ends-alike answers t.cause K L M N a b t.outcome t.ended u.ended last is there)
+
+-- ---- the turns of a connection
+
+-- what was taken in both worlds for the same, with one outcome
+abbrev pub IsOneTurn : Turn → Turn → Type 0
+IsOneTurn t u = (t.cause ≡ u.cause) × (t.outcome ≡ u.outcome)
+
+-- each turn of this connection is such
+abbrev pub AreOneTurns : ℕ → List Meeting → Type 0
+AreOneTurns k [] = Unit {0}
+AreOneTurns k (in_both j r t u ∷ ms) = ((k == j) ≡ true → IsOneTurn t u) × AreOneTurns k ms
+AreOneTurns k (in_first j r t ∷ ms) = ((k == j) ≡ false) × AreOneTurns k ms
+AreOneTurns k (in_second j r u ∷ ms) = ((k == j) ≡ false) × AreOneTurns k ms
+
+-- as many turns, and the same written
+record AreSame (ts us : List Turn) : Type 0 where
+  count : length ts ≡ length us
+  bytes : written ts ≡ written us
+
+lasts : (ts us : List Turn) → length ts ≡ length us → is_last ts ≡ is_last us
+lasts ts us count = ap (λ n. n + 1 == request_limit) count
+
+module _ {D : Type 0} (answers : Answering D) where
+  same-turns : (k : ℕ) (ms : List Meeting) (K L M N : D) → FollowAll answers K (first_log ms) L → FollowAll answers M (second_log ms) N → AreOneTurns k ms
+      → AreSame (turns_of k (first_log ms)) (turns_of k (second_log ms))
+  same-turns k [] K L M N follow follow' one = record { count = refl; bytes = refl }
+  same-turns k (in_both j r t u ∷ ms) K L M N follow follow' one = by (same-turns k ms K follow.0 M follow'.0 follow.1 follow'.1 one.1) (k == j) refl
+    where
+      by : AreSame (turns_of k (first_log ms)) (turns_of k (second_log ms)) → (b : Bool) → (k == j) ≡ b
+          → AreSame (if b then t ∷ turns_of k (first_log ms) else turns_of k (first_log ms)) (if b then u ∷ turns_of k (second_log ms) else turns_of k (second_log ms))
+      by rest false other = rest
+      by rest true here = record {
+        count = ap suc rest.count;
+        bytes = ap₂ (λ x y. x ++ y) rest.bytes
+            (same-response answers t u follow.0 L follow'.0 N (is_last (turns_of j (first_log ms))) (is_last (turns_of j (second_log ms))) (one.0 here).0 (one.0 here).1
+            (lasts (turns_of j (first_log ms)) (turns_of j (second_log ms)) (subst (λ i. length (turns_of i (first_log ms)) ≡ length (turns_of i (second_log ms))) (same-number k j here) rest.count)) follow.2 follow'.2);
+      }
+  same-turns k (in_first j r t ∷ ms) K L M N follow follow' one =
+      subst (λ b. AreSame (if b then t ∷ turns_of k (first_log ms) else turns_of k (first_log ms)) (turns_of k (second_log ms))) (sym one.0)
+      (same-turns k ms K follow.0 M N follow.1 follow' one.1)
+  same-turns k (in_second j r u ∷ ms) K L M N follow follow' one =
+      subst (λ b. AreSame (turns_of k (first_log ms)) (if b then u ∷ turns_of k (second_log ms) else turns_of k (second_log ms))) (sym one.0)
+      (same-turns k ms K L M follow'.0 follow follow'.1 one.1)
+
 -- ---- the registries of both worlds
 
--- legal histories left them, and they agree in all but the package
-record AreNear (p : Text) (S T : State) : Type 0 where
-  left : IsLeft S
-  other_left : IsLeft T
-  same : state_without S p ≡ state_without T p
-
-module _ (p : Text) where
-  near-first : (S T : State) (r : Request) (o : Outcome) → AreNear p S T → IsAnswer S r o → state_without (next S r o) p ≡ state_without S p → AreNear p (next S r o) T
-  near-first S T r o near answered stays = record { left = left_next S r o near.left answered; other_left = near.other_left; same = stays ∙ near.same }
-
-  near-second : (S T : State) (r : Request) (q : Outcome) → AreNear p S T → IsAnswer T r q → state_without (next T r q) p ≡ state_without T p → AreNear p S (next T r q)
-  near-second S T r q near answered stays = record { left = near.left; other_left = left_next T r q near.other_left answered; same = near.same ∙ sym stays }
-
-  near-fault : (S T : State) (r : Request) (o q : Outcome) → AreNear p S T → IsAnswer S r o → IsAnswer T r q → may_change_more r p ≡ false → AreNear p (next S r o) (next T r q)
-  near-fault S T r o q near answered answered' less =
-      near-second (next S r o) T r q (near-first S T r o near answered (rest_stays S p r o (leaves_rest r o p less))) answered' (rest_stays T p r q (leaves_rest r q p less))
-
-  near-both : (S T : State) (r : Request) (o q : Outcome) → AreNear p S T → IsAnswer S r o → IsAnswer T r q → StaysClose p S T r o q → AreNear p (next S r o) (next T r q)
-  near-both S T r (Ok a) (Ok b) near answered answered' held =
-      record { left = left_next S r (Ok a) near.left answered; other_left = left_next T r (Ok b) near.other_left answered'; same = next_alike S T p near.same r a b answered answered' held }
-  near-both S T r (Ok a) (Err g) near answered answered' less = near-fault S T r (Ok a) (Err g) near answered answered' less
-  near-both S T r (Err f) q near answered answered' less = near-fault S T r (Err f) q near answered answered' less
-
-  same-outcome : (S T : State) (r : Request) (o q : Outcome) → AreNear p S T → IsAnswer S r o → IsAnswer T r q → IsUnseen p S T (Some r) o q → o ≡ q
-  same-outcome S T r (Ok a) (Ok b) near answered answered' (stranger, stranger', shown, replies) =
-      ap Ok (answered ∙ answers_alike S T p near.same (left_rests S near.left) (left_rests T near.other_left) r stranger stranger' shown ∙ sym answered')
-  same-outcome S T r (Ok a) (Err g) near answered answered' unseen = absurd unseen.3
-  same-outcome S T r (Err f) (Ok b) near answered answered' unseen = absurd unseen.3
-  same-outcome S T r (Err f) (Err g) near answered answered' unseen = absurd unseen.3
-
-module _ {D : Type 0} (answers : Answering D) (p : Text) (S T : State) (start : AreNear p S T) where
-  abbrev HaveFirst : List Meeting → Type 0
+module _ (S T : State) where
+  abbrev pub HaveFirst : List Meeting → Type 0
   HaveFirst ms = HaveOutcomes S (first_requests ms) (first_outcomes ms)
 
-  abbrev HaveSecond : List Meeting → Type 0
+  abbrev pub HaveSecond : List Meeting → Type 0
   HaveSecond ms = HaveOutcomes T (second_requests ms) (second_outcomes ms)
 
+-- what one more request, if any, leaves
+pub older : (U : State) (rs : List Request) (os : List Outcome) (r : Option Request) (o : Outcome) → HaveOutcomes U (and_request rs r) (and_outcome os r o) → HaveOutcomes U rs os
+older U rs os None o have = have
+older U rs os (Some r) o have = (have-split U rs os r o have).0
+
+module _ (p : Text) (S T : State) (start : AreNear p S T) where
   abbrev AreNearAfter : List Meeting → Type 0
   AreNearAfter ms = AreNear p (first_left S ms) (second_left T ms)
 
-  -- what one more request, if any, leaves
-  older : (U : State) (rs : List Request) (os : List Outcome) (r : Option Request) (o : Outcome) → HaveOutcomes U (and_request rs r) (and_outcome os r o) → HaveOutcomes U rs os
-  older U rs os None o have = have
-  older U rs os (Some r) o have = (have-split U rs os r o have).0
-
-  near-one : (ms : List Meeting) (k : ℕ) (r : Option Request) (t u : Turn) → HaveFirst (in_both k r t u ∷ ms) → HaveSecond (in_both k r t u ∷ ms) → AreNearAfter ms → IsSameTurn p (first_left S ms) (second_left T ms) r t u → AreNearAfter (in_both k r t u ∷ ms)
+  near-one : (ms : List Meeting) (k : ℕ) (r : Option Request) (t u : Turn) → HaveFirst S T (in_both k r t u ∷ ms) → HaveSecond S T (in_both k r t u ∷ ms) → AreNearAfter ms → IsSameTurn p (first_left S ms) (second_left T ms) r t u → AreNearAfter (in_both k r t u ∷ ms)
   near-one ms k None t u first second near same = near
   near-one ms k (Some r) t u first second near same =
       let a = have-split S (first_requests ms) (first_outcomes ms) r t.outcome first in
       let b = have-split T (second_requests ms) (second_outcomes ms) r u.outcome second in
       subst (λ U. AreNear p U (end_of T (second_requests ms ++ r ∷ []) (second_outcomes ms ++ u.outcome ∷ []))) (sym (end_push S (first_requests ms) (first_outcomes ms) r t.outcome a.0))
       (subst (λ U. AreNear p (next (first_left S ms) r t.outcome) U) (sym (end_push T (second_requests ms) (second_outcomes ms) r u.outcome b.0))
-      (near-both p (first_left S ms) (second_left T ms) r t.outcome u.outcome near a.1 b.1 same.1))
+      (near_both p (first_left S ms) (second_left T ms) r t.outcome u.outcome near a.1 b.1 same.1))
 
-  near-alone : (ms : List Meeting) (k : ℕ) (r : Option Request) (t : Turn) → HaveFirst (in_first k r t ∷ ms) → AreNearAfter ms → LeavesRest p r t.outcome → AreNearAfter (in_first k r t ∷ ms)
+  near-alone : (ms : List Meeting) (k : ℕ) (r : Option Request) (t : Turn) → HaveFirst S T (in_first k r t ∷ ms) → AreNearAfter ms → LeavesRest p r t.outcome → AreNearAfter (in_first k r t ∷ ms)
   near-alone ms k None t first near leaves = near
   near-alone ms k (Some r) t first near leaves =
       let a = have-split S (first_requests ms) (first_outcomes ms) r t.outcome first in
       subst (λ U. AreNear p U (second_left T ms)) (sym (end_push S (first_requests ms) (first_outcomes ms) r t.outcome a.0))
-      (near-first p (first_left S ms) (second_left T ms) r t.outcome near a.1 (rest_stays (first_left S ms) p r t.outcome leaves))
+      (near_first p (first_left S ms) (second_left T ms) r t.outcome near a.1 leaves)
 
-  near-other : (ms : List Meeting) (k : ℕ) (r : Option Request) (u : Turn) → HaveSecond (in_second k r u ∷ ms) → AreNearAfter ms → LeavesRest p r u.outcome → AreNearAfter (in_second k r u ∷ ms)
+  near-other : (ms : List Meeting) (k : ℕ) (r : Option Request) (u : Turn) → HaveSecond S T (in_second k r u ∷ ms) → AreNearAfter ms → LeavesRest p r u.outcome → AreNearAfter (in_second k r u ∷ ms)
   near-other ms k None u second near leaves = near
   near-other ms k (Some r) u second near leaves =
       let b = have-split T (second_requests ms) (second_outcomes ms) r u.outcome second in
       subst (λ U. AreNear p (first_left S ms) U) (sym (end_push T (second_requests ms) (second_outcomes ms) r u.outcome b.0))
-      (near-second p (first_left S ms) (second_left T ms) r u.outcome near b.1 (rest_stays (second_left T ms) p r u.outcome leaves))
+      (near_second p (first_left S ms) (second_left T ms) r u.outcome near b.1 leaves)
 
-  near-after : (ms : List Meeting) → HaveFirst ms → HaveSecond ms → DifferIn p S T ms → AreNearAfter ms
+  near-after : (ms : List Meeting) → HaveFirst S T ms → HaveSecond S T ms → DifferIn p S T ms → AreNearAfter ms
   near-after [] first second differ = start
   near-after (in_both k r t u ∷ ms) first second differ =
       near-one ms k r t u first second
@@ -121,56 +139,36 @@ module _ {D : Type 0} (answers : Answering D) (p : Text) (S T : State) (start : 
 
   -- ---- the turns of a stranger's connection
 
-  -- as many turns, and the same written
-  record AreSame (ts us : List Turn) : Type 0 where
-    count : length ts ≡ length us
-    bytes : written ts ≡ written us
+  same-outcome : (U V : State) (r : Request) (o q : Outcome) → AreNear p U V → IsAnswer U r o → IsAnswer V r q → IsUnseen p U V (Some r) o q → o ≡ q
+  same-outcome U V r (Ok a) (Ok b) near answered answered' (stranger, stranger', shown, replies) = ap Ok (answered_alike p U V r (Ok a) (Ok b) near answered answered' stranger stranger' shown)
+  same-outcome U V r (Ok a) (Err g) near answered answered' unseen = absurd unseen.3
+  same-outcome U V r (Err f) (Ok b) near answered answered' unseen = absurd unseen.3
+  same-outcome U V r (Err f) (Err g) near answered answered' unseen = absurd unseen.3
 
-  lasts : (ts us : List Turn) → length ts ≡ length us → is_last ts ≡ is_last us
-  lasts ts us count = ap (λ n. n + 1 == request_limit) count
-
-  one-turn : (ms : List Meeting) (k : ℕ) (r : Option Request) (t u : Turn) (K L M N : D) → HaveFirst (in_both k r t u ∷ ms) → HaveSecond (in_both k r t u ∷ ms) → AreNearAfter ms
-      → IsSameTurn p (first_left S ms) (second_left T ms) r t u → IsUnseen p (first_left S ms) (second_left T ms) r t.outcome u.outcome
-      → (a b : Bool) → a ≡ b → IsTurn answers K a t L → IsTurn answers M b u N → response_of t ≡ response_of u
-  one-turn ms k None t u K L M N first second near same unseen a b last is is' = ap response_of same
-  one-turn ms k (Some r) t u K L M N first second near same unseen a b last is is' =
+  stranger-turn : (ms : List Meeting) (k : ℕ) (r : Option Request) (t u : Turn) → HaveFirst S T (in_both k r t u ∷ ms) → HaveSecond S T (in_both k r t u ∷ ms) → AreNearAfter ms
+      → IsSameTurn p (first_left S ms) (second_left T ms) r t u → IsUnseen p (first_left S ms) (second_left T ms) r t.outcome u.outcome → IsOneTurn t u
+  stranger-turn ms k None t u first second near same unseen = (ap (λ (x : Turn). x.cause) same, ap (λ (x : Turn). x.outcome) same)
+  stranger-turn ms k (Some r) t u first second near same unseen =
       let x = have-split S (first_requests ms) (first_outcomes ms) r t.outcome first in
       let y = have-split T (second_requests ms) (second_outcomes ms) r u.outcome second in
-      let outcome = same-outcome p (first_left S ms) (second_left T ms) r t.outcome u.outcome near x.1 y.1 unseen in
-      let there : IsTurnFor answers t.cause M b t.outcome u.ended N = subst (λ o. IsTurnFor answers t.cause M b o u.ended N) (sym outcome) (subst (λ c. IsTurnFor answers c M b u.outcome u.ended N) (sym same.0) is') in
-      ap₂ (λ o e. response_to o (is_some e)) outcome (ends-alike answers t.cause K L M N a b t.outcome t.ended u.ended last is there)
+      (same.0, same-outcome (first_left S ms) (second_left T ms) r t.outcome u.outcome near x.1 y.1 unseen)
 
-  same-turns : (k : ℕ) (ms : List Meeting) (K L M N : D) → FollowAll answers K (first_log ms) L → FollowAll answers M (second_log ms) N → HaveFirst ms → HaveSecond ms → DifferIn p S T ms → IsStrangers k p S T ms
-      → AreSame (turns_of k (first_log ms)) (turns_of k (second_log ms))
-  same-turns k [] K L M N follow follow' first second differ strangers = record { count = refl; bytes = refl }
-  same-turns k (in_both j r t u ∷ ms) K L M N follow follow' first second differ strangers =
+  strangers-turns : (k : ℕ) (ms : List Meeting) → HaveFirst S T ms → HaveSecond S T ms → DifferIn p S T ms → IsStrangers k p S T ms → AreOneTurns k ms
+  strangers-turns k [] first second differ strangers = tt
+  strangers-turns k (in_both j r t u ∷ ms) first second differ strangers =
       let have = older S (first_requests ms) (first_outcomes ms) r t.outcome first in
       let have' = older T (second_requests ms) (second_outcomes ms) r u.outcome second in
-      let rest = same-turns k ms K follow.0 M follow'.0 follow.1 follow'.1 have have' differ.1 strangers.1 in
-      let near = near-after ms have have' differ.1 in
-      by rest near (k == j) refl
-    where
-      by : AreSame (turns_of k (first_log ms)) (turns_of k (second_log ms)) → AreNearAfter ms → (b : Bool) → (k == j) ≡ b
-          → AreSame (if b then t ∷ turns_of k (first_log ms) else turns_of k (first_log ms)) (if b then u ∷ turns_of k (second_log ms) else turns_of k (second_log ms))
-      by rest near false other = rest
-      by rest near true here = record {
-        count = ap suc rest.count;
-        bytes = ap₂ (λ x y. x ++ y) rest.bytes
-            (one-turn ms j r t u follow.0 L follow'.0 N first second near differ.0 (strangers.0 here) (is_last (turns_of j (first_log ms))) (is_last (turns_of j (second_log ms)))
-            (lasts (turns_of j (first_log ms)) (turns_of j (second_log ms)) (subst (λ i. length (turns_of i (first_log ms)) ≡ length (turns_of i (second_log ms))) (same-number k j here) rest.count)) follow.2 follow'.2);
-      }
-  same-turns k (in_first j r t ∷ ms) K L M N follow follow' first second differ strangers =
-      let rest = same-turns k ms K follow.0 M N follow.1 follow' (older S (first_requests ms) (first_outcomes ms) r t.outcome first) second differ.1 strangers.1 in
-      subst (λ b. AreSame (if b then t ∷ turns_of k (first_log ms) else turns_of k (first_log ms)) (turns_of k (second_log ms))) (sym strangers.0) rest
-  same-turns k (in_second j r u ∷ ms) K L M N follow follow' first second differ strangers =
-      let rest = same-turns k ms K L M follow'.0 follow follow'.1 first (older T (second_requests ms) (second_outcomes ms) r u.outcome second) differ.1 strangers.1 in
-      subst (λ b. AreSame (turns_of k (first_log ms)) (if b then u ∷ turns_of k (second_log ms) else turns_of k (second_log ms))) (sym strangers.0) rest
+      (λ here. stranger-turn ms j r t u first second (near-after ms have have' differ.1) differ.0 (strangers.0 here), strangers-turns k ms have have' differ.1 strangers.1)
+  strangers-turns k (in_first j r t ∷ ms) first second differ strangers =
+      (strangers.0, strangers-turns k ms (older S (first_requests ms) (first_outcomes ms) r t.outcome first) second differ.1 strangers.1)
+  strangers-turns k (in_second j r u ∷ ms) first second differ strangers =
+      (strangers.0, strangers-turns k ms first (older T (second_requests ms) (second_outcomes ms) r u.outcome second) differ.1 strangers.1)
 
 -- ---- two worlds
 
 module _ {D : Type 0} (show : D → Shown) where
   -- the run of a world, from what its history left
-  have-run : (M : D) (w : World D) (h : List Entry) (es : List LogEntry) (rs : List Request) (os : List Outcome) → IsWorldOf show M w h es rs os → HaveOutcomes (after h) rs os
+  pub have-run : (M : D) (w : World D) (h : List Entry) (es : List LogEntry) (rs : List Request) (os : List Outcome) → IsWorldOf show M w h es rs os → HaveOutcomes (after h) rs os
   have-run M w h es rs os world =
       subst (λ x. HaveOutcomes (after h) x os) world.requests
       (subst (λ x. HaveOutcomes (after h) world.run.requests x) world.outcomes
@@ -185,10 +183,16 @@ module _ {D : Type 0} (show : D → Shown) where
   sent : (M : D) (w : World D) (h : List Entry) (es : List LogEntry) (rs : List Request) (os : List Outcome) → IsWorldOf show M w h es rs os → (k : ℕ) → (w.transcripts k).out ≡ written (turns_of k es)
   sent M w h es rs os world k = ((history M w h es rs os world).transcripts k).answered ∙ ap (λ x. written (turns_of k x)) world.log
 
+  -- a connection all of whose turns are such is answered the same
+  pub same-bytes : (M N : D) (w v : World D) (g h : List Entry) (ms : List Meeting) → IsWorldOf show M w g (first_log ms) (first_requests ms) (first_outcomes ms) → IsWorldOf show N v h (second_log ms) (second_requests ms) (second_outcomes ms)
+      → (k : ℕ) → AreOneTurns k ms → (w.transcripts k).out ≡ (v.transcripts k).out
+  same-bytes M N w v g h ms first second k one =
+      let same = same-turns (applied show) k ms M w.service N v.service
+      (follow-log M w g (first_log ms) (first_requests ms) (first_outcomes ms) first) (follow-log N v h (second_log ms) (second_requests ms) (second_outcomes ms) second) one in
+      sent M w g (first_log ms) (first_requests ms) (first_outcomes ms) first k ∙ same.bytes ∙ sym (sent N v h (second_log ms) (second_requests ms) (second_outcomes ms) second k)
+
   pub strangers-answered_the_same : StrangersAreAnsweredTheSame show
   strangers-answered_the_same M N w v g h p ms differ first second meets k strangers =
-      let start : AreNear p (after g) (after h) = record { left = left_start g differ.legal; other_left = left_start h differ.other_legal; same = same_rest g h p differ } in
-      let same = same-turns (applied show) p (after g) (after h) start k ms M w.service N v.service
-      (follow-log M w g (first_log ms) (first_requests ms) (first_outcomes ms) first) (follow-log N v h (second_log ms) (second_requests ms) (second_outcomes ms) second)
-      (have-run M w g (first_log ms) (first_requests ms) (first_outcomes ms) first) (have-run N v h (second_log ms) (second_requests ms) (second_outcomes ms) second) meets strangers in
-      sent M w g (first_log ms) (first_requests ms) (first_outcomes ms) first k ∙ same.bytes ∙ sym (sent N v h (second_log ms) (second_requests ms) (second_outcomes ms) second k)
+      same-bytes M N w v g h ms first second k
+      (strangers-turns p (after g) (after h) (near_start g h p differ) k ms
+      (have-run M w g (first_log ms) (first_requests ms) (first_outcomes ms) first) (have-run N v h (second_log ms) (second_requests ms) (second_outcomes ms) second) meets strangers)

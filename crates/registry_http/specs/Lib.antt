@@ -1,3 +1,4 @@
 pub mod Services
 pub mod Hiding
 pub mod Unseen
+pub mod Alone

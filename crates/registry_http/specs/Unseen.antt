@@ -7,8 +7,8 @@ use Rattle.registry_rules.specs.declared.request.Request.{Request}
 use Rattle.registry_tables.specs.Effects.{registry_in}
 use Rattle.registry_history.specs.History.{Entry, after}
 use Rattle.registry_history.specs.Runs.{Outcome, end_of}
-use Rattle.registry_hidden.specs.Arrivals.{leaves_the_rest, may_change_more}
-use Rattle.registry_hidden.specs.Concerns.{is_held, is_shown}
+use Rattle.registry_hidden.specs.Arrivals.{StaysClose, leaves_the_rest}
+use Rattle.registry_hidden.specs.Concerns.{is_shown}
 use Rattle.registry_hidden.specs.Levels.{IsStranger}
 use Rattle.registry_hidden.specs.Runs.{DifferInPackage}
 use Rattle.registry_desk.specs.Promises.{HoldsSoundForEach}
@@ -81,19 +81,13 @@ second_left S ms = end_of S (second_requests ms) (second_outcomes ms)
 
 -- ---- how they differ
 
--- A request that comes to both leaves them the same in all but the package: no fault keeps it from
--- changing more than the package, and the package alone keeps it from being done in both or in
--- neither
-abbrev pub StaysClose : Text → State → State → Request → Outcome → Outcome → Type 0
-StaysClose p S T r (Ok a) (Ok b) = is_held S r p ≡ is_held T r p
-StaysClose p S T r o q = may_change_more r p ≡ false
-
 -- what is taken in one alone leaves the rest as it was
 abbrev pub LeavesRest : Text → Option Request → Outcome → Type 0
 LeavesRest p None o = Unit {0}
 LeavesRest p (Some r) o = leaves_the_rest r o p ≡ true
 
--- a turn of both is taken for the same, and is the same where it asks nothing of the registry
+-- A turn of both is taken for the same, and is the same where it asks nothing of the registry. Where
+-- it does, it leaves both the same in all but the package
 abbrev pub IsSameTurn : Text → State → State → Option Request → Turn → Turn → Type 0
 IsSameTurn p S T None t u = t ≡ u
 IsSameTurn p S T (Some r) t u = (t.cause ≡ u.cause) × StaysClose p S T r t.outcome u.outcome

@@ -2,6 +2,7 @@
 
 ghost use Rattle.sqlite.specs.Held.{state};
 ghost use Rattle.registry_http.specs.Services.{LogRuns, TurnsRun};
+ghost use Rattle.registry_http.specs.Alone.{OneIsAnsweredTheSame, RunsAreAnsweredAlike};
 ghost use Rattle.registry_http.specs.Hiding.{HiddenAreUnheardOf};
 ghost use Rattle.registry_http.specs.Unseen.{StrangersAreAnsweredTheSame};
 
@@ -31,8 +32,17 @@ pub fn hidden_packages_are_unheard_of()
 /// connection is answered the same, byte for byte, that has no turn in one world alone, and whose
 /// requests are of callers who have no level on the package at that point of either. Excepted are a
 /// request that shows the package in one world alone, and one that meets a fault; and, of whomever, a
-/// command that doesn't name the package, and that meets a fault or is kept from being done by the
-/// package alone in one world.
+/// withdrawal that the package alone keeps from being done in one world, and a command that doesn't
+/// name the package, and that one world accepts while a fault keeps it undone in the other.
 pub fn unread_packages_change_no_byte<S: Alter>()
     ensures { StrangersAreAnsweredTheSame (state S.Store) }
+{}
+
+/// Of a caller who is alone, no level on the package is asked for but at the start. Whatever list of
+/// requests they make, by any credentials of theirs or of nobody, the responses are the same after
+/// both histories, byte for byte, up to the first fault in either, and up to the first request that
+/// shows the package in one of them alone. So is all that each of their connections is answered.
+pub fn unread_packages_change_no_byte_for_one<S: Alter>()
+    ensures responses { RunsAreAnsweredAlike }
+    ensures connections { OneIsAnsweredTheSame (state S.Store) }
 {}
