@@ -1,4 +1,5 @@
 mod CommitFacts
+mod EarlyFacts
 mod GrantFacts
 mod KeepingFacts
 mod LoadedFacts

@@ -4,3 +4,4 @@ pub mod Promises
 pub mod Resting
 pub mod Caches
 pub mod Stops
+pub mod Early
