@@ -1,5 +1,6 @@
 mod CommitFacts
 mod CountingFacts
+mod EarlyFacts
 mod GrantFacts
 mod KeepingFacts
 mod LoadedFacts

@@ -12,7 +12,7 @@ use Rattle.registry_publish.specs.Form.{FormParts}
 use Rattle.registry_rules.specs.Actions.{is_command, version_of}
 use Rattle.registry_rules.specs.Callers.{caller_of}
 use Rattle.registry_rules.specs.State.{State, Release, has_grant, has_live, has_maintainer, has_other_maintainer, has_other_owner, has_team, has_user, is_in_team, is_live, is_member, is_published, is_spent, stands}
-use Rattle.registry_rules.specs.Withdrawals.{is_depended, last_withdrawal, live_versions, published_at, tags_of}
+use Rattle.registry_rules.specs.Withdrawals.{is_depended, last_withdrawal, live_versions, tags_of}
 use Rattle.registry_rules.specs.declared.request.Action.{Action}
 use Rattle.registry_rules.specs.declared.request.Action.TheVariants.{Deprecate, Packument, VersionDoc, Archive, Tags, Members, Teams, TeamMembers, TeamPackages, Withdraw}
 use Rattle.registry_rules.specs.declared.request.Request.{Request}
@@ -92,10 +92,8 @@ pub record AreTaken (taken : Taken) (S : State) (f : FormParts) : Type 0 where
   pub lives : taken.lives ≡ has_live S f.name
   pub last_withdrawal : taken.last_withdrawal ≡ last_withdrawal S f.name
 
--- when the version was published, if it lives, whether another package needs it, the tags that name
--- it, and the live versions
+-- whether another package needs the version, the tags that name it, and the live versions
 pub record IsLife (life : Life) (S : State) (p : Text) (v : VersionParts) : Type 0 where
-  pub published : life.published ≡ published_at S p (text_of_version v)
   pub depended : life.depended ≡ is_depended S p v
   pub tags : life.tags.items ≡ tags_of S p (text_of_version v)
   pub live : map text_of_version life.live.items ≡ live_versions S p

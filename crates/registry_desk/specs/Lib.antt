@@ -5,3 +5,4 @@ pub mod Resting
 pub mod Caches
 pub mod Counting
 pub mod Stops
+pub mod Early

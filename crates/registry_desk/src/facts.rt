@@ -4,7 +4,7 @@ ghost use Rattle.registry_rows.specs.Frames.{Stays};
 ghost use Rattle.registry_tables.specs.Contents.{registry_of};
 ghost use Rattle.registry_tables.specs.Effects.{InForm, Loads};
 ghost use Rattle.registry_tables.specs.Teams.{AreTeamsSound};
-ghost use Rattle.registry_rules.specs.Facts.{AboutTells};
+ghost use Rattle.registry_desk.specs.Early.{FoundTells};
 ghost use Rattle.registry_desk.specs.Found.{NeedsFor};
 
 use crate::grants::{new_grant, old_grant};
@@ -14,34 +14,37 @@ use crate::packages::{
     new_status, new_tag, new_version, old_tag, seen_archive, seen_document, seen_package,
 };
 use crate::people::{new_token, new_user};
+use crate::policy::Found;
 use crate::teams::{new_team, new_team_member, old_team, old_team_member, seen_team};
 use crate::withdrawals::{live_versions, old_version};
 use registry_access::Caller;
 use registry_names::Fault;
-use registry_rules::{About, Action};
+use registry_rules::{Action, Request};
 use sqlite::{Alter, Transaction};
 use std::alloc::Global;
 
-/// Loads what decides a caller's action, and no more.
+/// Loads what decides a caller's request, and no more; or answers why it is refused before what is
+/// dear to load is loaded.
 pub(crate) fn facts<S: Alter>(
     alloc: Global,
     tx: &mut Transaction<'_, S>,
     caller: &Caller,
-    what: &Action,
-) -> Result<About, Fault>
+    request: &Request,
+) -> Result<Found, Fault>
     requires in_form { InForm S.Store tx.old }
     ensures stays { Stays S.Store tx.old tx.new }
     ensures loads { Loads S.Store tx.old tx.new result
-        (λ about c. AreTeamsSound c → NeedsFor what.now c
-        → AboutTells about (registry_of c) caller.now what.now) }
+        (λ found c. AreTeamsSound c → NeedsFor request.now.what c
+        → FoundTells found (registry_of c) request.now.at caller.now request.now.what) }
 {
+    let what = &request.what;
     match what {
-        Action::UserAdd { user } => new_user(tx, user),
-        Action::TokenAdd { user, digest } => new_token(alloc, tx, user, digest),
+        Action::UserAdd { user } => new_user(tx, user).map(Found::About),
+        Action::TokenAdd { user, digest } => new_token(alloc, tx, user, digest).map(Found::About),
         Action::OrgCreate {
             organisation,
             owner,
-        } => new_organisation(tx, organisation, owner),
+        } => new_organisation(tx, organisation, owner).map(Found::About),
         Action::OrgSet {
             organisation,
             user,
@@ -51,55 +54,65 @@ pub(crate) fn facts<S: Alter>(
             old_member(alloc, tx, caller, organisation, user)
         }
         Action::TeamCreate { organisation, team } => {
-            new_team(alloc, tx, caller, organisation, team)
+            new_team(alloc, tx, caller, organisation, team).map(Found::About)
         }
         Action::TeamDestroy { organisation, team } => {
-            old_team(alloc, tx, caller, organisation, team)
+            old_team(alloc, tx, caller, organisation, team).map(Found::About)
         }
         Action::TeamAdd {
             organisation,
             team,
             user,
-        } => new_team_member(alloc, tx, caller, organisation, team, user),
+        } => new_team_member(alloc, tx, caller, organisation, team, user).map(Found::About),
         Action::TeamRemove {
             organisation,
             team,
             user,
-        } => old_team_member(alloc, tx, caller, organisation, team, user),
+        } => old_team_member(alloc, tx, caller, organisation, team, user).map(Found::About),
         Action::Grant {
             organisation,
             team,
             package,
             ..
-        } => new_grant(alloc, tx, caller, organisation, team, package),
+        } => new_grant(alloc, tx, caller, organisation, team, package).map(Found::About),
         Action::Revoke {
             organisation,
             team,
             package,
-        } => old_grant(alloc, tx, caller, organisation, team, package),
-        Action::SetAccess { package, .. } => new_status(alloc, tx, caller, package),
-        Action::OwnerAdd { package, user } => new_maintainer(alloc, tx, caller, package, user),
+        } => old_grant(alloc, tx, caller, organisation, team, package).map(Found::About),
+        Action::SetAccess { package, .. } => {
+            new_status(alloc, tx, caller, package).map(Found::About)
+        }
+        Action::OwnerAdd { package, user } => {
+            new_maintainer(alloc, tx, caller, package, user).map(Found::About)
+        }
         Action::OwnerRemove { package, user } => old_maintainer(alloc, tx, caller, package, user),
         Action::Publish { form } => new_version(alloc, tx, caller, form),
         Action::TagSet {
             package,
             tag,
             version,
-        } => new_tag(alloc, tx, caller, package, tag, version),
-        Action::TagRemove { package, tag } => old_tag(alloc, tx, caller, package, tag),
-        Action::Withdraw { package, version } => old_version(alloc, tx, caller, package, version),
+        } => new_tag(alloc, tx, caller, package, tag, version).map(Found::About),
+        Action::TagRemove { package, tag } => {
+            old_tag(alloc, tx, caller, package, tag).map(Found::About)
+        }
+        Action::Withdraw { package, version } => {
+            old_version(alloc, tx, caller, package, version, &request.at)
+        }
         Action::Deprecate { package, .. } => live_versions(alloc, tx, caller, package),
         Action::Packument { package } | Action::Tags { package } => {
-            seen_package(alloc, tx, caller, package)
+            seen_package(alloc, tx, caller, package).map(Found::About)
         }
-        Action::VersionDoc { package, version } => seen_document(
-            alloc, tx, caller, package, version,
-        ),
-        Action::Archive { package, version } => seen_archive(alloc, tx, caller, package, version),
+        Action::VersionDoc { package, version } => {
+            seen_document(alloc, tx, caller, package, version).map(Found::About)
+        }
+        Action::Archive { package, version } => {
+            seen_archive(alloc, tx, caller, package, version).map(Found::About)
+        }
         Action::Members { organisation } | Action::Teams { organisation } => {
-            seen_organisation(alloc, tx, caller, organisation)
+            seen_organisation(alloc, tx, caller, organisation).map(Found::About)
         }
         Action::TeamMembers { organisation, team } | Action::TeamPackages { organisation, team } =>
-            { seen_team(alloc, tx, caller, organisation, team) }
+            { seen_team(alloc, tx, caller, organisation, team).map(Found::About) }
     }
 }

@@ -17,6 +17,7 @@ mod open;
 mod organisations;
 mod packages;
 mod people;
+mod policy;
 mod registry;
 mod reply;
 mod rows;

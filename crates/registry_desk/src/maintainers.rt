@@ -5,10 +5,13 @@ ghost use Rattle.registry_tables.specs.Contents.{registry_of};
 ghost use Rattle.registry_tables.specs.Effects.{InForm, Loads};
 ghost use Rattle.registry_tables.specs.Teams.{AreTeamsSound};
 ghost use Rattle.registry_desk.specs.Found.{IsLeaver, IsNewcomer};
+ghost use Rattle.std.specs.Prelude.{ℕ};
 ghost use Rattle.registry_rules.specs.Facts.{AboutTells};
+ghost use Rattle.registry_desk.specs.Early.{FoundTells};
 ghost use Rattle.registry_rules.specs.declared.request.Action.TheVariants as asked;
 
-use registry_access::Caller;
+use crate::policy::{Found, standing_if_allowed};
+use registry_access::{Ask, Caller};
 use registry_names::{Fault, Ident, Name};
 use registry_rules::About;
 use registry_tables::{has_other_maintainer, has_user, is_maintainer, load_standing};
@@ -60,26 +63,29 @@ fn find_newcomer<S: Alter>(
     })
 }
 
-/// Of a maintainer who is to be none.
+/// Of a maintainer who is to be none, by a caller whom the policy allows it.
 pub(crate) fn old_maintainer<S: Alter>(
     alloc: Global,
     tx: &mut Transaction<'_, S>,
     caller: &Caller,
     name: &Name,
     user: &Ident,
-) -> Result<About, Fault>
+) -> Result<Found, Fault>
     requires in_form { InForm S.Store tx.old }
     ensures stays { Stays S.Store tx.old tx.new }
-    ensures loads { Loads S.Store tx.old tx.new result (λ about c. AreTeamsSound c
-        → AboutTells about (registry_of c) caller.now (asked.OwnerRemove name.now user.now)) }
+    ensures loads { Loads S.Store tx.old tx.new result (λ found c. (at : ℕ) → AreTeamsSound c
+        → FoundTells found (registry_of c) at caller.now (asked.OwnerRemove name.now user.now)) }
 {
-    let standing = load_standing(alloc, tx, caller, name)?;
+    let standing = match standing_if_allowed(alloc, tx, caller, name, &Ask::Owners(name))? {
+        Ok(standing) => standing,
+        Err(refusal) => return Ok(Found::Refused(refusal)),
+    };
     let leaver = find_leaver(alloc, tx, name, user.text())?;
-    Ok(About::OwnerRemove {
+    Ok(Found::About(About::OwnerRemove {
         standing,
         is_maintainer: leaver.is_maintainer,
         other_maintainer: leaver.other_maintainer,
-    })
+    }))
 }
 
 // What a user is who is to be a maintainer no more.

@@ -7,9 +7,12 @@ ghost use Rattle.registry_tables.specs.Contents.{registry_of};
 ghost use Rattle.registry_tables.specs.Effects.{InForm, Loads};
 ghost use Rattle.registry_desk.specs.Found.{IsCandidate};
 ghost use Rattle.registry_rules.specs.Facts.{AboutTells};
+ghost use Rattle.registry_desk.specs.Early.{FoundTells};
+ghost use Rattle.std.specs.Prelude.{ℕ};
 ghost use Rattle.registry_rules.specs.declared.request.Action.TheVariants as asked;
 
-use registry_access::{Caller, Role};
+use crate::policy::{Found, rows_if_allowed};
+use registry_access::{Ask, Caller, Role};
 use registry_names::{Fault, Ident};
 use registry_rules::About;
 use registry_tables::{has_organisation, has_other_owner, has_user, load_access, load_role};
@@ -33,28 +36,32 @@ pub(crate) fn new_organisation<S: Alter>(
     })
 }
 
-/// Of a role that a user is to have in an organisation.
+/// Of a role that a user is to have in an organisation, by a caller whom the policy allows it.
 pub(crate) fn new_role<S: Alter>(
     alloc: Global,
     tx: &mut Transaction<'_, S>,
     caller: &Caller,
     organisation: &Ident,
     user: &Ident,
-) -> Result<About, Fault>
+) -> Result<Found, Fault>
     requires in_form { InForm S.Store tx.old }
     ensures stays { Stays S.Store tx.old tx.new }
-    ensures loads { Loads S.Store tx.old tx.new result (λ about c. (role : Rank)
-        → AboutTells about (registry_of c) caller.now
+    ensures loads { Loads S.Store tx.old tx.new result (λ found c. (role : Rank) (at : ℕ)
+        → FoundTells found (registry_of c) at caller.now
         (asked.OrgSet organisation.now user.now role)) }
 {
-    let rows = load_access(alloc, tx, caller, organisation.text())?;
+    let ask = Ask::OrgMembers(organisation);
+    let rows = match rows_if_allowed(alloc, tx, caller, organisation, &ask)? {
+        Ok(rows) => rows,
+        Err(refusal) => return Ok(Found::Refused(refusal)),
+    };
     let candidate = find_candidate(alloc, tx, organisation.text(), user.text())?;
-    Ok(About::OrgSet {
+    Ok(Found::About(About::OrgSet {
         rows,
         user_exists: candidate.user_exists,
         role: candidate.role,
         other_owner: candidate.other_owner,
-    })
+    }))
 }
 
 // What is asked of a user who is to have a role in an organisation.
@@ -83,24 +90,32 @@ fn find_candidate<S: Alter>(
     })
 }
 
-/// Of a member who is to leave an organisation.
+/// Of a member who is to leave an organisation, by a caller whom the policy allows it.
 pub(crate) fn old_member<S: Alter>(
     alloc: Global,
     tx: &mut Transaction<'_, S>,
     caller: &Caller,
     organisation: &Ident,
     user: &Ident,
-) -> Result<About, Fault>
+) -> Result<Found, Fault>
     requires in_form { InForm S.Store tx.old }
     ensures stays { Stays S.Store tx.old tx.new }
-    ensures loads { Loads S.Store tx.old tx.new result (λ about c.
-        AboutTells about (registry_of c) caller.now (asked.OrgRemove organisation.now user.now)) }
+    ensures loads { Loads S.Store tx.old tx.new result (λ found c. (at : ℕ)
+        → FoundTells found (registry_of c) at caller.now
+        (asked.OrgRemove organisation.now user.now)) }
 {
-    Ok(About::OrgRemove {
-        rows: load_access(alloc, tx, caller, organisation.text())?,
-        role: load_role(tx, organisation.text(), user.text())?,
-        other_owner: has_other_owner(alloc, tx, organisation.text(), user.text())?,
-    })
+    let ask = Ask::OrgMembers(organisation);
+    let rows = match rows_if_allowed(alloc, tx, caller, organisation, &ask)? {
+        Ok(rows) => rows,
+        Err(refusal) => return Ok(Found::Refused(refusal)),
+    };
+    let role = load_role(tx, organisation.text(), user.text())?;
+    let other_owner = has_other_owner(alloc, tx, organisation.text(), user.text())?;
+    Ok(Found::About(About::OrgRemove {
+        rows,
+        role,
+        other_owner,
+    }))
 }
 
 /// Of a query about an organisation.

@@ -1,6 +1,6 @@
 //! What decides an action about packages, their versions and their tags.
 
-ghost use Rattle.std.specs.Prelude.{◌≡◌};
+ghost use Rattle.std.specs.Prelude.{◌≡◌, ℕ};
 ghost use Rattle.registry_names.specs.declared.status.Status.{Status};
 ghost use Rattle.registry_rows.specs.Frames.{Stays};
 ghost use Rattle.registry_tables.specs.Contents.{registry_of};
@@ -8,11 +8,13 @@ ghost use Rattle.registry_tables.specs.Effects.{InForm, Loads};
 ghost use Rattle.registry_tables.specs.Teams.{AreTeamsSound};
 ghost use Rattle.registry_desk.specs.Found.{AreTaken};
 ghost use Rattle.registry_rules.specs.Facts.{AboutTells};
+ghost use Rattle.registry_desk.specs.Early.{FoundTells};
 ghost use Rattle.registry_rules.specs.State as state;
 ghost use Rattle.registry_rules.specs.declared.request.Action.TheVariants as asked;
 ghost use Rattle.registry_rules.specs.declared.request.Asked.TheVariants as which;
 
-use registry_access::Caller;
+use crate::policy::{Found, standing_if_allowed};
+use registry_access::{Ask, Caller};
 use registry_names::{Fault, LATEST, Moment, Name, TagText, Ver};
 use registry_publish::PublishForm;
 use registry_rules::{About, Asked, PublishFacts};
@@ -40,21 +42,25 @@ pub(crate) fn new_status<S: Alter>(
     })
 }
 
-/// Of a publish.
+/// Of a publish, by a caller whom the policy allows it.
 pub(crate) fn new_version<S: Alter>(
     alloc: Global,
     tx: &mut Transaction<'_, S>,
     caller: &Caller,
     form: &PublishForm,
-) -> Result<About, Fault>
+) -> Result<Found, Fault>
     requires in_form { InForm S.Store tx.old }
     ensures stays { Stays S.Store tx.old tx.new }
-    ensures loads { Loads S.Store tx.old tx.new result (λ about c. AreTeamsSound c
-        → AboutTells about (registry_of c) caller.now (asked.Publish form.now)) }
+    ensures loads { Loads S.Store tx.old tx.new result (λ found c. (at : ℕ) → AreTeamsSound c
+        → FoundTells found (registry_of c) at caller.now (asked.Publish form.now)) }
 {
-    let standing = load_standing(alloc, tx, caller, form.name())?;
+    let name = form.name();
+    let standing = match standing_if_allowed(alloc, tx, caller, name, &Ask::Publish(name))? {
+        Ok(standing) => standing,
+        Err(refusal) => return Ok(Found::Refused(refusal)),
+    };
     let taken = find_taken(tx, form)?;
-    Ok(About::Publish(PublishFacts {
+    Ok(Found::About(About::Publish(PublishFacts {
         standing,
         version_lives: taken.version_lives,
         version_spent: taken.version_spent,
@@ -62,7 +68,7 @@ pub(crate) fn new_version<S: Alter>(
         latest_stands: taken.latest_stands,
         lives: taken.lives,
         last_withdrawal: taken.last_withdrawal,
-    }))
+    })))
 }
 
 // What exists already of what is to be published, and of its package.

@@ -1,52 +1,107 @@
 //! What decides a withdrawal and a deprecation.
 
-ghost use Rattle.std.specs.Prelude.{List};
+ghost use Rattle.std.specs.Prelude.{◌≡◌, ℕ, List, None, false};
+ghost use Rattle.registry_access.specs.declared.caller.Caller.{Caller as Asker};
 ghost use Rattle.registry_names.specs.Texts.{Text as SpecText};
 ghost use Rattle.registry_ranges.specs.Selectors.{Condition};
 ghost use Rattle.registry_rows.specs.Frames.{Stays};
-ghost use Rattle.registry_rules.specs.Facts.{AboutTells};
+ghost use Rattle.registry_access.specs.RowsFor.{StandingTells};
+ghost use Rattle.registry_rules.specs.Refusals.{withdraw_refusal};
+ghost use Rattle.registry_rules.specs.Withdrawals as withdrawals;
 ghost use Rattle.registry_rules.specs.declared.request.Action.TheVariants as asked;
-ghost use Rattle.registry_tables.specs.Contents.{registry_of};
+ghost use Rattle.registry_tables.specs.Contents.{access_of, registry_of};
 ghost use Rattle.registry_tables.specs.Effects.{InForm, Loads};
 ghost use Rattle.registry_tables.specs.Needs.{HoldsNeeds};
 ghost use Rattle.registry_tables.specs.Teams.{AreTeamsSound};
+ghost use Rattle.registry_desk.specs.Early.{FoundTells, LetsWrite, denial};
 ghost use Rattle.registry_desk.specs.Found.{IsLife};
 
-use registry_access::Caller;
-use registry_names::{Fault, Moment, Name, Text, Ver};
+use crate::policy::{Found, standing_if_allowed};
+use registry_access::{Ask, Caller, Standing};
+use registry_names::{Fault, Moment, Name, Refusal, Text, Ver};
 use registry_rules::About;
-use registry_tables::{is_depended, load_live, load_published, load_standing, load_version_tags};
+use registry_tables::{is_depended, load_live, load_published, load_version_tags};
 use sqlite::{Alter, Transaction};
 use std::alloc::Global;
 
-/// Of a version that is to be withdrawn. Who needs it is determined by the needs that are stored.
+/// Three days: an older version isn't withdrawn.
+const OLDEST: i64 = 259_200;
+
+/// Of a version that is to be withdrawn, by a caller whom the policy allows it. Who needs it is
+/// determined by the needs that are stored.
 pub(crate) fn old_version<S: Alter>(
     alloc: Global,
     tx: &mut Transaction<'_, S>,
     caller: &Caller,
     name: &Name,
     version: &Ver,
-) -> Result<About, Fault>
+    now: &Moment,
+) -> Result<Found, Fault>
     requires in_form { InForm S.Store tx.old }
     ensures stays { Stays S.Store tx.old tx.new }
-    ensures loads { Loads S.Store tx.old tx.new result (λ about c. AreTeamsSound c → HoldsNeeds c
-        → AboutTells about (registry_of c) caller.now (asked.Withdraw name.now version.now)) }
+    ensures loads { Loads S.Store tx.old tx.new result (λ found c. AreTeamsSound c → HoldsNeeds c
+        → FoundTells found (registry_of c) now.now caller.now
+        (asked.Withdraw name.now version.now)) }
 {
-    let standing = load_standing(alloc, tx, caller, name)?;
+    match standing_if_allowed(alloc, tx, caller, name, &Ask::Write(name))? {
+        Ok(standing) => young_version(alloc, tx, standing, name, version, now),
+        Err(refusal) => Ok(Found::Refused(refusal)),
+    }
+}
+
+// The same where the policy allows it. Nobody who needs the version is asked for if it doesn't
+// live, or is too old.
+fn young_version<S: Alter>(
+    alloc: Global,
+    tx: &mut Transaction<'_, S>,
+    standing: Standing,
+    name: &Name,
+    version: &Ver,
+    now: &Moment,
+) -> Result<Found, Fault>
+    requires in_form { InForm S.Store tx.old }
+    requires allowed { LetsWrite standing }
+    ensures stays { Stays S.Store tx.old tx.new }
+    ensures loads { Loads S.Store tx.old tx.new result (λ found c. (who : Asker) → HoldsNeeds c
+        → denial (access_of c) who (asked.Withdraw name.now version.now) ≡ None
+        → StandingTells standing (access_of c) who name.now
+        → FoundTells found (registry_of c) now.now who (asked.Withdraw name.now version.now)) }
+{
+    let published = load_published(tx, name, version.text())?;
+    if let Some(refusal) = refusal_by_age(&published, now) {
+        return Ok(Found::Refused(refusal));
+    }
     let life = find_life(alloc, tx, name, version)?;
-    Ok(About::Withdraw {
+    Ok(Found::About(About::Withdraw {
         standing,
-        published: life.published,
+        published,
         depended: life.depended,
         tags: life.tags,
         live: life.live,
-    })
+    }))
 }
 
-// What there is about a version that is to go.
+// Why a version isn't withdrawn, whoever needs it: it doesn't live, or is older than three days.
+fn refusal_by_age(published: &Option<Moment>, now: &Moment) -> Option<Refusal>
+    ensures { result ≡ withdraw_refusal now.now published.now false }
+{
+    match published {
+        None => Some(Refusal::NotFound),
+        Some(published) if is_too_old(now, published) => Some(Refusal::TooLate),
+        Some(_) => None,
+    }
+}
+
+// After a clock that went back the age of a version is 0.
+fn is_too_old(now: &Moment, published: &Moment) -> bool
+    ensures { result ≡ withdrawals.is_too_old now.now published.now }
+{
+    published.seconds() + OLDEST <= now.seconds()
+}
+
+// What there is about a version that may go unless somebody needs it.
 #[derive(Drop)]
 struct Life {
-    published: Option<Moment>,
     depended: bool,
     tags: Vec<Text>,
     live: Vec<Ver>,
@@ -64,32 +119,34 @@ fn find_life<S: Alter>(
         (λ life c. HoldsNeeds c → IsLife life (registry_of c) name.now version.now) }
 {
     let depended = is_depended(alloc, tx, name, version)?;
-    let published = load_published(tx, name, version.text())?;
     let tags = load_version_tags(alloc, tx, name, version.text())?;
     let live = load_live(alloc, tx, name)?;
     Ok(Life {
-        published,
         depended,
         tags,
         live,
     })
 }
 
-/// Of versions that are to be deprecated.
+/// Of versions that are to be deprecated, by a caller whom the policy allows it.
 pub(crate) fn live_versions<S: Alter>(
     alloc: Global,
     tx: &mut Transaction<'_, S>,
     caller: &Caller,
     name: &Name,
-) -> Result<About, Fault>
+) -> Result<Found, Fault>
     requires in_form { InForm S.Store tx.old }
     ensures stays { Stays S.Store tx.old tx.new }
-    ensures loads { Loads S.Store tx.old tx.new result (λ about c.
-        (selector : List (List Condition)) (message : SpecText) → AreTeamsSound c
-        → AboutTells about (registry_of c) caller.now
+    ensures loads { Loads S.Store tx.old tx.new result (λ found c.
+        (selector : List (List Condition)) (message : SpecText) (at : ℕ) → AreTeamsSound c
+        → FoundTells found (registry_of c) at caller.now
         (asked.Deprecate name.now selector message)) }
 {
-    let standing = load_standing(alloc, tx, caller, name)?;
-    let live = load_live(alloc, tx, name)?;
-    Ok(About::Deprecate { standing, live })
+    match standing_if_allowed(alloc, tx, caller, name, &Ask::Write(name))? {
+        Ok(standing) => {
+            let live = load_live(alloc, tx, name)?;
+            Ok(Found::About(About::Deprecate { standing, live }))
+        }
+        Err(refusal) => Ok(Found::Refused(refusal)),
+    }
 }

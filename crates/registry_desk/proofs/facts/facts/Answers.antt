@@ -1,96 +1,103 @@
-use Rattle.std.proofs.Common.{◌≡◌, ◌⊎◌, inl, inr, subst, sym, Ok, Err, IfOk, Result}
-use Rattle.registry_access.specs.declared.caller.Caller.{Caller}
-use Rattle.registry_names.specs.Texts.{Text}
-use Rattle.registry_names.specs.declared.stop.Fault.{Fault}
+use Rattle.std.proofs.Common.{refl}
 use Rattle.registry_rows.specs.Ready.{Reads}
-use Rattle.registry_rules.specs.Facts.{AboutTells}
-use Rattle.registry_rules.specs.declared.facts.About.{About}
-use Rattle.registry_rules.specs.declared.request.Action.{Action}
 use Rattle.registry_rules.specs.declared.request.Action.TheVariants as asked
-use Rattle.registry_tables.specs.Contents.{Contents, registry_of}
 use Rattle.registry_tables.specs.Effects.{shown, stored_in}
 use Rattle.registry_tables.specs.Schema.{schema}
-use Rattle.registry_tables.specs.Teams.{AreTeamsSound}
-use Rattle.registry_desk.specs.Found.{NeedsFor}
+use Rattle.registry_desk.proofs.EarlyFacts.{found_about, found_either, found_so}
 use Rattle.registry_desk.proofs.facts.facts.Goals as goal
 
--- what is said of this action, of which X is left open, is said of the action that is asked, and
--- the more so where the needs that decide it are those of live versions
-told_each : {X : Type 0} (x : X) (reads : Type 0) (c : Contents) (who : Caller) (what : Action) (this : X → Action) (result : Result About Fault) → what ≡ this x
-    → IfOk result (λ about. reads × ((y : X) → AreTeamsSound c → AboutTells about (registry_of c) who (this y)))
-    → IfOk result (λ about. reads × (AreTeamsSound c → NeedsFor what c → AboutTells about (registry_of c) who what))
-told_each x reads c who what this (Ok about) is told =
-    (told.0, λ sound needs. subst (λ (action : Action). AboutTells about (registry_of c) who action) (sym is) (told.1 x sound))
-told_each x reads c who what this (Err fault) is told = tt
+pub returns-in-UserAdd-clause-loads : goal.returns-in-UserAdd-clause-loads
+returns-in-UserAdd-clause-loads g c clean =
+    found_about (Reads schema (shown g.S.Store c.args.tx.now) (shown g.S.Store c.new_user.new.tx)) (stored_in g.S.Store c.args.tx.now) c.args.request.now.at c.args.caller.now c.args.request.now.what (asked.UserAdd c.in-UserAdd.user) c.new_user.result c.map.result c.in-UserAdd.is refl c.map.ensures.cases (λ x told sound. told c.args.caller.now) (c.new_user.ensures.loads clean)
 
-told_sound : (reads : Type 0) (c : Contents) (who : Caller) (what this : Action) (result : Result About Fault) → what ≡ this
-    → IfOk result (λ about. reads × (AreTeamsSound c → AboutTells about (registry_of c) who this))
-    → IfOk result (λ about. reads × (AreTeamsSound c → NeedsFor what c → AboutTells about (registry_of c) who what))
-told_sound reads c who what this (Ok about) is told =
-    (told.0, λ sound needs. subst (λ (action : Action). AboutTells about (registry_of c) who action) (sym is) (told.1 sound))
-told_sound reads c who what this (Err fault) is told = tt
+pub returns-in-TokenAdd-clause-loads : goal.returns-in-TokenAdd-clause-loads
+returns-in-TokenAdd-clause-loads g c clean =
+    found_about (Reads schema (shown g.S.Store c.args.tx.now) (shown g.S.Store c.new_token.new.tx)) (stored_in g.S.Store c.args.tx.now) c.args.request.now.at c.args.caller.now c.args.request.now.what (asked.TokenAdd c.in-TokenAdd.user c.in-TokenAdd.digest) c.new_token.result c.map-in-TokenAdd.result c.in-TokenAdd.is refl c.map-in-TokenAdd.ensures.cases (λ x told sound. told c.args.caller.now) (c.new_token.ensures.loads clean)
 
-told_either : (reads : Type 0) (c : Contents) (who : Caller) (what one other : Action) (result : Result About Fault) → (what ≡ one) ⊎ (what ≡ other)
-    → IfOk result (λ about. reads × (AreTeamsSound c → AboutTells about (registry_of c) who one))
-    → IfOk result (λ about. reads × (AreTeamsSound c → AboutTells about (registry_of c) who other))
-    → IfOk result (λ about. reads × (AreTeamsSound c → NeedsFor what c → AboutTells about (registry_of c) who what))
-told_either reads c who what one other result (inl is) first second = told_sound reads c who what one result is first
-told_either reads c who what one other result (inr is) first second = told_sound reads c who what other result is second
+pub returns-in-OrgCreate-clause-loads : goal.returns-in-OrgCreate-clause-loads
+returns-in-OrgCreate-clause-loads g c clean =
+    found_about (Reads schema (shown g.S.Store c.args.tx.now) (shown g.S.Store c.new_organisation.new.tx)) (stored_in g.S.Store c.args.tx.now) c.args.request.now.at c.args.caller.now c.args.request.now.what (asked.OrgCreate c.in-OrgCreate.organisation c.in-OrgCreate.owner) c.new_organisation.result c.map-in-OrgCreate.result c.in-OrgCreate.is refl c.map-in-OrgCreate.ensures.cases (λ x told sound. told c.args.caller.now) (c.new_organisation.ensures.loads clean)
 
-told_needs : (reads : Type 0) (c : Contents) (who : Caller) (what this : Action) (result : Result About Fault) → what ≡ this
-    → IfOk result (λ about. reads × (AreTeamsSound c → NeedsFor this c → AboutTells about (registry_of c) who this))
-    → IfOk result (λ about. reads × (AreTeamsSound c → NeedsFor what c → AboutTells about (registry_of c) who what))
-told_needs reads c who what this (Ok about) is told =
-    (told.0, subst (λ (action : Action). AreTeamsSound c → NeedsFor action c → AboutTells about (registry_of c) who action) (sym is) told.1)
-told_needs reads c who what this (Err fault) is told = tt
+pub returns-in-OrgSet-clause-loads : goal.returns-in-OrgSet-clause-loads
+returns-in-OrgSet-clause-loads g c clean =
+    found_so (Reads schema (shown g.S.Store c.args.tx.now) (shown g.S.Store c.new_role.new.tx)) (stored_in g.S.Store c.args.tx.now) c.args.request.now.at c.args.caller.now c.args.request.now.what (asked.OrgSet c.in-OrgSet.organisation c.in-OrgSet.user c.in-OrgSet.role) c.new_role.result c.in-OrgSet.is (λ y told sound needs. told c.in-OrgSet.role c.args.request.now.at) (c.new_role.ensures.loads clean)
 
-told_messages : {X : Type 0} (x : X) (message : Text) (reads : Type 0) (c : Contents) (who : Caller) (what : Action) (this : X → Text → Action) (result : Result About Fault) → what ≡ this x message
-    → IfOk result (λ about. reads × ((y : X) (other : Text) → AreTeamsSound c → AboutTells about (registry_of c) who (this y other)))
-    → IfOk result (λ about. reads × (AreTeamsSound c → NeedsFor what c → AboutTells about (registry_of c) who what))
-told_messages x message reads c who what this (Ok about) is told =
-    (told.0, λ sound needs. subst (λ (action : Action). AboutTells about (registry_of c) who action) (sym is) (told.1 x message sound))
-told_messages x message reads c who what this (Err fault) is told = tt
+pub returns-in-OrgRemove-clause-loads : goal.returns-in-OrgRemove-clause-loads
+returns-in-OrgRemove-clause-loads g c clean =
+    found_so (Reads schema (shown g.S.Store c.args.tx.now) (shown g.S.Store c.old_member.new.tx)) (stored_in g.S.Store c.args.tx.now) c.args.request.now.at c.args.caller.now c.args.request.now.what (asked.OrgRemove c.in-OrgRemove.organisation c.in-OrgRemove.user) c.old_member.result c.in-OrgRemove.is (λ y told sound needs. told c.args.request.now.at) (c.old_member.ensures.loads clean)
+
+pub returns-in-TeamCreate-clause-loads : goal.returns-in-TeamCreate-clause-loads
+returns-in-TeamCreate-clause-loads g c clean =
+    found_about (Reads schema (shown g.S.Store c.args.tx.now) (shown g.S.Store c.new_team.new.tx)) (stored_in g.S.Store c.args.tx.now) c.args.request.now.at c.args.caller.now c.args.request.now.what (asked.TeamCreate c.in-TeamCreate.organisation c.in-TeamCreate.team) c.new_team.result c.map-in-TeamCreate.result c.in-TeamCreate.is refl c.map-in-TeamCreate.ensures.cases (λ x told sound. told) (c.new_team.ensures.loads clean)
+
+pub returns-in-TeamDestroy-clause-loads : goal.returns-in-TeamDestroy-clause-loads
+returns-in-TeamDestroy-clause-loads g c clean =
+    found_about (Reads schema (shown g.S.Store c.args.tx.now) (shown g.S.Store c.old_team.new.tx)) (stored_in g.S.Store c.args.tx.now) c.args.request.now.at c.args.caller.now c.args.request.now.what (asked.TeamDestroy c.in-TeamDestroy.organisation c.in-TeamDestroy.team) c.old_team.result c.map-in-TeamDestroy.result c.in-TeamDestroy.is refl c.map-in-TeamDestroy.ensures.cases (λ x told sound. told) (c.old_team.ensures.loads clean)
+
+pub returns-in-TeamAdd-clause-loads : goal.returns-in-TeamAdd-clause-loads
+returns-in-TeamAdd-clause-loads g c clean =
+    found_about (Reads schema (shown g.S.Store c.args.tx.now) (shown g.S.Store c.new_team_member.new.tx)) (stored_in g.S.Store c.args.tx.now) c.args.request.now.at c.args.caller.now c.args.request.now.what (asked.TeamAdd c.in-TeamAdd.organisation c.in-TeamAdd.team c.in-TeamAdd.user) c.new_team_member.result c.map-in-TeamAdd.result c.in-TeamAdd.is refl c.map-in-TeamAdd.ensures.cases (λ x told sound. told) (c.new_team_member.ensures.loads clean)
+
+pub returns-in-TeamRemove-clause-loads : goal.returns-in-TeamRemove-clause-loads
+returns-in-TeamRemove-clause-loads g c clean =
+    found_about (Reads schema (shown g.S.Store c.args.tx.now) (shown g.S.Store c.old_team_member.new.tx)) (stored_in g.S.Store c.args.tx.now) c.args.request.now.at c.args.caller.now c.args.request.now.what (asked.TeamRemove c.in-TeamRemove.organisation c.in-TeamRemove.team c.in-TeamRemove.user) c.old_team_member.result c.map-in-TeamRemove.result c.in-TeamRemove.is refl c.map-in-TeamRemove.ensures.cases (λ x told sound. told) (c.old_team_member.ensures.loads clean)
+
+pub returns-in-Grant-clause-loads : goal.returns-in-Grant-clause-loads
+returns-in-Grant-clause-loads g c clean =
+    found_about (Reads schema (shown g.S.Store c.args.tx.now) (shown g.S.Store c.new_grant.new.tx)) (stored_in g.S.Store c.args.tx.now) c.args.request.now.at c.args.caller.now c.args.request.now.what (asked.Grant c.in-Grant.organisation c.in-Grant.team c.in-Grant.package c.in-Grant.grant) c.new_grant.result c.map-in-Grant.result c.in-Grant.is refl c.map-in-Grant.ensures.cases (λ x told sound. told c.in-Grant.grant) (c.new_grant.ensures.loads clean)
+
+pub returns-in-Revoke-clause-loads : goal.returns-in-Revoke-clause-loads
+returns-in-Revoke-clause-loads g c clean =
+    found_about (Reads schema (shown g.S.Store c.args.tx.now) (shown g.S.Store c.old_grant.new.tx)) (stored_in g.S.Store c.args.tx.now) c.args.request.now.at c.args.caller.now c.args.request.now.what (asked.Revoke c.in-Revoke.organisation c.in-Revoke.team c.in-Revoke.package) c.old_grant.result c.map-in-Revoke.result c.in-Revoke.is refl c.map-in-Revoke.ensures.cases (λ x told sound. told) (c.old_grant.ensures.loads clean)
 
 pub returns-in-SetAccess-clause-loads : goal.returns-in-SetAccess-clause-loads
 returns-in-SetAccess-clause-loads g c clean =
-    told_each c.in-SetAccess.status (Reads schema (shown g.S.Store c.args.tx.now) (shown g.S.Store c.new_status.new.tx)) (stored_in g.S.Store c.args.tx.now) c.args.caller.now c.args.what.now (λ status. asked.SetAccess c.in-SetAccess.package status) c.new_status.result c.in-SetAccess.is (c.new_status.ensures.loads clean)
+    found_about (Reads schema (shown g.S.Store c.args.tx.now) (shown g.S.Store c.new_status.new.tx)) (stored_in g.S.Store c.args.tx.now) c.args.request.now.at c.args.caller.now c.args.request.now.what (asked.SetAccess c.in-SetAccess.package c.in-SetAccess.status) c.new_status.result c.map-in-SetAccess.result c.in-SetAccess.is refl c.map-in-SetAccess.ensures.cases (λ x told. told c.in-SetAccess.status) (c.new_status.ensures.loads clean)
 
 pub returns-in-OwnerAdd-clause-loads : goal.returns-in-OwnerAdd-clause-loads
 returns-in-OwnerAdd-clause-loads g c clean =
-    told_sound (Reads schema (shown g.S.Store c.args.tx.now) (shown g.S.Store c.new_maintainer.new.tx)) (stored_in g.S.Store c.args.tx.now) c.args.caller.now c.args.what.now (asked.OwnerAdd c.in-OwnerAdd.package c.in-OwnerAdd.user) c.new_maintainer.result c.in-OwnerAdd.is (c.new_maintainer.ensures.loads clean)
+    found_about (Reads schema (shown g.S.Store c.args.tx.now) (shown g.S.Store c.new_maintainer.new.tx)) (stored_in g.S.Store c.args.tx.now) c.args.request.now.at c.args.caller.now c.args.request.now.what (asked.OwnerAdd c.in-OwnerAdd.package c.in-OwnerAdd.user) c.new_maintainer.result c.map-in-OwnerAdd.result c.in-OwnerAdd.is refl c.map-in-OwnerAdd.ensures.cases (λ x told. told) (c.new_maintainer.ensures.loads clean)
 
 pub returns-in-OwnerRemove-clause-loads : goal.returns-in-OwnerRemove-clause-loads
 returns-in-OwnerRemove-clause-loads g c clean =
-    told_sound (Reads schema (shown g.S.Store c.args.tx.now) (shown g.S.Store c.old_maintainer.new.tx)) (stored_in g.S.Store c.args.tx.now) c.args.caller.now c.args.what.now (asked.OwnerRemove c.in-OwnerRemove.package c.in-OwnerRemove.user) c.old_maintainer.result c.in-OwnerRemove.is (c.old_maintainer.ensures.loads clean)
+    found_so (Reads schema (shown g.S.Store c.args.tx.now) (shown g.S.Store c.old_maintainer.new.tx)) (stored_in g.S.Store c.args.tx.now) c.args.request.now.at c.args.caller.now c.args.request.now.what (asked.OwnerRemove c.in-OwnerRemove.package c.in-OwnerRemove.user) c.old_maintainer.result c.in-OwnerRemove.is (λ y told sound needs. told c.args.request.now.at sound) (c.old_maintainer.ensures.loads clean)
 
 pub returns-in-Publish-clause-loads : goal.returns-in-Publish-clause-loads
 returns-in-Publish-clause-loads g c clean =
-    told_sound (Reads schema (shown g.S.Store c.args.tx.now) (shown g.S.Store c.new_version.new.tx)) (stored_in g.S.Store c.args.tx.now) c.args.caller.now c.args.what.now (asked.Publish c.in-Publish.form) c.new_version.result c.in-Publish.is (c.new_version.ensures.loads clean)
+    found_so (Reads schema (shown g.S.Store c.args.tx.now) (shown g.S.Store c.new_version.new.tx)) (stored_in g.S.Store c.args.tx.now) c.args.request.now.at c.args.caller.now c.args.request.now.what (asked.Publish c.in-Publish.form) c.new_version.result c.in-Publish.is (λ y told sound needs. told c.args.request.now.at sound) (c.new_version.ensures.loads clean)
 
 pub returns-in-TagSet-clause-loads : goal.returns-in-TagSet-clause-loads
 returns-in-TagSet-clause-loads g c clean =
-    told_sound (Reads schema (shown g.S.Store c.args.tx.now) (shown g.S.Store c.new_tag.new.tx)) (stored_in g.S.Store c.args.tx.now) c.args.caller.now c.args.what.now (asked.TagSet c.in-TagSet.package c.in-TagSet.tag c.in-TagSet.version) c.new_tag.result c.in-TagSet.is (c.new_tag.ensures.loads clean)
+    found_about (Reads schema (shown g.S.Store c.args.tx.now) (shown g.S.Store c.new_tag.new.tx)) (stored_in g.S.Store c.args.tx.now) c.args.request.now.at c.args.caller.now c.args.request.now.what (asked.TagSet c.in-TagSet.package c.in-TagSet.tag c.in-TagSet.version) c.new_tag.result c.map-in-TagSet.result c.in-TagSet.is refl c.map-in-TagSet.ensures.cases (λ x told. told) (c.new_tag.ensures.loads clean)
 
 pub returns-in-TagRemove-clause-loads : goal.returns-in-TagRemove-clause-loads
 returns-in-TagRemove-clause-loads g c clean =
-    told_sound (Reads schema (shown g.S.Store c.args.tx.now) (shown g.S.Store c.old_tag.new.tx)) (stored_in g.S.Store c.args.tx.now) c.args.caller.now c.args.what.now (asked.TagRemove c.in-TagRemove.package c.in-TagRemove.tag) c.old_tag.result c.in-TagRemove.is (c.old_tag.ensures.loads clean)
+    found_about (Reads schema (shown g.S.Store c.args.tx.now) (shown g.S.Store c.old_tag.new.tx)) (stored_in g.S.Store c.args.tx.now) c.args.request.now.at c.args.caller.now c.args.request.now.what (asked.TagRemove c.in-TagRemove.package c.in-TagRemove.tag) c.old_tag.result c.map-in-TagRemove.result c.in-TagRemove.is refl c.map-in-TagRemove.ensures.cases (λ x told. told) (c.old_tag.ensures.loads clean)
 
 pub returns-in-Withdraw-clause-loads : goal.returns-in-Withdraw-clause-loads
 returns-in-Withdraw-clause-loads g c clean =
-    told_needs (Reads schema (shown g.S.Store c.args.tx.now) (shown g.S.Store c.old_version.new.tx)) (stored_in g.S.Store c.args.tx.now) c.args.caller.now c.args.what.now (asked.Withdraw c.in-Withdraw.package c.in-Withdraw.version) c.old_version.result c.in-Withdraw.is (c.old_version.ensures.loads clean)
+    found_so (Reads schema (shown g.S.Store c.args.tx.now) (shown g.S.Store c.old_version.new.tx)) (stored_in g.S.Store c.args.tx.now) c.args.request.now.at c.args.caller.now c.args.request.now.what (asked.Withdraw c.in-Withdraw.package c.in-Withdraw.version) c.old_version.result c.in-Withdraw.is (λ y told. told) (c.old_version.ensures.loads clean)
 
 pub returns-in-Deprecate-clause-loads : goal.returns-in-Deprecate-clause-loads
 returns-in-Deprecate-clause-loads g c clean =
-    told_messages c.in-Deprecate.selector c.in-Deprecate.message (Reads schema (shown g.S.Store c.args.tx.now) (shown g.S.Store c.live_versions.new.tx)) (stored_in g.S.Store c.args.tx.now) c.args.caller.now c.args.what.now (λ selector message. asked.Deprecate c.in-Deprecate.package selector message) c.live_versions.result c.in-Deprecate.is (c.live_versions.ensures.loads clean)
-
-pub returns-in-VersionDoc-clause-loads : goal.returns-in-VersionDoc-clause-loads
-returns-in-VersionDoc-clause-loads g c clean =
-    told_sound (Reads schema (shown g.S.Store c.args.tx.now) (shown g.S.Store c.seen_document.new.tx)) (stored_in g.S.Store c.args.tx.now) c.args.caller.now c.args.what.now (asked.VersionDoc c.in-VersionDoc.package c.in-VersionDoc.version) c.seen_document.result c.in-VersionDoc.is (c.seen_document.ensures.loads clean)
-
-pub returns-in-Archive-clause-loads : goal.returns-in-Archive-clause-loads
-returns-in-Archive-clause-loads g c clean =
-    told_sound (Reads schema (shown g.S.Store c.args.tx.now) (shown g.S.Store c.seen_archive.new.tx)) (stored_in g.S.Store c.args.tx.now) c.args.caller.now c.args.what.now (asked.Archive c.in-Archive.package c.in-Archive.version) c.seen_archive.result c.in-Archive.is (c.seen_archive.ensures.loads clean)
+    found_so (Reads schema (shown g.S.Store c.args.tx.now) (shown g.S.Store c.live_versions.new.tx)) (stored_in g.S.Store c.args.tx.now) c.args.request.now.at c.args.caller.now c.args.request.now.what (asked.Deprecate c.in-Deprecate.package c.in-Deprecate.selector c.in-Deprecate.message) c.live_versions.result c.in-Deprecate.is (λ y told sound needs. told c.in-Deprecate.selector c.in-Deprecate.message c.args.request.now.at sound) (c.live_versions.ensures.loads clean)
 
 pub returns-in-Packument-clause-loads : goal.returns-in-Packument-clause-loads
 returns-in-Packument-clause-loads g c clean =
-    told_either (Reads schema (shown g.S.Store c.args.tx.now) (shown g.S.Store c.seen_package.new.tx)) (stored_in g.S.Store c.args.tx.now) c.args.caller.now c.args.what.now (asked.Packument c.in-Packument.package) (asked.Tags c.in-Packument.package) c.seen_package.result c.in-Packument.is (c.seen_package.ensures.packument clean) (c.seen_package.ensures.tags clean)
+    found_either (Reads schema (shown g.S.Store c.args.tx.now) (shown g.S.Store c.seen_package.new.tx)) (stored_in g.S.Store c.args.tx.now) c.args.request.now.at c.args.caller.now c.args.request.now.what (asked.Packument c.in-Packument.package) (asked.Tags c.in-Packument.package) c.seen_package.result c.map-in-Packument.result c.in-Packument.is refl refl c.map-in-Packument.ensures.cases (λ x told. told) (λ x told. told) (c.seen_package.ensures.packument clean) (c.seen_package.ensures.tags clean)
+
+pub returns-in-VersionDoc-clause-loads : goal.returns-in-VersionDoc-clause-loads
+returns-in-VersionDoc-clause-loads g c clean =
+    found_about (Reads schema (shown g.S.Store c.args.tx.now) (shown g.S.Store c.seen_document.new.tx)) (stored_in g.S.Store c.args.tx.now) c.args.request.now.at c.args.caller.now c.args.request.now.what (asked.VersionDoc c.in-VersionDoc.package c.in-VersionDoc.version) c.seen_document.result c.map-in-VersionDoc.result c.in-VersionDoc.is refl c.map-in-VersionDoc.ensures.cases (λ x told. told) (c.seen_document.ensures.loads clean)
+
+pub returns-in-Archive-clause-loads : goal.returns-in-Archive-clause-loads
+returns-in-Archive-clause-loads g c clean =
+    found_about (Reads schema (shown g.S.Store c.args.tx.now) (shown g.S.Store c.seen_archive.new.tx)) (stored_in g.S.Store c.args.tx.now) c.args.request.now.at c.args.caller.now c.args.request.now.what (asked.Archive c.in-Archive.package c.in-Archive.version) c.seen_archive.result c.map-in-Archive.result c.in-Archive.is refl c.map-in-Archive.ensures.cases (λ x told. told) (c.seen_archive.ensures.loads clean)
+
+pub returns-in-Members-clause-loads : goal.returns-in-Members-clause-loads
+returns-in-Members-clause-loads g c clean =
+    found_either (Reads schema (shown g.S.Store c.args.tx.now) (shown g.S.Store c.seen_organisation.new.tx)) (stored_in g.S.Store c.args.tx.now) c.args.request.now.at c.args.caller.now c.args.request.now.what (asked.Members c.in-Members.organisation) (asked.Teams c.in-Members.organisation) c.seen_organisation.result c.map-in-Members.result c.in-Members.is refl refl c.map-in-Members.ensures.cases (λ x told sound. told) (λ x told sound. told) (c.seen_organisation.ensures.members clean) (c.seen_organisation.ensures.teams clean)
+
+pub returns-in-TeamMembers-clause-loads : goal.returns-in-TeamMembers-clause-loads
+returns-in-TeamMembers-clause-loads g c clean =
+    found_either (Reads schema (shown g.S.Store c.args.tx.now) (shown g.S.Store c.seen_team.new.tx)) (stored_in g.S.Store c.args.tx.now) c.args.request.now.at c.args.caller.now c.args.request.now.what (asked.TeamMembers c.in-TeamMembers.organisation c.in-TeamMembers.team) (asked.TeamPackages c.in-TeamMembers.organisation c.in-TeamMembers.team) c.seen_team.result c.map-in-TeamMembers.result c.in-TeamMembers.is refl refl c.map-in-TeamMembers.ensures.cases (λ x told sound. told) (λ x told sound. told) (c.seen_team.ensures.members clean) (c.seen_team.ensures.packages clean)

@@ -3,33 +3,27 @@ use Rattle.sqlite.specs.Effect.{Database}
 use Rattle.sqlite.specs.State.{HasCleanDisk}
 use Rattle.registry_names.specs.Versions.{text_of_version}
 use Rattle.registry_rows.proofs.QuietFacts.{reads_then, stays_then}
-use Rattle.registry_rules.specs.Withdrawals.{live_versions, published_at, tags_of}
+use Rattle.registry_rules.specs.Withdrawals.{live_versions, tags_of}
 use Rattle.registry_tables.specs.Contents.{contents, registry_of}
 use Rattle.registry_tables.specs.Effects.{shown}
 use Rattle.registry_tables.specs.Schema.{schema}
-use Rattle.registry_desk.proofs.LoadedFacts.{three_stay, four_stay}
+use Rattle.registry_desk.proofs.LoadedFacts.{three_stay}
 use Rattle.registry_desk.proofs.withdrawals.find_life.Goals as goal
 
-pub load_published-requires : goal.load_published-requires
-load_published-requires g c = record { in_form = λ clean on. (c.in_ok-depended.ensures.loads clean).0.ready }
-
 pub load_version_tags-requires : goal.load_version_tags-requires
-load_version_tags-requires g c = record { in_form = λ clean on. (c.in_ok-published.ensures.loads clean).0.ready }
+load_version_tags-requires g c = record { in_form = λ clean on. (c.in_ok-depended.ensures.loads clean).0.ready }
 
 pub load_live-requires : goal.load_live-requires
 load_live-requires g c = record { in_form = λ clean on. (c.in_ok-tags.ensures.loads clean).0.ready }
 
-pub returns-in_err-published-clause-stays : goal.returns-in_err-published-clause-stays
-returns-in_err-published-clause-stays g c = stays_then g.S.Store c.args.tx.now c.is_depended.new.tx c.load_published.new.tx c.is_depended.ensures.stays c.load_published.ensures.stays
-
 pub returns-in_err-tags-clause-stays : goal.returns-in_err-tags-clause-stays
-returns-in_err-tags-clause-stays g c = three_stay g.S.Store c.args.tx.now c.is_depended.new.tx c.load_published.new.tx c.load_version_tags.new.tx c.is_depended.ensures.stays c.load_published.ensures.stays c.load_version_tags.ensures.stays
+returns-in_err-tags-clause-stays g c = stays_then g.S.Store c.args.tx.now c.is_depended.new.tx c.load_version_tags.new.tx c.is_depended.ensures.stays c.load_version_tags.ensures.stays
 
 pub returns-in_err-live-clause-stays : goal.returns-in_err-live-clause-stays
-returns-in_err-live-clause-stays g c = four_stay g.S.Store c.args.tx.now c.is_depended.new.tx c.load_published.new.tx c.load_version_tags.new.tx c.load_live.new.tx c.is_depended.ensures.stays c.load_published.ensures.stays c.load_version_tags.ensures.stays c.load_live.ensures.stays
+returns-in_err-live-clause-stays g c = three_stay g.S.Store c.args.tx.now c.is_depended.new.tx c.load_version_tags.new.tx c.load_live.new.tx c.is_depended.ensures.stays c.load_version_tags.ensures.stays c.load_live.ensures.stays
 
 pub returns-clause-stays : goal.returns-clause-stays
-returns-clause-stays g c = four_stay g.S.Store c.args.tx.now c.is_depended.new.tx c.load_published.new.tx c.load_version_tags.new.tx c.load_live.new.tx c.is_depended.ensures.stays c.load_published.ensures.stays c.load_version_tags.ensures.stays c.load_live.ensures.stays
+returns-clause-stays g c = three_stay g.S.Store c.args.tx.now c.is_depended.new.tx c.load_version_tags.new.tx c.load_live.new.tx c.is_depended.ensures.stays c.load_version_tags.ensures.stays c.load_live.ensures.stays
 
 pub returns-clause-loads : goal.returns-clause-loads
 returns-clause-loads g c clean =
@@ -37,23 +31,18 @@ returns-clause-loads g c clean =
     let v = text_of_version c.args.version.now in
     let was = shown g.S.Store c.args.tx.now in
     let one = shown g.S.Store c.is_depended.new.tx in
-    let two = shown g.S.Store c.load_published.new.tx in
-    let three = shown g.S.Store c.load_version_tags.new.tx in
-    let four = shown g.S.Store c.load_live.new.tx in
-    let clean_three : HasCleanDisk three = omega (arith, c.load_live.ensures.stays.survives.clean, clean) in
-    let clean_two : HasCleanDisk two = omega (arith, c.load_version_tags.ensures.stays.survives.clean, clean_three) in
-    let clean_one : HasCleanDisk one = omega (arith, c.load_published.ensures.stays.survives.clean, clean_two) in
+    let two = shown g.S.Store c.load_version_tags.new.tx in
+    let three = shown g.S.Store c.load_live.new.tx in
+    let clean_two : HasCleanDisk two = omega (arith, c.load_live.ensures.stays.survives.clean, clean) in
+    let clean_one : HasCleanDisk one = omega (arith, c.load_version_tags.ensures.stays.survives.clean, clean_two) in
     let depended = c.in_ok-depended.ensures.loads clean_one in
-    let published = c.in_ok-published.ensures.loads clean_two in
-    let tags = c.in_ok-tags.ensures.loads clean_three in
+    let tags = c.in_ok-tags.ensures.loads clean_two in
     let live = c.in_ok-live.ensures.loads clean in
-    let to_two = reads_then schema was one two depended.0 published.0 in
-    let to_three = reads_then schema was two three to_two tags.0 in (
-      reads_then schema was three four to_three live.0,
+    let to_two = reads_then schema was one two depended.0 tags.0 in (
+      reads_then schema was two three to_two live.0,
       λ needs. record {
-        published = published.1 ∙ ap (published_at (registry_of (contents one.now.trees)) p) c.text.ensures.text ∙ ap (λ (d : Database). published_at (registry_of (contents d.trees)) p v) depended.0.same;
         depended = depended.1 needs;
-        tags = tags.1 ∙ ap (tags_of (registry_of (contents two.now.trees)) p) c.text-2.ensures.text ∙ ap (λ (d : Database). tags_of (registry_of (contents d.trees)) p v) to_two.same;
-        live = live.1 ∙ ap (λ (d : Database). live_versions (registry_of (contents d.trees)) p) to_three.same;
+        tags = tags.1 ∙ ap (tags_of (registry_of (contents one.now.trees)) p) c.text.ensures.text ∙ ap (λ (d : Database). tags_of (registry_of (contents d.trees)) p v) depended.0.same;
+        live = live.1 ∙ ap (λ (d : Database). live_versions (registry_of (contents d.trees)) p) to_two.same;
       },
     )

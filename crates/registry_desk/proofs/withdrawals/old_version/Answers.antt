@@ -1,32 +1,46 @@
-use Rattle.std.proofs.Common.{arith, subst}
+use Rattle.std.proofs.Common.{◌≡◌, arith, subst, None}
+use Rattle.std.proofs.lemmas.Result.{IfOk-weaker}
 use Rattle.sqlite.specs.Effect.{Database}
 use Rattle.sqlite.specs.State.{HasCleanDisk}
-use Rattle.registry_tables.specs.Needs.{HoldsNeeds}
+use Rattle.registry_access.specs.RowsFor.{StandingTells}
+use Rattle.registry_access.specs.declared.caller.Caller.{Caller}
 use Rattle.registry_rows.proofs.QuietFacts.{reads_then, stays_then}
-use Rattle.registry_rules.specs.State.{stands}
-use Rattle.registry_tables.specs.Contents.{contents, registry_of}
+use Rattle.registry_rules.specs.declared.request.Action.TheVariants as asked
+use Rattle.registry_tables.specs.Contents.{access_of, contents, registry_of}
 use Rattle.registry_tables.specs.Effects.{shown}
+use Rattle.registry_tables.specs.Needs.{HoldsNeeds}
 use Rattle.registry_tables.specs.Schema.{schema}
-use Rattle.registry_desk.specs.Found.{IsLife}
+use Rattle.registry_desk.specs.Early.{FoundTells, denial}
+use Rattle.registry_desk.proofs.EarlyFacts.{or_first}
 use Rattle.registry_desk.proofs.withdrawals.old_version.Goals as goal
 
-pub find_life-requires : goal.find_life-requires
-find_life-requires g c = record { in_form = λ clean on. (c.in_ok-standing.ensures.loads clean).0.ready }
+pub young_version-requires : goal.young_version-requires
+young_version-requires g c = record {
+  in_form = λ clean on. (c.in_ok-standing.ensures.loads clean).0.ready;
+  allowed = (c.args.caller.now, rw c.in-Ok.is at c.in_ok-standing.ensures.allowed);
+}
 
-pub returns-in_err-life-clause-stays : goal.returns-in_err-life-clause-stays
-returns-in_err-life-clause-stays g c = stays_then g.S.Store c.args.tx.now c.load_standing.new.tx c.find_life.new.tx c.load_standing.ensures.stays c.find_life.ensures.stays
+pub returns-in-Ok-clause-stays : goal.returns-in-Ok-clause-stays
+returns-in-Ok-clause-stays g c = stays_then g.S.Store c.args.tx.now c.standing_if_allowed.new.tx c.young_version.new.tx c.standing_if_allowed.ensures.stays c.young_version.ensures.stays
 
-pub returns-clause-stays : goal.returns-clause-stays
-returns-clause-stays g c = stays_then g.S.Store c.args.tx.now c.load_standing.new.tx c.find_life.new.tx c.load_standing.ensures.stays c.find_life.ensures.stays
-
-pub returns-clause-loads : goal.returns-clause-loads
-returns-clause-loads g c clean =
-    let mid = shown g.S.Store c.load_standing.new.tx in
-    let were : HasCleanDisk mid = omega (arith, c.find_life.ensures.stays.survives.clean, clean) in
-    let stands = c.in_ok-standing.ensures.loads were in
-    let found = c.in_ok-life.ensures.loads clean in (
-      reads_then schema (shown g.S.Store c.args.tx.now) mid (shown g.S.Store c.find_life.new.tx) stands.0 found.0,
+pub returns-in-Ok-clause-loads : goal.returns-in-Ok-clause-loads
+returns-in-Ok-clause-loads g c clean =
+    let p = c.args.name.now in
+    let one = shown g.S.Store c.standing_if_allowed.new.tx in
+    let were : HasCleanDisk one = omega (arith, c.young_version.ensures.stays.survives.clean, clean) in
+    let placed = c.in_ok-standing.ensures.loads were in
+    let action = asked.Withdraw p c.args.version.now in
+    IfOk-weaker c.young_version.result _ _
+    (λ found told. (
+      reads_then schema (shown g.S.Store c.args.tx.now) one (shown g.S.Store c.young_version.new.tx) placed.0 told.0,
       λ sound needs.
-          let life = subst (λ (d : Database). HoldsNeeds (contents d.trees) → IsLife c.in_ok-life.life (registry_of (contents d.trees)) c.args.name.now c.args.version.now) stands.0.same found.1 needs in
-          record { standing_tells = stands.1 sound; published = life.published; depended = life.depended; tags = life.tags; live = life.live },
-    )
+          let allowed = rw c.in-Ok.is at (placed.1 sound) in
+          subst (λ (d : Database). (who : Caller) → HoldsNeeds (contents d.trees) → denial (access_of (contents d.trees)) who action ≡ None → StandingTells c.in-Ok.standing (access_of (contents d.trees)) who p → FoundTells found (registry_of (contents d.trees)) c.args.now.now who action)
+          placed.0.same told.1 c.args.caller.now needs allowed.0 allowed.1,
+    ))
+    (c.young_version.ensures.loads clean)
+
+pub returns-in-Err-clause-loads : goal.returns-in-Err-clause-loads
+returns-in-Err-clause-loads g c clean =
+    let placed = c.in_ok-standing.ensures.loads clean in
+    (placed.0, λ sound needs. or_first _ _ _ (rw c.in-Err.is at (placed.1 sound)))

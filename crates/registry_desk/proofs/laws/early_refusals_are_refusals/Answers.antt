@@ -1,0 +1,5 @@
+use Rattle.registry_desk.proofs.EarlyFacts.{early_refusals_stand}
+use Rattle.registry_desk.proofs.laws.early_refusals_are_refusals.Goals as goal
+
+pub returns : goal.returns
+returns = early_refusals_stand

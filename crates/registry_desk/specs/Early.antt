@@ -1,0 +1,87 @@
+-- What is refused before all that decides it is loaded. What is dear to load is the needs of all
+-- packages, and lists: the versions of a package, those that were withdrawn, its maintainers, the
+-- members of an organisation
+use Rattle.std.specs.Prelude.{◌≡◌, ℕ, false, Option, Some, None, Result, Ok, Err}
+use Rattle.std.specs.Option.{option_or}
+use Rattle.registry_names.specs.Texts.{Text}
+use Rattle.registry_names.specs.Versions.{text_of_version}
+use Rattle.registry_names.specs.declared.refusal.Refusal.{Refusal}
+use Rattle.registry_access.specs.Access.{Access}
+use Rattle.registry_access.specs.Agreement.{SameOrganisation}
+use Rattle.registry_access.specs.Policy.{allowed_at, allowed_in, may_write}
+use Rattle.registry_access.specs.RowMaps.{state_of}
+use Rattle.registry_access.specs.RowsFor.{StandingTells}
+use Rattle.registry_access.specs.Standings.{position_of}
+use Rattle.registry_access.specs.declared.ask.Ask.{Ask}
+use Rattle.registry_access.specs.declared.ask.Ask.TheVariants.{Operate, OrgMembers, OrgTeams, Publish as ToPublish, Write, Owners, Read, OrgRead}
+use Rattle.registry_access.specs.declared.caller.Caller.{Caller}
+use Rattle.registry_access.specs.declared.rows.AccessRows.{AccessRows}
+use Rattle.registry_access.specs.declared.standing.Standing.{Standing}
+use Rattle.registry_rules.specs.Facts.{AboutTells}
+use Rattle.registry_rules.specs.Permissions.{permission}
+use Rattle.registry_rules.specs.Refusals.{refusal_by, unless_allowed, withdraw_refusal}
+use Rattle.registry_rules.specs.State.{State}
+use Rattle.registry_rules.specs.Withdrawals.{published_at}
+use Rattle.registry_rules.specs.declared.request.Action.{Action}
+use Rattle.registry_rules.specs.declared.request.Action.TheVariants.{OrgSet, OrgRemove, OwnerRemove, Publish, Withdraw, Deprecate}
+use Rattle.registry_desk.specs.declared.policy.Found.{Found}
+use Rattle.registry_desk.specs.declared.policy.Found.TheVariants as found
+
+-- why the policy refuses an action, if it does
+abbrev pub denial : Access → Caller → Action → Option Refusal
+denial A who what = unless_allowed (permission A who what)
+
+-- Why an action is refused before what is dear to load is loaded. The policy is asked first of
+-- each that needs something dear; of a withdrawal then whether the version lives, and whether it
+-- is too old, whoever needs it
+abbrev pub early_refusal : State → ℕ → Caller → Action → Option Refusal
+early_refusal S now who (OrgSet o u role) = denial S.access who (OrgSet o u role)
+early_refusal S now who (OrgRemove o u) = denial S.access who (OrgRemove o u)
+early_refusal S now who (OwnerRemove p u) = denial S.access who (OwnerRemove p u)
+early_refusal S now who (Publish f) = denial S.access who (Publish f)
+early_refusal S now who (Withdraw p v) =
+    option_or (denial S.access who (Withdraw p v)) (withdraw_refusal now (published_at S p (text_of_version v)) false)
+early_refusal S now who (Deprecate p selector message) = denial S.access who (Deprecate p selector message)
+early_refusal S now who _ = None
+
+-- What was found of an action: why it is refused early, or, where it isn't, what decides it
+abbrev pub FoundTells : Found → State → ℕ → Caller → Action → Type 0
+FoundTells (found.Refused why) S now who what = early_refusal S now who what ≡ Some why
+FoundTells (found.About about) S now who what = (early_refusal S now who what ≡ None) × AboutTells about S who what
+
+-- an early refusal is that of the machine
+abbrev pub EarlyRefusalsStand : Type 0
+EarlyRefusalsStand = (S : State) (now : ℕ) (who : Caller) (what : Action) (why : Refusal)
+    → early_refusal S now who what ≡ Some why → refusal_by S now who what ≡ Some why
+
+-- ---- the policy alone
+
+-- the standing of a caller to a package whom the policy allows what they ask of it, or why it
+-- doesn't
+abbrev pub IsPlaced : Result Standing Refusal → Access → Caller → Ask → Text → Type 0
+IsPlaced (Ok standing) A who ask p = (unless_allowed (allowed_in A who ask) ≡ None) × StandingTells standing A who p
+IsPlaced (Err why) A who ask p = unless_allowed (allowed_in A who ask) ≡ Some why
+
+-- by this standing the policy allows the caller what they ask
+abbrev pub IsAllowedBy : Standing → Caller → Ask → Type 0
+IsAllowedBy standing who ask = unless_allowed (allowed_at who ask (position_of standing who)) ≡ None
+
+-- by this standing a caller may write the package
+abbrev pub LetsWrite : Standing → Type 0
+LetsWrite standing = (who : Caller) × (unless_allowed (may_write who (position_of standing who)) ≡ None)
+
+-- the organisation that is asked about
+abbrev pub asked_organisation : Ask → Option Text
+asked_organisation Operate = None
+asked_organisation (OrgMembers o) = Some o.now
+asked_organisation (OrgTeams o) = Some o.now
+asked_organisation (ToPublish p) = None
+asked_organisation (Write p) = None
+asked_organisation (Owners p) = None
+asked_organisation (Read p) = None
+asked_organisation (OrgRead o) = Some o.now
+
+-- the same of an organisation, and of what rows say of it
+abbrev pub IsPlacedIn : Result AccessRows Refusal → Access → Caller → Ask → Text → Type 0
+IsPlacedIn (Ok rows) A who ask o = (unless_allowed (allowed_in A who ask) ≡ None) × SameOrganisation (state_of rows) A who o
+IsPlacedIn (Err why) A who ask o = unless_allowed (allowed_in A who ask) ≡ Some why
