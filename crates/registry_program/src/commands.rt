@@ -31,7 +31,7 @@ pub fn answer_command<R: Registries, O: ByteOut, E: ByteOut>(
 ) -> Result<u8, Ending> {
     let line = line(alloc, arguments)?;
     if line.asks_to_serve() {
-        serve(rt, alloc, &line, output)
+        serve(rt, alloc, &line, output, errors)
     } else {
         print_answer(rt, alloc, registries, &line, output, errors)
     }
