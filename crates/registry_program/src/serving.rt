@@ -102,8 +102,5 @@ fn serve_at<S: Alter, O: ByteOut>(
 // Prints where the server listens.
 fn announce<O: ByteOut>(alloc: Global, server: &Server, output: &mut O) -> Result<(), Ending> {
     let said = format!(in alloc; "listening 127.0.0.1:{}\n", server.port()?)?;
-    match write_whole(output, said.as_bytes()) {
-        Ok(()) => Ok(()),
-        Err(_) => Err(Ending::Fault(Failure::Write)),
-    }
+    Ok(write_whole(output, said.as_bytes())?)
 }
