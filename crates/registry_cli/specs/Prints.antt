@@ -1,5 +1,6 @@
 -- What the program prints of an answer, and the status with which it ends.
-use Rattle.std.specs.Prelude.{ℕ, List, [], ◌++◌, codes, decimal}
+use Rattle.std.specs.Prelude.{◌⊎◌, ℕ, Bool, List, [], ◌++◌, Option, codes, decimal}
+use Rattle.registry_names.specs.ByteStreams.{Writes, WritesPrefix}
 use Rattle.registry_names.specs.Refusals.{refusal_text}
 use Rattle.registry_rules.specs.declared.reply.Reply.{Reply}
 use Rattle.registry_rules.specs.declared.reply.Reply.TheVariants.{Created, Done, Count, Doc, Bytes, Refused}
@@ -26,3 +27,7 @@ printed (Count n) = on_output (codes "{\"count\":" ++ decimal n ++ codes ",\"ok\
 printed (Doc text) = on_output (text ++ newline)
 printed (Bytes archive) = on_output archive
 printed (Refused refusal) = on_errors (codes "refused: " ++ refusal_text refusal ++ newline)
+
+-- Over some calls a stream took this text, or a prefix of it.
+abbrev pub WritesSome : Option (List ℕ) → Option (List ℕ) → Bool → List ℕ → Type 0
+WritesSome old new unknown text = Writes old new unknown text ⊎ WritesPrefix old new unknown text

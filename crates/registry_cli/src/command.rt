@@ -16,7 +16,8 @@ use std::alloc::{AllocError, Global};
 /// The last second of the year 9999.
 const LAST_SECOND: i64 = 253_402_300_799;
 
-const ABOUT: &str = "A package registry for one house, in npm's manner";
+/// What the program is, with its version.
+const ABOUT: &str = "registry 0.1.0, a package registry for one house, in npm's manner";
 
 const EXAMPLE: &str = "Example: registry --db registry.db --operator user-add ann";
 

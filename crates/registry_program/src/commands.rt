@@ -8,8 +8,8 @@ use crate::moment::read_moment;
 use crate::registries::Registries;
 use crate::run::MOST_READ;
 use crate::serving::serve;
-use registry_cli::{Line, Printed, action_of, line, render};
-use registry_names::{ByteOut, Fault, FromRead, Moment, ReadStop, Text, read_whole, write_whole};
+use registry_cli::{Line, action_of, line, print_reply};
+use registry_names::{ByteOut, Fault, FromRead, Moment, ReadStop, Text, read_whole};
 use registry_rules::Request;
 use std::alloc::Global;
 use std::fs;
@@ -31,13 +31,14 @@ pub fn answer_command<R: Registries, O: ByteOut, E: ByteOut>(
 ) -> Result<u8, Ending> {
     let line = line(alloc, arguments)?;
     if line.asks_to_serve() {
-        serve(rt, alloc, &line, output)
+        serve(rt, alloc, &line, output, errors)
     } else {
         print_answer(rt, alloc, registries, &line, output, errors)
     }
 }
 
-// Prints the answer to what a line asks for.
+// Prints the answer to what a line asks for. To print it takes no memory, so that a fault of memory
+// says that nothing was done.
 fn print_answer<R: Registries, O: ByteOut, E: ByteOut>(
     rt: &HostRuntime,
     alloc: Global,
@@ -51,8 +52,7 @@ fn print_answer<R: Registries, O: ByteOut, E: ByteOut>(
 {
     let request = request(rt, alloc, line)?;
     let reply = registries.reply(rt, alloc, line.db.as_str(), &request)?;
-    let printed = render(alloc, &reply)?;
-    print(&printed, output, errors)
+    Ok(print_reply(&reply, output, errors)?)
 }
 
 // What a line asks for, and when.
@@ -99,17 +99,4 @@ fn file_bytes(rt: &HostRuntime, alloc: Global, path: &str) -> Result<Vec<u8>, En
         Err(ReadStop::Read) => Err(Ending::Fault(Failure::File)),
         Err(ReadStop::Memory) => Err(Ending::from(Fault::Memory)),
     }
-}
-
-// Prints an answer, and gives its exit status.
-fn print<O: ByteOut, E: ByteOut>(
-    printed: &Printed,
-    output: &mut O,
-    errors: &mut E,
-) -> Result<u8, Ending> {
-    if write_whole(output, printed.out.as_slice()).is_err() {
-        return Err(Ending::Fault(Failure::Write));
-    }
-    let _ = write_whole(errors, printed.err.as_str().as_bytes());
-    Ok(printed.status)
 }

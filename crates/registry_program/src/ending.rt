@@ -1,7 +1,7 @@
 //! Why the program ends without an answer.
 
 use registry_cli::Usage;
-use registry_names::{Fault, ReadStop, Refusal, Stop, Text};
+use registry_names::{Fault, ReadStop, Refusal, Stop, Text, WriteFailed};
 use std::alloc::AllocError;
 use std::io;
 use std::io::ErrorKind;
@@ -93,5 +93,11 @@ impl From<ReadStop> for Ending {
             ReadStop::Read => Ending::Fault(Failure::Read),
             ReadStop::Memory => Ending::from(Fault::Memory),
         }
+    }
+}
+
+impl From<WriteFailed> for Ending {
+    fn from(_failed: WriteFailed) -> Ending {
+        Ending::Fault(Failure::Write)
     }
 }

@@ -108,8 +108,6 @@ fn print_packument<I: ByteIn, O: ByteOut>(
     let packument = packument_of(alloc, &body)?;
     let mut text = String::from_str(alloc, packument.as_str())?;
     text.push('\n')?;
-    match write_whole(output, text.as_bytes()) {
-        Ok(()) => Ok(0),
-        Err(_) => Err(Ending::Fault(Failure::Write)),
-    }
+    write_whole(output, text.as_bytes())?;
+    Ok(0)
 }

@@ -15,6 +15,9 @@ use std::alloc::Global;
 /// What is said of a port or of connections that are no number.
 const NO_NUMBER: &str = "error: --port and --connections take whole numbers";
 
+/// What is said where a server ends.
+const ENOUGH: &str = "ended: as many connections came as --connections says\n";
+
 /// Where connections come in, and how many.
 #[derive(Clone, Copy)]
 struct Entrance {
@@ -32,21 +35,37 @@ impl Entrance {
 }
 
 /// Serves the registry in the line's file to as many connections as it says, and answers the exit
-/// status, 0, once all have ended. Where it listens is printed on the output before the first one
-/// is accepted.
-pub fn serve<O: ByteOut>(
+/// status, 0, once all have ended; the errors then say why it ends. The greatest number is that of
+/// no count: then it serves all that come. Where it listens is printed on the output before the
+/// first one is accepted.
+pub fn serve<O: ByteOut, E: ByteOut>(
     rt: &HostRuntime,
     alloc: Global,
     line: &Line,
     output: &mut O,
+    errors: &mut E,
 ) -> Result<u8, Ending> {
     let Some(entrance) = Entrance::of(line.what.as_slice()) else {
         return Err(Ending::Wrong(NO_NUMBER));
     };
     match open(rt, line.db.as_str()) {
-        Ok(registry) => serve_registry(rt, alloc, entrance, registry, output),
+        Ok(registry) => serve_counted(rt, alloc, entrance, registry, output, errors),
         Err(ending) => Err(ending),
     }
+}
+
+// Serves a registry, and says why it ends once it does.
+fn serve_counted<D: Disk + Drop, O: ByteOut, E: ByteOut>(
+    rt: &HostRuntime,
+    alloc: Global,
+    entrance: Entrance,
+    registry: Registry<FileStore<D>>,
+    output: &mut O,
+    errors: &mut E,
+) -> Result<u8, Ending> {
+    let status = serve_registry(rt, alloc, entrance, registry, output)?;
+    let _ = write_whole(errors, ENOUGH.as_bytes());
+    Ok(status)
 }
 
 // Serves a registry, and lets go of it.
@@ -83,8 +102,5 @@ fn serve_at<S: Alter, O: ByteOut>(
 // Prints where the server listens.
 fn announce<O: ByteOut>(alloc: Global, server: &Server, output: &mut O) -> Result<(), Ending> {
     let said = format!(in alloc; "listening 127.0.0.1:{}\n", server.port()?)?;
-    match write_whole(output, said.as_bytes()) {
-        Ok(()) => Ok(()),
-        Err(_) => Err(Ending::Fault(Failure::Write)),
-    }
+    Ok(write_whole(output, said.as_bytes())?)
 }

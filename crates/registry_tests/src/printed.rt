@@ -3,8 +3,8 @@
 use crate::outcome::{is_displayed, same};
 use crate::parts::{blob, shared};
 use registry_access::{Grant, Role};
-use registry_cli::render;
-use registry_names::{Refusal, Rule, Status};
+use registry_cli::{Printed, print_reply, render};
+use registry_names::{Refusal, Rule, Status, ToWrite};
 use registry_rules::Reply;
 use std::alloc::Global;
 use std::process::Abort;
@@ -14,6 +14,21 @@ fn is_printed(rt: &impl Abort, alloc: Global, reply: Reply, out: &str, err: &str
     same(rt, &reply, printed.out.as_slice(), out.as_bytes());
     same(rt, &reply, printed.err.as_str(), err);
     same(rt, &reply, &printed.status, &status);
+    is_written(rt, alloc, &reply, &printed);
+}
+
+// Sees that the same goes to two streams.
+fn is_written(rt: &impl Abort, alloc: Global, reply: &Reply, printed: &Printed) {
+    let mut out = Vec::new(alloc);
+    let mut err = Vec::new(alloc);
+    let status = print_reply(
+        reply,
+        &mut ToWrite::new(&mut out),
+        &mut ToWrite::new(&mut err),
+    );
+    same(rt, reply, &status, &Ok(printed.status));
+    same(rt, reply, out.as_slice(), printed.out.as_slice());
+    same(rt, reply, err.as_slice(), printed.err.as_str().as_bytes());
 }
 
 const OK: &str = "{\"ok\":true}\n";

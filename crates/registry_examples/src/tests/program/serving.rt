@@ -14,6 +14,9 @@ const ASKS: &str = "GET /kit HTTP/1.1\r\nhost: localhost\r\n\r\n";
 const ANSWER: &str =
     "HTTP/1.1 404 Not Found\r\ncontent-type: application/json\r\ncontent-length: 20\r\n\r\n{\"error\":\"NotFound\"}";
 
+/// What is said where as many connections came as were to be served.
+const ENOUGH: &str = "ended: as many connections came as --connections says\n";
+
 /// An output that connects a client as soon as its first bytes say where the program listens. The
 /// client asks, and sends no more.
 #[derive(Drop)]
@@ -87,7 +90,7 @@ pub(super) fn answers_client(
     is_served(rt, db, &mut caller, answer)
 }
 
-// Whether the caller is served and given this answer, and nothing is said of a fault.
+// Whether the caller is served and given this answer, and why the program ends is said.
 fn is_served<R: Net>(
     rt: &HostRuntime,
     db: &str,
@@ -97,7 +100,7 @@ fn is_served<R: Net>(
     let mut errors = Vec::new(rt.alloc());
     let status = serve(rt, db, caller, &mut errors)?;
     caller.is_answered(rt.alloc(), answer)?;
-    same_text(&errors, "")?;
+    same_text(&errors, ENOUGH)?;
     if status != 0 {
         return Err(Fail::new(format_args!("the status is {status}")));
     }

@@ -1,0 +1,122 @@
+//! Printing an answer, which takes no memory.
+
+ghost use Rattle.std.specs.Prelude.{◌≡◌, ◌++◌, OnOk, OnErr, IfOk, codes, decimal, true};
+ghost use Rattle.registry_names.specs.ByteStreams.{Writes, WritesPrefix};
+ghost use Rattle.registry_cli.specs.Prints.{WritesSome, newline, printed};
+
+use itoa::Buffer;
+use registry_names::{ByteOut, WriteFailed, write_whole};
+use registry_rules::Reply;
+
+/// What is printed for a command that was done.
+const DONE: &str = "{\"ok\":true}\n";
+
+/// Prints an answer, and gives the status with which the program ends.
+///
+/// What [`render`](crate::render) gives goes to the output, and then to the errors as far as they
+/// take it. No memory is taken. An error comes where a write on the output fails, which may have
+/// taken a prefix of the answer then; the errors get nothing.
+pub fn print_reply<O: ByteOut, E: ByteOut>(
+    reply: &Reply,
+    output: &mut O,
+    errors: &mut E,
+) -> Result<u8, WriteFailed>
+    ensures status { IfOk result (λ status. status ≡ (printed reply.now).status) }
+    ensures output { OnOk result (Writes (O.bytes output.old) (O.bytes output.new)
+        (O.is_unknown output.new) (printed reply.now).out) }
+    ensures errors { OnOk result (WritesSome (E.bytes errors.old) (E.bytes errors.new)
+        (E.is_unknown errors.new) (printed reply.now).err) }
+    ensures broken { OnErr result (WritesPrefix (O.bytes output.old) (O.bytes output.new)
+        (O.is_unknown output.new) (printed reply.now).out) }
+    ensures silent { OnErr result (errors.new ≡ errors.old) }
+{
+    write_answer(reply, output)?;
+    let _ = write_refusal(reply, errors);
+    Ok(status_of(reply))
+}
+
+fn status_of(reply: &Reply) -> u8
+    ensures { result ≡ (printed reply.now).status }
+{
+    match reply {
+        Reply::Created | Reply::Done | Reply::Count(_) | Reply::Doc(_) | Reply::Bytes(_) => 0,
+        Reply::Refused(_) => 1,
+    }
+}
+
+// Writes what of an answer goes to standard output.
+fn write_answer<W: ByteOut>(reply: &Reply, writer: &mut W) -> Result<(), WriteFailed>
+    ensures ok { OnOk result (Writes (W.bytes writer.old) (W.bytes writer.new)
+        (W.is_unknown writer.new) (printed reply.now).out) }
+    ensures err { OnErr result (WritesPrefix (W.bytes writer.old) (W.bytes writer.new)
+        (W.is_unknown writer.new) (printed reply.now).out) }
+{
+    match reply {
+        Reply::Created | Reply::Done => write_whole(writer, DONE.as_bytes()),
+        Reply::Count(count) => write_count(*count, writer),
+        Reply::Doc(text) => write_two(writer, text.as_str().as_bytes(), b"\n"),
+        Reply::Bytes(archive) => write_whole(writer, archive.as_slice()),
+        Reply::Refused(_) => write_whole(writer, &[]),
+    }
+}
+
+// Writes what of an answer goes to standard error.
+fn write_refusal<W: ByteOut>(reply: &Reply, writer: &mut W) -> Result<(), WriteFailed>
+    ensures ok { OnOk result (Writes (W.bytes writer.old) (W.bytes writer.new)
+        (W.is_unknown writer.new) (printed reply.now).err) }
+    ensures err { OnErr result (WritesPrefix (W.bytes writer.old) (W.bytes writer.new)
+        (W.is_unknown writer.new) (printed reply.now).err) }
+{
+    match reply {
+        Reply::Created | Reply::Done | Reply::Count(_) | Reply::Doc(_) | Reply::Bytes(_) =>
+            write_whole(writer, &[]),
+        Reply::Refused(refusal) => write_three(
+            writer,
+            b"refused: ",
+            refusal.text().as_bytes(),
+            b"\n",
+        ),
+    }
+}
+
+// Writes the answer of so many.
+fn write_count<W: ByteOut>(count: u64, writer: &mut W) -> Result<(), WriteFailed>
+    ensures ok { OnOk result (Writes (W.bytes writer.old) (W.bytes writer.new)
+        (W.is_unknown writer.new)
+        (codes "{\"count\":" ++ decimal count ++ codes ",\"ok\":true}" ++ newline)) }
+    ensures err { OnErr result (WritesPrefix (W.bytes writer.old) (W.bytes writer.new)
+        (W.is_unknown writer.new)
+        (codes "{\"count\":" ++ decimal count ++ codes ",\"ok\":true}" ++ newline)) }
+{
+    let mut digits = Buffer::new();
+    let number = digits.format(count).as_bytes();
+    write_three(writer, b"{\"count\":", number, b",\"ok\":true}\n")
+}
+
+// Writes three texts, or a prefix of them up to the first failed write.
+fn write_three<W: ByteOut>(
+    writer: &mut W,
+    first: &[u8],
+    second: &[u8],
+    third: &[u8],
+) -> Result<(), WriteFailed>
+    ensures ok { OnOk result (Writes (W.bytes writer.old) (W.bytes writer.new)
+        (W.is_unknown writer.new) (first.now ++ (second.now ++ third.now))) }
+    ensures err { OnErr result (WritesPrefix (W.bytes writer.old) (W.bytes writer.new)
+        (W.is_unknown writer.new) (first.now ++ (second.now ++ third.now))) }
+{
+    write_whole(writer, first)?;
+    write_two(writer, second, third)
+}
+
+fn write_two<W: ByteOut>(writer: &mut W, first: &[u8], second: &[u8]) -> Result<(), WriteFailed>
+    ensures ok { OnOk result (Writes (W.bytes writer.old) (W.bytes writer.new)
+        (W.is_unknown writer.new) (first.now ++ second.now)) }
+    ensures err { OnErr result (WritesPrefix (W.bytes writer.old) (W.bytes writer.new)
+        (W.is_unknown writer.new) (first.now ++ second.now)) }
+
+    ensures unknown { W.is_unknown writer.old ≡ true → W.is_unknown writer.new ≡ true }
+{
+    write_whole(writer, first)?;
+    write_whole(writer, second)
+}
