@@ -5,6 +5,7 @@ pub mod Effects
 pub mod Facts
 pub mod Kept
 pub mod Laws
+pub mod Moments
 pub mod Operations
 pub mod Permissions
 pub mod Refusals
