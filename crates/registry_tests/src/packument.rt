@@ -70,8 +70,10 @@ fn head(
         created: Moment::clamped(100),
         modified: Moment::clamped(200),
     };
-    PackHead::new(text(rt, alloc, name), tags(rt, alloc, cases), times)
-        .expect(rt, "tags and versions in their order")
+    PackHead::new(text(rt, alloc, name), tags(rt, alloc, cases), times).expect(
+        rt,
+        "tags and versions in their order",
+    )
 }
 
 fn times(rt: &impl Abort, alloc: Global, cases: &[VersionCase]) -> Vec<VersionTime> {
@@ -183,7 +185,9 @@ static PACKUMENTS: [Case; 6] = [
     (
         "a package of nothing",
         Asked::Packument("kit", &[], &[]),
-        Some(r#"{"_id":"kit","dist-tags":{},"name":"kit","time":{"created":"1970-01-01T00:01:40.000Z","modified":"1970-01-01T00:03:20.000Z"},"versions":{}}"#),
+        Some(
+            r#"{"_id":"kit","dist-tags":{},"name":"kit","time":{"created":"1970-01-01T00:01:40.000Z","modified":"1970-01-01T00:03:20.000Z"},"versions":{}}"#,
+        ),
     ),
     (
         "tags with quotes, and a message",

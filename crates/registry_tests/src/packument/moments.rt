@@ -59,7 +59,12 @@ static SPANS: [Span; 6] = [
     (&[], None, &[("1.0.0", "{}", "")], Some((100, 100))),
     (&[70], Some(80), &[], Some((70, 80))),
     (&[70], Some(80), &[("1.0.0", "{}", "")], Some((70, 100))),
-    (&[150, 120], Some(200), &[("1.0.0", "{}", "")], Some((100, 200))),
+    (
+        &[150, 120],
+        Some(200),
+        &[("1.0.0", "{}", "")],
+        Some((100, 200)),
+    ),
     (&[150], Some(90), &[("1.0.0", "{}", "")], Some((100, 150))),
 ];
 
@@ -75,8 +80,10 @@ fn spans(rt: &impl Abort, alloc: Global, span: &Span) {
     let (withdrawn, last, versions, wanted) = span;
     let live = times(rt, alloc, versions);
     let withdrawn = moments(rt, alloc, withdrawn);
-    let came_out = PackTimes::new(live, &withdrawn, last.map(Moment::clamped))
-        .map(|times| (times.created.seconds(), times.modified.seconds()));
+    let came_out = PackTimes::new(live, &withdrawn, last.map(Moment::clamped)).map(|times| (
+        times.created.seconds(),
+        times.modified.seconds(),
+    ));
     same(rt, last, came_out, *wanted);
 }
 
