@@ -8,6 +8,8 @@ use Rattle.registry_access.specs.Levels.{reads}
 use Rattle.registry_access.specs.Positions.{level_in}
 use Rattle.registry_access.specs.declared.caller.Caller.{Caller}
 use Rattle.registry_access.specs.declared.grant.Grant.{Grant}
+use Rattle.registry_packument.specs.Heads.{time_entry}
+use Rattle.registry_packument.specs.declared.times.PackTimes.{PackTimes}
 use Rattle.registry_publish.specs.Form.{FormParts}
 use Rattle.registry_rules.specs.Actions.{is_command, version_of}
 use Rattle.registry_rules.specs.Callers.{caller_of}
@@ -18,9 +20,9 @@ use Rattle.registry_rules.specs.declared.request.Action.TheVariants.{Deprecate, 
 use Rattle.registry_rules.specs.declared.request.Request.{Request}
 use Rattle.registry_tables.specs.Contents.{Contents, registry_of}
 use Rattle.registry_tables.specs.Needs.{HoldsNeeds}
-use Rattle.registry_tables.specs.Spelled.{document, document_entry, member_entry, row_entry, tag_entry}
+use Rattle.registry_tables.specs.Spelled.{document, document_entry, member_entry, published, row_entry, tag_entry}
 use Rattle.registry_tables.specs.Teams.{granted_entry}
-use Rattle.registry_history.specs.Answers.{asked_release, packument_in}
+use Rattle.registry_history.specs.Answers.{asked_release, created_at, modified_at, packument_in}
 use Rattle.registry_desk.specs.declared.grants.Grantable.{Grantable}
 use Rattle.registry_desk.specs.declared.maintainers.Leaver.{Leaver}
 use Rattle.registry_desk.specs.declared.maintainers.Newcomer.{Newcomer}
@@ -31,11 +33,18 @@ use Rattle.registry_desk.specs.declared.withdrawals.Life.{Life}
 use Rattle.registry_desk.specs.declared.rows.Rows.{Rows}
 use Rattle.registry_desk.specs.declared.rows.Rows.TheVariants as rows
 
+-- These are the moments of the package: when each of its live versions was published, when it was
+-- created, and when it was modified last
+pub record AreTimesOf (times : PackTimes) (S : State) (p : Text) : Type 0 where
+  pub versions : map time_entry times.versions.items ≡ map (seen published) (of S.live p)
+  pub created : created_at (of S.live p) (of S.spent p) ≡ Some times.created
+  pub modified : modified_at (of S.live p) (of S.spent p) ≡ Some times.modified
+
 -- The rows are those that answer the caller's action. A command is answered by none, but a
 -- deprecation by the live versions
 abbrev pub AreRowsOf : Rows → State → Caller → Action → Type 0
-AreRowsOf (rows.Packument versions tags) S who (Packument p) =
-    (map row_entry versions.items ≡ map (seen document) (of S.live p)) × (map tag_entry tags.items ≡ of S.tags p)
+AreRowsOf (rows.Packument versions tags times) S who (Packument p) =
+    (map row_entry versions.items ≡ map (seen document) (of S.live p)) × ((map tag_entry tags.items ≡ of S.tags p) × AreTimesOf times S p)
 AreRowsOf (rows.Known text) S who (Packument p) = text ≡ packument_in S p
 AreRowsOf (rows.Document found) S who (VersionDoc p asked) = option_map document_entry found ≡ option_map document (asked_release S p asked)
 AreRowsOf (rows.Archive archive) S who (Archive p v) = archive ≡ option_map (λ (r : Release). r.archive) (at S.live (p, text_of_version v))

@@ -16,13 +16,13 @@ ghost use Rattle.registry_tables.specs.Teams.{granted_entry};
 ghost use Rattle.registry_history.specs.Answers as answers;
 ghost use Rattle.registry_history.specs.Answers.{members_in, packument_in, tags_in, team_packages_in};
 ghost use Rattle.registry_history.specs.Runs.{accepts};
-ghost use Rattle.registry_desk.specs.Found.{AreRowsOf};
+ghost use Rattle.registry_desk.specs.Found.{AreRowsOf, AreTimesOf};
 
 use crate::rows::Rows;
 use registry_cache::SharedText;
 use registry_names::{DistTag, Fault, Name, Text, Ver};
 use registry_packument::{
-    Granted, List, Member, PackHead, VersionRow, VersionRows, list_text, packument_text,
+    Granted, List, Member, PackHead, PackTimes, VersionRow, VersionRows, list_text, packument_text,
     version_text,
 };
 use registry_ranges::Selector;
@@ -61,9 +61,14 @@ pub(crate) fn reply(alloc: Global, what: &Action, rows: Rows) -> Result<Reply, F
         (Action::Deprecate { selector, .. }, Rows::Live(live)) => {
             Ok(Reply::Count(count(selector, &live)))
         }
-        (Action::Packument { package }, Rows::Packument { versions, tags }) => {
-            doc(packument(alloc, package, versions, tags)?)
-        }
+        (
+            Action::Packument { package },
+            Rows::Packument {
+                versions,
+                tags,
+                times,
+            },
+        ) => doc(packument(alloc, package, versions, tags, times)?),
         (Action::Packument { .. }, Rows::Known(text)) => Ok(Reply::Doc(text)),
         (Action::VersionDoc { .. }, Rows::Document(Some(row))) => { doc(document(alloc, &row)?) }
         (Action::Archive { .. }, Rows::Archive(Some(archive))) => Ok(Reply::Bytes(archive)),
@@ -104,21 +109,23 @@ fn selects(selector: &Selector, version: &Ver) -> bool
     selector.selects(version)
 }
 
-// The packument of a package, whose versions and tags these are. A database gives its rows in
-// order.
+// The packument of a package, whose versions, tags and moments these are. A database gives its rows
+// in order.
 fn packument(
     alloc: Global,
     name: &Name,
     versions: Vec<VersionRow>,
     tags: Vec<DistTag>,
+    times: PackTimes,
 ) -> Result<Text, Fault>
     ensures { IfOk result (λ text. (S : State)
         → map row_entry versions.items ≡ map (seen document) (of S.live name.now)
         → map tag_entry tags.items ≡ of S.tags name.now
+        → AreTimesOf times S name.now
         → text ≡ packument_in S name.now) }
 {
     let name = Text::from_str(alloc, name.text())?;
-    let Some(head) = PackHead::new(name, tags) else {
+    let Some(head) = PackHead::new(name, tags, times) else {
         return Err(Fault::Database);
     };
     let Some(mut source) = VersionRows::new(versions) else {

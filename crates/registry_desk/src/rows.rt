@@ -11,7 +11,7 @@ ghost use Rattle.registry_tables.specs.Effects.{InForm, Knows, Loads};
 ghost use Rattle.registry_tables.specs.Spelled.{document, document_entry};
 ghost use Rattle.registry_tables.specs.Teams.{AreTeamsSound};
 ghost use Rattle.registry_cache.specs.Caches.{kept};
-ghost use Rattle.registry_desk.specs.Found.{AreRowsOf};
+ghost use Rattle.registry_desk.specs.Found.{AreRowsOf, AreTimesOf};
 ghost use Rattle.registry_desk.specs.Caches.{ArePackuments, IsSoundFor};
 ghost use Rattle.registry_rules.specs.declared.request.Action.TheVariants as asked;
 ghost use Rattle.registry_rules.specs.declared.request.Asked.TheVariants as which;
@@ -19,11 +19,12 @@ ghost use Rattle.registry_rules.specs.declared.request.Asked.TheVariants as whic
 use registry_access::Caller;
 use registry_cache::{SharedText, TextCache};
 use registry_names::{Blob, DistTag, Fault, Ident, LATEST, Name, Text, Ver};
-use registry_packument::{Granted, Member, VersionRow};
+use registry_packument::{Granted, Member, PackTimes, VersionRow};
 use registry_rules::{Action, Asked};
 use registry_tables::{
-    DocumentRow, load_archive, load_document, load_live, load_members, load_tag, load_tags,
-    load_team_packages, load_team_users, load_teams, load_versions,
+    DocumentRow, load_archive, load_document, load_last_withdrawal, load_live, load_members,
+    load_spent_publications, load_tag, load_tags, load_team_packages, load_team_users, load_teams,
+    load_version_times, load_versions,
 };
 use sqlite::{Alter, Transaction};
 use std::alloc::Global;
@@ -41,6 +42,8 @@ pub(crate) enum Rows {
         versions: Vec<VersionRow>,
         /// The tags, in byte order.
         tags: Vec<DistTag>,
+        /// The moments.
+        times: PackTimes,
     },
     /// Of a packument: its text, which was made before.
     Known(SharedText),
@@ -157,7 +160,32 @@ fn stored_rows<S: Alter>(
 {
     let versions = load_versions(alloc, tx, name)?;
     let tags = load_tags(alloc, tx, name)?;
-    Ok(Rows::Packument { versions, tags })
+    let times = load_times(alloc, tx, name)?;
+    Ok(Rows::Packument {
+        versions,
+        tags,
+        times,
+    })
+}
+
+// The moments of a package of which a version was published.
+fn load_times<S: Alter>(
+    alloc: Global,
+    tx: &mut Transaction<'_, S>,
+    name: &Name,
+) -> Result<PackTimes, Fault>
+    requires in_form { InForm S.Store tx.old }
+    ensures stays { Stays S.Store tx.old tx.new }
+    ensures loads { Loads S.Store tx.old tx.new result
+        (λ times c. AreTimesOf times (registry_of c) name.now) }
+{
+    let versions = load_version_times(alloc, tx, name)?;
+    let withdrawn = load_spent_publications(alloc, tx, name)?;
+    let last = load_last_withdrawal(tx, name)?;
+    let Some(times) = PackTimes::new(versions, &withdrawn, last) else {
+        return Err(Fault::Database);
+    };
+    Ok(times)
 }
 
 fn document_row<S: Alter>(

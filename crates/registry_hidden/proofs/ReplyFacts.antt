@@ -10,7 +10,6 @@ use Rattle.registry_names.proofs.KeyFacts.{pair_key, text_key, same_true}
 use Rattle.registry_names.proofs.PartFacts.{part-keep}
 use Rattle.registry_packument.specs.Documents.{document_text}
 use Rattle.registry_packument.specs.Lists.{tags_text, grants_text}
-use Rattle.registry_packument.specs.Packuments.{packument_of}
 use Rattle.registry_access.specs.Access.{Access}
 use Rattle.registry_access.specs.Hiding as access
 use Rattle.registry_access.specs.Levels.{reads}
@@ -24,7 +23,7 @@ use Rattle.registry_rules.specs.declared.reply.Reply.TheVariants.{Count, Doc, By
 use Rattle.registry_rules.specs.declared.request.Action.{Action}
 use Rattle.registry_rules.specs.declared.request.Action.TheVariants.{Deprecate, Packument, VersionDoc, Archive, Tags, TeamPackages}
 use Rattle.registry_rules.specs.declared.request.Asked.{Asked}
-use Rattle.registry_history.specs.Answers.{asked_release, dist_tag, listed_grant, reply, version_row}
+use Rattle.registry_history.specs.Answers.{asked_release, dist_tag, listed_grant, packument_of, reply}
 use Rattle.registry_hidden.specs.Without.{state_without}
 use Rattle.registry_hidden.proofs.AcceptedFacts.{position_other, same_asked}
 use Rattle.registry_hidden.proofs.NamedFacts.{other_triple}
@@ -90,7 +89,7 @@ module _ (S : State) (p q : Text) (other : is q p ≡ false) where
 pub reply_other : (S : State) (who : Caller) (what : Action) (p : Text) → concerns what p ≡ false → level_in S.access who p ≡ Nothing → reply (state_without S p) who what ≡ reply S who what
 reply_other S who (Deprecate q selector message) p other nothing = ap (λ (es : List (Text × Release)). Count (length (selected (keys es) selector))) (of_other p q other S.live)
 reply_other S who (Packument q) p other nothing =
-    ap₂ (λ (ts : List (Text × Text)) (vs : List (Text × Release)). Doc (unwrap_or (packument_of q (map dist_tag ts) (map version_row vs)) [])) (of_other p q other S.tags) (of_other p q other S.live)
+    λ i. Doc (packument_of q (of_other p q other S.tags i) (of_other p q other S.live i) (of_other p q other S.spent i))
 reply_other S who (VersionDoc q asked) p other nothing =
     ap (λ o. Doc (unwrap_or (option_and_then (λ (r : Release). document_text r.manifest r.message) o) [])) (same_release S p q other asked)
 reply_other S who (Archive q v) p other nothing = ap (λ o. Bytes (unwrap_or (option_map (λ (r : Release). r.archive) o) [])) (at_other p q other S.live (text_of_version v))

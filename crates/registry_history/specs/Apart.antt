@@ -9,7 +9,7 @@ use Rattle.registry_rules.specs.State.{State}
 use Rattle.registry_rules.specs.declared.request.Request.{Request}
 use Rattle.registry_history.specs.Answers.{packument_in}
 
--- whether it changes a version or a tag of the package
+-- whether it changes a version of the package, live or withdrawn, or a tag of it
 abbrev pub is_about : Change → Text → Bool
 is_about (AddUser u) p = false
 is_about (AddToken digest u) p = false

@@ -24,7 +24,7 @@ abbrev pub whole_len : HeadParts → List VersionRow → Option ℕ
 whole_len head rows = option_map length (pack_text head rows)
 
 start_at : (head : HeadParts) (count : ℕ) (all : Option (List Pair)) → count ≡ length (opening_text head)
-    → with_pairs count false all ≡ option_map length (option_map (λ ps. object_text (pack_pairs head.name head.tags ps)) all)
+    → with_pairs count false all ≡ option_map length (option_map (λ ps. object_text (pack_pairs head ps)) all)
 start_at head count None e = refl
 start_at head count (Some ps) e =
     ap Some (rw e (sym (length-append (opening_text head) (versions_text false ps)) ∙ sym (ap length (pack_pairs-parts head ps))))

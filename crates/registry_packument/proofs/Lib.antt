@@ -1,6 +1,8 @@
+pub mod CalendarFacts
 pub mod DocumentFacts
 pub mod LenFacts
 pub mod ManifestFacts
+pub mod MomentFacts
 pub mod OrderFacts
 pub mod PackFacts
 pub mod PassingFacts

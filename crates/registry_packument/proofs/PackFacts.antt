@@ -9,9 +9,10 @@ use Rattle.serde_json.specs.Written as written
 use Rattle.registry_names.specs.declared.stop.Fault.{Fault}
 use Rattle.registry_names.specs.declared.stop.Fault.TheVariants.{Memory, Database}
 use Rattle.registry_packument.specs.ObjectTexts.{Pair, member_text, members_text, object_text}
-use Rattle.registry_packument.specs.Packuments.{tag_pair, version_pair, version_pairs, pack_pairs, opening_text, versions_text, pack_text, tag_members, pack_value, AreDocumentsOf}
+use Rattle.registry_packument.specs.Packuments.{tag_pair, time_pair, time_text, time_texts, moments_of, version_pair, version_pairs, pack_pairs, opening_text, versions_text, pack_text, tag_members, time_members, pack_value, AreDocumentsOf}
 use Rattle.registry_packument.specs.Writing.{Adds, IsFaultOf}
 use Rattle.registry_packument.specs.Heads.{HeadParts}
+use Rattle.registry_packument.specs.TextValues.{text_members}
 use Rattle.registry_packument.proofs.ValueFacts.{document_text-compact}
 use Rattle.registry_names.specs.declared.dist_tag.DistTag.{DistTag}
 use Rattle.registry_packument.specs.declared.packument.VersionRow.{VersionRow}
@@ -45,6 +46,10 @@ object_text-object ps ms h = ap (λ xs. 123 ∷ xs) (members_text-members false 
 pub tags_written : (rs : List DistTag) → compact_text (object (tag_members rs)) ≡ object_text (map tag_pair rs)
 tags_written rs = sym (object_text-object (map tag_pair rs) (tag_members rs) (tags_text rs))
 
+moments_text : (es : List (List ℕ × ℕ)) → AreTextsOf (map time_pair es) (text_members time_texts es)
+moments_text [] = tt
+moments_text (e ∷ es) = (refl, (refl, moments_text es))
+
 documents_texts : (rs : List VersionRow) (ms : Members) → AreDocumentsOf rs ms → (ps : List Pair) × ((version_pairs rs ≡ Some ps) × AreTextsOf ps ms)
 documents_texts [] no_members h = ([], (refl, tt))
 documents_texts [] (member k d ms) h = absurd h
@@ -55,14 +60,16 @@ documents_texts (r ∷ rs) (member k d ms) h =
     ((r.version, compact_text d) ∷ rest.0, (rw (document, rest.1.0, h.1.0.1.1) refl, (h.0, (refl, rest.1.1))))
 
 pack_pairs-members : (head : HeadParts) (ps : List Pair) (documents : Members) → AreTextsOf ps documents
-    → object_text (pack_pairs head.name head.tags ps) ≡ compact_text (pack_value head documents)
+    → object_text (pack_pairs head ps) ≡ compact_text (pack_value head documents)
 pack_pairs-members head ps documents h =
     let tags = object_text-object (map tag_pair head.tags) (tag_members head.tags) (tags_text head.tags) in
+    let moments = moments_of head.times head.created head.modified in
+    let times = object_text-object (map time_pair moments) (time_members head) (moments_text moments) in
     let versions = object_text-object ps documents h in
-    object_text-object (pack_pairs head.name head.tags ps)
+    object_text-object (pack_pairs head ps)
     (member (codes "_id") (string head.name) (member (codes "dist-tags") (object (tag_members head.tags)) (member (codes "name") (string head.name)
-    (member (codes "versions") (object documents) no_members))))
-    (refl, (refl, (refl, (tags, (refl, (refl, (refl, (versions, tt))))))))
+    (member (codes "time") (object (time_members head)) (member (codes "versions") (object documents) no_members)))))
+    (refl, (refl, (refl, (tags, (refl, (refl, (refl, (times, (refl, (versions, tt))))))))))
 
 pub pack_text-json : (head : HeadParts) (versions : List VersionRow) (documents : Members) → AreDocumentsOf versions documents
     → pack_text head versions ≡ Some (compact_text (pack_value head documents))
@@ -79,35 +86,36 @@ some_same s t h = ap (λ o. unwrap_or o s) h
 keyed : (key value : List ℕ) → key ++ 58 ∷ value ≡ (key ++ 58 ∷ []) ++ value
 keyed key value = sym (append_assoc key (58 ∷ []) value)
 
-pieces : (b0 b1 b2 b3 b4 b5 b6 b7 o i k t n l e : List ℕ) → b0 ≡ [] → b1 ≡ b0 ++ o → b2 ≡ b1 ++ i → b3 ≡ b2 ++ k → b4 ≡ b3 ++ t → b5 ≡ b4 ++ n → b6 ≡ b5 ++ l
-    → b7 ≡ b6 ++ e → b7 ≡ o ++ (i ++ ((k ++ t) ++ (n ++ (l ++ e))))
-pieces b0 b1 b2 b3 b4 b5 b6 b7 o i k t n l e e0 e1 e2 e3 e4 e5 e6 e7 = rw (e7, e6, e5, e4, e3, e2, e1, e0) (simp append_assoc)
+pieces : (b0 b1 b2 b3 b4 b5 b6 b7 b8 b9 o i k t n u m l e : List ℕ) → b0 ≡ [] → b1 ≡ b0 ++ o → b2 ≡ b1 ++ i → b3 ≡ b2 ++ k → b4 ≡ b3 ++ t → b5 ≡ b4 ++ n → b6 ≡ b5 ++ u
+    → b7 ≡ b6 ++ m → b8 ≡ b7 ++ l → b9 ≡ b8 ++ e → b9 ≡ o ++ (i ++ ((k ++ t) ++ (n ++ ((u ++ m) ++ (l ++ e)))))
+pieces b0 b1 b2 b3 b4 b5 b6 b7 b8 b9 o i k t n u m l e e0 e1 e2 e3 e4 e5 e6 e7 e8 e9 = rw (e9, e8, e7, e6, e5, e4, e3, e2, e1, e0) (simp append_assoc)
 
--- the pieces in turn that come before the versions, with the texts of the keys, the name and the
--- tags as variables
-pub assembled : (b0 b1 b2 b3 b4 b5 b6 b7 k1 k2 k3 k4 q t : List ℕ) → b0 ≡ [] → b1 ≡ b0 ++ 123 ∷ [] → b2 ≡ b1 ++ (k1 ++ 58 ∷ q)
+-- the pieces in turn that come before the versions, with the texts of the keys, the name, the tags
+-- and the moments as variables
+pub assembled : (b0 b1 b2 b3 b4 b5 b6 b7 b8 b9 k1 k2 k3 k4 k5 q t m : List ℕ) → b0 ≡ [] → b1 ≡ b0 ++ 123 ∷ [] → b2 ≡ b1 ++ (k1 ++ 58 ∷ q)
     → b3 ≡ b2 ++ 44 ∷ (k2 ++ 58 ∷ []) → b4 ≡ b3 ++ t → b5 ≡ b4 ++ 44 ∷ (k3 ++ 58 ∷ q)
-    → b6 ≡ b5 ++ 44 ∷ (k4 ++ 58 ∷ []) → b7 ≡ b6 ++ 123 ∷ []
-    → b7 ≡ 123 ∷ ((k1 ++ 58 ∷ q) ++ (44 ∷ (k2 ++ 58 ∷ t) ++ (44 ∷ (k3 ++ 58 ∷ q) ++ 44 ∷ (k4 ++ 58 ∷ 123 ∷ []))))
-assembled b0 b1 b2 b3 b4 b5 b6 b7 k1 k2 k3 k4 q t e0 e1 e2 e3 e4 e5 e6 e7 =
-    rw (keyed k2 t, keyed k4 (123 ∷ []))
-    (pieces b0 b1 b2 b3 b4 b5 b6 b7 (123 ∷ []) (k1 ++ 58 ∷ q) (44 ∷ (k2 ++ 58 ∷ [])) t (44 ∷ (k3 ++ 58 ∷ q)) (44 ∷ (k4 ++ 58 ∷ [])) (123 ∷ [])
-    e0 e1 e2 e3 e4 e5 e6 e7)
+    → b6 ≡ b5 ++ 44 ∷ (k4 ++ 58 ∷ []) → b7 ≡ b6 ++ m
+    → b8 ≡ b7 ++ 44 ∷ (k5 ++ 58 ∷ []) → b9 ≡ b8 ++ 123 ∷ []
+    → b9 ≡ 123 ∷ ((k1 ++ 58 ∷ q) ++ (44 ∷ (k2 ++ 58 ∷ t) ++ (44 ∷ (k3 ++ 58 ∷ q) ++ (44 ∷ (k4 ++ 58 ∷ m) ++ 44 ∷ (k5 ++ 58 ∷ 123 ∷ [])))))
+assembled b0 b1 b2 b3 b4 b5 b6 b7 b8 b9 k1 k2 k3 k4 k5 q t m e0 e1 e2 e3 e4 e5 e6 e7 e8 e9 =
+    rw (keyed k2 t, keyed k4 m, keyed k5 (123 ∷ []))
+    (pieces b0 b1 b2 b3 b4 b5 b6 b7 b8 b9 (123 ∷ []) (k1 ++ 58 ∷ q) (44 ∷ (k2 ++ 58 ∷ [])) t (44 ∷ (k3 ++ 58 ∷ q)) (44 ∷ (k4 ++ 58 ∷ [])) m (44 ∷ (k5 ++ 58 ∷ [])) (123 ∷ [])
+    e0 e1 e2 e3 e4 e5 e6 e7 e8 e9)
 
-spread : (o a b c d m e : List ℕ) → o ++ (a ++ (b ++ (c ++ ((d ++ m) ++ e)))) ≡ (o ++ (a ++ (b ++ (c ++ d)))) ++ (m ++ e)
-spread o a b c d m e = simp append_assoc
+spread : (o a b c t d m e : List ℕ) → o ++ (a ++ (b ++ (c ++ (t ++ ((d ++ m) ++ e))))) ≡ (o ++ (a ++ (b ++ (c ++ (t ++ d))))) ++ (m ++ e)
+spread o a b c t d m e = simp append_assoc
 
-parted : (a b c key m : List ℕ)
-    → 123 ∷ (a ++ (b ++ (c ++ ((44 ∷ (key ++ 58 ∷ 123 ∷ m)) ++ 125 ∷ [])))) ≡ (123 ∷ (a ++ (b ++ (c ++ 44 ∷ (key ++ 58 ∷ 123 ∷ []))))) ++ (m ++ 125 ∷ [])
-parted a b c key m =
+parted : (a b c t key m : List ℕ)
+    → 123 ∷ (a ++ (b ++ (c ++ (t ++ ((44 ∷ (key ++ 58 ∷ 123 ∷ m)) ++ 125 ∷ []))))) ≡ (123 ∷ (a ++ (b ++ (c ++ (t ++ 44 ∷ (key ++ 58 ∷ 123 ∷ [])))))) ++ (m ++ 125 ∷ [])
+parted a b c t key m =
     let d : key ++ 58 ∷ 123 ∷ m ≡ (key ++ 58 ∷ 123 ∷ []) ++ m = sym (append_assoc key (58 ∷ 123 ∷ []) m) in
-    rw d (spread (123 ∷ []) a b c (44 ∷ (key ++ 58 ∷ 123 ∷ [])) m (125 ∷ []))
+    rw d (spread (123 ∷ []) a b c t (44 ∷ (key ++ 58 ∷ 123 ∷ [])) m (125 ∷ []))
 
 -- what comes before the versions, and these with the end
-pub pack_pairs-parts : (head : HeadParts) (ps : List Pair) → object_text (pack_pairs head.name head.tags ps) ≡ opening_text head ++ versions_text false ps
+pub pack_pairs-parts : (head : HeadParts) (ps : List Pair) → object_text (pack_pairs head ps) ≡ opening_text head ++ versions_text false ps
 pack_pairs-parts head ps =
     parted (member_text false (codes "_id", quoted head.name)) (member_text true (codes "dist-tags", object_text (map tag_pair head.tags)))
-    (member_text true (codes "name", quoted head.name)) (quoted (codes "versions")) (members_text false ps)
+    (member_text true (codes "name", quoted head.name)) (member_text true (codes "time", time_text head)) (quoted (codes "versions")) (members_text false ps)
 
 -- ---- the loop over the versions
 
@@ -126,7 +134,7 @@ whole_of-step out more later p None e = refl
 whole_of-step out more later p (Some ps) e = ap Some (rw e (simp append_assoc))
 
 start_at : (head : HeadParts) (out : List ℕ) (all : Option (List Pair)) → out ≡ opening_text head
-    → whole_of out false all ≡ option_map (λ ps. object_text (pack_pairs head.name head.tags ps)) all
+    → whole_of out false all ≡ option_map (λ ps. object_text (pack_pairs head ps)) all
 start_at head out None e = refl
 start_at head out (Some ps) e = ap Some (rw e (sym (pack_pairs-parts head ps)))
 

@@ -120,7 +120,7 @@ versions_prefix-pairs (row ∷ rows) later ps h =
     (λ qs is. versions_prefix-pairs rows true qs is) h
 
 parts_at : (head : HeadParts) (pairs : Option (List Pair)) (prefix : List ℕ) → ((ps : List Pair) → pairs ≡ Some ps → prefix ≡ versions_text false ps)
-    → unwrap_or (option_map (λ ps. object_text (pack_pairs head.name head.tags ps)) pairs) (opening_text head ++ prefix) ≡ opening_text head ++ prefix
+    → unwrap_or (option_map (λ ps. object_text (pack_pairs head ps)) pairs) (opening_text head ++ prefix) ≡ opening_text head ++ prefix
 parts_at head None prefix is = refl
 parts_at head (Some ps) prefix is = pack_pairs-parts head ps ∙ ap (λ xs. opening_text head ++ xs) (sym (is ps refl))
 
@@ -130,7 +130,7 @@ pack_prefix-parts head rows = parts_at head (version_pairs rows) (versions_prefi
 
 whole_at : {a b : Option (List ℕ)} {s : Bool} (head : HeadParts) (pairs : Option (List Pair)) (prefix : List ℕ)
     → ((ps : List Pair) → pairs ≡ Some ps → prefix ≡ versions_text false ps) → is_some pairs ≡ true → Writes a b s (opening_text head ++ prefix)
-    → IsSomeAnd (option_map (λ ps. object_text (pack_pairs head.name head.tags ps)) pairs) (λ text. Writes a b s text)
+    → IsSomeAnd (option_map (λ ps. object_text (pack_pairs head ps)) pairs) (λ text. Writes a b s text)
 whole_at head None prefix is some wrote = absurd (true≢false (sym some))
 whole_at head (Some ps) prefix is some wrote = rw (pack_pairs-parts head ps, ← is ps refl) wrote
 

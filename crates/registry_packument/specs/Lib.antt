@@ -1,6 +1,9 @@
+pub mod Calendar
+pub mod Dates
 pub mod Documents
 pub mod Heads
 pub mod Lists
+pub mod Moments
 pub mod ObjectTexts
 pub mod Packuments
 pub mod Passing

@@ -6,9 +6,11 @@ use Rattle.registry_packument.specs.Documents.{document_text, document_members, 
 use Rattle.registry_packument.specs.Lists.{tag_texts}
 use Rattle.registry_packument.specs.ObjectTexts.{Pair, member_text, members_text, object_text}
 use Rattle.registry_packument.specs.TextValues.{text_members}
-use Rattle.registry_packument.specs.Heads.{HeadParts}
+use Rattle.registry_packument.specs.Calendar.{utc_text}
+use Rattle.registry_packument.specs.Heads.{HeadParts, time_entry}
 use Rattle.registry_names.specs.declared.dist_tag.DistTag.{DistTag}
 use Rattle.registry_packument.specs.declared.packument.VersionRow.{VersionRow}
+use Rattle.registry_packument.specs.declared.times.VersionTime.{VersionTime}
 
 -- a tag, and the version that it names as a JSON string
 abbrev pub tag_pair : DistTag → Pair
@@ -23,23 +25,32 @@ abbrev pub version_pairs : List VersionRow → Option (List Pair)
 version_pairs [] = Some []
 version_pairs (r ∷ rs) = option_and_then (λ p. option_map (λ ps. p ∷ ps) (version_pairs rs)) (version_pair r)
 
+-- the moments under `time`: of each version its publication, and then those at which the package was
+-- created and modified
+abbrev pub moments_of : List VersionTime → ℕ → ℕ → List (List ℕ × ℕ)
+moments_of times created modified = map time_entry times ++ (codes "created", created) ∷ (codes "modified", modified) ∷ []
+
+-- a key of `time`, and its moment as a JSON string
+abbrev pub time_pair : List ℕ × ℕ → Pair
+time_pair e = (e.0, quoted (utc_text e.1))
+
+-- `time` as a text
+abbrev pub time_text : HeadParts → List ℕ
+time_text head = object_text (map time_pair (moments_of head.times head.created head.modified))
+
 -- the members of a packument, with those of `versions` as texts
-abbrev pub pack_pairs : List ℕ → List DistTag → List Pair → List Pair
-pack_pairs name tags versions =
-    (codes "_id", quoted name)
-    ∷ (codes "dist-tags", object_text (map tag_pair tags))
-    ∷ (codes "name", quoted name)
+abbrev pub pack_pairs : HeadParts → List Pair → List Pair
+pack_pairs head versions =
+    (codes "_id", quoted head.name)
+    ∷ (codes "dist-tags", object_text (map tag_pair head.tags))
+    ∷ (codes "name", quoted head.name)
+    ∷ (codes "time", time_text head)
     ∷ (codes "versions", object_text versions)
     ∷ []
 
--- the packument of the package of this name, with these tags and versions, unless a version has no
--- document
-abbrev pub packument_of : List ℕ → List DistTag → List VersionRow → Option (List ℕ)
-packument_of name tags versions = option_map (λ ps. object_text (pack_pairs name tags ps)) (version_pairs versions)
-
--- the packument of a package's head and its versions
+-- the packument of a package's head and its versions, unless a version has no document
 abbrev pub pack_text : HeadParts → List VersionRow → Option (List ℕ)
-pack_text head versions = packument_of head.name head.tags versions
+pack_text head versions = option_map (λ ps. object_text (pack_pairs head ps)) (version_pairs versions)
 
 -- how many bytes the packument has, where there is one and the number is below 2^64
 abbrev pub pack_len : HeadParts → List VersionRow → Option ℕ
@@ -53,7 +64,8 @@ opening_text head =
     123 ∷ (member_text false (codes "_id", quoted head.name)
     ++ (member_text true (codes "dist-tags", object_text (map tag_pair head.tags))
     ++ (member_text true (codes "name", quoted head.name)
-    ++ member_text true (codes "versions", 123 ∷ []))))
+    ++ (member_text true (codes "time", time_text head)
+    ++ member_text true (codes "versions", 123 ∷ [])))))
 
 -- the versions that are left, and the two braces that end the packument
 abbrev pub versions_text : Bool → List Pair → List ℕ
@@ -64,6 +76,14 @@ versions_text later ps = members_text later ps ++ 125 ∷ []
 -- each tag, with the version that it names
 abbrev pub tag_members : List DistTag → Members
 tag_members rs = text_members tag_texts rs
+
+-- a key of `time`, and the text of its moment
+abbrev pub time_texts : List ℕ × ℕ → List ℕ × List ℕ
+time_texts e = (e.0, utc_text e.1)
+
+-- each key of `time`, with its moment
+abbrev pub time_members : HeadParts → Members
+time_members head = text_members time_texts (moments_of head.times head.created head.modified)
 
 -- the value is that of the version's document, where its manifest is the compact JSON of an object
 abbrev pub IsDocumentOf : VersionRow → Data → Type 0
@@ -82,5 +102,6 @@ pack_value head documents =
     object (member (codes "_id") (string head.name)
     (member (codes "dist-tags") (object (tag_members head.tags))
     (member (codes "name") (string head.name)
+    (member (codes "time") (object (time_members head))
     (member (codes "versions") (object documents)
-    no_members))))
+    no_members)))))

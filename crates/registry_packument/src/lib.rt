@@ -18,13 +18,17 @@ mod json_text;
 pub mod laws;
 mod list;
 mod manifest;
+mod moment;
 mod packument;
 mod source;
 mod stream;
+mod times;
 
 pub use crate::document::version_text;
 pub use crate::head::PackHead;
 pub use crate::list::{Granted, List, Member, list_text};
+pub use crate::moment::moment_text;
 pub use crate::packument::{VersionRow, packument_text};
 pub use crate::source::{VersionRows, VersionSource};
 pub use crate::stream::{PackFault, packument_len, write_packument};
+pub use crate::times::{PackTimes, VersionTime};

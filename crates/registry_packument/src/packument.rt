@@ -10,6 +10,7 @@ use crate::document::push_document;
 use crate::head::PackHead;
 use crate::json_text::{push_key, push_object, push_text_member};
 use crate::source::VersionSource;
+use crate::times::push_times;
 use registry_names::{Fault, Text};
 use std::alloc::{AllocError, Global};
 
@@ -47,6 +48,14 @@ pub(crate) fn opening(alloc: Global, head: &PackHead) -> Result<String, AllocErr
     push_key(alloc, &mut out, true, "dist-tags")?;
     push_object(alloc, &mut out, head.tags())?;
     push_text_member(alloc, &mut out, true, "name", name)?;
+    push_key(alloc, &mut out, true, "time")?;
+    push_times(
+        alloc,
+        &mut out,
+        head.times(),
+        head.created(),
+        head.modified(),
+    )?;
     push_key(alloc, &mut out, true, "versions")?;
     out.push_str("{")?;
     Ok(out)
@@ -69,10 +78,11 @@ pub(crate) fn push_version(
 }
 
 /// The packument of a package, as npm's registry answers it: an object with `_id` and `name` (the
-/// package's name), `dist-tags` (tag to version) and `versions` (version to document), in compact
-/// JSON.
+/// package's name), `dist-tags` (tag to version), `time` (version to the moment of its publication,
+/// then `created` and `modified`) and `versions` (version to document), in compact JSON.
 ///
-/// The versions are the rows that the source gives. They and the tags are in byte order, each once.
+/// The versions are the rows that the source gives. They, the tags and the versions under `time` are
+/// in byte order, each once. The moments are those of [`moment_text`](crate::moment_text).
 /// A version's document is that of [`version_text`](crate::version_text).
 /// `Database` comes where a manifest is none (see there), and else the source's own fault, or
 /// `Memory` where no memory is left. Where it succeeds, the source has given all its rows.

@@ -1,4 +1,5 @@
-//! Packuments version by version, in memory that doesn't grow with the versions.
+//! Packuments version by version: of the versions' documents one is held at a time. The moments of
+//! all versions are in the head.
 
 ghost use Rattle.std.specs.Prelude.{◌≡◌, ◌≢◌, ◌+◌, ◌≤◌, ◌<◌, ◌^◌, ◌⊎◌, true, false, [], Some, None, length, string_bytes, OnOk, OnErr, IfOk, IfErr, IsErr, IsSome, IsSomeAnd};
 ghost use Rattle.registry_names.specs.ByteStreams.{Writes, WritesPrefix, full_count};

@@ -12,7 +12,7 @@ use Rattle.registry_names.proofs.EntryFacts.{entries-revise}
 use Rattle.registry_rules.specs.State.{Release, has_live, is_empty, nothing}
 use Rattle.registry_tables.specs.Contents.{Archive, Contents, bytes_held, live_of, registry_of, with_bytes}
 use Rattle.registry_tables.specs.Fresh.{fresh}
-use Rattle.registry_tables.specs.Spelled.{document}
+use Rattle.registry_tables.specs.Spelled.{document, published}
 use Rattle.registry_tables.proofs.FoundFacts.{some_seen}
 
 -- a version lives where it has a row
@@ -54,6 +54,10 @@ part_seen g keeps c p = ap (λ es. map (seen g) (parts es p)) (entries-revise pa
 -- what a packument shows of them is in their rows
 pub documents_as_rows : (c : Contents) (p : Text) → map (seen document) (of (live_of c) p) ≡ map (seen document) (of c.versions p)
 documents_as_rows = part_seen document (λ c k x. refl)
+
+-- and so is when each of them was published
+pub times_as_rows : (c : Contents) (p : Text) → map (seen published) (of (live_of c) p) ≡ map (seen published) (of c.versions p)
+times_as_rows = part_seen published (λ c k x. refl)
 
 -- their versions are those of their rows
 pub versions_as_rows : (c : Contents) (p : Text) → keys (of (live_of c) p) ≡ keys (of c.versions p)

@@ -8,10 +8,11 @@ use Rattle.sqlite.specs.Listing.{understood}
 use Rattle.sqlite.specs.State.{State as Shown, HasCleanDisk}
 use Rattle.sqlite_tied.specs.Compute.{everything}
 use Rattle.sqlite_value.specs.Order.{Row, column}
-use Rattle.sqlite_sql.specs.Term.{col}
+use Rattle.sqlite_sql.specs.Term.{Term, col}
 use Rattle.registry_names.specs.Texts.{Text}
 use Rattle.registry_names.specs.Maps.{at, of, seen}
 use Rattle.registry_rules.specs.State.{Withdrawal}
+use Rattle.registry_rules.specs.Moments.{spent_publications}
 use Rattle.registry_rules.specs.Withdrawals.{last_of, last_withdrawal}
 use Rattle.registry_rules.proofs.ListedFacts.{mapped_more}
 use Rattle.registry_rows.specs.Columns.{text_in}
@@ -21,7 +22,7 @@ use Rattle.registry_rows.proofs.LookUpFacts.{select_finds, select_lists}
 use Rattle.registry_tables.specs.Schema.{schema}
 use Rattle.registry_tables.specs.Contents.{registry_of}
 use Rattle.registry_tables.specs.Effects.{stored}
-use Rattle.registry_tables.specs.Spelled.{number_spelled}
+use Rattle.registry_tables.specs.Spelled.{number_spelled, second_spelled}
 use Rattle.registry_tables.specs.Withdrawals.{last_number}
 use Rattle.registry_tables.proofs.FoundFacts.{some_found, some_seen}
 use Rattle.registry_tables.proofs.MappedFacts.{spent_mapped}
@@ -42,15 +43,18 @@ withdrawal_found p v old new rows form call clean =
 -- ---- SELECT by package
 
 abbrev last_text : List ℕ
-last_text = codes "SELECT withdrawn, version FROM spent WHERE package = ?1 ORDER BY version"
+last_text = codes "SELECT withdrawn, published, version FROM spent WHERE package = ?1 ORDER BY version"
 
-last_means : MeansQuery schema last_text (Select (record { lets = []; body = scan 20 (by_texts 0 1 0) (col 1 4 ∷ col 1 2 ∷ []) (in_order 0 2) }) (codes "withdrawn" ∷ codes "version" ∷ []))
+abbrev last_columns : List Term
+last_columns = col 1 4 ∷ col 1 3 ∷ col 1 2 ∷ []
+
+last_means : MeansQuery schema last_text (Select (record { lets = []; body = scan 20 (by_texts 0 1 0) last_columns (in_order 0 2) }) (codes "withdrawn" ∷ codes "published" ∷ codes "version" ∷ []))
 unfolding understood everything
 last_means = ((refl, (refl, refl)), refl)
 
 -- a version, and when it was withdrawn
 abbrev withdrawn_entry : Row → Text × ℕ
-withdrawn_entry r = (text_in (column r 1), number_spelled r)
+withdrawn_entry r = (text_in (column r 2), number_spelled r)
 
 -- the last of some withdrawals is that of their moments
 last_as_number : (es : List (Text × Withdrawal)) → last_number (map (λ (e : Text × ℕ). e.1) (map (seen (λ (w : Withdrawal). w.withdrawn)) es)) ≡ last_of es
@@ -60,8 +64,21 @@ last_as_number (e ∷ es) = ap (λ (o : Option ℕ). Some (max e.1.withdrawn (un
 pub last_found : (p : Text) (old new : Shown) (rows : List Row) → Ready schema old → Queried last_text (Stored p ∷ []) old new rows → HasCleanDisk new
     → Reads schema old new × (last_number (map number_spelled rows) ≡ last_withdrawal (registry_of (stored old)) p)
 last_found p old new rows form call clean =
-    let it = select_lists spent_mapped last_text (col 1 4 ∷ col 1 2 ∷ []) _ last_means p withdrawn_entry (λ (w : Withdrawal). w.withdrawn) (λ id vs. refl) old new rows form call clean in
+    let it = select_lists spent_mapped last_text last_columns _ last_means p withdrawn_entry (λ (w : Withdrawal). w.withdrawn) (λ id vs. refl) old new rows form call clean in
     (it.0, ap last_number (sym (map-map (λ (e : Text × ℕ). e.1) withdrawn_entry rows) ∙ ap (map (λ (e : Text × ℕ). e.1)) it.1) ∙ last_as_number (of (stored old).spent p))
+
+-- a version, and when it was published
+abbrev published_entry : Row → Text × ℕ
+published_entry r = (text_in (column r 2), second_spelled r)
+
+pub publications_found : (p : Text) (old new : Shown) (rows : List Row) → Ready schema old → Queried last_text (Stored p ∷ []) old new rows → HasCleanDisk new
+    → Reads schema old new × (map second_spelled rows ≡ spent_publications (of (stored old).spent p))
+publications_found p old new rows form call clean =
+    let it = select_lists spent_mapped last_text last_columns _ last_means p published_entry (λ (w : Withdrawal). w.published) (λ id vs. refl) old new rows form call clean in (
+      it.0,
+      sym (map-map (λ (e : Text × ℕ). e.1) published_entry rows) ∙ ap (map (λ (e : Text × ℕ). e.1)) it.1
+          ∙ map-map (λ (e : Text × ℕ). e.1) (seen (λ (w : Withdrawal). w.published)) (of (stored old).spent p),
+    )
 
 -- ---- one moment after another
 

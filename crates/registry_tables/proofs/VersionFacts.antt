@@ -23,9 +23,9 @@ use Rattle.registry_rows.proofs.StatementFacts.{insert_puts, insert_meets_none, 
 use Rattle.registry_rows.proofs.LookUpFacts.{select_finds, select_lists, select_lists_first, first_listed}
 use Rattle.registry_tables.specs.Teams.{text_spelled}
 use Rattle.registry_tables.specs.Withdrawals.{with_message}
-use Rattle.registry_tables.specs.Spelled.{number_spelled, document, document_spelled, row_spelled, version_spelled}
+use Rattle.registry_tables.specs.Spelled.{number_spelled, document, document_spelled, published, row_spelled, time_spelled, version_spelled}
 use Rattle.registry_tables.proofs.FoundFacts.{some_found, some_seen}
-use Rattle.registry_tables.proofs.LiveFacts.{document_as_row, documents_as_rows, lives_as_row, lives_as_rows, published_as_row, first_shown, versions_as_rows}
+use Rattle.registry_tables.proofs.LiveFacts.{document_as_row, documents_as_rows, lives_as_row, lives_as_rows, published_as_row, first_shown, times_as_rows, versions_as_rows}
 use Rattle.registry_tables.proofs.MappedFacts.{versions_mapped}
 
 -- ---- INSERT
@@ -121,9 +121,12 @@ versions_listed p old new rows form call clean =
     (it.0, it.1 ∙ sym (documents_as_rows (stored old) p))
 
 abbrev live_text : List ℕ
-live_text = codes "SELECT version FROM versions WHERE package = ?1 ORDER BY version"
+live_text = codes "SELECT version, published FROM versions WHERE package = ?1 ORDER BY version"
 
-live_means : MeansQuery schema live_text (Select (record { lets = []; body = scan 18 (by_texts 0 1 0) (col 1 2 ∷ []) (in_order 0 2) }) (codes "version" ∷ []))
+abbrev live_columns : List Term
+live_columns = col 1 2 ∷ col 1 3 ∷ []
+
+live_means : MeansQuery schema live_text (Select (record { lets = []; body = scan 18 (by_texts 0 1 0) live_columns (in_order 0 2) }) (codes "version" ∷ codes "published" ∷ []))
 unfolding understood everything
 live_means = ((refl, (refl, refl)), refl)
 
@@ -131,11 +134,18 @@ live_means = ((refl, (refl, refl)), refl)
 pub live_listed : (p : Text) (old new : Shown) (rows : List Row) → Ready schema old → Queried live_text (Stored p ∷ []) old new rows → HasCleanDisk new
     → Reads schema old new × (map text_spelled rows ≡ live_versions (registry_of (stored old)) p)
 live_listed p old new rows form call clean =
-    let it = select_lists versions_mapped live_text (col 1 2 ∷ []) _ live_means p version_spelled (λ (r : Release). tt) (λ id vs. refl) old new rows form call clean in (
+    let it = select_lists versions_mapped live_text live_columns _ live_means p version_spelled (λ (r : Release). tt) (λ id vs. refl) old new rows form call clean in (
       it.0,
       sym (map-map (λ (e : Text × Unit {0}). e.0) version_spelled rows) ∙ ap keys it.1
           ∙ map-map (λ (e : Text × Unit {0}). e.0) (seen (λ (r : Release). tt)) (of (stored old).versions p) ∙ sym (versions_as_rows (stored old) p),
     )
+
+-- and when each of them was published
+pub times_listed : (p : Text) (old new : Shown) (rows : List Row) → Ready schema old → Queried live_text (Stored p ∷ []) old new rows → HasCleanDisk new
+    → Reads schema old new × (map time_spelled rows ≡ map (seen published) (of (live_of (stored old)) p))
+times_listed p old new rows form call clean =
+    let it = select_lists versions_mapped live_text live_columns _ live_means p time_spelled published (λ id vs. refl) old new rows form call clean in
+    (it.0, it.1 ∙ sym (times_as_rows (stored old) p))
 
 abbrev first_text : List ℕ
 first_text = codes "SELECT version FROM versions WHERE package = ?1 ORDER BY version LIMIT 1"

@@ -66,6 +66,14 @@ row_spelled r = (text_in (column r 0), (text_in (column r 1), text_in (column r 
 abbrev pub row_entry : VersionRow → Text × (Text × Text)
 row_entry v = (v.version, (v.manifest, v.message))
 
+-- of a live version, when it was published
+abbrev pub published : Release → ℕ
+published r = r.at
+
+-- a version, and when it was published
+abbrev pub time_spelled : Row → Text × ℕ
+time_spelled r = (text_in (column r 0), number_in (column r 1))
+
 -- a version, and nothing of it
 abbrev pub version_spelled : Row → Text × Unit {0}
 version_spelled r = (text_in (column r 0), tt)
@@ -88,6 +96,10 @@ named_spelled r = text_in (column r 0)
 -- a number alone
 abbrev pub number_spelled : Row → ℕ
 number_spelled r = number_in (column r 0)
+
+-- a number that comes second
+abbrev pub second_spelled : Row → ℕ
+second_spelled r = number_in (column r 1)
 
 -- the number of an archive, alone
 abbrev pub held_spelled : Row → ℤ

@@ -47,7 +47,7 @@ pub use crate::meta::opened;
 pub use crate::needs::load_dependents;
 pub use crate::organisations::has_organisation;
 pub use crate::schema::create;
-pub use crate::spent::{is_spent, load_last_withdrawal};
+pub use crate::spent::{is_spent, load_last_withdrawal, load_spent_publications};
 pub use crate::standing::load_standing;
 pub use crate::statuses::load_status;
 pub use crate::tags::{has_tag, load_tag, load_tags, load_version_tags};
@@ -57,6 +57,6 @@ pub use crate::teams::{has_team, load_teams};
 pub use crate::tokens::load_token_user;
 pub use crate::users::has_user;
 pub use crate::versions::{
-    DocumentRow, has_live, has_version, load_document, load_live, load_published, load_versions,
-    put_version,
+    DocumentRow, has_live, has_version, load_document, load_live, load_published,
+    load_version_times, load_versions, put_version,
 };

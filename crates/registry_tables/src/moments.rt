@@ -1,12 +1,13 @@
 //! Moments, as they are read from the tables.
 
 ghost use Rattle.std.specs.Prelude.{◌≡◌, ℕ, IfOk, map, max, unwrap_or};
-ghost use Rattle.registry_tables.specs.Spelled.{number_spelled};
+ghost use Rattle.registry_tables.specs.Spelled.{number_spelled, second_spelled};
 ghost use Rattle.registry_tables.specs.Withdrawals.{last_number};
 
 use registry_names::{Fault, Moment};
-use registry_rows::{RowKind, value_of_row};
+use registry_rows::{RowKind, value_of_row, values_of_rows};
 use sqlite::{Error, Row};
+use std::alloc::Global;
 
 /// The last of the moments that the rows spell, if there is a row.
 pub(crate) fn last_moment(rows: &[Row]) -> Result<Option<Moment>, Fault>
@@ -30,6 +31,13 @@ fn later(moment: Moment, other: Option<Moment>) -> Moment
     }
 }
 
+/// The moments that the rows spell in their second place.
+pub(crate) fn second_moments(alloc: Global, rows: &[Row]) -> Result<Vec<Moment>, Fault>
+    ensures { IfOk result (λ moments. moments.items ≡ map second_spelled rows.now) }
+{
+    values_of_rows::<SecondMoment>(alloc, rows)
+}
+
 /// A moment alone.
 pub(crate) struct MomentRow;
 
@@ -46,6 +54,26 @@ impl RowKind for MomentRow {
         match Moment::new(row.get(0)?) {
             Some(moment) => Ok(moment),
             None => Err(Error::IntegralValueOutOfRange(0)),
+        }
+    }
+}
+
+// A moment that comes second.
+struct SecondMoment;
+
+impl RowKind for SecondMoment {
+    type Value = Moment;
+
+    ghost Seen = { ℕ };
+
+    ghost seen = { λ moment. moment };
+
+    ghost spelled = { second_spelled };
+
+    fn read(row: &Row) -> Result<Moment, Error> {
+        match Moment::new(row.get(1)?) {
+            Some(moment) => Ok(moment),
+            None => Err(Error::IntegralValueOutOfRange(1)),
         }
     }
 }

@@ -1,17 +1,19 @@
 //! The table `spent`: the versions that were withdrawn, which are never published again.
 
 ghost use Rattle.std.specs.Prelude.{◌≡◌, is_some};
-ghost use Rattle.registry_names.specs.Maps.{at, put};
+ghost use Rattle.registry_names.specs.Maps.{at, of, put};
 ghost use Rattle.registry_rows.specs.Frames.{Stays};
+ghost use Rattle.registry_rules.specs.Moments.{spent_publications};
 ghost use Rattle.registry_rules.specs.Withdrawals.{last_withdrawal};
 ghost use Rattle.registry_tables.specs.Changes.{IsFree};
 ghost use Rattle.registry_tables.specs.Contents.{registry_of};
 ghost use Rattle.registry_tables.specs.Effects.{InForm, Makes, OnlyWhere, Loads};
 
-use crate::moments::last_moment;
+use crate::moments::{last_moment, second_moments};
 use registry_names::{Fault, Moment, Name};
 use registry_rows::{read, write};
 use sqlite::{Alter, Transaction, params};
+use std::alloc::Global;
 
 /// Whether the version of the package was withdrawn.
 pub fn is_spent<S: Alter>(
@@ -44,10 +46,30 @@ pub fn load_last_withdrawal<S: Alter>(
 {
     let rows = read(
         tx,
-        "SELECT withdrawn, version FROM spent WHERE package = ?1 ORDER BY version",
+        "SELECT withdrawn, published, version FROM spent WHERE package = ?1 ORDER BY version",
         params![name.text()],
     )?;
     last_moment(&rows)
+}
+
+/// When those versions of the package were published that were withdrawn since, in byte order of the
+/// versions.
+pub fn load_spent_publications<S: Alter>(
+    alloc: Global,
+    tx: &mut Transaction<'_, S>,
+    name: &Name,
+) -> Result<Vec<Moment>, Fault>
+    requires in_form { InForm S.Store tx.old }
+    ensures stays { Stays S.Store tx.old tx.new }
+    ensures loads { Loads S.Store tx.old tx.new result
+        (λ moments c. moments.items ≡ spent_publications (of c.spent name.now)) }
+{
+    let rows = read(
+        tx,
+        "SELECT withdrawn, published, version FROM spent WHERE package = ?1 ORDER BY version",
+        params![name.text()],
+    )?;
+    second_moments(alloc, &rows)
 }
 
 /// Puts the version among those that were withdrawn, with the moments at which it was published and

@@ -1,6 +1,6 @@
 //! The table `versions`: the live versions of every package.
 
-ghost use Rattle.std.specs.Prelude.{◌≡◌, IfOk, is_some, map, option_map};
+ghost use Rattle.std.specs.Prelude.{◌≡◌, ℕ, IfOk, is_some, map, option_map};
 ghost use Rattle.registry_names.specs.Maps.{at, of, put, seen};
 ghost use Rattle.registry_names.specs.Texts.{Text as Bytes};
 ghost use Rattle.registry_names.specs.Versions.{text_of_version};
@@ -11,7 +11,8 @@ ghost use Rattle.registry_rules.specs.Withdrawals.{live_versions, published_at};
 ghost use Rattle.registry_tables.specs.Changes.{IsFree, IsNew, is_unspent, row_of, version_put};
 ghost use Rattle.registry_tables.specs.Contents.{live_of, registry_of};
 ghost use Rattle.registry_tables.specs.Effects.{InForm, Makes, OnlyWhere, Loads};
-ghost use Rattle.registry_tables.specs.Spelled.{document, document_entry, document_spelled, row_entry, row_spelled};
+ghost use Rattle.registry_packument.specs.Heads.{time_entry};
+ghost use Rattle.registry_tables.specs.Spelled.{document, document_entry, document_spelled, published, row_entry, row_spelled, time_spelled};
 ghost use Rattle.registry_tables.specs.Withdrawals.{with_message};
 
 use crate::archives::put_archive;
@@ -21,7 +22,7 @@ use crate::spent::is_spent;
 use crate::statuses::load_status;
 use crate::texts::{read_back, texts_in};
 use registry_names::{Fault, Moment, Name, Text, Ver};
-use registry_packument::VersionRow;
+use registry_packument::{VersionRow, VersionTime};
 use registry_publish::PublishForm;
 use registry_rows::{RowKind, read, value_of_first_row, values_of_rows, write};
 use sqlite::{Alter, Error, Row, Transaction, params};
@@ -92,7 +93,7 @@ fn load_live_texts<S: Alter>(
 {
     let rows = read(
         tx,
-        "SELECT version FROM versions WHERE package = ?1 ORDER BY version",
+        "SELECT version, published FROM versions WHERE package = ?1 ORDER BY version",
         params![name.text()],
     )?;
     texts_in(alloc, &rows)
@@ -144,6 +145,27 @@ pub fn load_versions<S: Alter>(
         params![name.text()],
     )?;
     values_of_rows::<ListedVersion>(alloc, &rows)
+}
+
+/// The live versions of a package, with the moments of their publication, in byte order of the
+/// versions.
+pub fn load_version_times<S: Alter>(
+    alloc: Global,
+    tx: &mut Transaction<'_, S>,
+    name: &Name,
+) -> Result<Vec<VersionTime>, Fault>
+    requires in_form { InForm S.Store tx.old }
+    ensures stays { Stays S.Store tx.old tx.new }
+    ensures loads { Loads S.Store tx.old tx.new result
+        (λ times c. map time_entry times.items
+        ≡ map (seen published) (of (live_of c) name.now)) }
+{
+    let rows = read(
+        tx,
+        "SELECT version, published FROM versions WHERE package = ?1 ORDER BY version",
+        params![name.text()],
+    )?;
+    values_of_rows::<ListedTime>(alloc, &rows)
 }
 
 /// What the document of a live version is made of.
@@ -274,6 +296,30 @@ impl RowKind for ListedVersion {
             manifest: Text::from(manifest),
             message: Text::from(message),
         })
+    }
+}
+
+// A version, and the moment of its publication.
+struct ListedTime;
+
+impl RowKind for ListedTime {
+    type Value = VersionTime;
+
+    ghost Seen = { Bytes × ℕ };
+
+    ghost seen = { time_entry };
+
+    ghost spelled = { time_spelled };
+
+    fn read(row: &Row) -> Result<VersionTime, Error> {
+        let version: String = row.get(0)?;
+        match Moment::new(row.get(1)?) {
+            Some(published) => Ok(VersionTime {
+                version: Text::from(version),
+                published,
+            }),
+            None => Err(Error::IntegralValueOutOfRange(1)),
+        }
     }
 }
 

@@ -1,16 +1,17 @@
 //! Packuments, documents and lists, from the rules as they are written down.
 
 mod manifests;
+mod moments;
 mod stream;
 
 use crate::outcome::same;
 use crate::packument::stream::{KIT, KIT_TAGS, KIT_VERSIONS, KIT_WITHOUT_VERSIONS};
 use crate::parts::{text, texts};
 use registry_access::{Grant, Role};
-use registry_names::{DistTag, Fault, Text};
+use registry_names::{DistTag, Fault, Moment, Text};
 use registry_packument::{
-    Granted, List, Member, PackHead, VersionRow, VersionRows, list_text, packument_text,
-    version_text,
+    Granted, List, Member, PackHead, PackTimes, VersionRow, VersionRows, VersionTime, list_text,
+    packument_text, version_text,
 };
 use std::alloc::Global;
 use std::process::Abort;
@@ -56,8 +57,35 @@ fn tag(rt: &impl Abort, alloc: Global, tag: &str, version: &str) -> DistTag {
     }
 }
 
-fn head(rt: &impl Abort, alloc: Global, name: &str, cases: &[TagCase]) -> PackHead {
-    PackHead::new(text(rt, alloc, name), tags(rt, alloc, cases)).expect(rt, "tags in their order")
+// The head of a package of these tags and versions, each published at 100, and one withdrawn at 200.
+fn head(
+    rt: &impl Abort,
+    alloc: Global,
+    name: &str,
+    cases: &[TagCase],
+    versions: &[VersionCase],
+) -> PackHead {
+    let times = PackTimes {
+        versions: times(rt, alloc, versions),
+        created: Moment::clamped(100),
+        modified: Moment::clamped(200),
+    };
+    PackHead::new(text(rt, alloc, name), tags(rt, alloc, cases), times).expect(
+        rt,
+        "tags and versions in their order",
+    )
+}
+
+fn times(rt: &impl Abort, alloc: Global, cases: &[VersionCase]) -> Vec<VersionTime> {
+    let mut times = Vec::new(alloc);
+    for (version, _, _) in cases {
+        let version = text(rt, alloc, version);
+        let published = Moment::clamped(100);
+        times
+            .push(VersionTime { version, published })
+            .expect(rt, "memory");
+    }
+    times
 }
 
 fn versions(rt: &impl Abort, alloc: Global, cases: &[VersionCase]) -> Vec<VersionRow> {
@@ -134,7 +162,7 @@ fn packument(
     tags: &[TagCase],
     cases: &[VersionCase],
 ) -> Result<Text, Fault> {
-    let head = head(rt, alloc, name, tags);
+    let head = head(rt, alloc, name, tags, cases);
     packument_text(alloc, &head, &mut source(rt, alloc, cases))
 }
 
@@ -151,13 +179,15 @@ static PACKUMENTS: [Case; 6] = [
             )],
         ),
         Some(
-            r#"{"_id":"@lab/kit","dist-tags":{"latest":"1.0.0"},"name":"@lab/kit","versions":{"1.0.0":{"dist":{"integrity":"sha512-3a81oZNherrMQXNJriBBMRLm+k6JqX6iCp7u5ktV05ohkpkqJ0/BqDa6PCOj/uu9RU1EI2Q86A4qmslPpUyknw==","shasum":"a9993e364706816aba3e25717850c26c9cd0d89d","tarball":"http://localhost:8080/@lab/kit/-/@lab/kit-1.0.0.tgz"},"name":"@lab/kit","version":"1.0.0"}}}"#,
+            r#"{"_id":"@lab/kit","dist-tags":{"latest":"1.0.0"},"name":"@lab/kit","time":{"1.0.0":"1970-01-01T00:01:40.000Z","created":"1970-01-01T00:01:40.000Z","modified":"1970-01-01T00:03:20.000Z"},"versions":{"1.0.0":{"dist":{"integrity":"sha512-3a81oZNherrMQXNJriBBMRLm+k6JqX6iCp7u5ktV05ohkpkqJ0/BqDa6PCOj/uu9RU1EI2Q86A4qmslPpUyknw==","shasum":"a9993e364706816aba3e25717850c26c9cd0d89d","tarball":"http://localhost:8080/@lab/kit/-/@lab/kit-1.0.0.tgz"},"name":"@lab/kit","version":"1.0.0"}}}"#,
         ),
     ),
     (
         "a package of nothing",
         Asked::Packument("kit", &[], &[]),
-        Some(r#"{"_id":"kit","dist-tags":{},"name":"kit","versions":{}}"#),
+        Some(
+            r#"{"_id":"kit","dist-tags":{},"name":"kit","time":{"created":"1970-01-01T00:01:40.000Z","modified":"1970-01-01T00:03:20.000Z"},"versions":{}}"#,
+        ),
     ),
     (
         "tags with quotes, and a message",
@@ -167,7 +197,7 @@ static PACKUMENTS: [Case; 6] = [
             &[("1.10.0", r#"{"a":1}"#, "old"), ("1.9.0", "{}", "")],
         ),
         Some(
-            r#"{"_id":"kit","dist-tags":{"it's":"1.10.0","say \"hi\"":"1.9.0"},"name":"kit","versions":{"1.10.0":{"a":1,"deprecated":"old"},"1.9.0":{}}}"#,
+            r#"{"_id":"kit","dist-tags":{"it's":"1.10.0","say \"hi\"":"1.9.0"},"name":"kit","time":{"1.10.0":"1970-01-01T00:01:40.000Z","1.9.0":"1970-01-01T00:01:40.000Z","created":"1970-01-01T00:01:40.000Z","modified":"1970-01-01T00:03:20.000Z"},"versions":{"1.10.0":{"a":1,"deprecated":"old"},"1.9.0":{}}}"#,
         ),
     ),
     (

@@ -28,7 +28,7 @@ const RESTRICTED_BODY: &str =
 
 /// The packument of `tool`, whose one version is deprecated.
 const DEPRECATED_TOOL: &str =
-    r#"{"_id":"tool","dist-tags":{"latest":"1.0.0"},"name":"tool","versions":{"1.0.0":{"deprecated":"old","name":"tool","version":"1.0.0"}}}"#;
+    r#"{"_id":"tool","dist-tags":{"latest":"1.0.0"},"name":"tool","time":{"1.0.0":"1970-01-01T00:03:20.000Z","created":"1970-01-01T00:03:20.000Z","modified":"1970-01-01T00:03:20.000Z"},"versions":{"1.0.0":{"deprecated":"old","name":"tool","version":"1.0.0"}}}"#;
 
 /// Users and organisations.
 static PEOPLE: [Row; 16] = [

@@ -93,7 +93,8 @@ fn a_manifest_nests_127_deep(rt: HostRuntime) {
     }
 }
 
-const PREFIX: &str = r#"{"_id":"kit","dist-tags":{},"name":"kit","versions":{"1.0.0":{}"#;
+const PREFIX: &str =
+    r#"{"_id":"kit","dist-tags":{},"name":"kit","time":{"created":"1970-01-01T00:01:40.000Z","modified":"1970-01-01T00:03:20.000Z"},"versions":{"1.0.0":{}"#;
 
 // Sees that these rows have no text.
 fn has_no_text(rt: &impl Abort, alloc: Global, head: &PackHead, rows: &[VersionCase]) {
@@ -132,7 +133,7 @@ fn is_no_packument(
 
 #[test]
 fn what_is_no_object_is_in_no_packument(rt: HostRuntime) {
-    let head = head(&rt, rt.alloc(), "kit", &[]);
+    let head = head(&rt, rt.alloc(), "kit", &[], &[]);
     for text in &NO_MANIFESTS {
         is_no_packument(&rt, rt.alloc(), &head, text, "");
         is_no_packument(&rt, rt.alloc(), &head, text, "old");

@@ -77,10 +77,10 @@ pub(super) const KIT_VERSIONS: &[VersionCase] = &[
 
 /// The packument of these tags and versions.
 pub(super) const KIT: &str =
-    r#"{"_id":"kit","dist-tags":{"latest":"1.1.0"},"name":"kit","versions":{"1.0.0":{"a":1},"1.1.0":{"a":1,"deprecated":"old","z":2},"2.0.0-b":{}}}"#;
+    r#"{"_id":"kit","dist-tags":{"latest":"1.1.0"},"name":"kit","time":{"1.0.0":"1970-01-01T00:01:40.000Z","1.1.0":"1970-01-01T00:01:40.000Z","2.0.0-b":"1970-01-01T00:01:40.000Z","created":"1970-01-01T00:01:40.000Z","modified":"1970-01-01T00:03:20.000Z"},"versions":{"1.0.0":{"a":1},"1.1.0":{"a":1,"deprecated":"old","z":2},"2.0.0-b":{}}}"#;
 
 pub(super) const KIT_WITHOUT_VERSIONS: &str =
-    r#"{"_id":"kit","dist-tags":{"latest":"1.1.0"},"name":"kit","versions":{}}"#;
+    r#"{"_id":"kit","dist-tags":{"latest":"1.1.0"},"name":"kit","time":{"created":"1970-01-01T00:01:40.000Z","modified":"1970-01-01T00:03:20.000Z"},"versions":{}}"#;
 
 /// Versions, from a source that answers so many calls, to a writer that takes so many bytes; what
 /// is written then; and how that ends.
@@ -102,7 +102,7 @@ fn source_of(rt: &impl Abort, alloc: Global, case: &Case) -> Failing<VersionRows
 }
 
 fn is_told(rt: &impl Abort, alloc: Global, shows: &str, case: &Case) {
-    let head = head(rt, alloc, "kit", KIT_TAGS);
+    let head = head(rt, alloc, "kit", KIT_TAGS, case.versions);
     is_counted(rt, alloc, shows, &head, case);
     is_written(rt, alloc, shows, &head, case);
 }
@@ -170,25 +170,25 @@ static PREFIXES: [Row; 5] = [
         "no answer",
         KIT_VERSIONS,
         0,
-        r#"{"_id":"kit","dist-tags":{"latest":"1.1.0"},"name":"kit","versions":{"#,
+        r#"{"_id":"kit","dist-tags":{"latest":"1.1.0"},"name":"kit","time":{"1.0.0":"1970-01-01T00:01:40.000Z","1.1.0":"1970-01-01T00:01:40.000Z","2.0.0-b":"1970-01-01T00:01:40.000Z","created":"1970-01-01T00:01:40.000Z","modified":"1970-01-01T00:03:20.000Z"},"versions":{"#,
     ),
     (
         "one answer",
         KIT_VERSIONS,
         1,
-        r#"{"_id":"kit","dist-tags":{"latest":"1.1.0"},"name":"kit","versions":{"1.0.0":{"a":1}"#,
+        r#"{"_id":"kit","dist-tags":{"latest":"1.1.0"},"name":"kit","time":{"1.0.0":"1970-01-01T00:01:40.000Z","1.1.0":"1970-01-01T00:01:40.000Z","2.0.0-b":"1970-01-01T00:01:40.000Z","created":"1970-01-01T00:01:40.000Z","modified":"1970-01-01T00:03:20.000Z"},"versions":{"1.0.0":{"a":1}"#,
     ),
     (
         "two answers",
         KIT_VERSIONS,
         2,
-        r#"{"_id":"kit","dist-tags":{"latest":"1.1.0"},"name":"kit","versions":{"1.0.0":{"a":1},"1.1.0":{"a":1,"deprecated":"old","z":2}"#,
+        r#"{"_id":"kit","dist-tags":{"latest":"1.1.0"},"name":"kit","time":{"1.0.0":"1970-01-01T00:01:40.000Z","1.1.0":"1970-01-01T00:01:40.000Z","2.0.0-b":"1970-01-01T00:01:40.000Z","created":"1970-01-01T00:01:40.000Z","modified":"1970-01-01T00:03:20.000Z"},"versions":{"1.0.0":{"a":1},"1.1.0":{"a":1,"deprecated":"old","z":2}"#,
     ),
     (
         "three answers",
         KIT_VERSIONS,
         3,
-        r#"{"_id":"kit","dist-tags":{"latest":"1.1.0"},"name":"kit","versions":{"1.0.0":{"a":1},"1.1.0":{"a":1,"deprecated":"old","z":2},"2.0.0-b":{}"#,
+        r#"{"_id":"kit","dist-tags":{"latest":"1.1.0"},"name":"kit","time":{"1.0.0":"1970-01-01T00:01:40.000Z","1.1.0":"1970-01-01T00:01:40.000Z","2.0.0-b":"1970-01-01T00:01:40.000Z","created":"1970-01-01T00:01:40.000Z","modified":"1970-01-01T00:03:20.000Z"},"versions":{"1.0.0":{"a":1},"1.1.0":{"a":1,"deprecated":"old","z":2},"2.0.0-b":{}"#,
     ),
     (
         "a version without a manifest",
@@ -198,7 +198,7 @@ static PREFIXES: [Row; 5] = [
             ("2.0.0-b", "{}", ""),
         ],
         9,
-        r#"{"_id":"kit","dist-tags":{"latest":"1.1.0"},"name":"kit","versions":{"1.0.0":{"a":1}"#,
+        r#"{"_id":"kit","dist-tags":{"latest":"1.1.0"},"name":"kit","time":{"1.0.0":"1970-01-01T00:01:40.000Z","1.1.0":"1970-01-01T00:01:40.000Z","2.0.0-b":"1970-01-01T00:01:40.000Z","created":"1970-01-01T00:01:40.000Z","modified":"1970-01-01T00:03:20.000Z"},"versions":{"1.0.0":{"a":1}"#,
     ),
 ];
 

@@ -11,7 +11,7 @@ use Rattle.registry_desk.proofs.reply.reply.Goals as goal
 pub returns-in_ok-packument-in-Packument-Packument-clause-is : goal.returns-in_ok-packument-in-Packument-Packument-clause-is
 returns-in_ok-packument-in-Packument-Packument-clause-is c = IfOk-weaker c.doc.result _ _ (λ told is S who found.
     let shown = subst₂ (λ (rows : Rows) (what : Action). AreRowsOf rows S who what) c.in-Packument-Packument.is-1 c.in-Packument-Packument.is-0 found in
-    is ∙ ap (λ (text : Text). Doc text) (c.in_ok-packument-in-Packument-Packument.ensures S shown.0 shown.1) ∙ ap (reply S who) (sym c.in-Packument-Packument.is-0)) c.doc.ensures
+    is ∙ ap (λ (text : Text). Doc text) (c.in_ok-packument-in-Packument-Packument.ensures S shown.0 shown.1.0 shown.1.1) ∙ ap (reply S who) (sym c.in-Packument-Packument.is-0)) c.doc.ensures
 
 pub returns-in_ok-tags_of-in-Tags-Tags-clause-is : goal.returns-in_ok-tags_of-in-Tags-Tags-clause-is
 returns-in_ok-tags_of-in-Tags-Tags-clause-is c = IfOk-weaker c.doc-in-Tags-Tags.result _ _ (λ told is S who found.
