@@ -76,7 +76,7 @@ contents_depend old new (owners_same, (notes_same, (counts_same, none))) =
     λ i. record { owners = map_by bytes owner_in (owners_same i); notes_held = map_by numbers note_in (notes_same i); last_note = count_value (codes "notes") (counts_same i); other_counters = other_counts (codes "notes") (counts_same i) }
 
 badges_mapped : IsMappedByBytes schema contents 0 badges owner_in (λ c m. record c { owners = m })
-badges_mapped = record { found = refl; shape = refl; indexed = refl; plain = refl; begins = refl; depends = contents_depend; alone = λ db rows. refl }
+badges_mapped = record { found = refl; shape = refl; index = 0; indexed = refl; plain = refl; begins = refl; depends = contents_depend; alone = λ db rows. refl }
 
 notes_numbered : IsNumbered schema contents 1 notes note_in (λ c m. record c { notes_held = m })
 notes_numbered = record { found = refl; shape = refl; plain = refl; depends = contents_depend; alone = λ db rows. refl }

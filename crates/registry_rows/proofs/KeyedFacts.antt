@@ -82,7 +82,7 @@ module _ {k : KeyKind} {C X : Type 0} {schema : Schema} {contents : Trees → C}
 module _ {C X : Type 0} {schema : Schema} {contents : Trees → C} {place : ℕ} {table : Table} {more : ℕ} {value : Row → X} {change : C → TextsMap more X → C} (t : IsMapped schema contents place table more value change) where
   -- each column of a row has its type
   pub types_of : (s : State) → IsReady schema s → (r : Row) → Has (s.now.trees table.tree) r → AreOf table.columns (drop 1 r)
-  types_of s ready = row_types schema s place table _ ready t.found t.shape t.indexed t.plain
+  types_of s ready = row_types schema s place table _ ready t.found t.shape t.plain
 
   pub texts_of : (s : State) → IsReady schema s → (r : Row) → Has (s.now.trees table.tree) r → HasTexts more 0 (drop 1 r)
   texts_of s ready r h = has_texts more table.columns (drop 1 r) t.texts (types_of s ready r h)
@@ -100,7 +100,7 @@ module _ {C X : Type 0} {schema : Schema} {contents : Trees → C} {place : ℕ}
   by_its_texts = record {
     key = texts_key more;
     rowids = λ s ready. table_rowids schema s place table ready t.found;
-    once = λ s ready a b ha hb same. one_by_primary schema s place table _ ready t.found t.shape t.indexed t.plain a b ha hb
+    once = λ s ready a b ha hb same. one_by_primary schema s place table _ ready t.found t.shape t.index t.indexed a b ha hb
         (λ x y. keys_agree more 0 x y (drop 1 a) (drop 1 b) (texts_of s ready a ha) (texts_of s ready b hb) same);
     tested = λ s ready q rest r h.
         let parts = row_parts r (all_has _ (s.now.trees table.tree) r (table_rowids schema s place table ready t.found).1 h) in
@@ -130,7 +130,7 @@ bytes_agree x y a b ha hb e = and_from _ _ (subst₂ (λ u v. is_true (binary (C
 
 module _ {C X : Type 0} {schema : Schema} {contents : Trees → C} {place : ℕ} {table : Table} {value : Row → X} {change : C → BytesMap X → C} (t : IsMappedByBytes schema contents place table value change) where
   bytes_of : (s : State) → IsReady schema s → (r : Row) → Has (s.now.trees table.tree) r → column (drop 1 r) 0 ≡ Blob (bytes.of_row r)
-  bytes_of s ready r h = has_bytes table.columns (drop 1 r) t.begins (row_types schema s place table _ ready t.found t.shape t.indexed t.plain r h)
+  bytes_of s ready r h = has_bytes table.columns (drop 1 r) t.begins (row_types schema s place table _ ready t.found t.shape t.plain r h)
 
   bytes_tested : (s : State) → IsReady schema s → (q : List ℕ) (rest r : Row) → Has (s.now.trees table.tree) r → is_wanted bytes.wanted (bytes.params q ++ rest) r ≡ is q (bytes.of_row r)
   bytes_tested s ready q rest r h =
@@ -153,11 +153,11 @@ module _ {C X : Type 0} {schema : Schema} {contents : Trees → C} {place : ℕ}
     keyed = record {
       key = text_key;
       rowids = λ s ready. table_rowids schema s place table ready t.found;
-      once = λ s ready a b ha hb same. one_by_primary schema s place table _ ready t.found t.shape t.indexed t.plain a b ha hb
+      once = λ s ready a b ha hb same. one_by_primary schema s place table _ ready t.found t.shape t.index t.indexed a b ha hb
           (λ x y. bytes_agree x y (drop 1 a) (drop 1 b) (bytes_of s ready a ha) (bytes_of s ready b hb) same);
       tested = bytes_tested;
       sorted = bytes_sorted;
-      equal = λ s ready r h at q. column_is table.columns (drop 1 r) at q (row_types schema s place table _ ready t.found t.shape t.indexed t.plain r h);
+      equal = λ s ready r h at q. column_is table.columns (drop 1 r) at q (row_types schema s place table _ ready t.found t.shape t.plain r h);
     };
     depends = t.depends;
     alone = t.alone;

@@ -94,6 +94,7 @@ module _ {C X : Type 0} {schema : Schema} {contents : Trees → C} {place : ℕ}
     key_more = more;
     found = t.found;
     shape = t.shape;
+    index = t.index;
     indexed = t.indexed;
     plain = t.plain;
     texts = t.texts;

@@ -77,7 +77,7 @@ module _ {C X : Type 0} {schema : Schema} {contents : Trees → C} {place : ℕ}
 
   module _ (c : Child C more) (is : IsChild schema contents c) (linked : Has (links schema table.tree) (link_of table c)) where
     child_texts : (r : Row) → Has (s.now.trees c.table.tree) r → HasTextsAt more c.places r
-    child_texts r h = typed_at is.key_more more c.places is.within r (has_texts is.key_more c.table.columns (drop 1 r) is.texts (row_types schema s is.place c.table _ ready is.found is.shape is.indexed is.plain r h))
+    child_texts r h = typed_at is.key_more more c.places is.within r (has_texts is.key_more c.table.columns (drop 1 r) is.texts (row_types schema s is.place c.table _ ready is.found is.shape is.plain r h))
 
     agrees : (r x : Row) → Has (s.now.trees c.table.tree) r → Has (s.now.trees table.tree) x → agree plain (columns_at more c.places) r (places_from more 1) x ≡ texts_are more (key_of more x) (texts_at more c.places r)
     agrees r x hr hx = ap (λ ps. agree plain (columns_at more c.places) r ps x) (sym (columns_firsts more 0)) ∙ agree_texts more c.places own r x (child_texts r hr) (own_texts x hx)

@@ -54,13 +54,14 @@ abbrev pub link_of : {C : Type 0} {more : ℕ} → Table → Child C more → Li
 link_of {more = more} parent c = record { child = c.table; ref = reference (columns_at more c.places) parent.name Cascade; deed = Delete; key = (parent.tree, places_from more 1, plain) }
 
 -- The table at a place of the schema is such a one. Its key has `key_more` texts after the first,
--- and nothing goes with its own rows.
+-- with its index at a place of its own, and nothing goes with its own rows.
 pub record IsChild {C : Type 0} {more : ℕ} (schema : Schema) (contents : Trees → C) (c : Child C more) : Type 0 where
   pub place : ℕ
   pub key_more : ℕ
   pub found : slice_get schema.tables place ≡ Some c.table
   pub shape : c.table ≡ keyed_table c.table.name c.table.tree c.table.columns (places_from key_more 1) c.table.references
-  pub indexed : slice_get schema.indexes place ≡ Some (key_index c.table)
+  pub index : ℕ
+  pub indexed : slice_get schema.indexes index ≡ Some (key_index c.table)
   pub plain : are_plain c.table.columns ≡ true
   pub texts : begin_with_texts key_more c.table.columns ≡ true
   pub within : are_places key_more more c.places ≡ true

@@ -38,7 +38,7 @@ put_text = codes "INSERT INTO archives (integrity, bytes) VALUES (?1, ?2)"
 abbrev put_cells : List Term
 put_cells = col 0 0 ∷ col 0 1 ∷ []
 
-put_means : Means schema put_text (insert_values 16 (lit Null ∷ put_cells))
+put_means : Means schema put_text (insert_values 15 (lit Null ∷ put_cells))
 unfolding understood everything
 put_means = (refl, (refl, refl))
 
@@ -118,7 +118,7 @@ hold_text = codes "INSERT INTO held VALUES (?1, ?2, ?3)"
 abbrev hold_cells : List Term
 hold_cells = col 0 0 ∷ col 0 1 ∷ col 0 2 ∷ []
 
-hold_means : Means schema hold_text (insert_values 15 hold_cells)
+hold_means : Means schema hold_text (insert_values 14 hold_cells)
 unfolding understood everything
 hold_means = (refl, (refl, refl))
 

@@ -11,7 +11,7 @@ use Rattle.registry_tables.specs.Contents.{contents, archive_in, held_in, nothin
 use Rattle.registry_tables.specs.Fresh.{no_contents}
 
 pub contents_depend : DependsOn schema contents
-contents_depend old new (users, (tokens, (organisations, (members, (teams, (team_members, (packages, (grants, (owners, (versions, (spent, (tags, (needs, (meta, (need_ranges, (held, (archives, (counters, none)))))))))))))))))) = λ i. record {
+contents_depend old new (users, (tokens, (organisations, (members, (teams, (team_members, (packages, (grants, (owners, (versions, (spent, (tags, (needs, (meta, (held, (archives, (counters, (need_ranges, none)))))))))))))))))) = λ i. record {
   users = map_of 0 nothing_in (users i);
   tokens = map_by bytes user_in (tokens i);
   organisations = map_of 0 nothing_in (organisations i);

@@ -15,49 +15,67 @@ use Rattle.registry_rows.specs.Ready.{Ready, Blank, Leaves, Executed}
 use Rattle.registry_rows.proofs.ReadyFacts.{inside}
 use Rattle.registry_rows.proofs.CreateFacts.{create_adds, create_adds_counter, creates_ready, index_keeps_blank, blank_holds}
 use Rattle.registry_tables.specs.Schema as table
-use Rattle.registry_tables.specs.Schema.{schema}
+use Rattle.registry_tables.specs.Schema.{schema, schema_2}
 use Rattle.registry_tables.specs.Contents.{contents}
 use Rattle.registry_tables.specs.Creation.{creation}
 use Rattle.registry_tables.specs.Effects.{HasNoTables, InForm, Makes, shown, stored_in}
 use Rattle.registry_tables.specs.Fresh.{HasMade, first_tables, fresh, no_contents, schema_after, schema_number, with_number}
 use Rattle.registry_tables.proofs.ContentsFacts.{contents_depend, no_rows}
-use Rattle.registry_tables.proofs.SchemaFacts.{AddsTable, adds, creation_length, means_archives, means_index, users_exists}
+use Rattle.registry_tables.proofs.SchemaFacts.{AddsTable, adds, creation_length, means_archives, means_archives_index, means_needs, means_needs_index, users_exists}
 
 add_first : (sql : List ℕ) → AddsTable 0 sql → (old new : State) (count : ℕ) → Ready no_tables old → Executed sql [] old new (Ok count) → HasCleanDisk new → Blank (first_tables 1) new
 add_first sql it old new count form call clean = inside (Blank (first_tables 1) new) no_tables sql [] old new (Ok count) form call clean (λ n ready ran on.
     let made = creates_ready no_tables sql it.table old new it.means ready n ran in
     subst (λ s. Blank s new) it.next (record { ready = made.0; empty = (made.2, tt); mode = on }))
 
--- the tables with a primary key of columns are made first
-first_made : (n : ℕ) → n ≤ 16 → schema_after n ≡ first_tables n
+-- the first fifteen make a table with a primary key of columns each
+first_made : (n : ℕ) → n ≤ 15 → schema_after n ≡ first_tables n
 first_made n few =
-    let tables : nat_lt 16 n ≡ false = le-ltb 16 n few in
-    let indexes : nat_lt 17 n ≡ false = le-ltb 17 n (omega (arith, few)) in
-    rw (tables, indexes) refl
+    let archives : nat_lt 15 n ≡ false = le-ltb 15 n few in
+    let archives_index : nat_lt 16 n ≡ false = le-ltb 16 n (omega (arith, few)) in
+    let needs : nat_lt 17 n ≡ false = le-ltb 17 n (omega (arith, few)) in
+    let needs_index : nat_lt 18 n ≡ false = le-ltb 18 n (omega (arith, few)) in
+    rw (archives, archives_index, needs, needs_index) refl
 
 -- the text takes what the first so many made to what one more makes
 abbrev MakesNext : ℕ → Type 1
 MakesNext n = (old new : State) (count : ℕ) → (HasCleanDisk old → Blank (schema_after n) old) → Executed (get_or creation n []) [] old new (Ok count) → HasCleanDisk new → Blank (schema_after (suc n)) new
 
-add_table : (n : ℕ) → n < 16 → MakesNext n
+add_table : (n : ℕ) → n < 15 → MakesNext n
 add_table n few old new count made call clean =
     let it = adds n few in
     subst (λ s. Blank s new) (it.next ∙ sym (first_made (suc n) few))
     (create_adds (first_tables n) (get_or creation n []) it.table it.means old new (Ok count) (λ before. subst (λ s. Blank s old) (first_made n (omega (arith, few))) (made before)) call clean)
 
-add_archives : MakesNext 16
-add_archives old new count made call clean = create_adds_counter (first_tables 16) (get_or creation 16 []) (record table.archives { tree = 0 }) means_archives old new (Ok count) made call clean
+add_archives : MakesNext 15
+add_archives old new count made call clean = create_adds_counter (first_tables 15) (get_or creation 15 []) (record table.archives { tree = 0 }) means_archives old new (Ok count) made call clean
 
-add_index : MakesNext 17
-add_index old new count made call clean = index_keeps_blank (schema_after 17) (get_or creation 17 []) 16 table.archives (record table.archives_by_integrity { tree = 0 }) means_index old new (Ok count) made call clean
+add_archives_index : MakesNext 16
+add_archives_index old new count made call clean = index_keeps_blank (schema_after 16) (get_or creation 16 []) 15 table.archives (record table.archives_by_integrity { tree = 0 }) means_archives_index old new (Ok count) made call clean
 
-add_next : (n : ℕ) → n < 18 → MakesNext n
-add_next n few = elim (cases_lt n 16) [
-  | inl early ↦ add_table n early
-  | inr late ↦ elim (cases_lt n 17) [
-    | inl early ↦ let is : 16 ≡ n = omega (arith, late, early) in subst MakesNext is add_archives
-    | inr later ↦ let is : 17 ≡ n = omega (arith, later, few) in subst MakesNext is add_index
+add_needs : MakesNext 17
+add_needs old new count made call clean = create_adds schema_2 (get_or creation 17 []) (record table.need_ranges { tree = 0 }) means_needs old new (Ok count) made call clean
+
+add_needs_index : MakesNext 18
+add_needs_index old new count made call clean = index_keeps_blank (schema_after 18) (get_or creation 18 []) 17 table.need_ranges (record table.need_ranges_by_target { tree = 0 }) means_needs_index old new (Ok count) made call clean
+
+-- the texts after the first fifteen
+add_later : (n : ℕ) → 15 ≤ n → n < 19 → MakesNext n
+add_later n late few = elim (cases_lt n 17) [
+  | inl early ↦ elim (cases_lt n 16) [
+    | inl first ↦ let is : 15 ≡ n = omega (arith, late, first) in subst MakesNext is add_archives
+    | inr second ↦ let is : 16 ≡ n = omega (arith, second, early) in subst MakesNext is add_archives_index
   ]
+  | inr later ↦ elim (cases_lt n 18) [
+    | inl third ↦ let is : 17 ≡ n = omega (arith, later, third) in subst MakesNext is add_needs
+    | inr fourth ↦ let is : 18 ≡ n = omega (arith, fourth, few) in subst MakesNext is add_needs_index
+  ]
+]
+
+add_next : (n : ℕ) → n < 19 → MakesNext n
+add_next n few = elim (cases_lt n 15) [
+  | inl early ↦ add_table n early
+  | inr late ↦ add_later n late few
 ]
 
 -- a text that isn't understood isn't run
@@ -84,7 +102,7 @@ module _ {S : Type 0} (store : Ghosts S) where
   refuses_next (suc n) first old new idle refused call form = λ clean. refused (omega arith) form (omega (arith, call.1.survives.clean, clean))
 
   -- the number of the schema is put when all tables are there
-  pub numbered : {E : Type 0} (old new : Transaction S) (r : Result (Unit {0}) E) → HasMade store 18 old → (HasCleanDisk (shown store new) → HasCleanDisk (shown store old))
+  pub numbered : {E : Type 0} (old new : Transaction S) (r : Result (Unit {0}) E) → HasMade store 19 old → (HasCleanDisk (shown store new) → HasCleanDisk (shown store old))
       → (InForm store old → Makes store old new r (λ c. with_number c schema_number)) → HasCleanDisk (shown store new) → OnOk r (Leaves schema contents fresh (shown store new))
   numbered old new r made before put clean =
       let blank : Blank schema (shown store old) = made (before clean) in

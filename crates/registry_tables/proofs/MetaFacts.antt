@@ -24,7 +24,7 @@ use Rattle.registry_tables.specs.Fresh.{schema_key, with_number}
 use Rattle.registry_tables.proofs.ContentsFacts.{contents_depend}
 
 pub meta_mapped : IsMapped schema contents 13 table.meta 0 number_named_in (λ c m. record c { meta = m })
-meta_mapped = record { found = refl; shape = refl; indexed = refl; plain = refl; texts = refl; depends = contents_depend; alone = λ db rows. refl }
+meta_mapped = record { found = refl; shape = refl; index = 13; indexed = refl; plain = refl; texts = refl; depends = contents_depend; alone = λ db rows. refl }
 
 abbrev insert_text : List ℕ
 insert_text = codes "INSERT INTO meta VALUES ('schema', ?1)"

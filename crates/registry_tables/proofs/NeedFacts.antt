@@ -38,7 +38,7 @@ put_text = codes "INSERT INTO need_ranges VALUES (?1, ?2, ?3, ?4)"
 abbrev put_cells : List Term
 put_cells = col 0 0 ∷ col 0 1 ∷ col 0 2 ∷ col 0 3 ∷ []
 
-put_means : Means schema put_text (Insert 14 (Values (lit Null ∷ put_cells) 5))
+put_means : Means schema put_text (Insert 17 (Values (lit Null ∷ put_cells) 5))
 unfolding understood everything
 put_means = (refl, (refl, refl))
 
@@ -51,7 +51,7 @@ need_put p v need old new form call = insert_puts need_ranges_mapped put_text pu
 abbrev find_text : List ℕ
 find_text = codes "SELECT target FROM need_ranges WHERE package = ?1 AND version = ?2 AND target = ?3 AND range = ?4"
 
-find_means : MeansQuery schema find_text (Select (record { lets = []; body = scan 28 (by_texts 3 1 0) (col 1 3 ∷ []) [] }) (codes "target" ∷ []))
+find_means : MeansQuery schema find_text (Select (record { lets = []; body = scan 33 (by_texts 3 1 0) (col 1 3 ∷ []) [] }) (codes "target" ∷ []))
 unfolding understood everything
 find_means = ((refl, (refl, refl)), refl)
 

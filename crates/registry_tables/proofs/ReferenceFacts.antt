@@ -81,7 +81,7 @@ to_tagged = refl
 module _ (s : State) (ready : IsReady schema s) where
   held_row : (r : Row) → Has (s.now.trees table.held.tree) r → HeldRow r
   held_row r h =
-      let parts = row_parts r (all_has _ (s.now.trees table.held.tree) r (table_rowids schema s 15 table.held ready refl).1 h) in
+      let parts = row_parts r (all_has _ (s.now.trees table.held.tree) r (table_rowids schema s 14 table.held ready refl).1 h) in
       held_values parts.0 (drop 1 r) r parts.1 (types_of held_mapped s ready r h)
 
   -- what the map has was read off a row
@@ -99,9 +99,9 @@ module _ (s : State) (ready : IsReady schema s) where
       let values = row.2 in
       let whole = values.4 in
       let m = values.3 in
-      let parent = parent_of schema s ready table.held (has_got schema.tables 15 table.held refl) (reference (3 ∷ []) (codes "archives") NoAction) (inr (inl refl)) table.archives.tree (0 ∷ []) to_archives r row.1 (subst (λ x. has_null (3 ∷ []) x ≡ false) (sym whole) refl) in
+      let parent = parent_of schema s ready table.held (has_got schema.tables 14 table.held refl) (reference (3 ∷ []) (codes "archives") NoAction) (inr (inl refl)) table.archives.tree (0 ∷ []) to_archives r row.1 (subst (λ x. has_null (3 ∷ []) x ≡ false) (sym whole) refl) in
       let p = parent.0 in
-      let rowid_is : rowid p ≡ Int (numbers.of_row p) = number_is (rowid p) (all_has _ (s.now.trees table.archives.tree) p (table_rowids schema s 16 table.archives ready refl).1 parent.1) in
+      let rowid_is : rowid p ≡ Int (numbers.of_row p) = number_is (rowid p) (all_has _ (s.now.trees table.archives.tree) p (table_rowids schema s 15 table.archives ready refl).1 parent.1) in
       let agrees : is_true (binary (Compare Eq Binary) (rowid p) (Int m)) ≡ true = (and_parts _ _ (subst (λ x. agree plain (0 ∷ []) p (3 ∷ []) x ≡ true) whole parent.2)).0 in
       let same : m ≡ numbers.of_row p = same_true number_key m (numbers.of_row p) (sym (number_test (numbers.of_row p) m) ∙ subst (λ v. is_true (binary (Compare Eq Binary) v (Int m)) ≡ true) rowid_is agrees) in
       let is : m ≡ n = sym (ap (λ (x : Row). int_in (column (drop 1 x) 2)) whole) ∙ row.4 in
@@ -131,7 +131,7 @@ module _ (s : State) (ready : IsReady schema s) where
       let whole = values.4 in
       let v = values.1 in
       let w = values.2 in
-      let parent = parent_of schema s ready table.held (has_got schema.tables 15 table.held refl) (reference (1 ∷ 2 ∷ []) (codes "versions") Cascade) (inl refl) table.versions.tree (1 ∷ 2 ∷ []) to_versions r row.1 (subst (λ x. has_null (1 ∷ 2 ∷ []) x ≡ false) (sym whole) refl) in
+      let parent = parent_of schema s ready table.held (has_got schema.tables 14 table.held refl) (reference (1 ∷ 2 ∷ []) (codes "versions") Cascade) (inl refl) table.versions.tree (1 ∷ 2 ∷ []) to_versions r row.1 (subst (λ x. has_null (1 ∷ 2 ∷ []) x ≡ false) (sym whole) refl) in
       let p = parent.0 in
       let parts = version_parts p parent.1 in
       let agrees : agree plain (1 ∷ 2 ∷ []) (parts.0 ∷ drop 1 p) (1 ∷ 2 ∷ []) (values.0 ∷ Stored v ∷ Stored w ∷ Int values.3 ∷ []) ≡ true =

@@ -7,7 +7,7 @@ use Rattle.sqlite_resolve.specs.declared.error.CompileError.TheVariants.{Exists}
 use Rattle.sqlite_tied.specs.Compute.{everything}
 use Rattle.registry_rows.specs.Statements.{MeansTable, MeansFirstCounted, MeansIndex}
 use Rattle.registry_tables.specs.Schema as table
-use Rattle.registry_tables.specs.Schema.{schema}
+use Rattle.registry_tables.specs.Schema.{schema, schema_2}
 use Rattle.registry_tables.specs.Creation.{creation}
 use Rattle.registry_tables.specs.Fresh.{first_tables, schema_after}
 
@@ -73,22 +73,26 @@ adds_meta : AddsTable 13 (get_or creation 13 [])
 unfolding understood everything creation
 adds_meta = record { table = record table.meta { tree = 0 }; means = record { command = (refl, (refl, refl)); text = refl; defined = refl; bare = refl }; next = refl }
 
-adds_need_ranges : AddsTable 14 (get_or creation 14 [])
-unfolding understood everything creation
-adds_need_ranges = record { table = record table.need_ranges { tree = 0 }; means = record { command = (refl, (refl, refl)); text = refl; defined = refl; bare = refl }; next = refl }
-
-adds_held : AddsTable 15 (get_or creation 15 [])
+adds_held : AddsTable 14 (get_or creation 14 [])
 unfolding understood everything creation
 adds_held = record { table = record table.held { tree = 0 }; means = record { command = (refl, (refl, refl)); text = refl; defined = refl; bare = refl }; next = refl }
 
 -- the archives are the first table that counts
-pub means_archives : MeansFirstCounted (first_tables 16) (get_or creation 16 []) (record table.archives { tree = 0 })
+pub means_archives : MeansFirstCounted (first_tables 15) (get_or creation 15 []) (record table.archives { tree = 0 })
 unfolding understood everything creation
 means_archives = record { command = (refl, (refl, refl)); text = refl; defined = refl; first = refl }
 
-pub means_index : MeansIndex (schema_after 17) (get_or creation 17 []) 16 table.archives (record table.archives_by_integrity { tree = 0 })
+pub means_archives_index : MeansIndex (schema_after 16) (get_or creation 16 []) 15 table.archives (record table.archives_by_integrity { tree = 0 })
 unfolding understood everything creation
-means_index = record { command = (refl, (refl, refl)); text = refl; found = refl; defined = refl }
+means_archives_index = record { command = (refl, (refl, refl)); text = refl; found = refl; defined = refl }
+
+pub means_needs : MeansTable schema_2 (get_or creation 17 []) (record table.need_ranges { tree = 0 })
+unfolding understood everything creation
+means_needs = record { command = (refl, (refl, refl)); text = refl; defined = refl; bare = refl }
+
+pub means_needs_index : MeansIndex (schema_after 18) (get_or creation 18 []) 17 table.need_ranges (record table.need_ranges_by_target { tree = 0 })
+unfolding understood everything creation
+means_needs_index = record { command = (refl, (refl, refl)); text = refl; found = refl; defined = refl }
 
 -- the texts add tables one after another
 abbrev AddsAll : ℕ → List (List ℕ) → Type 0
@@ -100,22 +104,22 @@ each_adds [] n i all within = absurd (omega arith)
 each_adds (sql ∷ sqls) n zero all within = let same : n ≡ n + 0 = omega arith in subst (λ k. AddsTable k sql) same all.0
 each_adds (sql ∷ sqls) n (suc i) all within = let same : suc n + i ≡ n + suc i = omega arith in subst (λ k. AddsTable k (get_or sqls i [])) same (each_adds sqls (suc n) i all.1 (omega arith))
 
-all_add : AddsAll 0 (take 16 creation)
+all_add : AddsAll 0 (take 15 creation)
 unfolding creation
-all_add = (adds_users, (adds_tokens, (adds_organisations, (adds_members, (adds_teams, (adds_team_members, (adds_packages, (adds_grants, (adds_owners, (adds_versions, (adds_spent, (adds_tags, (adds_needs, (adds_meta, (adds_need_ranges, (adds_held, tt))))))))))))))))
+all_add = (adds_users, (adds_tokens, (adds_organisations, (adds_members, (adds_teams, (adds_team_members, (adds_packages, (adds_grants, (adds_owners, (adds_versions, (adds_spent, (adds_tags, (adds_needs, (adds_meta, (adds_held, tt)))))))))))))))
 
-first_length : length (take 16 creation) ≡ 16
+first_length : length (take 15 creation) ≡ 15
 unfolding creation
 first_length = refl
 
--- each of the first sixteen
-pub adds : (i : ℕ) → i < 16 → AddsTable i (get_or creation i [])
+-- each of the first fifteen
+pub adds : (i : ℕ) → i < 15 → AddsTable i (get_or creation i [])
 adds i within =
-    let long : length (take 16 creation) ≡ 16 = first_length in
+    let long : length (take 15 creation) ≡ 15 = first_length in
     let same : 0 + i ≡ i = omega arith in
-    subst (λ sql. AddsTable i sql) (get_or-take 16 creation i [] within) (subst (λ k. AddsTable k (get_or (take 16 creation) i [])) same (each_adds (take 16 creation) 0 i all_add (omega (arith, long, within))))
+    subst (λ sql. AddsTable i sql) (get_or-take 15 creation i [] within) (subst (λ k. AddsTable k (get_or (take 15 creation) i [])) same (each_adds (take 15 creation) 0 i all_add (omega (arith, long, within))))
 
-pub creation_length : length creation ≡ 18
+pub creation_length : length creation ≡ 19
 unfolding creation
 creation_length = refl
 

@@ -50,15 +50,15 @@ quiet_needs : links schema 24 ≡ []
 unfolding everything
 quiet_needs = refl
 
-quiet_ranges : links schema 28 ≡ []
+quiet_ranges : links schema 33 ≡ []
 unfolding everything
 quiet_ranges = refl
 
-quiet_held : links schema 30 ≡ []
+quiet_held : links schema 28 ≡ []
 unfolding everything
 quiet_held = refl
 
-versions_linked : links schema 18 ≡ link_of table.versions version_in_needs ∷ link_of table.versions version_in_ranges ∷ link_of table.versions version_in_held ∷ []
+versions_linked : links schema 18 ≡ link_of table.versions version_in_needs ∷ link_of table.versions version_in_held ∷ link_of table.versions version_in_ranges ∷ []
 unfolding everything
 versions_linked = refl
 
@@ -71,8 +71,8 @@ version_ranges = mapped_child need_ranges_mapped {rest = 1} (0, 1) refl quiet_ra
 version_held : IsChild schema contents version_in_held
 version_held = mapped_child held_mapped {rest = 1} (0, 1) refl quiet_held _ (λ q db. ap (λ m. record (contents db) { held = m }) (keep_but pair_key (contents db).held q))
 
-version_children : HasChildren schema contents table.versions (version_in_needs ∷ version_in_ranges ∷ version_in_held ∷ [])
-version_children = record { linked = versions_linked; each = (version_needs, (version_ranges, (version_held, tt))) }
+version_children : HasChildren schema contents table.versions (version_in_needs ∷ version_in_held ∷ version_in_ranges ∷ [])
+version_children = record { linked = versions_linked; each = (version_needs, (version_held, (version_ranges, tt))) }
 
 abbrev version_text : List ℕ
 version_text = codes "DELETE FROM versions WHERE package = ?1 AND version = ?2"
@@ -97,7 +97,7 @@ version_untagged p v old new left t named =
 abbrev archive_text : List ℕ
 archive_text = codes "DELETE FROM archives WHERE id = ?1"
 
-archive_means : Means schema archive_text (delete_where 16 table.archives numbers.wanted)
+archive_means : Means schema archive_text (delete_where 15 table.archives numbers.wanted)
 unfolding understood everything
 archive_means = (refl, (refl, refl))
 

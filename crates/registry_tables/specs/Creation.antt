@@ -17,8 +17,9 @@ creation =
     ∷ codes "CREATE TABLE tags (package TEXT NOT NULL, tag TEXT NOT NULL, version TEXT NOT NULL, PRIMARY KEY (package, tag), FOREIGN KEY (package, version) REFERENCES versions) STRICT"
     ∷ codes "CREATE TABLE needs (package TEXT NOT NULL, version TEXT NOT NULL, target TEXT NOT NULL, PRIMARY KEY (package, version, target), FOREIGN KEY (package, version) REFERENCES versions ON DELETE CASCADE) STRICT"
     ∷ codes "CREATE TABLE meta (name TEXT NOT NULL, value INTEGER NOT NULL, PRIMARY KEY (name)) STRICT"
-    ∷ codes "CREATE TABLE need_ranges (package TEXT NOT NULL, version TEXT NOT NULL, target TEXT NOT NULL, range TEXT NOT NULL, PRIMARY KEY (package, version, target, range), FOREIGN KEY (package, version) REFERENCES versions ON DELETE CASCADE) STRICT"
     ∷ codes "CREATE TABLE held (package TEXT NOT NULL, version TEXT NOT NULL, archive INTEGER NOT NULL, PRIMARY KEY (package, version), FOREIGN KEY (package, version) REFERENCES versions ON DELETE CASCADE, FOREIGN KEY (archive) REFERENCES archives) STRICT"
     ∷ codes "CREATE TABLE archives (id INTEGER PRIMARY KEY AUTOINCREMENT, integrity TEXT NOT NULL, bytes BLOB NOT NULL) STRICT"
     ∷ codes "CREATE INDEX archives_by_integrity ON archives (integrity)"
+    ∷ codes "CREATE TABLE need_ranges (package TEXT NOT NULL, version TEXT NOT NULL, target TEXT NOT NULL, range TEXT NOT NULL, PRIMARY KEY (package, version, target, range), FOREIGN KEY (package, version) REFERENCES versions ON DELETE CASCADE) STRICT"
+    ∷ codes "CREATE INDEX need_ranges_by_target ON need_ranges (target, package, version, range)"
     ∷ []

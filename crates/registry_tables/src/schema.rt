@@ -3,7 +3,10 @@
 //! Each has one primary key of its first columns, except `archives`, whose key is a number that
 //! SQLite counts. No column may be null, and every value has its column's type (`STRICT`). A
 //! foreign key names rows that must be there; where it cascades, a row goes with the one that it
-//! names. Tables are made in this order, and the one index after them.
+//! names.
+//!
+//! The order is for good, since the tree of each table and index follows from it: the fourteen
+//! tables of schema 1 come first, then what schema 2 has beside them, then the rest.
 
 ghost use Rattle.std.specs.Prelude.{◌≡◌, IsErr, OnOk, length, map};
 ghost use Rattle.sqlite.specs.State.{HasCleanDisk};
@@ -21,8 +24,8 @@ use registry_names::Fault;
 use registry_rows::write;
 use sqlite::{Alter, Transaction};
 
-// The texts that make the tables and the index, in their order.
-const TABLES: [&str; 18] = [
+// The texts that make the tables and the indexes, in their order.
+const TABLES: [&str; 19] = [
     "CREATE TABLE users (name TEXT NOT NULL, PRIMARY KEY (name)) STRICT",
     "CREATE TABLE tokens (digest BLOB NOT NULL, user TEXT NOT NULL, PRIMARY KEY (digest), FOREIGN KEY (user) REFERENCES users) STRICT",
     "CREATE TABLE orgs (name TEXT NOT NULL, PRIMARY KEY (name)) STRICT",
@@ -37,10 +40,11 @@ const TABLES: [&str; 18] = [
     "CREATE TABLE tags (package TEXT NOT NULL, tag TEXT NOT NULL, version TEXT NOT NULL, PRIMARY KEY (package, tag), FOREIGN KEY (package, version) REFERENCES versions) STRICT",
     "CREATE TABLE needs (package TEXT NOT NULL, version TEXT NOT NULL, target TEXT NOT NULL, PRIMARY KEY (package, version, target), FOREIGN KEY (package, version) REFERENCES versions ON DELETE CASCADE) STRICT",
     "CREATE TABLE meta (name TEXT NOT NULL, value INTEGER NOT NULL, PRIMARY KEY (name)) STRICT",
-    "CREATE TABLE need_ranges (package TEXT NOT NULL, version TEXT NOT NULL, target TEXT NOT NULL, range TEXT NOT NULL, PRIMARY KEY (package, version, target, range), FOREIGN KEY (package, version) REFERENCES versions ON DELETE CASCADE) STRICT",
     "CREATE TABLE held (package TEXT NOT NULL, version TEXT NOT NULL, archive INTEGER NOT NULL, PRIMARY KEY (package, version), FOREIGN KEY (package, version) REFERENCES versions ON DELETE CASCADE, FOREIGN KEY (archive) REFERENCES archives) STRICT",
     "CREATE TABLE archives (id INTEGER PRIMARY KEY AUTOINCREMENT, integrity TEXT NOT NULL, bytes BLOB NOT NULL) STRICT",
     "CREATE INDEX archives_by_integrity ON archives (integrity)",
+    "CREATE TABLE need_ranges (package TEXT NOT NULL, version TEXT NOT NULL, target TEXT NOT NULL, range TEXT NOT NULL, PRIMARY KEY (package, version, target, range), FOREIGN KEY (package, version) REFERENCES versions ON DELETE CASCADE) STRICT",
+    "CREATE INDEX need_ranges_by_target ON need_ranges (target, package, version, range)",
 ];
 
 /// Makes the tables in a database that has none: all of them empty, except the number of the
@@ -60,7 +64,7 @@ pub fn create<S: Alter>(tx: &mut Transaction<'_, S>) -> Result<(), Fault>
 fn create_tables<S: Alter>(tx: &mut Transaction<'_, S>, texts: &[&str]) -> Result<(), Fault>
     requires texts { map (λ text. text.now) texts.now ≡ creation }
     ensures stays { Stays S.Store tx.old tx.new }
-    ensures made { HasNoTables S.Store tx.old → OnOk result (HasMade S.Store 18 tx.new) }
+    ensures made { HasNoTables S.Store tx.old → OnOk result (HasMade S.Store 19 tx.new) }
     ensures ran { OnOk result (HasRun S.Store (length creation) tx.old tx.new) }
     ensures refused { InForm S.Store tx.old → HasCleanDisk (shown S.Store tx.new) → IsErr result }
 {
