@@ -1,4 +1,5 @@
 mod CommitFacts
+mod CountingFacts
 mod GrantFacts
 mod KeepingFacts
 mod LoadedFacts

@@ -1,5 +1,5 @@
 -- What an open finds in files: rows whose rowids rise.
-use Rattle.std.proofs.Common.{◌≡◌, ℕ, filter, true, List, [], inl, inr, ap, sym, subst, IsTrue, OnOk, Result, Ok, Err, length, refl, arith}
+use Rattle.std.proofs.Common.{◌≡◌, ◌==◌, ℕ, filter, true, false, List, [], ◌∷◌, inl, inr, ap, sym, subst, IsTrue, OnOk, Result, Ok, Err, length, ne_eqb, refl, arith}
 use Rattle.std.proofs.Math.Logic.{∥∥₁_elim}
 use Rattle.std.specs.List.{AllByRecursion}
 use Rattle.sqlite_rules.specs.Lists.{Has}
@@ -9,6 +9,7 @@ use Rattle.sqlite_schema.specs.declared.schema.Table.{Table}
 use Rattle.sqlite_catalog.specs.Listing.{IsSound, IsTableRow, is_table_row}
 use Rattle.sqlite_catalog.proofs.LayoutLemmas.{table_shape, zipped_left}
 use Rattle.sqlite_trees.specs.Tree.{Trees}
+use Rattle.sqlite_value.specs.Order.{Row}
 use Rattle.sqlite_trees.specs.Objects.{IsListed, catalog_tree}
 use Rattle.sqlite_trees.specs.View.{IsOrdered, IsShaped}
 use Rattle.sqlite_trees.specs.Props.{IsOrdered-prop}
@@ -75,6 +76,11 @@ ours_ready s opened is clean on =
 pub both_ok : {A E : Type 0} {P Q R : Type 0} (r : Result A E) → (P → Q → R) → OnOk r P → OnOk r Q → OnOk r R
 both_ok (Ok a) f p q = f p q
 both_ok (Err e) f p q = tt
+
+-- a list without a row
+pub no_more : (rows : List Row) → (length rows == 0) ≡ true → rows ≡ []
+no_more [] none = refl
+no_more (r ∷ rows) none = absurd (let some : (length (r ∷ rows) == 0) ≡ false = ne_eqb _ 0 (omega arith) in cc)
 
 -- ---- of the trees that the files hold
 

@@ -15,7 +15,7 @@ use Rattle.registry_rows.specs.Rows.{HasRowids}
 use Rattle.registry_rows.specs.Tables.{no_tables}
 use Rattle.registry_tables.specs.Contents.{Contents, contents}
 use Rattle.registry_tables.specs.Effects.{stored}
-use Rattle.registry_tables.specs.Fresh.{fresh, schema_key, schema_number}
+use Rattle.registry_tables.specs.Fresh.{CountsArchivesAlone, fresh, schema_key, schema_number}
 use Rattle.registry_tables.specs.Schema.{schema}
 use Rattle.registry_desk.specs.Resting.{IsRegistryOf}
 use Rattle.registry_desk.specs.declared.open.Unopened.{Unopened}
@@ -33,10 +33,14 @@ IsJustOpened s = HasCleanDisk s → Opens s × IsLive s × HaveRowids s
 abbrev pub IsNumbered : Contents → Type 0
 IsNumbered c = at c.meta schema_key ≡ Some schema_number
 
+-- and SQLite counts for the archives alone
+abbrev pub IsOurs : Contents → Type 0
+IsOurs c = IsNumbered c × CountsArchivesAlone c
+
 -- the tables of a registry give what they hold, and a database without tables a fresh registry. Any
 -- other gives none
 abbrev pub IsMadeOf : Database → Contents → Type 0
-IsMadeOf db c = ((db.schema ≡ schema) × IsNumbered (contents db.trees) × (c ≡ contents db.trees)) ⊎ ((db.schema ≡ no_tables) × (c ≡ fresh))
+IsMadeOf db c = ((db.schema ≡ schema) × IsOurs (contents db.trees) × (c ≡ contents db.trees)) ⊎ ((db.schema ≡ no_tables) × (c ≡ fresh))
 
 -- a crash leaves the database as it was, or, where it had no tables, a fresh registry
 abbrev pub IsLeftOf : Database → Trees → Type 0
@@ -45,7 +49,7 @@ IsLeftOf db left = (left ≡ db.trees) ⊎ ((db.schema ≡ no_tables) × IsRegis
 -- ---- the same of the trees that files held, which list their schema
 
 abbrev pub GivesFound : Trees → Contents → Type 0
-GivesFound db c = (IsSound schema db × IsNumbered (contents db) × (c ≡ contents db)) ⊎ (IsSound no_tables db × (c ≡ fresh))
+GivesFound db c = (IsSound schema db × IsOurs (contents db) × (c ≡ contents db)) ⊎ (IsSound no_tables db × (c ≡ fresh))
 
 abbrev pub LeavesFound : Trees → Trees → Type 0
 LeavesFound db left = (left ≡ db) ⊎ (IsSound no_tables db × IsRegistryOf left fresh)

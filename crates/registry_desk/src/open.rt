@@ -11,6 +11,7 @@ ghost use Rattle.sqlite_wal.specs.Files.{image_at};
 ghost use Rattle.registry_rows.specs.Ready.{Ready};
 ghost use Rattle.registry_rows.specs.Tables.{no_tables};
 ghost use Rattle.registry_tables.specs.Effects.{stored};
+ghost use Rattle.registry_tables.specs.Fresh.{CountsArchivesAlone};
 ghost use Rattle.registry_tables.specs.Schema as tables;
 ghost use Rattle.registry_desk.specs.Opened.{HoldsEach, HoldsFound, IsFreshIfEmpty, IsJustOpened, IsLeftOf, IsMadeOf, IsNumbered, IsUri, LeavesAtMost};
 ghost use Rattle.registry_desk.specs.Promises.{IsSure};
@@ -21,7 +22,7 @@ use crate::same::is_same_schema;
 use registry_cache::TextCache;
 use registry_names::Fault;
 use registry_rows::{commit, fault_of};
-use registry_tables::opened;
+use registry_tables::{counts_archives_alone, opened};
 use sqlite::{
     Alter, Connection, File, FileFrom, FileStore, Files, Leftover, Options, Start, Unknown,
 };
@@ -61,7 +62,8 @@ impl Registry<FileStore<File>> {
     /// The registry in the file at the path, with its log beside it. A file that isn't there or is
     /// empty becomes a fresh registry, whose pages end in sums, so that a byte changed later is
     /// refused. `Database` is answered where the file can't be opened, is another program's, has
-    /// the tables of another schema, or is held by another process; its bytes are kept.
+    /// the tables of another schema, counts in `sqlite_sequence` for more than the archives, or is
+    /// held by another process; its bytes are kept.
     ///
     /// What is said here holds as long as the disk returns what was written to it, and nobody
     /// else writes the file. A torn write is supposed to leave each byte old or new:
@@ -268,7 +270,7 @@ fn settle<S: Alter>(alloc: Global, conn: &mut Connection<S>) -> Result<(), Fault
     if !has_our_tables(alloc, conn.schema())? {
         return Err(Fault::Database);
     }
-    check_number(conn)
+    check_contents(conn)
 }
 
 fn has_nothing(schema: &Schema) -> bool
@@ -288,13 +290,15 @@ fn has_our_tables(alloc: Global, schema: &Schema) -> Result<bool, Fault>
     Ok(is_same_schema(conn.schema(), schema))
 }
 
-// Another number of the schema is `Database`.
-fn check_number<S: Alter>(conn: &mut Connection<S>) -> Result<(), Fault>
+// Another number of the schema is `Database`, and so is a counter besides that of the archives.
+fn check_contents<S: Alter>(conn: &mut Connection<S>) -> Result<(), Fault>
     requires idle { conn.old.in_transaction ≡ false }
     requires ready { Ready tables.schema (state S.Store conn.old) }
     ensures rests { OnOk result (Rests (state S.Store conn.new)) }
     ensures numbered { HasCleanDisk (state S.Store conn.new)
         → OnOk result (IsNumbered (stored (state S.Store conn.old))) }
+    ensures counted { HasCleanDisk (state S.Store conn.new)
+        → OnOk result (CountsArchivesAlone (stored (state S.Store conn.old))) }
     ensures same { HasCleanDisk (state S.Store conn.new)
         → OnOk result ((state S.Store conn.new).now ≡ (state S.Store conn.old).now) }
     ensures served { HasCleanDisk (state S.Store conn.new)
@@ -304,6 +308,9 @@ fn check_number<S: Alter>(conn: &mut Connection<S>) -> Result<(), Fault>
 {
     let mut tx = conn.transaction();
     if opened(&mut tx)? != Some(SCHEMA) {
+        return Err(Fault::Database);
+    }
+    if !counts_archives_alone(&mut tx)? {
         return Err(Fault::Database);
     }
     commit(tx)

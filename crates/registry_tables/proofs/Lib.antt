@@ -3,6 +3,7 @@ pub mod ArchiveFacts
 pub mod BindingFacts
 pub mod CatalogFacts
 pub mod ContentsFacts
+pub mod CounterFacts
 pub mod CreationFacts
 pub mod DependentFacts
 pub mod EffectFacts

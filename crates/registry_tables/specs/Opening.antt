@@ -1,8 +1,9 @@
 -- What the calls that open a database and make its tables asked of it, whatever it holds. `old` and
 -- `new` are the transaction at the entry and at the exit.
 use Rattle.std.specs.Prelude.{◌≡◌, ℕ, zero, suc, Bool, true, false, ◌==◌, List, [], ◌∷◌, Option, None, Some, Ok, length, option_map, pos, get_or, slice_get, codes}
+use Rattle.std.specs.Ordering.{is_eq}
 use Rattle.sqlite.specs.declared.types.Value.TheVariants.{Int, Text as Stored}
-use Rattle.sqlite_value.specs.Order.{Row, column}
+use Rattle.sqlite_value.specs.Order.{Row, column, value_cmp}
 use Rattle.sqlite_trees.specs.Objects.{catalog_tree}
 use Rattle.sqlite_resolve.specs.declared.compiled.Compiled.{Compiled}
 use Rattle.sqlite.specs.Listing.{understood, reads_listing}
@@ -15,6 +16,7 @@ use Rattle.registry_rows.specs.Ready.{Queried}
 use Rattle.registry_tables.specs.Creation.{creation}
 use Rattle.registry_tables.specs.Effects.{shown}
 use Rattle.registry_tables.specs.Fresh.{first_tables, schema_key, schema_number}
+use Rattle.registry_tables.specs.Schema as table
 
 -- the query of what the database has, its tables among it
 abbrev pub listing_query : List ℕ
@@ -27,6 +29,22 @@ number_query = codes "SELECT value FROM meta WHERE name = ?1"
 -- the first of the texts that make the tables
 abbrev pub first_creation : List ℕ
 first_creation = get_or creation 0 []
+
+-- ---- what SQLite counts
+
+-- the query of the names for which it does
+abbrev pub counts_query : List ℕ
+counts_query = codes "SELECT name FROM sqlite_sequence"
+
+-- the row is the name of the archives
+abbrev pub is_name_of_archives : Row → Bool
+is_name_of_archives r = is_eq (value_cmp (column r 0) (Stored table.archives.name))
+
+-- the rows are none, or that name alone
+abbrev pub name_archives_alone : List Row → Bool
+name_archives_alone [] = true
+name_archives_alone (r ∷ []) = is_name_of_archives r
+name_archives_alone (r ∷ s ∷ rows) = false
 
 -- ---- what a database has
 

@@ -83,7 +83,7 @@ enum Comes {
 }
 
 /// What each case shows, what lies there, and what comes of a request to add the user.
-static OPENED: [(&str, Lies, Comes); 5] = [
+static OPENED: [(&str, Lies, Comes); 6] = [
     (
         "a file that isn't there becomes a registry",
         Lies::Nothing,
@@ -107,6 +107,11 @@ static OPENED: [(&str, Lies, Comes); 5] = [
     (
         "a registry holds what it held",
         Lies::Registry,
+        Comes::WasThere,
+    ),
+    (
+        "a registry counts for its archives",
+        Lies::Changed("INSERT INTO sqlite_sequence VALUES ('archives', 5)"),
         Comes::WasThere,
     ),
 ];
@@ -135,7 +140,7 @@ static DAMAGED: [(&str, Lies); 7] = [
 ];
 
 /// Databases that are no registry of this schema.
-static OTHERS: [(&str, Lies); 5] = [
+static OTHERS: [(&str, Lies); 9] = [
     (
         "another program's tables are none",
         Lies::Program("CREATE TABLE note (id INTEGER PRIMARY KEY, title TEXT)"),
@@ -155,6 +160,22 @@ static OTHERS: [(&str, Lies); 5] = [
     (
         "tables without a number are none",
         Lies::Changed("DELETE FROM meta"),
+    ),
+    (
+        "an index less is another schema",
+        Lies::Changed("DROP INDEX need_ranges_by_target"),
+    ),
+    (
+        "tables that count for something else are none",
+        Lies::Changed("INSERT INTO sqlite_sequence VALUES ('ann', 1)"),
+    ),
+    (
+        "tables that count for archives twice are none",
+        Lies::Changed("INSERT INTO sqlite_sequence VALUES ('archives', 1), ('archives', 2)"),
+    ),
+    (
+        "tables that count for no name are none",
+        Lies::Changed("INSERT INTO sqlite_sequence VALUES (NULL, 'ann')"),
     ),
 ];
 

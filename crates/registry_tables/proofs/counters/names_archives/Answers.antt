@@ -1,0 +1,16 @@
+use Rattle.std.specs.Ordering.{is_eq}
+use Rattle.std.proofs.Common.{◌∙◌, ap, sym}
+use Rattle.sqlite.specs.declared.types.Value.{Value}
+use Rattle.sqlite.specs.declared.types.Value.TheVariants.{Text as Stored}
+use Rattle.sqlite_value.specs.Order.{value_cmp}
+use Rattle.sqlite_value.proofs.OrderLemmas.{value_cmp-Text}
+use Rattle.registry_names.specs.Texts.{is}
+use Rattle.registry_names.proofs.TextFacts.{is_tie}
+use Rattle.registry_tables.specs.Schema as table
+use Rattle.registry_tables.proofs.counters.names_archives.Goals as goal
+
+pub returns-in-Ok-Text : goal.returns-in-Ok-Text
+unfolding is
+returns-in-Ok-Text c =
+    c.eq.ensures ∙ is_tie _ table.archives.name ∙ ap is_eq (sym (value_cmp-Text _ table.archives.name))
+    ∙ ap (λ (v : Value). is_eq (value_cmp v (Stored table.archives.name))) (rw c.in-Ok-Text.field-0-is at c.in-Ok-Text.ensures.ok).1
