@@ -30,7 +30,7 @@ counts_means = ((refl, (refl, refl)), refl)
 as_many : (counters rows : List Row) → Selects [] (col 1 1 ∷ []) [] [] counters rows → length rows ≡ length counters
 as_many counters rows s =
     ap length s.shown ∙ length-map s.ordered (λ (o : Row × Row). o.1)
-    ∙ sym (length_permutation s.same)
+    ∙ sym (length_permutation _ _ s.same)
     ∙ length-map (filter (λ (r : Row). true) counters) (λ (r : Row). ([], shown_by (col 1 1 ∷ []) [] r))
     ∙ ap length (all_pass counters)
 
@@ -40,7 +40,7 @@ some_left false r s rs ss = ne_eqb _ 0 (omega arith)
 
 only_left : (b : Bool) (r : Row) → (length (cond b [] (r ∷ [])) == 0) ≡ b
 only_left true r = refl
-only_left false r = ne_eqb _ 0 (omega arith)
+only_left false r = ne_eqb 1 0 (omega arith)
 
 one_named : (r x : Row) (rows : List Row) → Has (x ∷ []) (column r 1 ∷ []) → is_name_of_archives x ≡ has_name table.archives.name r
 one_named r x rows (inl is) = ap (λ (y : Row). is_eq (value_cmp (column y 0) (Stored table.archives.name))) (sym is)
