@@ -1,6 +1,6 @@
 //! A registry as the service that connections ask.
 
-ghost use Rattle.std.specs.Prelude.{◌≡◌};
+ghost use Rattle.std.specs.Prelude.{◌≡◌, false};
 ghost use Rattle.sqlite.specs.Held.{state};
 ghost use Rattle.registry_http.specs.Services.{applied};
 
@@ -54,8 +54,15 @@ impl<S: Alter> RegistryService<S> {
 impl<S: Alter> Service for RegistryService<S> {
     ghost answers = { applied (state S.Store) };
 
+    ghost over = { λ _. false };
+
     /// Answers one request in one transaction, as `Registry::apply` does.
     fn answer(&mut self, alloc: Global, request: &Request) -> Result<Reply, Fault> {
         self.registry.apply(alloc, request)
+    }
+
+    /// A registry is never over.
+    fn is_over(&self) -> bool {
+        false
     }
 }

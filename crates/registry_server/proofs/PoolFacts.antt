@@ -1,5 +1,5 @@
 -- The place at which nothing was begun for longest, looked for from the first place on.
-use Rattle.std.proofs.Common.{◌≡◌, ◌≢◌, ◌<◌, ◌≤◌, ◌+◌, ◌++◌, ◌∷◌, [], ◌∙◌, ℕ, zero, suc, Bool, true, false, List, Option, None, Some, cond, length, nat_le, get_or, set, take, drop, refl, ap, sym, subst, arith, below_more}
+use Rattle.std.proofs.Common.{◌≡◌, ◌≢◌, ◌<◌, ◌≤◌, ◌+◌, ◌++◌, ◌∷◌, [], ◌∙◌, ℕ, zero, suc, Bool, true, false, List, Option, None, Some, cond, length, nat_le, get_or, set, take, drop, refl, ap, sym, subst, arith, below_more, ◌&&◌, not}
 use Rattle.std.proofs.lemmas.Bool.Decides.{nat_tests}
 use Rattle.std.proofs.lemmas.Option.{slice_get_read}
 use Rattle.std.proofs.lemmas.List.{drop-drop, drop-set-lt, get_or-drop, take_more, take_more_set}
@@ -95,38 +95,38 @@ at-none change (y ∷ xs) (suc k) beyond = ap (λ (l : List _). y ∷ l) (at-non
 
 -- ---- the visits of the places, one after the other
 
-module _ {S : Type 0} (received sent : S → Option (List ℕ)) (must_wait is_ended is_broken : S → Bool) {D : Type 0} (answers : Answering D) where
-  -- no connection is to be visited there
-  pub visits-none : (now most : ℕ) (p : Place S) (M : D) (r : Option (List ℕ)) → p.is_ready ≡ false → VisitsAt received sent must_wait is_ended is_broken answers now most p p M M r r
+module _ {S : Type 0} (received sent : S → Option (List ℕ)) (must_wait is_ended is_broken : S → Bool) {D : Type 0} (answers : Answering D) (over : D → Bool) where
+  -- no connection is to be visited there, or the service is over
+  pub visits-none : (now most : ℕ) (p : Place S) (M : D) (r : Option (List ℕ)) → (p.is_ready && not (over M)) ≡ false → VisitsAt received sent must_wait is_ended is_broken answers over now most p p M M r r
   visits-none now most p M r is = subst (λ (b : Bool). VisitsIf received sent must_wait is_ended is_broken answers b now most p p M M r r) (sym is) (record { place = refl; service = refl; unasked = refl })
 
-  there : (now most : ℕ) (p q : Place S) (M N : D) (r r2 : Option (List ℕ)) (c : Option (OpenConnection S)) → p.is_ready ≡ true → p.connection ≡ c
-      → VisitsThere received sent must_wait is_ended is_broken answers now most c q M N r r2 → VisitsAt received sent must_wait is_ended is_broken answers now most p q M N r r2
+  there : (now most : ℕ) (p q : Place S) (M N : D) (r r2 : Option (List ℕ)) (c : Option (OpenConnection S)) → (p.is_ready && not (over M)) ≡ true → p.connection ≡ c
+      → VisitsThere received sent must_wait is_ended is_broken answers now most c q M N r r2 → VisitsAt received sent must_wait is_ended is_broken answers over now most p q M N r r2
   there now most p q M N r r2 c is at visits =
       subst (λ (b : Bool). VisitsIf received sent must_wait is_ended is_broken answers b now most p q M N r r2) (sym is)
       (subst (λ (o : Option (OpenConnection S)). VisitsThere received sent must_wait is_ended is_broken answers now most o q M N r r2) (sym at) visits)
 
   -- nobody is there
-  pub visits-free : (now most : ℕ) (p : Place S) (M : D) (r : Option (List ℕ)) → p.is_ready ≡ true → p.connection ≡ None → VisitsAt received sent must_wait is_ended is_broken answers now most p (placed p.connection false) M M r r
+  pub visits-free : (now most : ℕ) (p : Place S) (M : D) (r : Option (List ℕ)) → (p.is_ready && not (over M)) ≡ true → p.connection ≡ None → VisitsAt received sent must_wait is_ended is_broken answers over now most p (placed p.connection false) M M r r
   visits-free now most p M r is at = there now most p (placed p.connection false) M M r r None is at
       (record { place = ap (λ (o : Option (OpenConnection S)). placed o false) at; service = refl; unasked = refl })
 
   -- a connection is there, and was visited
-  pub visits-there : (now most : ℕ) (p : Place S) (c d : OpenConnection S) (v : Visit) (M N : D) (r r2 : Option (List ℕ)) → p.is_ready ≡ true → p.connection ≡ Some c
+  pub visits-there : (now most : ℕ) (p : Place S) (c d : OpenConnection S) (v : Visit) (M N : D) (r r2 : Option (List ℕ)) → (p.is_ready && not (over M)) ≡ true → p.connection ≡ Some c
       → Visits received sent answers now most c d M N r r2 → (v ≡ Rests → d.phase.stage ≢ Next) → (v ≡ Rests → must_wait d.socket ≡ true)
       → (v ≡ Over → IsLost is_ended is_broken d)
-      → VisitsAt received sent must_wait is_ended is_broken answers now most p (after_visit v d) M N r r2
+      → VisitsAt received sent must_wait is_ended is_broken answers over now most p (after_visit v d) M N r r2
   visits-there now most p c d v M N r r2 is at visits rests waits over = there now most p (after_visit v d) M N r r2 (Some c) is at
       (record { connection = d; visits = visits; visit = v; place = refl; rests = rests; waits = waits; over = over })
 
   visits-more : (now most : ℕ) (ps qs : List (Place S)) (p q : Place S) (M m N : D) (r r1 r2 : Option (List ℕ))
-      → VisitsAll received sent must_wait is_ended is_broken answers now most ps qs M m r r1 → VisitsAt received sent must_wait is_ended is_broken answers now most p q m N r1 r2
-      → VisitsAll received sent must_wait is_ended is_broken answers now most (ps ++ p ∷ []) (qs ++ q ∷ []) M N r r2
+      → VisitsAll received sent must_wait is_ended is_broken answers over now most ps qs M m r r1 → VisitsAt received sent must_wait is_ended is_broken answers over now most p q m N r1 r2
+      → VisitsAll received sent must_wait is_ended is_broken answers over now most (ps ++ p ∷ []) (qs ++ q ∷ []) M N r r2
   visits-more now most [] [] p q M m N r r1 r2 all one = (
     N,
     r2,
-    subst (λ (d : D). VisitsAt received sent must_wait is_ended is_broken answers now most p q d N r r2) all.0
-        (subst (λ (x : Option (List ℕ)). VisitsAt received sent must_wait is_ended is_broken answers now most p q m N x r2) all.1 one),
+    subst (λ (d : D). VisitsAt received sent must_wait is_ended is_broken answers over now most p q d N r r2) all.0
+        (subst (λ (x : Option (List ℕ)). VisitsAt received sent must_wait is_ended is_broken answers over now most p q m N x r2) all.1 one),
     (refl, refl),
   )
   visits-more now most (a ∷ ps) (b ∷ qs) p q M m N r r1 r2 all one = (all.0, all.1, all.2, visits-more now most ps qs p q all.0 m N all.1 r1 r2 all.3 one)
@@ -136,9 +136,9 @@ module _ {S : Type 0} (received sent : S → Option (List ℕ)) (must_wait is_en
   -- one more place was visited
   pub visits-step : (now most : ℕ) (old items : List (Place S)) (i : ℕ) (p q : Place S) (M m N : D) (r r1 r2 : Option (List ℕ))
       → i < length old → length items ≡ length old → drop i items ≡ drop i old → p ≡ get_or items i p
-      → VisitsAll received sent must_wait is_ended is_broken answers now most (take i old) (take i items) M m r r1
-      → VisitsAt received sent must_wait is_ended is_broken answers now most p q m N r1 r2
-      → VisitsAll received sent must_wait is_ended is_broken answers now most (take (i + 1) old) (take (i + 1) (set items i q)) M N r r2
+      → VisitsAll received sent must_wait is_ended is_broken answers over now most (take i old) (take i items) M m r r1
+      → VisitsAt received sent must_wait is_ended is_broken answers over now most p q m N r1 r2
+      → VisitsAll received sent must_wait is_ended is_broken answers over now most (take (i + 1) old) (take (i + 1) (set items i q)) M N r r2
   visits-step now most old items i p q M m N r r1 r2 within len rest is all one =
       let none : i + 0 ≡ i = omega arith in
       let first : get_or (drop i items) 0 p ≡ get_or items i p = get_or-drop i items 0 p ∙ ap (λ (n : ℕ). get_or items n p) none in
@@ -146,8 +146,8 @@ module _ {S : Type 0} (received sent : S → Option (List ℕ)) (must_wait is_en
       let here : p ≡ get_or old i p = is ∙ sym first ∙ ap (λ (l : List (Place S)). get_or l 0 p) rest ∙ second in
       let before : take (i + 1) old ≡ take i old ++ p ∷ [] = take_more old i p within ∙ ap (λ (x : Place S). take i old ++ x ∷ []) (sym here) in
       let after : take (i + 1) (set items i q) ≡ take i items ++ q ∷ [] = take_more_set items i q (omega (arith, within, len)) in
-      subst (λ (l : List (Place S)). VisitsAll received sent must_wait is_ended is_broken answers now most l (take (i + 1) (set items i q)) M N r r2) (sym before)
-      (subst (λ (l : List (Place S)). VisitsAll received sent must_wait is_ended is_broken answers now most (take i old ++ p ∷ []) l M N r r2) (sym after)
+      subst (λ (l : List (Place S)). VisitsAll received sent must_wait is_ended is_broken answers over now most l (take (i + 1) (set items i q)) M N r r2) (sym before)
+      (subst (λ (l : List (Place S)). VisitsAll received sent must_wait is_ended is_broken answers over now most (take i old ++ p ∷ []) l M N r r2) (sym after)
       (visits-more now most (take i old) (take i items) p q M m N r r1 r2 all one))
 
 -- the places that weren't visited yet are as they were

@@ -1,5 +1,5 @@
 -- Whom a new connection ends.
-use Rattle.std.proofs.Common.{◌≡◌, ◌∷◌, ◌∙◌, [], ℕ, zero, suc, Bool, true, false, List, Option, None, Some, get_or, is_none, length, refl, ap, subst, sym, if◌then◌else◌}
+use Rattle.std.proofs.Common.{◌≡◌, ◌∷◌, ◌∙◌, [], ℕ, zero, suc, Bool, true, false, List, Option, None, Some, get_or, is_none, length, refl, ap, subst, sym, if◌then◌else◌, ◌&&◌, not}
 use Rattle.std.specs.Prelude.{All, MatchOption, position, slice_get}
 use Rattle.std.proofs.lemmas.Bool.{false≢true}
 use Rattle.std.proofs.lemmas.List.Elements.{All-cons, All-head, All-map, All-replicate, All-tail, All-weaker}
@@ -91,7 +91,7 @@ module _ {S : Type 0} (must_wait : S → Bool) where
       let rest : IsAtRest must_wait p = subst (IsAtRest must_wait) (get_or_from_slice_get places k p p there) (rests k p (slice_get_within places k p there)) in
       (idle.0, rest c idle.0 at, idle.1)
 
-module _ {S : Type 0} (received sent : S → Option (List ℕ)) (must_wait is_ended is_broken : S → Bool) {D : Type 0} (answers : Answering D) where
+module _ {S : Type 0} (received sent : S → Option (List ℕ)) (must_wait is_ended is_broken : S → Bool) {D : Type 0} (answers : Answering D) (over : D → Bool) where
   there-rests : (now most : ℕ) (o : Option (OpenConnection S)) (q : Place S) (M N : D) (r r2 : Option (List ℕ))
       → VisitsThere received sent must_wait is_ended is_broken answers now most o q M N r r2 → IsAtRest must_wait q
   there-rests now most None q M N r r2 v = subst (IsAtRest must_wait) (sym v.place) (rest-free must_wait)
@@ -103,13 +103,13 @@ module _ {S : Type 0} (received sent : S → Option (List ℕ)) (must_wait is_en
   visited-rests false now most p q M N r r2 h v = subst (IsAtRest must_wait) (sym v.place) h
 
   visited-rest : (now most : ℕ) (ps qs : List (Place S)) (M N : D) (r r2 : Option (List ℕ)) → All (IsAtRest must_wait) ps
-      → VisitsAll received sent must_wait is_ended is_broken answers now most ps qs M N r r2 → All (IsAtRest must_wait) qs
+      → VisitsAll received sent must_wait is_ended is_broken answers over now most ps qs M N r r2 → All (IsAtRest must_wait) qs
   visited-rest now most [] [] M N r r2 h v = h
   visited-rest now most (p ∷ ps) (q ∷ qs) M N r r2 h v = All-cons (IsAtRest must_wait) q qs
-      (visited-rests p.is_ready now most p q M v.0 r v.1 (All-head (IsAtRest must_wait) p ps h) v.2)
+      (visited-rests (p.is_ready && not (over M)) now most p q M v.0 r v.1 (All-head (IsAtRest must_wait) p ps h) v.2)
       (visited-rest now most ps qs v.0 N v.1 r2 (All-tail (IsAtRest must_wait) p ps h) v.3)
   visited-rest now most [] (q ∷ qs) M N r r2 h v = absurd v
   visited-rest now most (p ∷ ps) [] M N r r2 h v = absurd v
 
-  pub visits-leave-rest : VisitsLeaveRest received sent must_wait is_ended is_broken answers
+  pub visits-leave-rest : VisitsLeaveRest received sent must_wait is_ended is_broken answers over
   visits-leave-rest now most old new M N r r2 h v = visited-rest now most old new M N r r2 h v

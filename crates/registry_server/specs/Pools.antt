@@ -1,5 +1,5 @@
 -- Places for connections: which of them a new one takes, who is visited, and who is let go.
-use Rattle.std.specs.Prelude.{◌≡◌, ◌≢◌, ◌<◌, ◌≤◌, ◌∷◌, [], ℕ, zero, suc, Bool, true, false, List, Option, Some, None, is_none, All, length, map, nat_le, position, replicate, slice_get, MatchOption, if◌then◌else◌}
+use Rattle.std.specs.Prelude.{◌≡◌, ◌≢◌, ◌<◌, ◌≤◌, ◌∷◌, [], ℕ, zero, suc, Bool, true, false, List, Option, Some, None, is_none, All, length, map, nat_le, position, replicate, slice_get, MatchOption, ◌&&◌, not, if◌then◌else◌}
 use Rattle.registry_service.specs.Turns.{Answering}
 use Rattle.registry_server.specs.ConnectionStates.{fresh}
 use Rattle.registry_server.specs.Connections.{IsLost, OpenConnection, Visits, connected}
@@ -8,6 +8,8 @@ use Rattle.registry_server.specs.declared.connection.Visit.{Visit}
 use Rattle.registry_server.specs.declared.connection.Visit.TheVariants.{Again, Rests, Over}
 use Rattle.registry_server.specs.declared.phase.Stage.TheVariants.{Idle, Next}
 use Rattle.registry_server.specs.declared.pool.Place.{Place}
+use Rattle.registry_server.specs.declared.server.Ended.{Ended}
+use Rattle.registry_server.specs.declared.server.Ended.TheVariants.{Enough, ServiceOver}
 
 -- the most connections that are open at once
 abbrev pub place_count : ℕ
@@ -130,12 +132,15 @@ module _ {S : Type 0} (received sent : S → Option (List ℕ)) (must_wait is_en
   VisitsIf true now most old new M N readings readings2 = VisitsThere now most old.connection new M N readings readings2
   VisitsIf false now most old new M N readings readings2 = VisitsNone old new M N readings readings2
 
-  -- a place is visited where it is to be
+module _ {S : Type 0} (received sent : S → Option (List ℕ)) (must_wait is_ended is_broken : S → Bool) {D : Type 0} (answers : Answering D) (over : D → Bool) where
+  -- a place is visited where it is to be, unless the service is over
   abbrev pub VisitsAt : ℕ → ℕ → Place S → Place S → D → D → Option (List ℕ) → Option (List ℕ) → Type 0
-  VisitsAt now most old new M N readings readings2 = VisitsIf old.is_ready now most old new M N readings readings2
+  VisitsAt now most old new M N readings readings2 =
+      VisitsIf received sent must_wait is_ended is_broken answers (old.is_ready && not (over M)) now most old new M N readings readings2
 
   -- Each connection that is to be visited is visited, once, in the order of their places, and no
-  -- other is. Of each so many bytes are received at most.
+  -- other is. After the visit in which the service is over none is. Of each so many bytes are
+  -- received at most.
   abbrev pub VisitsAll : ℕ → ℕ → List (Place S) → List (Place S) → D → D → Option (List ℕ) → Option (List ℕ) → Type 0
   VisitsAll now most [] [] M N readings readings2 = (N ≡ M) × (readings2 ≡ readings)
   VisitsAll now most (p ∷ places) (q ∷ places2) M N readings readings2 =
@@ -167,11 +172,11 @@ WakesLeaveRest {S} must_wait = (places : List (Place S)) (k : ℕ) → All (IsAt
 abbrev pub EndsLeaveRest : {S : Type 0} → (S → Bool) → Type 0
 EndsLeaveRest {S} must_wait = (now : ℕ) (places : List (Place S)) → All (IsAtRest must_wait) places → All (IsAtRest must_wait) (map (kept_at now) places)
 
-module _ {S : Type 0} (received sent : S → Option (List ℕ)) (must_wait is_ended is_broken : S → Bool) {D : Type 0} (answers : Answering D) where
+module _ {S : Type 0} (received sent : S → Option (List ℕ)) (must_wait is_ended is_broken : S → Bool) {D : Type 0} (answers : Answering D) (over : D → Bool) where
   -- and after visits
   abbrev pub VisitsLeaveRest : Type 0
   VisitsLeaveRest = (now most : ℕ) (old new : List (Place S)) (M N : D) (readings readings2 : Option (List ℕ)) → All (IsAtRest must_wait) old
-      → VisitsAll received sent must_wait is_ended is_broken answers now most old new M N readings readings2 → All (IsAtRest must_wait) new
+      → VisitsAll received sent must_wait is_ended is_broken answers over now most old new M N readings readings2 → All (IsAtRest must_wait) new
 
 -- A new connection ends no other but one that isn't to be visited, whose socket had to wait when it
 -- was asked last, and on which nothing is begun.
@@ -179,3 +184,10 @@ abbrev pub NewcomersEndIdle : {S : Type 0} → (S → Bool) → Type 0
 NewcomersEndIdle {S} must_wait = (places : List (Place S)) (k : ℕ) (p : Place S) (c : OpenConnection S)
     → All (IsAtRest must_wait) places → IsPlaceFor places (Some k) → slice_get places k ≡ Some p → p.connection ≡ Some c
     → (p.is_ready ≡ false) × (must_wait c.socket ≡ true) × (c.phase.stage ≡ Idle)
+
+-- ---- why a server ends
+
+-- because the service is over, or else because as many connections as were to come in have come, and
+-- all have ended
+abbrev pub why_ended : Bool → Ended
+why_ended over = if over then ServiceOver else Enough

@@ -47,6 +47,6 @@ pub fn newcomers_end_idle_connections<S: Socket, D: Service>()
     ensures comes { NewConnectionsLeaveRest S.must_wait }
     ensures wakes { WakesLeaveRest S.must_wait }
     ensures late { EndsLeaveRest S.must_wait }
-    ensures visits { VisitsLeaveRest S.received S.sent S.must_wait S.is_ended S.is_broken D.answers }
+    ensures visits { VisitsLeaveRest S.received S.sent S.must_wait S.is_ended S.is_broken D.answers D.over }
     ensures ended { NewcomersEndIdle S.must_wait }
 {}

@@ -29,6 +29,6 @@ pub use crate::phase::{
     DRAIN_LIMIT, IDLE_LIMIT, LEAST_RATE, Phase, REQUEST_TIME_LIMIT, RESPONSE_LIMIT, Stage,
 };
 pub use crate::pool::CONNECTION_COUNT;
-pub use crate::server::Server;
+pub use crate::server::{Ended, Server};
 pub use crate::socket::{Flow, Socket};
 pub use crate::state::{ConnectionState, Progress};

@@ -37,7 +37,7 @@ impl<S: Socket> Place<S> {
         }
     }
 
-    // Visits the connection, if one is there and is to be visited.
+    // Visits the connection, if one is there and is to be visited, unless the service is over.
     fn visit<D: Service, C: Clock>(
         &mut self,
         alloc: Global,
@@ -46,11 +46,11 @@ impl<S: Socket> Place<S> {
         buffer: &mut [u8],
         now: u64,
     )
-        ensures { VisitsAt S.received S.sent S.must_wait S.is_ended S.is_broken D.answers
+        ensures { VisitsAt S.received S.sent S.must_wait S.is_ended S.is_broken D.answers D.over
             now (length buffer.old) self.old self.new
             service.old service.new (C.readings clock.old) (C.readings clock.new) }
     {
-        if !self.is_ready {
+        if !self.is_ready || service.is_over() {
             return;
         }
         self.is_ready = false;
@@ -162,7 +162,8 @@ impl<S: Socket> ConnectionPool<S> {
         }
     }
 
-    /// Visits each connection that is to be visited, once, in the order of their places.
+    /// Visits each connection that is to be visited, once, in the order of their places, up to the
+    /// visit in which the service is over.
     pub fn visit_all<D: Service, C: Clock>(
         &mut self,
         alloc: Global,
@@ -171,7 +172,7 @@ impl<S: Socket> ConnectionPool<S> {
         buffer: &mut [u8],
         now: u64,
     )
-        ensures { VisitsAll S.received S.sent S.must_wait S.is_ended S.is_broken D.answers
+        ensures { VisitsAll S.received S.sent S.must_wait S.is_ended S.is_broken D.answers D.over
             now (length buffer.old) self.old.places.items self.new.places.items service.old service.new
             (C.readings clock.old) (C.readings clock.new) }
     {

@@ -1,6 +1,7 @@
 //! The loop over all connections.
 
-ghost use Rattle.std.specs.Prelude.{◌≤◌};
+ghost use Rattle.std.specs.Prelude.{◌≡◌, ◌≤◌, IfOk};
+ghost use Rattle.registry_server.specs.Pools as spec;
 
 use crate::clocks::{Timer, WallClock, clamped_moment};
 use crate::listener::Listener;
@@ -27,6 +28,15 @@ const LOOK_TIME: u64 = 250;
 
 /// So many milliseconds of a round count at most, beside those in which it waited.
 const ROUND_TIME: u64 = 25;
+
+/// Why a server ended.
+#[derive(Clone, Copy, Debug, PartialEq, Eq)]
+pub enum Ended {
+    /// As many connections as were to come in have come, and all have ended.
+    Enough,
+    /// The service is over.
+    ServiceOver,
+}
 
 /// A port of 127.0.0.1, and the connections that came in there.
 #[derive(Drop)]
@@ -59,14 +69,17 @@ impl Server {
     }
 
     /// Serves with a service until the last connection has come in and all have ended, if they are
-    /// counted. An error
-    /// comes where a clock can't be read at first, or the system can't be asked what is ready.
+    /// counted, or until the service is over. After the visit in which it is over no connection is
+    /// visited, and all of them end. An error comes where a clock can't be read at first, or the
+    /// system can't be asked what is ready.
     pub fn run<R: time::Clock, D: Service>(
         mut self,
         rt: &R,
         alloc: Global,
         service: &mut D,
-    ) -> io::Result<()> {
+    ) -> io::Result<Ended>
+        ensures { IfOk result (λ ended. ended ≡ spec.why_ended (D.over service.new)) }
+    {
         let start = Instant::now(rt)?;
         let at = clamped_moment(rt)?;
         let mut timer = Timer::new(rt, start);
@@ -79,13 +92,16 @@ impl Server {
             let now = timer.pass(patience + ROUND_TIME);
             self.pool
                 .visit_all(alloc, service, &mut clock, &mut buffer, now);
+            if service.is_over() {
+                break;
+            }
             self.end_late(now);
             self.let_in(alloc, &mut events, now)?;
             if self.listener.is_shut() && self.pool.is_empty() {
                 break;
             }
         }
-        Ok(())
+        Ok(why_ended(service.is_over()))
     }
 
     // How many milliseconds to wait for what is ready: none while a connection may go on.
@@ -154,5 +170,16 @@ impl Server {
             self.pool.end_late(now);
             self.next_look = now.saturating_add(LOOK_TIME);
         }
+    }
+}
+
+// Why a server ended, by a service that is over or isn't.
+fn why_ended(is_over: bool) -> Ended
+    ensures { result ≡ spec.why_ended is_over }
+{
+    if is_over {
+        Ended::ServiceOver
+    } else {
+        Ended::Enough
     }
 }

@@ -1,6 +1,6 @@
 //! One turn of a connection.
 
-ghost use Rattle.std.specs.Prelude.{◌≡◌, true, Result};
+ghost use Rattle.std.specs.Prelude.{◌≡◌, Bool, true, Result};
 ghost use Rattle.registry_names.specs.declared.stop.Fault.{Fault};
 ghost use Rattle.registry_rules.specs.declared.reply.Reply.{Reply};
 ghost use Rattle.registry_rules.specs.declared.request.Request.{Request};
@@ -22,9 +22,16 @@ pub trait Service {
     // What holds of a service, a request, its outcome, and the service that it leaves.
     ghost answers: { Self → Request → Result Reply Fault → Self → Type 0 };
 
+    // Whether it is over.
+    ghost over: { Self → Bool };
+
     /// Answers one request.
     fn answer(&mut self, alloc: Global, request: &Request) -> Result<Reply, Fault>
         ensures { answers self.old request.now result self.new };
+
+    /// Whether it is over: nothing more is to be asked of it.
+    fn is_over(&self) -> bool
+        ensures { result ≡ over self.now };
 }
 
 /// How a connection ends.

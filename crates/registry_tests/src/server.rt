@@ -1,10 +1,14 @@
 //! Connections apart from their sockets, and a server over loopback.
 
+ghost use Rattle.std.specs.Prelude.{nat_lt};
+
 use crate::outcome::same;
 use crate::parts::as_text;
 use crate::talk::connections::{CONNECTIONS, CUT_OUT, Case, FixedTags, Steps, TAGS, TAGS_OUT};
-use registry_server::{ConnectionState, Progress, Server};
-use registry_service::End;
+use registry_names::Fault;
+use registry_rules::{Reply, Request};
+use registry_server::{ConnectionState, Ended, Progress, Server};
+use registry_service::{End, Service};
 use std::alloc::Global;
 use std::io::{Read, Write};
 use std::net::{Ipv4Addr, Net, OpenStream, Shutdown, SocketAddr};
@@ -103,7 +107,47 @@ fn a_server_answers_over_loopback(rt: HostRuntime) {
     let mut service = FixedTags {
         asked: Vec::new(alloc),
     };
-    server.run(&rt, alloc, &mut service).expect(&rt, "a run");
+    let ended = server.run(&rt, alloc, &mut service).expect(&rt, "a run");
+    same(&rt, "why it ended", &ended, &Ended::Enough);
     hears(&rt, alloc, "whole", &mut whole, TAGS_OUT);
     hears(&rt, alloc, "cut", &mut cut, CUT_OUT);
+}
+
+/// A service that has a fault for the first request, and is over then.
+#[derive(Drop)]
+struct Failing {
+    asked: u32,
+}
+
+impl Service for Failing {
+    ghost answers = { λ M r o N. Unit {0} };
+
+    ghost over = { λ s. nat_lt 0 s.asked };
+
+    fn answer(&mut self, _alloc: Global, _request: &Request) -> Result<Reply, Fault> {
+        self.asked = self.asked.saturating_add(1);
+        Err(Fault::Database)
+    }
+
+    fn is_over(&self) -> bool {
+        self.asked > 0
+    }
+}
+
+// What is answered to a request that meets the fault.
+const FAULT_OUT: &str =
+    "HTTP/1.1 500 Internal Server Error\r\ncontent-type: application/json\r\ncontent-length: 20\r\nconnection: close\r\n\r\n{\"error\":\"Database\"}";
+
+#[test]
+fn a_server_ends_once_its_service_is_over(rt: HostRuntime) {
+    let alloc = rt.alloc();
+    let server = Server::bind(&rt, alloc, 0, 10).expect(&rt, "a server");
+    let port = server.port().expect(&rt, "a port");
+    let mut first = client(&rt, port, TAGS);
+    let _second = client(&rt, port, TAGS);
+    let mut service = Failing { asked: 0 };
+    let ended = server.run(&rt, alloc, &mut service).expect(&rt, "a run");
+    same(&rt, "why it ended", &ended, &Ended::ServiceOver);
+    same(&rt, "what was asked", &service.asked, &1);
+    hears(&rt, alloc, "first", &mut first, FAULT_OUT);
 }

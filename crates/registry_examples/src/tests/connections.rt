@@ -6,7 +6,7 @@ mod ends;
 mod loopback;
 mod source;
 
-ghost use Rattle.std.specs.Prelude.{None};
+ghost use Rattle.std.specs.Prelude.{None, false};
 
 use super::all_have_their_reply;
 use super::outcome::{otherwise, same};
@@ -58,9 +58,15 @@ struct Counting {
 impl Service for Counting {
     ghost answers = { λ M r o N. Unit {0} };
 
+    ghost over = { λ _. false };
+
     fn answer(&mut self, alloc: Global, request: &Request) -> Result<Reply, Fault> {
         self.asked = self.asked.saturating_add(1);
         self.service.answer(alloc, request)
+    }
+
+    fn is_over(&self) -> bool {
+        false
     }
 }
 

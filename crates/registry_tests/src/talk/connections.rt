@@ -1,6 +1,6 @@
 //! Whole connections, by a service that knows one package and nobody.
 
-ghost use Rattle.std.specs.Prelude.{None};
+ghost use Rattle.std.specs.Prelude.{None, false};
 
 use crate::outcome::same;
 use crate::parts::{around, as_text, repeated};
@@ -23,6 +23,8 @@ pub struct FixedTags {
 impl Service for FixedTags {
     ghost answers = { λ M r o N. Unit {0} };
 
+    ghost over = { λ _. false };
+
     fn answer(&mut self, alloc: Global, request: &Request) -> Result<Reply, Fault> {
         self.asked.push(request.at.seconds())?;
         match (&request.what, &request.who) {
@@ -33,6 +35,10 @@ impl Service for FixedTags {
             (Action::OrgSet { .. }, _) => Ok(Reply::Refused(Refusal::NoCaller)),
             _ => Ok(Reply::Refused(Refusal::NotFound)),
         }
+    }
+
+    fn is_over(&self) -> bool {
+        false
     }
 }
 

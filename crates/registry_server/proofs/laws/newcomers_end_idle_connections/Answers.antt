@@ -14,7 +14,7 @@ pub returns-clause-late : goal.returns-clause-late
 returns-clause-late g c = ends-leave-rest g.S.Socket.must_wait
 
 pub returns-clause-visits : goal.returns-clause-visits
-returns-clause-visits g c = visits-leave-rest g.S.Socket.received g.S.Socket.sent g.S.Socket.must_wait g.S.Socket.is_ended g.S.Socket.is_broken g.D.Service.answers
+returns-clause-visits g c = visits-leave-rest g.S.Socket.received g.S.Socket.sent g.S.Socket.must_wait g.S.Socket.is_ended g.S.Socket.is_broken g.D.Service.answers g.D.Service.over
 
 pub returns-clause-ended : goal.returns-clause-ended
 returns-clause-ended g c = newcomers-end-idle g.S.Socket.must_wait
