@@ -61,7 +61,7 @@ impl<S: Alter> Service for RegistryService<S> {
         self.registry.apply(alloc, request)
     }
 
-    /// It never is.
+    /// A registry is never over.
     fn is_over(&self) -> bool {
         false
     }

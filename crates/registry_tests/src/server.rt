@@ -135,7 +135,8 @@ impl Service for Failing {
 }
 
 // What is answered to a request that meets the fault.
-const FAULT_OUT: &str = "HTTP/1.1 500 Internal Server Error\r\ncontent-type: application/json\r\ncontent-length: 20\r\nconnection: close\r\n\r\n{\"error\":\"Database\"}";
+const FAULT_OUT: &str =
+    "HTTP/1.1 500 Internal Server Error\r\ncontent-type: application/json\r\ncontent-length: 20\r\nconnection: close\r\n\r\n{\"error\":\"Database\"}";
 
 #[test]
 fn a_server_ends_once_its_service_is_over(rt: HostRuntime) {
