@@ -30,7 +30,7 @@ counts_means = ((refl, (refl, refl)), refl)
 as_many : (counters rows : List Row) → Selects [] (col 1 1 ∷ []) [] [] counters rows → length rows ≡ length counters
 as_many counters rows s =
     ap length s.shown ∙ length-map s.ordered (λ (o : Row × Row). o.1)
-    ∙ sym (length_permutation _ _ s.same)
+    ∙ length_permutation _ _ s.same
     ∙ length-map (filter (λ (r : Row). true) counters) (λ (r : Row). ([], shown_by (col 1 1 ∷ []) [] r))
     ∙ ap length (all_pass counters)
 
