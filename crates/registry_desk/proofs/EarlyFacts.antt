@@ -1,5 +1,6 @@
 -- What is refused early, and what was found otherwise.
-use Rattle.std.proofs.Common.{◌≡◌, ◌∙◌, ◌⊎◌, ℕ, Bool, true, false, ap, inl, inr, refl, sym, subst, Option, Some, None, Result, Ok, Err, IfOk, IsOkAnd, MatchResult, option_or, unwrap_or, []}
+use Rattle.std.proofs.Common.{◌≡◌, ◌∙◌, ◌⊎◌, ℕ, Bool, true, false, ap, inl, inr, refl, sym, subst, Option, Some, None, Result, Ok, Err, IfOk, IsOkAnd, MatchResult, unwrap_or, []}
+use Rattle.std.specs.Option.{option_or}
 use Rattle.registry_names.specs.Texts.{Text}
 use Rattle.registry_names.specs.declared.refusal.Refusal.{Refusal}
 use Rattle.registry_names.specs.declared.refusal.Refusal.TheVariants.{TooLate, Depended}
@@ -29,6 +30,11 @@ use Rattle.registry_desk.specs.Found.{NeedsFor}
 use Rattle.registry_desk.specs.declared.policy.Found.{Found}
 use Rattle.registry_desk.specs.declared.policy.Found.TheVariants as found
 
+-- nothing is no reason
+abbrev IsNothing : {A : Type 0} → Option A → Type 0
+IsNothing None = Unit {0}
+IsNothing (Some x) = ⊥
+
 -- ---- an early refusal is that of the machine
 
 -- the first of two reasons
@@ -41,7 +47,7 @@ second_stays (Some it) second other why more e = e
 
 late_or_depended : (late depended : Bool) (why : Refusal) → refuse late TooLate (refuse false Depended None) ≡ Some why → refuse late TooLate (refuse depended Depended None) ≡ Some why
 late_or_depended true depended why e = e
-late_or_depended false depended why e = elim e [ ]
+late_or_depended false depended why e = absurd (subst IsNothing e tt)
 
 -- who needs the version doesn't count for these reasons
 whoever_needs_it : (now : ℕ) (published : Option ℕ) (depended : Bool) (why : Refusal) → withdraw_refusal now published false ≡ Some why → withdraw_refusal now published depended ≡ Some why
@@ -57,11 +63,16 @@ early_refusals_stand S now who (asked.Deprecate p selector message) why e = firs
 early_refusals_stand S now who (asked.Withdraw p v) why e =
     second_stays (denial S.access who (asked.Withdraw p v)) (withdraw_refusal now (published_at S p (text_of_version v)) false) (state_refusal S now (asked.Withdraw p v)) why
     (whoever_needs_it now (published_at S p (text_of_version v)) (is_depended S p v) why) e
-early_refusals_stand S now who _ why e = elim e [ ]
+early_refusals_stand S now who _ why e = absurd (subst IsNothing e tt)
 
 -- the request of a known caller is refused so
 pub known_refused : (S : State) (who : Caller) (r : Request) (why : Refusal) → Some who ≡ caller_of S r.who → early_refusal S r.at who r.what ≡ Some why → refusal S r ≡ Some why
 known_refused S who r why known e = ap (λ (asker : Option Caller). refusal_for S r.at asker r.what) (sym known) ∙ early_refusals_stand S r.at who r.what why e
+
+-- what isn't something is nothing
+pub nothing_left : (o : Option Refusal) → ((why : Refusal) → ¬ (o ≡ Some why)) → o ≡ None
+nothing_left None none = refl
+nothing_left (Some why) none = absurd (none why refl)
 
 -- ---- what was found
 
@@ -95,7 +106,7 @@ module _ (reads : Type 0) (c : Contents) (now : ℕ) (who : Caller) (what : Acti
     ),
   )
   found_about this (Ok x) (Err e) is early made so told = tt
-  found_about this (Err e) (Ok y) is early made so told = elim made [ ]
+  found_about this (Err e) (Ok y) is early made so told = absurd (subst (λ (r : Result Found Fault). MatchResult r (λ _. Unit {0}) (λ _. ⊥)) made tt)
   found_about this (Err e) (Err f) is early made so told = tt
 
   -- the same of one of two
@@ -123,7 +134,7 @@ rows_tell asks.Operate rows A who o e same = tt
 rows_tell (asks.OrgMembers p) rows A who o e same = subst (SameOrganisation (state_of rows) A who) (sym (ap (λ (q : Option Text). unwrap_or q []) e)) same
 rows_tell (asks.OrgTeams p) rows A who o e same = subst (SameOrganisation (state_of rows) A who) (sym (ap (λ (q : Option Text). unwrap_or q []) e)) same
 rows_tell (asks.OrgRead p) rows A who o e same = subst (SameOrganisation (state_of rows) A who) (sym (ap (λ (q : Option Text). unwrap_or q []) e)) same
-rows_tell (asks.Publish p) rows A who o e same = elim e [ ]
-rows_tell (asks.Write p) rows A who o e same = elim e [ ]
-rows_tell (asks.Owners p) rows A who o e same = elim e [ ]
-rows_tell (asks.Read p) rows A who o e same = elim e [ ]
+rows_tell (asks.Publish p) rows A who o e same = absurd (subst IsNothing e tt)
+rows_tell (asks.Write p) rows A who o e same = absurd (subst IsNothing e tt)
+rows_tell (asks.Owners p) rows A who o e same = absurd (subst IsNothing e tt)
+rows_tell (asks.Read p) rows A who o e same = absurd (subst IsNothing e tt)

@@ -2,4 +2,4 @@ use Rattle.registry_desk.proofs.EarlyFacts.{early_refusals_stand}
 use Rattle.registry_desk.proofs.laws.early_refusals_are_refusals.Goals as goal
 
 pub returns : goal.returns
-returns = early_refusals_stand
+returns c = early_refusals_stand

@@ -34,7 +34,7 @@ returns-clause-loads g c clean =
       reads_then schema was one (shown g.S.Store c.find_taken.new.tx) standing.0 found.0,
       λ at sound.
           let A = (registry_of (contents was.now.trees)).access in
-          let allowed = subst (λ (q : Text). (unless_allowed (may_publish c.args.caller.now (is_some (scope_of q)) (position_in A c.args.caller.now q)) ≡ None) × StandingTells c.in-Ok.standing A c.args.caller.now q) c.name.ensures.value (rw c.in-Ok.is at (standing.1 sound)) in (
+          let allowed = subst (λ (q : Text). (unless_allowed (may_publish c.args.caller.now (is_some (scope_of q)) (position_in A c.args.caller.now q)) ≡ None) × StandingTells c.in-Ok.standing A c.args.caller.now q) c.name-name.ensures.value (rw c.in-Ok.is at (standing.1 sound)) in (
             allowed.0,
             record {
               standing = allowed.1;
@@ -54,5 +54,5 @@ returns-in-Err-clause-loads g c clean =
     let placed = c.in_ok-standing.ensures.loads clean in (
       placed.0,
       λ at sound.
-          subst (λ (q : Text). unless_allowed (may_publish c.args.caller.now (is_some (scope_of q)) (position_in A c.args.caller.now q)) ≡ Some c.in-Err.refusal) c.name.ensures.value (rw c.in-Err.is at (placed.1 sound)),
+          subst (λ (q : Text). unless_allowed (may_publish c.args.caller.now (is_some (scope_of q)) (position_in A c.args.caller.now q)) ≡ Some c.in-Err.refusal) c.name-name.ensures.value (rw c.in-Err.is at (placed.1 sound)),
     )

@@ -10,7 +10,7 @@ use Rattle.registry_tables.specs.Effects.{shown}
 use Rattle.registry_tables.specs.Needs.{HoldsNeeds}
 use Rattle.registry_tables.specs.Schema.{schema}
 use Rattle.registry_desk.specs.Found.{IsLife}
-use Rattle.registry_desk.proofs.EarlyFacts.{neither, or_second}
+use Rattle.registry_desk.proofs.EarlyFacts.{neither, nothing_left, or_second}
 use Rattle.registry_desk.proofs.withdrawals.young_version.Goals as goal
 
 pub find_life-requires : goal.find_life-requires
@@ -44,7 +44,7 @@ returns-clause-loads g c clean =
       reads_then schema was one (shown g.S.Store c.find_life.new.tx) published.0 found.0,
       λ who needs allowed stands.
           let life = subst (λ (d : Database). HoldsNeeds (contents d.trees) → IsLife c.in_ok-life.life (registry_of (contents d.trees)) p v) published.0.same found.1 needs in (
-            neither _ _ allowed (ap (λ (o : Option ℕ). withdraw_refusal c.args.now.now o false) (sym since) ∙ sym c.refusal_by_age.ensures ∙ c.in-None.is),
+            neither _ _ allowed (ap (λ (o : Option ℕ). withdraw_refusal c.args.now.now o false) (sym since) ∙ sym c.refusal_by_age.ensures ∙ nothing_left _ c.in_default.not-Some),
             record { standing_tells = stands; published = since; depended = life.depended; tags = life.tags; live = life.live },
           ),
     )
