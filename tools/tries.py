@@ -74,7 +74,7 @@ class Ground:
     def __init__(self, program, folder):
         if not os.access(program, os.X_OK):
             fail(f'there is no program {program}: make build proves and builds it')
-        signal.signal(signal.SIGTERM, lambda *_: sys.exit('ended by a signal'))
+        signal.signal(signal.SIGTERM, signal.default_int_handler)
         self.program, self.registries = program, {}
         self.folder = pathlib.Path(tempfile.mkdtemp(dir=folder))
 
