@@ -2,7 +2,7 @@
 
 from tries import *
 
-MILLION = 1_000_000
+MILLION, AT_ONCE = 1_000_000, 50
 
 
 def run(ground, tries, slack):
@@ -13,8 +13,7 @@ def run(ground, tries, slack):
 def counted(registry):
     """A server of five connections: it ends once they have come and ended, and says why."""
     with registry.serve('--connections', '5', errors=subprocess.PIPE) as server:
-        for _ in range(5):
-            come_and_go(server)
+        come_and_go(server, 5)
         try:
             status = server.process.wait(5)
         except subprocess.TimeoutExpired:
@@ -28,31 +27,36 @@ def uncounted(registry):
 
 
 def million(registry):
-    return serves_on(registry, MILLION + 1)
+    return serves_on(registry, MILLION + AT_ONCE)
 
 
 def serves_on(registry, count):
     """So many connections come and go, each with an answer, and the server is still there."""
     with registry.serve() as server:
-        for number in range(count):
-            come_and_go(server)
-            if number % 100_000 == 99_999:
-                say(f'{number + 1:,} connections')
+        for number in range(0, count, AT_ONCE):
+            come_and_go(server, AT_ONCE)
+            if number % 100_000 == 0 < number:
+                say(f'{number:,} connections')
         want(server.process.poll() is None, f'it ended with status {server.process.returncode}')
         must_answer(connect(server.port), NOBODY)
     return f'it serves on after {count:,}'
 
 
-def come_and_go(server):
-    """A connection with one answer. It is reset, so that the system keeps nothing of it."""
-    connection = connect(server.port)
-    must_answer(connection, NOBODY)
-    reset(connection)
+def come_and_go(server, count):
+    """So many connections at once, with an answer each. They are reset, so that the system keeps
+    nothing of them."""
+    connections = [connect(server.port) for _ in range(count)]
+    for connection in connections:
+        connection.sendall(NOBODY)
+    for connection in connections:
+        response = read_response(connection)
+        want(status_of(response) == 404, f'answered by {response[:100]}')
+        reset(connection)
 
 
 TRIES = [
     Try('counted', '`serve --connections 5`, once five connections have come and ended',
         'status 0, and a line on standard error', counted),
     Try('uncounted', '5,000 connections to `serve` by its default', 'it serves on', uncounted),
-    Try('million', '1,000,001 connections to `serve` by its default', 'it serves on', million),
+    Try('million', '1,000,050 connections to `serve` by its default', 'it serves on', million),
 ]

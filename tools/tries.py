@@ -74,6 +74,7 @@ class Ground:
     def __init__(self, program, folder):
         if not os.access(program, os.X_OK):
             fail(f'there is no program {program}: make build proves and builds it')
+        signal.signal(signal.SIGTERM, interrupt)
         self.program, self.registries = program, {}
         self.folder = pathlib.Path(tempfile.mkdtemp(dir=folder))
 
@@ -91,6 +92,12 @@ class Ground:
                 publish_all(server.port, publications)
             self.registries[name] = registry
         return self.registries[name]
+
+
+def interrupt(*_):
+    """The first signal ends the script as an interrupt does, and no other disturbs what it ends."""
+    signal.signal(signal.SIGTERM, signal.SIG_IGN)
+    raise KeyboardInterrupt
 
 
 def publish_all(port, publications, batch=100):
