@@ -7,8 +7,9 @@ EXAMPLE := examples/lab-kit-1.0.0.publish.json
 PACKUMENT := examples/lab-kit-1.0.0.packument.json
 BODY := $(EXAMPLE)
 FILES := *.txt
+EVERY := 20
 
-.PHONY: help try run build test check stories plants fmt npm kill files limits soak bench compare examples kit
+.PHONY: help try run build test check stories plants fmt npm kill files limits soak starve bench compare examples kit
 
 help:
 	@echo 'Build:'
@@ -29,6 +30,7 @@ help:
 	@echo '  make files    fills a disk, and opens files that hold no registry'
 	@echo '  make limits   tries the limits of connections, and hostile clients: 4 minutes'
 	@echo '  make soak     a hundred clients for ten minutes, and whether memory and answers hold'
+	@echo '  make starve   refuses memory at every 20th call of each command (EVERY=1: at each)'
 	@echo
 	@echo 'Measure the built program out/registry:'
 	@echo '  make bench    how long requests and the reading of bodies take: 5 minutes'
@@ -74,6 +76,9 @@ limits: out/registry
 
 soak: out/registry
 	@tools/soak --program out/registry
+
+starve: out/registry
+	@tools/starve --program out/registry --every $(EVERY)
 
 compare: out/registry
 	@echo 'measuring the program out/registry: this is no part of the gate' >&2
