@@ -1,9 +1,10 @@
 -- The first tables, and what a commit leaves.
-use Rattle.std.proofs.Common.{◌≡◌, ◌⊎◌, ◌∙◌, ◌+◌, ◌-◌, ◌^◌, ◌≤◌, Bool, min, arith, inl, inr, IsTrue, OnOk, Result, Ok, Err, true, false, true≢false, refl, sym, ap, subst}
+use Rattle.std.proofs.Common.{List, ℕ, ◌≡◌, ◌⊎◌, ◌∙◌, ◌+◌, ◌-◌, ◌^◌, ◌≤◌, Bool, min, arith, inl, inr, IsTrue, OnOk, Result, Ok, Err, true, false, true≢false, refl, sym, ap, subst}
 use Rattle.std.specs.List.{AllByRecursion}
 use Rattle.sqlite.specs.Effect.{Database, IsDatabase}
 use Rattle.sqlite.specs.Held.{Held, state}
-use Rattle.sqlite.specs.State.{State as Shown, HasCleanDisk, IsRolledBack, KeepsCommit, Shows}
+use Rattle.sqlite_value.specs.Order.{Row}
+use Rattle.sqlite.specs.State.{State as Shown, HasCleanDisk, IsNotRun, IsRolledBack, IsUnchanged, KeepsCommit, Shows}
 use Rattle.sqlite.specs.Steps.{FailsToCommit, IsEmpty}
 use Rattle.sqlite.specs.declared.error.Error.{Error}
 use Rattle.sqlite_catalog.specs.Listing.{IsSound}
@@ -87,6 +88,34 @@ module _ (old mid new : Shown) where
         ready_again old new (undone_now rests b.0 b.1 b.2 on) (rests.in_form b.0 (undone b.1 b.2 on).0);
     settled = λ clean on. let b = back clean in let left = undone b.1 b.2 on in left.1 ∙ sym left.2;
   }
+
+-- ---- a look at a connection between requests
+
+-- it changed nothing, or all is undone
+module _ (old new : Shown) (rests : Rests old) (clean : HasCleanDisk old) where
+  looked_now : IsUnchanged old new ⊎ IsRolledBack old new → IsTrue new.is_open → IsTrue old.is_open × (new.now ≡ old.now) × (new.committed ≡ old.committed)
+  looked_now (inl same) on = (same.0.was_open, same.0.now_is, same.0.committed_is)
+  looked_now (inr back) on =
+      let was = back.was_open on in
+      (was, (back.undone on).0 ∙ sym (rests.settled clean was), (back.undone on).1)
+
+  pub looked_stored : IsUnchanged old new ⊎ IsRolledBack old new → IsTrue new.is_open → IsTrue old.is_open × (stored new ≡ stored old)
+  looked_stored look on = let left = looked_now look on in (left.0, ap (λ (d : Database). contents d.trees) left.1)
+
+pub looked_rests : (old new : Shown) → Rests old → new.in_transaction ≡ false → (HasCleanDisk new → HasCleanDisk old × (IsUnchanged old new ⊎ IsRolledBack old new)) → Rests new
+looked_rests old new rests ended look = record {
+  idle = ended;
+  in_form = λ clean on. let was = look clean in let left = looked_now old new rests was.0 was.1 on in
+      ready_again old new left.1 (rests.in_form was.0 left.0);
+  settled = λ clean on. let was = look clean in let left = looked_now old new rests was.0 was.1 on in
+      left.1 ∙ rests.settled was.0 left.0 ∙ sym left.2;
+}
+
+-- what wasn't prepared changed nothing, or all is undone
+pub not_prepared : (old new : Shown) (sql : List ℕ) (params : Row) (e : Error) → IsNotRun old new sql params e → IsUnchanged old new ⊎ IsRolledBack old new
+unfolding IsNotRun
+not_prepared old new sql params e (inl h) = inl h.1
+not_prepared old new sql params e (inr h) = inr h.3
 
 -- ---- a store without faults
 

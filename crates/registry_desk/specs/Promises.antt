@@ -95,6 +95,10 @@ module _ (old new : Shown) where
   abbrev pub WasOpen : Type 0
   WasOpen = HasCleanDisk new → IsTrue new.is_open → IsTrue old.is_open
 
+  -- nothing that is stored is changed, and it was open where it is open
+  abbrev pub KeepsStored : Type 0
+  KeepsStored = HasCleanDisk new → IsTrue new.is_open → IsTrue old.is_open × (stored new ≡ stored old)
+
   -- ---- one request
 
   -- a reply is the machine's

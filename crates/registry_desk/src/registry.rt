@@ -12,7 +12,7 @@ ghost use Rattle.registry_tables.specs.Fresh.{fresh};
 ghost use Rattle.registry_tables.specs.Needs.{HoldsNeeds};
 ghost use Rattle.registry_tables.specs.Teams.{GrantsInScope};
 ghost use Rattle.registry_history.specs.Headline.{Headline};
-ghost use Rattle.registry_desk.specs.Promises.{Answered, GrowsHistory, HasHeadline, HidesUnread, HoldsReferences, HoldsSound, Keeps, KeepsForm, KeepsFormRun, KeepsRun, KeepsSure, Moves, RanTo, Served, ServedRun, ShutByFaults, StaysSure, Stepped, Stored, SurvivesOne, SurvivesRun, Unchanged, WasOpen, WritesHistory};
+ghost use Rattle.registry_desk.specs.Promises.{Answered, GrowsHistory, HasHeadline, HidesUnread, HoldsReferences, HoldsSound, Keeps, KeepsForm, KeepsFormRun, KeepsRun, KeepsStored, KeepsSure, Moves, RanTo, Served, ServedRun, ShutByFaults, StaysSure, Stepped, Stored, SurvivesOne, SurvivesRun, Unchanged, WasOpen, WritesHistory};
 ghost use Rattle.registry_desk.specs.Resting.{IsRegistryOf, Rests, end_stored};
 ghost use Rattle.registry_desk.specs.Caches.{HasPackuments, KeepsAnswer, KeepsNoMore};
 
@@ -203,6 +203,18 @@ impl<S: Alter> Registry<S> {
         Ok(outcomes)
     }
 
+    /// Whether it is open, as a look at its connection shows: it is, where this is so. Where it
+    /// isn't, a fault of the disk has shut it, or the disk or the memory failed at the look.
+    /// Nothing that is stored is changed.
+    pub fn is_open(&mut self) -> bool
+        ensures open { HasCleanDisk (state S.Store self.new) → IsTrue result
+            → IsTrue (state S.Store self.new).is_open }
+        ensures unchanged { KeepsStored (state S.Store self.old) (state S.Store self.new) }
+        ensures survives { Survives (state S.Store self.old) (state S.Store self.new) (λ _. ⊥) }
+    {
+        looks_open(&mut self.conn)
+    }
+
     /// Gives the connection, which is between requests. Over files, its `close` copies the log
     /// into the database file.
     pub fn release(self) -> Connection<S>
@@ -229,6 +241,21 @@ pub(crate) fn create_tables<S: Alter>(conn: &mut Connection<S>) -> Result<(), Fa
     let mut tx = conn.transaction();
     create(&mut tx)?;
     commit(tx)
+}
+
+// Whether a statement can be prepared on a connection. It isn't run.
+fn looks_open<S: Alter>(conn: &mut Connection<S>) -> bool
+    requires rests { Rests (state S.Store conn.old) }
+    ensures rests { Rests (state S.Store conn.new) }
+    ensures open { HasCleanDisk (state S.Store conn.new) → IsTrue result
+        → IsTrue (state S.Store conn.new).is_open }
+    ensures unchanged { KeepsStored (state S.Store conn.old) (state S.Store conn.new) }
+    ensures survives { Survives (state S.Store conn.old) (state S.Store conn.new) (λ _. ⊥) }
+{
+    match conn.prepare("COMMIT") {
+        Ok(_statement) => true,
+        Err(_error) => false,
+    }
 }
 
 // One transaction, which rolls back where `?` drops it. What is replied is kept after the commit,

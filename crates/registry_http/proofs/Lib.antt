@@ -1,3 +1,4 @@
 pub mod HidingFacts
+pub mod LookFacts
 pub mod RunningFacts
 pub mod UnseenFacts

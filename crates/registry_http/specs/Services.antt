@@ -1,6 +1,8 @@
 -- A registry as the service that connections ask, and the run that turns come to.
 use Rattle.std.specs.Prelude.{◌≡◌, ◌⊎◌, ◌++◌, ◌∷◌, [], ℕ, List, map, Ok, Err}
+use Rattle.sqlite.specs.Held.{state}
 use Rattle.sqlite.specs.State.{State as Shown}
+use Rattle.sqlite_trees.specs.declared.store.Store.{Ghosts}
 use Rattle.registry_names.specs.declared.stop.Stop.{Stop}
 use Rattle.registry_rules.specs.declared.request.Request.{Request}
 use Rattle.registry_tables.specs.Archives.{HoldsArchives}
@@ -8,10 +10,15 @@ use Rattle.registry_tables.specs.Needs.{HoldsNeeds}
 use Rattle.registry_tables.specs.Teams.{GrantsInScope}
 use Rattle.registry_history.specs.Runs.{Outcome}
 use Rattle.registry_desk.specs.Promises.{Answered, GrowsHistory, HasHeadline, HidesUnread, HoldsReferences, Keeps, KeepsForm, KeepsFormRun, KeepsRun, KeepsSure, Moves, RanTo, Served, ServedRun, ShutByFaults, StaysSure, Stepped, Stored, SurvivesOne, SurvivesRun, Unchanged, WasOpen, WritesHistory}
+use Rattle.registry_http.specs.declared.service.RegistryService.{RegistryService}
 use Rattle.registry_service.specs.Courses.{Follow}
 use Rattle.registry_service.specs.Histories.{LogEntry, FollowAll}
 use Rattle.registry_service.specs.Requests.{reads_request}
 use Rattle.registry_service.specs.Turns.{Answering, Cause, Turn, bad_input, no_memory, request, stopped}
+
+-- what the registry of a service shows
+abbrev pub shown : {S : Type 0} → Ghosts S → RegistryService S → Shown
+shown store service = state store service.registry
 
 -- all that is promised of a request to a registry
 pub record Applies (old new : Shown) (r : Request) (o : Outcome) : Type 0 where

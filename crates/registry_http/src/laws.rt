@@ -1,7 +1,6 @@
 //! Laws of the registry over HTTP. Each is the contract of a function that does nothing.
 
-ghost use Rattle.sqlite.specs.Held.{state};
-ghost use Rattle.registry_http.specs.Services.{LogRuns, TurnsRun};
+ghost use Rattle.registry_http.specs.Services.{LogRuns, TurnsRun, shown};
 ghost use Rattle.registry_http.specs.Hiding.{HiddenAreUnheardOf};
 ghost use Rattle.registry_http.specs.Unseen.{StrangersAreAnsweredTheSame};
 
@@ -13,8 +12,8 @@ use sqlite::Alter;
 /// no reply is lost in a crash, and of a registry of which nothing was asked before the headline
 /// holds.
 pub fn turns_are_one_run<S: Alter>()
-    ensures connection { TurnsRun (state S.Store) }
-    ensures all { LogRuns (state S.Store) }
+    ensures connection { TurnsRun (shown S.Store) }
+    ensures all { LogRuns (shown S.Store) }
 {}
 
 /// Whatever a caller asks of a package that they don't read, its packument, a version, an archive
@@ -34,5 +33,5 @@ pub fn hidden_packages_are_unheard_of()
 /// command that doesn't name the package, and that meets a fault or is kept from being done by the
 /// package alone in one world.
 pub fn unread_packages_change_no_byte<S: Alter>()
-    ensures { StrangersAreAnsweredTheSame (state S.Store) }
+    ensures { StrangersAreAnsweredTheSame (shown S.Store) }
 {}
