@@ -26,6 +26,8 @@ pub enum Failure {
     Registry(Fault),
     /// The registry's file, which can't be opened.
     Opening(Obstacle),
+    /// The disk of the registry's file, which is shut for it.
+    Shut,
     /// Standard input, the machine's clock, or the port where connections are to come in.
     Read,
     /// A file that the arguments name.
