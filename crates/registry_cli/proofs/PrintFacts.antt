@@ -1,20 +1,22 @@
--- A text that is written, and then what comes after it.
-use Rattle.std.proofs.Common.{◌≡◌, ◌⊎◌, ℕ, List, ◌++◌, Option, Bool, true, inl, inr}
+-- The pieces of what is printed, and what is known of a result, where it is one or the other.
+use Rattle.std.proofs.Common.{◌≡◌, ◌⊎◌, ◌++◌, ℕ, List, ap, append_assoc, codes, inl, inr, sym}
 use Rattle.std.specs.Prelude.{Result, Ok, Err, OnOk, OnErr}
-use Rattle.registry_names.specs.ByteStreams.{Writes, WritesPrefix}
-use Rattle.registry_names.proofs.ByteStreamFacts.{Writes-append, WritesPrefix-append}
+use Rattle.registry_cli.specs.Prints.{newline}
 
-pub writes-then : {T E : Type 0} {a b c : Option (List ℕ)} {s t : Bool} {xs ys : List ℕ} (r : Result T E) → Writes a b s xs → (s ≡ true → t ≡ true)
-    → OnOk r (Writes b c t ys) → OnOk r (Writes a c t (xs ++ ys))
-writes-then (Ok x) first stays second = Writes-append first second stays
-writes-then (Err e) first stays second = tt
+-- the answer of so many, in three pieces
+pub counted-pieces : (digits : List ℕ) → codes "{\"count\":" ++ (digits ++ codes ",\"ok\":true}\n") ≡ codes "{\"count\":" ++ digits ++ codes ",\"ok\":true}" ++ newline
+counted-pieces digits = ap (λ (l : List ℕ). codes "{\"count\":" ++ l) (sym (append_assoc digits (codes ",\"ok\":true}") newline))
 
-pub prefix-then : {T E : Type 0} {a b c : Option (List ℕ)} {s t : Bool} {xs ys : List ℕ} (r : Result T E) → Writes a b s xs → (s ≡ true → t ≡ true)
-    → OnErr r (WritesPrefix b c t ys) → OnErr r (WritesPrefix a c t (xs ++ ys))
-prefix-then (Ok x) first stays second = tt
-prefix-then (Err e) first stays second = WritesPrefix-append first second stays
+-- what follows from a fact follows where it holds
+pub on-ok : {T E P Q : Type 0} (r : Result T E) → (P → Q) → OnOk r P → OnOk r Q
+on-ok (Ok x) f p = f p
+on-ok (Err e) f p = tt
 
--- whether it ended well or not
+pub on-err : {T E P Q : Type 0} (r : Result T E) → (P → Q) → OnErr r P → OnErr r Q
+on-err (Ok x) f p = tt
+on-err (Err e) f p = f p
+
+-- one of two facts holds, whichever it is
 pub either-way : {T E P Q : Type 0} (r : Result T E) → OnOk r P → OnErr r Q → P ⊎ Q
 either-way (Ok x) p q = inl p
 either-way (Err e) p q = inr q

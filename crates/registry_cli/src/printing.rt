@@ -70,8 +70,12 @@ fn write_refusal<W: ByteOut>(reply: &Reply, writer: &mut W) -> Result<(), WriteF
     match reply {
         Reply::Created | Reply::Done | Reply::Count(_) | Reply::Doc(_) | Reply::Bytes(_) =>
             write_whole(writer, &[]),
-        Reply::Refused(refusal) =>
-            write_three(writer, b"refused: ", refusal.text().as_bytes(), b"\n"),
+        Reply::Refused(refusal) => write_three(
+            writer,
+            b"refused: ",
+            refusal.text().as_bytes(),
+            b"\n",
+        ),
     }
 }
 

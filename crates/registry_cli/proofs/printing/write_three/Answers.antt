@@ -1,13 +1,13 @@
 use Rattle.std.proofs.Common.{◌++◌}
-use Rattle.registry_names.proofs.ByteStreamFacts.{WritesPrefix-longer, on_err}
-use Rattle.registry_cli.proofs.PrintFacts.{prefix-then, writes-then}
+use Rattle.registry_names.proofs.ByteStreamFacts.{Writes-append, WritesPrefix-append, WritesPrefix-longer, on_err}
+use Rattle.registry_cli.proofs.PrintFacts.{on-err, on-ok}
 use Rattle.registry_cli.proofs.printing.write_three.Goals as goal
 
 pub returns-in_err-write_whole-clause-err : goal.returns-in_err-write_whole-clause-err
 returns-in_err-write_whole-clause-err g c = on_err _ (WritesPrefix-longer (c.args.second.now ++ c.args.third.now) c.in_err-write_whole.ensures.err)
 
 pub returns-clause-ok : goal.returns-clause-ok
-returns-clause-ok g c = writes-then _ c.in_ok-write_whole.ensures.ok c.write_two.ensures.unknown c.write_two.ensures.ok
+returns-clause-ok g c = on-ok _ (λ rest. Writes-append c.in_ok-write_whole.ensures.ok rest c.write_two.ensures.unknown) c.write_two.ensures.ok
 
 pub returns-clause-err : goal.returns-clause-err
-returns-clause-err g c = prefix-then _ c.in_ok-write_whole.ensures.ok c.write_two.ensures.unknown c.write_two.ensures.err
+returns-clause-err g c = on-err _ (λ rest. WritesPrefix-append c.in_ok-write_whole.ensures.ok rest c.write_two.ensures.unknown) c.write_two.ensures.err
