@@ -1,11 +1,13 @@
 //! Files from which no registry opens: what is printed for each, and that its bytes are kept.
 
 use super::{Case, Failing, leaves_it, path, with_db};
+use crate::tests::outcome::same;
 use registry_desk::Registry;
-use registry_program::let_go;
+use registry_names::ToWrite;
+use registry_program::{Ending, Failure, let_go, report};
 use sqlite::{Connection, Error};
-use std::fs;
 use std::test::Fail;
+use std::{fs, str};
 
 const FOREIGN: &str =
     "fault: Database\nthe file holds no registry, or was changed by another hand\n";
@@ -13,6 +15,8 @@ const FOREIGN: &str =
 const UNREACHABLE: &str = "fault: Database\nthe registry's file can't be opened or written\n";
 
 const BUSY: &str = "fault: Database\nanother process has the registry's file\n";
+
+const FAILED: &str = "fault: Database\nthe disk failed while the registry was served\n";
 
 /// What lies at the path.
 #[derive(Clone, Copy)]
@@ -74,6 +78,15 @@ fn a_file_that_another_has_is_reported(rt: HostRuntime) -> Result<(), Fail> {
     let_go(held);
     reported?;
     Ok(fs::remove_dir_all(&rt, folder.as_str())?)
+}
+
+#[test]
+fn a_disk_that_failed_under_a_server_is_reported(rt: HostRuntime) -> Result<(), Fail> {
+    let mut errors = Vec::new(rt.alloc());
+    let ending = Ending::Fault(Failure::Shut);
+    let status = report(&mut ToWrite::new(&mut errors), &ending);
+    same("the status", status, 3)?;
+    same("the errors", str::from_utf8(&errors).unwrap_or("?"), FAILED)
 }
 
 // Each line ends in the fault, and the file is as it was.
