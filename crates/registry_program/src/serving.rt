@@ -69,8 +69,7 @@ fn serve_registry<D: Disk + Drop, O: ByteOut>(
     ended
 }
 
-// Serves with the service, from the moment on that it is now. The clock is read before anything is
-// printed.
+// Serves with the service. The clock is read before anything is printed.
 fn serve_at<S: Alter, O: ByteOut>(
     rt: &HostRuntime,
     alloc: Global,
@@ -78,12 +77,12 @@ fn serve_at<S: Alter, O: ByteOut>(
     service: &mut RegistryService<S>,
     output: &mut O,
 ) -> Result<Ended, Ending> {
-    let Some(at) = read_moment(rt) else {
+    if read_moment(rt).is_none() {
         return Err(Ending::Fault(Failure::Read));
-    };
+    }
     let server = Server::bind(rt, alloc, entrance.port, entrance.connections)?;
     announce(alloc, &server, output)?;
-    Ok(server.run(rt, alloc, at, service)?)
+    Ok(server.run(rt, alloc, service)?)
 }
 
 // What a server that ended so leaves: the exit status, or the fault of its disk.
