@@ -165,7 +165,7 @@ fn answers_of(rt: &HostRuntime, clock: &Jumping<'_>) -> Result<String, Fail> {
     let server = Server::bind(rt, alloc, 0, 1)?;
     let client = client(rt, server.port()?)?;
     let mut service = lab(alloc)?;
-    let _ended = server.run(clock, alloc, &mut service)?;
+    server.run(clock, alloc, &mut service)?;
     let answers = read_whole(alloc, &mut FromRead::new(&client), 100_000)?;
     Ok(String::from_str(alloc, str::from_utf8(&answers).unwrap_or("?"))?)
 }
