@@ -69,7 +69,8 @@ fn serve_registry<D: Disk + Drop, O: ByteOut>(
     ended
 }
 
-// Serves with the service. The clock is read before anything is printed.
+// Serves with the service, from the moment on that it is now. The clock is read before anything is
+// printed.
 fn serve_at<S: Alter, O: ByteOut>(
     rt: &HostRuntime,
     alloc: Global,
@@ -77,12 +78,12 @@ fn serve_at<S: Alter, O: ByteOut>(
     service: &mut RegistryService<S>,
     output: &mut O,
 ) -> Result<Ended, Ending> {
-    if read_moment(rt).is_none() {
+    let Some(at) = read_moment(rt) else {
         return Err(Ending::Fault(Failure::Read));
-    }
+    };
     let server = Server::bind(rt, alloc, entrance.port, entrance.connections)?;
     announce(alloc, &server, output)?;
-    Ok(server.run(rt, alloc, service)?)
+    Ok(server.run(rt, alloc, at, service)?)
 }
 
 // What a server that ended so leaves: the exit status, or the fault of its disk.
