@@ -3,9 +3,11 @@
 ghost use Rattle.std.specs.Prelude.{◌≡◌, false, IfErr, IfOk, IsTrue, OnErr, OnOk};
 ghost use Rattle.sqlite.specs.Held.{state};
 ghost use Rattle.sqlite.specs.State.{HasCleanDisk, Survives};
-ghost use Rattle.sqlite.specs.Steps.{IsEmpty, over_memory};
+ghost use Rattle.sqlite.specs.Steps.{over_memory};
 ghost use Rattle.registry_rules.specs.Kept.{IsKept};
 ghost use Rattle.registry_rules.specs.State.{nothing};
+ghost use Rattle.registry_rows.specs.Ready.{Ready};
+ghost use Rattle.registry_rows.specs.Tables.{no_tables};
 ghost use Rattle.registry_tables.specs.Archives.{HoldsArchives};
 ghost use Rattle.registry_tables.specs.Effects.{registry_in, stored};
 ghost use Rattle.registry_tables.specs.Fresh.{fresh};
@@ -14,6 +16,7 @@ ghost use Rattle.registry_tables.specs.Teams.{GrantsInScope};
 ghost use Rattle.registry_history.specs.Headline.{Headline};
 ghost use Rattle.registry_desk.specs.Promises.{Answered, GrowsHistory, HasHeadline, HidesUnread, HoldsReferences, HoldsSound, Keeps, KeepsForm, KeepsFormRun, KeepsRun, KeepsSure, Moves, RanTo, Served, ServedRun, ShutByFaults, StaysSure, Stepped, Stored, SurvivesOne, SurvivesRun, Unchanged, WasOpen, WritesHistory};
 ghost use Rattle.registry_desk.specs.Resting.{IsRegistryOf, Rests, end_stored};
+ghost use Rattle.registry_desk.specs.Adopted.{CanBeAdopted, IsUndone};
 ghost use Rattle.registry_desk.specs.Caches.{HasPackuments, KeepsAnswer, KeepsNoMore};
 
 use crate::answer::answered_inside;
@@ -203,11 +206,13 @@ impl<S: Alter> Registry<S> {
         Ok(outcomes)
     }
 
-    /// Gives the connection, which is between requests. Over files, its `close` copies the log
-    /// into the database file.
+    /// Gives the connection, which is between requests: it shows what the registry held, and a
+    /// crash leaves what it could have left. [`adopt`](Registry::adopt) takes it again. Over files,
+    /// its `close` copies the log into the database file.
     pub fn release(self) -> Connection<S>
         ensures same { result ≡ self }
         ensures rests { Rests (state S.Store result) }
+        ensures rises { CanBeAdopted (state S.Store result) }
     {
         let Registry { conn, cache: _ } = self;
         conn
@@ -217,12 +222,14 @@ impl<S: Alter> Registry<S> {
 // Makes the tables of an empty database, in one transaction.
 pub(crate) fn create_tables<S: Alter>(conn: &mut Connection<S>) -> Result<(), Fault>
     requires idle { conn.old.in_transaction ≡ false }
-    requires empty { HasCleanDisk (state S.Store conn.old) → IsEmpty (state S.Store conn.old) }
+    requires empty { Ready no_tables (state S.Store conn.old) }
     ensures rests { OnOk result (Rests (state S.Store conn.new)) }
     ensures made { HasCleanDisk (state S.Store conn.new)
         → OnOk result (stored (state S.Store conn.new) ≡ fresh) }
     ensures served { HasCleanDisk (state S.Store conn.new)
         → OnOk result (IsTrue (state S.Store conn.new).is_open) }
+    ensures idle { conn.new.in_transaction ≡ false }
+    ensures undone { OnErr result (IsUndone (state S.Store conn.old) (state S.Store conn.new)) }
     ensures survives { Survives (state S.Store conn.old) (state S.Store conn.new)
         (λ db. IsRegistryOf db fresh) }
 {
