@@ -1,21 +1,24 @@
 -- What is found again after a stop.
-use Rattle.std.proofs.Common.{◌≡◌, ◌∙◌, inl, inr, ap, refl, sym, subst}
+use Rattle.std.proofs.Common.{◌≡◌, ◌∙◌, inl, inr, ap, arith, length, refl, sym, subst}
+use Rattle.sqlite.specs.Effect.{Database}
 use Rattle.sqlite.specs.State.{State as Shown}
 use Rattle.sqlite_catalog.specs.Listing.{IsSound, IsTableRow}
 use Rattle.sqlite_catalog.proofs.LayoutLemmas.{zipped_left, zipped_right}
+use Rattle.sqlite_schema.specs.declared.schema.Schema.{Schema}
 use Rattle.sqlite_trees.specs.Tree.{Trees}
 use Rattle.registry_rows.specs.Tables.{no_tables}
 use Rattle.registry_rules.specs.Kept.{IsKept}
 use Rattle.registry_tables.specs.Archives.{HoldsArchives}
-use Rattle.registry_tables.specs.Contents.{Contents, registry_of}
+use Rattle.registry_tables.specs.Contents.{Contents, contents, registry_of}
 use Rattle.registry_tables.specs.Effects.{stored}
 use Rattle.registry_tables.specs.Needs.{HoldsNeeds}
 use Rattle.registry_tables.specs.Schema as ours
 use Rattle.registry_tables.specs.Teams.{GrantsInScope}
-use Rattle.registry_desk.specs.Opened.{GivesFound}
+use Rattle.registry_desk.proofs.OpenedFacts.{holds_each}
+use Rattle.registry_desk.specs.Opened.{GivesFound, IsMadeOf}
 use Rattle.registry_desk.specs.Promises.{HoldsReferences}
 use Rattle.registry_desk.specs.Resting.{IsRegistryOf}
-use Rattle.registry_desk.specs.Stops.{GoesOn, StopsLoseNothing}
+use Rattle.registry_desk.specs.Stops.{GoesOn, ReleasesAreAdopted, StopsAreAdopted, StopsLoseNothing}
 
 -- a database with a registry's tables isn't one without tables
 not_empty : (db : Trees) → IsSound ours.schema db → IsSound no_tables db → ⊥
@@ -44,3 +47,17 @@ goes_on last next same = record {
 pub stops_lose_nothing : {C D : Type 0} (show : C → Shown) (show_next : D → Shown) → StopsLoseNothing show show_next
 stops_lose_nothing show show_next last next image db sure left holds each clean =
     goes_on (show last) (show_next next) (found_again db (stored (show last)) (stored (show_next next)) (sure db left) (each clean db holds))
+
+pub stops_are_adopted : {C D : Type 0} (show : C → Shown) (show_next : D → Shown) → StopsAreAdopted show show_next
+stops_are_adopted show show_next last seen next image db sure left holds opened finds made =
+    stops_lose_nothing show show_next last next image db sure left holds (holds_each image (show_next seen) (show_next next) opened finds made)
+
+-- tables are found, and they are the registry's
+made_again : (old : Database) (c : Contents) → old.schema ≡ ours.schema → IsMadeOf old c → c ≡ contents old.trees
+made_again old c ours (inl (again, found, is)) = is
+made_again old c ours (inr (none, is)) = absurd (let tables = ap (λ (k : Schema). length k.tables) (sym ours ∙ none) in omega (arith, tables))
+
+pub releases_are_adopted : {C D : Type 0} (show : C → Shown) (show_next : D → Shown) → ReleasesAreAdopted show show_next
+releases_are_adopted show show_next last next rests on made clean =
+    let it = made clean in
+    goes_on (show last) (show_next next) (made_again (show last).now (stored (show_next next)) (rests.in_form it.0 on).schema_is it.1)

@@ -30,15 +30,21 @@ use sqlite_disk::Disk;
 use sqlite_schema::schema::Schema;
 use sqlite_std_file::OpenError;
 use std::alloc::Global;
+use std::fs::OpenOptions;
 use std::hash::{BuildHasher, RandomState};
 use std::io::ErrorKind;
+use std::os::unix::fs::OpenOptionsExt;
 
-/// The number of the schema that a registry's tables have.
-const SCHEMA: u32 = 3;
+/// The number of the schema that a registry's tables have. A program that knows other tables gives
+/// them a greater number.
+pub const SCHEMA: u32 = 3;
 
 /// How many of the file's pages are kept in memory. Room for all of them is made when it is opened:
 /// 4 MB, since a page has 4 kB.
 const CACHE_PAGES: usize = 1_000;
+
+/// The mode of a new file: its owner reads and writes it, and nobody else.
+const MODE: u32 = 0o600;
 
 /// What is left of the files after an open that failed.
 pub enum Unopened<D: Disk> {
@@ -277,7 +283,18 @@ fn files_at<S: Start>(rt: &HostRuntime, path: &str, start: S) -> Result<Files<Fi
     if path == ":memory:" || path.starts_with("file:") {
         return Err(Fault::Database);
     }
+    make(rt, path);
     sqlite_std_file::open(rt, path, start).map_err(fault_of_open)
+}
+
+// Makes a file that isn't there, for its owner alone. A new log gets the same mode. Where the file
+// can't be made, the open says so.
+fn make(rt: &HostRuntime, path: &str) {
+    let _ = OpenOptions::new()
+        .write(true)
+        .create_new(true)
+        .mode(MODE)
+        .open(rt, path);
 }
 
 // The fault that is answered where the files at a path can't be opened.

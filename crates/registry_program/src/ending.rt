@@ -45,6 +45,8 @@ pub enum Obstacle {
     Full,
     /// It holds no registry that can be read.
     Foreign,
+    /// A newer program wrote it: the number of its schema is above ours.
+    Newer,
 }
 
 impl From<Fault> for Ending {

@@ -96,6 +96,7 @@ fn obstacle_text(obstacle: Obstacle) -> &'static str {
         Obstacle::Unreachable => "the registry's file can't be opened or written",
         Obstacle::Full => "the disk is full",
         Obstacle::Foreign => "the file holds no registry, or was changed by another hand",
+        Obstacle::Newer => "a newer program wrote the registry's file",
     }
 }
 
