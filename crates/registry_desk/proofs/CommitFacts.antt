@@ -99,6 +99,11 @@ module _ (old mid new : Shown) where
     settled = λ clean on. let b = back clean in let left = undone b.1 b.2 on in left.1 ∙ sym left.2;
   }
 
+-- what is so is so of a fault, too
+pub on_fault : {A E : Type 0} {P : Type 0} (result : Result A E) → P → OnErr result P
+on_fault (Ok done) is = tt
+on_fault (Err e) is = is
+
 -- a commit that fails leaves what was committed
 pub commit_undone : {A : Type 0} (result : Result A Fault) (old mid new : Shown) → (HasCleanDisk new → KeepsCommit old mid × (mid.in_transaction ≡ true)) → (HasCleanDisk new → IfErr result (CommitFails mid new)) → OnErr result (IsUndone old new)
 commit_undone (Ok done) old mid new before fails = tt

@@ -1,21 +1,20 @@
 -- What is found again after a stop.
-use Rattle.std.proofs.Common.{◌≡◌, ◌∙◌, inl, inr, ap, arith, length, refl, sym, subst}
-use Rattle.sqlite.specs.Effect.{Database}
+use Rattle.std.proofs.Common.{◌≡◌, ◌∙◌, inl, inr, ap, refl, sym, subst}
 use Rattle.sqlite.specs.State.{State as Shown}
 use Rattle.sqlite_catalog.specs.Listing.{IsSound, IsTableRow}
 use Rattle.sqlite_catalog.proofs.LayoutLemmas.{zipped_left, zipped_right}
-use Rattle.sqlite_schema.specs.declared.schema.Schema.{Schema}
 use Rattle.sqlite_trees.specs.Tree.{Trees}
 use Rattle.registry_rows.specs.Tables.{no_tables}
 use Rattle.registry_rules.specs.Kept.{IsKept}
 use Rattle.registry_tables.specs.Archives.{HoldsArchives}
-use Rattle.registry_tables.specs.Contents.{Contents, contents, registry_of}
+use Rattle.registry_tables.specs.Contents.{Contents, registry_of}
 use Rattle.registry_tables.specs.Effects.{stored}
 use Rattle.registry_tables.specs.Needs.{HoldsNeeds}
 use Rattle.registry_tables.specs.Schema as ours
 use Rattle.registry_tables.specs.Teams.{GrantsInScope}
-use Rattle.registry_desk.proofs.OpenedFacts.{holds_each}
-use Rattle.registry_desk.specs.Opened.{GivesFound, IsMadeOf}
+use Rattle.registry_desk.proofs.CommitFacts.{registry_left}
+use Rattle.registry_desk.proofs.OpenedFacts.{gives_found, holds_each}
+use Rattle.registry_desk.specs.Opened.{GivesFound}
 use Rattle.registry_desk.specs.Promises.{HoldsReferences}
 use Rattle.registry_desk.specs.Resting.{IsRegistryOf}
 use Rattle.registry_desk.specs.Stops.{GoesOn, ReleasesAreAdopted, StopsAreAdopted, StopsLoseNothing}
@@ -52,12 +51,9 @@ pub stops_are_adopted : {C D : Type 0} (show : C → Shown) (show_next : D → S
 stops_are_adopted show show_next last seen next image db sure left holds opened finds made =
     stops_lose_nothing show show_next last next image db sure left holds (holds_each image (show_next seen) (show_next next) opened finds made)
 
--- tables are found, and they are the registry's
-made_again : (old : Database) (c : Contents) → old.schema ≡ ours.schema → IsMadeOf old c → c ≡ contents old.trees
-made_again old c ours (inl (again, found, is)) = is
-made_again old c ours (inr (none, is)) = absurd (let tables = ap (λ (k : Schema). length k.tables) (sym ours ∙ none) in omega (arith, tables))
-
 pub releases_are_adopted : {C D : Type 0} (show : C → Shown) (show_next : D → Shown) → ReleasesAreAdopted show show_next
 releases_are_adopted show show_next last next rests on made clean =
     let it = made clean in
-    goes_on (show last) (show_next next) (made_again (show last).now (stored (show_next next)) (rests.in_form it.0 on).schema_is it.1)
+    let ready = rests.in_form it.0 on in
+    let here = (show last).now in
+    goes_on (show last) (show_next next) (found_again here.trees (stored (show last)) (stored (show_next next)) (registry_left (show last) here.trees _ ready refl refl) (gives_found here (stored (show_next next)) it.1 ready.sound))

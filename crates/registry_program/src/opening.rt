@@ -53,9 +53,12 @@ fn obstacle_in<S: Alter>(conn: &mut Connection<S>) -> Obstacle {
 
 // Whether the tables have the number of a schema that only a newer program makes.
 fn is_newer<S: Alter>(conn: &mut Connection<S>) -> bool {
-    match conn.query_row("SELECT value FROM meta WHERE name = 'schema'", &[]) {
-        Ok(row) => matches!(row.get_ref(0), Ok(ValueRef::Integer(number)) if number > i64::from(SCHEMA)),
-        Err(_) => false,
+    let Ok(row) = conn.query_row("SELECT value FROM meta WHERE name = 'schema'", &[]) else {
+        return false;
+    };
+    match row.get_ref(0) {
+        Ok(ValueRef::Int(number)) => number > i64::from(SCHEMA),
+        _ => false,
     }
 }
 

@@ -8,7 +8,7 @@ use Rattle.registry_tables.specs.Effects.{HasNoTables}
 use Rattle.registry_tables.specs.Fresh.{fresh}
 use Rattle.registry_desk.specs.Adopted.{IsUndone}
 use Rattle.registry_desk.specs.Resting.{IsRegistryOf, Rests}
-use Rattle.registry_desk.proofs.CommitFacts.{begun_empty, commit_rests_on, commit_undone, registry_left, undone_is}
+use Rattle.registry_desk.proofs.CommitFacts.{begun_empty, commit_rests_on, commit_undone, on_fault, registry_left, undone_is}
 use Rattle.registry_desk.proofs.registry.create_tables.Goals as goal
 
 pub returns-clause-rests : goal.returns-clause-rests
@@ -66,4 +66,4 @@ returns-in_err-create-clause-undone g c =
     let kept = rw c.transaction-tx.ensures.begun at c.create.ensures.stays.committed were in
     undone_is old mid new (record { was_open = kept.was_open; committed = kept.committed }) c.drop-tx.ensures.undone clean on in
     let same : c.drop-tx.new.self.0 ≡ c.conn-1.given.0 = search rules in
-    subst (λ h. IsUndone old (state g.S.Store h)) same undone
+    on_fault c.from_residual.result (subst (λ h. IsUndone old (state g.S.Store h)) same undone)
