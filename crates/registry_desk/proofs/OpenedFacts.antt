@@ -35,6 +35,9 @@ use Rattle.registry_tables.specs.Contents.{Contents}
 use Rattle.registry_tables.specs.Effects.{stored}
 use Rattle.registry_tables.specs.Fresh.{fresh}
 use Rattle.registry_tables.specs.Schema as ours
+use Rattle.registry_migration.specs.Older.{schema_of}
+use Rattle.registry_migration.specs.declared.older.Older.{Older}
+use Rattle.registry_migration.specs.declared.older.Older.TheVariants.{First, Second}
 use Rattle.registry_desk.specs.Adopted.{CanBeAdopted, IsMade}
 use Rattle.registry_desk.specs.Opened.{GivesFound, HoldsEach, HoldsFound, IsFreshIfEmpty, IsLeftOf, IsMadeOf, LeavesFound}
 
@@ -93,16 +96,24 @@ sound_as schema seen is sound = subst (λ s. IsSound s seen.trees) is sound
 -- what is made of the database that was seen is given of the trees that the files hold
 pub gives_found : (seen : Database) (c : Contents) → IsMadeOf seen c → IsDatabase seen → GivesFound seen.trees c
 gives_found seen c (inl (schema_is, number, is)) sound = inl (sound_as ours.schema seen schema_is sound, number, is)
-gives_found seen c (inr (none, is)) sound = inr (sound_as no_tables seen none sound, is)
+gives_found seen c (inr (inl (none, is))) sound = inr (inl (sound_as no_tables seen none sound, is))
+gives_found seen c (inr (inr (older, was, is))) sound = inr (inr (older, sound_as (schema_of older) seen was sound, is))
 
 pub leaves_found : (seen : Database) (left : Trees) → IsDatabase seen → IsLeftOf seen left → LeavesFound seen.trees left
 leaves_found seen left sound (inl same) = inl same
-leaves_found seen left sound (inr (none, is)) = inr (sound_as no_tables seen none sound, is)
+leaves_found seen left sound (inr (inl (none, is))) = inr (inl (sound_as no_tables seen none sound, is))
+leaves_found seen left sound (inr (inr (older, was, is))) = inr (inr (older, sound_as (schema_of older) seen was sound, is))
+
+-- the older schemas have users
+has_users : (older : Older) → Has (schema_of older).tables ours.users
+has_users First = inl refl
+has_users Second = inl refl
 
 pub empty_gives_fresh : (image : Image) (db : Trees) (c : Contents) → image.db ≡ [] → AreFoundIn image db → GivesFound db c → c ≡ fresh
 empty_gives_fresh image db c none (inl found) gives = absurd (let some = found.3.found.present in let bytes = ap length none in omega (arith, some, bytes))
 empty_gives_fresh image db c none (inr (nothing, empty)) (inl (sound, number, is)) = absurd (no_table db ours.schema empty.1 sound ours.users (inl refl))
-empty_gives_fresh image db c none (inr (nothing, empty)) (inr (sound, is)) = is
+empty_gives_fresh image db c none (inr (nothing, empty)) (inr (inl (sound, is))) = is
+empty_gives_fresh image db c none (inr (nothing, empty)) (inr (inr (older, sound, is))) = absurd (no_table db (schema_of older) empty.1 sound ours.users (has_users older))
 
 -- ---- of an open
 

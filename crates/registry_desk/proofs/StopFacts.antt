@@ -1,5 +1,6 @@
 -- What is found again after a stop.
-use Rattle.std.proofs.Common.{◌≡◌, ◌∙◌, inl, inr, ap, refl, sym, subst}
+use Rattle.std.proofs.Common.{◌≡◌, ◌∙◌, suc, List, [], ◌∷◌, length, arith, inl, inr, ap, refl, sym, subst}
+use Rattle.std.specs.List.{AllZip}
 use Rattle.sqlite.specs.State.{State as Shown}
 use Rattle.sqlite_catalog.specs.Listing.{IsSound, IsTableRow}
 use Rattle.sqlite_catalog.proofs.LayoutLemmas.{zipped_left, zipped_right}
@@ -12,6 +13,9 @@ use Rattle.registry_tables.specs.Effects.{stored}
 use Rattle.registry_tables.specs.Needs.{HoldsNeeds}
 use Rattle.registry_tables.specs.Schema as ours
 use Rattle.registry_tables.specs.Teams.{GrantsInScope}
+use Rattle.registry_migration.specs.Older.{schema_of}
+use Rattle.registry_migration.specs.declared.older.Older.{Older}
+use Rattle.registry_migration.specs.declared.older.Older.TheVariants.{First, Second}
 use Rattle.registry_desk.proofs.CommitFacts.{registry_left}
 use Rattle.registry_desk.proofs.OpenedFacts.{gives_found, holds_each}
 use Rattle.registry_desk.specs.Opened.{GivesFound}
@@ -25,10 +29,23 @@ not_empty db sound none =
     let row = zipped_left IsTableRow _ ours.schema.tables ours.users sound.lists.listed.tables (inl refl) in
     (zipped_right IsTableRow _ no_tables.tables row.0 none.lists.listed.tables row.1).1
 
+-- a database lists each of its tables once
+as_many : {A B : Type 0} (R : A → B → Type 0) (xs : List A) (ys : List B) → AllZip R xs ys → length xs ≡ length ys
+as_many R [] [] all = refl
+as_many R [] (y ∷ ys) all = absurd all
+as_many R (x ∷ xs) [] all = absurd all
+as_many R (x ∷ xs) (y ∷ ys) all = ap suc (as_many R xs ys all.1)
+
+-- and isn't one of an older schema, which has fewer
+not_older : (db : Trees) (older : Older) → IsSound ours.schema db → IsSound (schema_of older) db → ⊥
+not_older db First sound was = absurd (omega (arith, as_many IsTableRow _ ours.schema.tables sound.lists.listed.tables, as_many IsTableRow _ (schema_of First).tables was.lists.listed.tables))
+not_older db Second sound was = absurd (omega (arith, as_many IsTableRow _ ours.schema.tables sound.lists.listed.tables, as_many IsTableRow _ (schema_of Second).tables was.lists.listed.tables))
+
 -- an open of a registry's database finds what it holds
 found_again : (db : Trees) (c d : Contents) → IsRegistryOf db c → GivesFound db d → d ≡ c
 found_again db c d held (inl (sound, number, is)) = is ∙ held.1
-found_again db c d held (inr (none, is)) = absurd (not_empty db held.0 none)
+found_again db c d held (inr (inl (none, is))) = absurd (not_empty db held.0 none)
+found_again db c d held (inr (inr (older, sound, is))) = absurd (not_older db older held.0 sound)
 
 goes_on : (last next : Shown) → stored next ≡ stored last → GoesOn last next
 goes_on last next same = record {

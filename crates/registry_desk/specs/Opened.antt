@@ -15,6 +15,9 @@ use Rattle.registry_tables.specs.Contents.{Contents, contents}
 use Rattle.registry_tables.specs.Effects.{stored}
 use Rattle.registry_tables.specs.Fresh.{CountsArchivesAlone, fresh, schema_key, schema_number}
 use Rattle.registry_tables.specs.Schema.{schema}
+use Rattle.registry_migration.specs.Migration.{MayMigrate, Migrates}
+use Rattle.registry_migration.specs.Older.{contents_of, schema_of}
+use Rattle.registry_migration.specs.declared.older.Older.{Older}
 use Rattle.registry_desk.specs.Resting.{IsRegistryOf}
 use Rattle.registry_desk.specs.declared.open.Unopened.{Unopened}
 use Rattle.registry_desk.specs.declared.open.Unopened.TheVariants as unopened
@@ -27,22 +30,34 @@ IsNumbered c = at c.meta schema_key ≡ Some schema_number
 abbrev pub IsOurs : Contents → Type 0
 IsOurs c = IsNumbered c × CountsArchivesAlone c
 
--- the tables of a registry give what they hold, and a database without tables a fresh registry. Any
--- other gives none
-abbrev pub IsMadeOf : Database → Contents → Type 0
-IsMadeOf db c = ((db.schema ≡ schema) × IsOurs (contents db.trees) × (c ≡ contents db.trees)) ⊎ ((db.schema ≡ no_tables) × (c ≡ fresh))
+-- c is what a migration makes of a registry of the older schema
+pub record IsMigrated (older : Older) (db : Trees) (c : Contents) : Type 0 where
+  pub asked : MayMigrate older (contents_of older db)
+  pub made : Migrates older (contents_of older db) c
 
--- a crash leaves the database as it was, or, where it had no tables, a fresh registry
+-- the database has the tables of a registry, and they hold such a c
+pub record LeavesMigrated (older : Older) (db left : Trees) : Type 0 where
+  pub held : Contents
+  pub migrated : IsMigrated older db held
+  pub is : IsRegistryOf left held
+
+-- the tables of a registry give what they hold, a database without tables a fresh registry, and
+-- tables of an older schema what is made of them. Any other gives none
+abbrev pub IsMadeOf : Database → Contents → Type 0
+IsMadeOf db c = ((db.schema ≡ schema) × IsOurs (contents db.trees) × (c ≡ contents db.trees)) ⊎ (((db.schema ≡ no_tables) × (c ≡ fresh)) ⊎ ((older : Older) × (db.schema ≡ schema_of older) × IsMigrated older db.trees c))
+
+-- a crash leaves the database as it was, or, where it had no tables, a fresh registry, or, where its
+-- tables were those of an older schema, what is made of them
 abbrev pub IsLeftOf : Database → Trees → Type 0
-IsLeftOf db left = (left ≡ db.trees) ⊎ ((db.schema ≡ no_tables) × IsRegistryOf left fresh)
+IsLeftOf db left = (left ≡ db.trees) ⊎ (((db.schema ≡ no_tables) × IsRegistryOf left fresh) ⊎ ((older : Older) × (db.schema ≡ schema_of older) × LeavesMigrated older db.trees left))
 
 -- ---- the same of the trees that files held, which list their schema
 
 abbrev pub GivesFound : Trees → Contents → Type 0
-GivesFound db c = (IsSound schema db × IsOurs (contents db) × (c ≡ contents db)) ⊎ (IsSound no_tables db × (c ≡ fresh))
+GivesFound db c = (IsSound schema db × IsOurs (contents db) × (c ≡ contents db)) ⊎ ((IsSound no_tables db × (c ≡ fresh)) ⊎ ((older : Older) × IsSound (schema_of older) db × IsMigrated older db c))
 
 abbrev pub LeavesFound : Trees → Trees → Type 0
-LeavesFound db left = (left ≡ db) ⊎ (IsSound no_tables db × IsRegistryOf left fresh)
+LeavesFound db left = (left ≡ db) ⊎ ((IsSound no_tables db × IsRegistryOf left fresh) ⊎ ((older : Older) × IsSound (schema_of older) db × LeavesMigrated older db left))
 
 -- ---- what is promised of an open of files that held this
 

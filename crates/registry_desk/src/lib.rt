@@ -21,7 +21,6 @@ mod policy;
 mod registry;
 mod reply;
 mod rows;
-mod same;
 mod teams;
 mod withdrawals;
 

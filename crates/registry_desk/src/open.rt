@@ -12,14 +12,15 @@ ghost use Rattle.registry_rows.specs.Tables.{no_tables};
 ghost use Rattle.registry_tables.specs.Effects.{stored};
 ghost use Rattle.registry_tables.specs.Fresh.{CountsArchivesAlone};
 ghost use Rattle.registry_tables.specs.Schema as tables;
+ghost use Rattle.registry_migration.specs.Older.{schema_of};
 ghost use Rattle.registry_desk.specs.Adopted.{AreFilesOf, CanBeAdopted, IsHandedBack, IsMade, IsSettled, IsUndone};
-ghost use Rattle.registry_desk.specs.Opened.{HoldsEach, HoldsFound, IsFreshIfEmpty, IsLeftOf, IsMadeOf, IsNumbered, IsUri, LeavesAtMost};
+ghost use Rattle.registry_desk.specs.Opened.{HoldsEach, HoldsFound, IsFreshIfEmpty, IsLeftOf, IsMadeOf, IsMigrated, IsNumbered, IsUri, LeavesAtMost, LeavesMigrated};
 ghost use Rattle.registry_desk.specs.Promises.{IsSure};
 ghost use Rattle.registry_desk.specs.Resting.{Rests};
 
 use crate::registry::{CACHE_LIMIT, Registry, create_tables};
-use crate::same::is_same_schema;
 use registry_cache::TextCache;
+use registry_migration::{Older, is_same_schema, migrate, older_schema};
 use registry_names::Fault;
 use registry_rows::{commit, fault_of};
 use registry_tables::{counts_archives_alone, opened};
@@ -90,9 +91,10 @@ fn closed<D: Disk + Drop>(conn: Connection<FileStore<D>>) -> Files<D>
 impl Registry<FileStore<File>> {
     /// The registry in the file at the path, with its log beside it. A file that isn't there or is
     /// empty becomes a fresh registry, whose pages end in sums, so that a byte changed later is
-    /// refused. `Database` is answered where the file can't be opened, is another program's, has
-    /// the tables of another schema, counts in `sqlite_sequence` for more than the archives, or is
-    /// held by another process; its bytes are kept.
+    /// refused. A registry of an older schema is migrated, with all that it holds. `Database` is
+    /// answered where the file can't be opened, is another program's, has the tables of another
+    /// schema, counts in `sqlite_sequence` for more than the archives, is of an older schema and has
+    /// a manifest whose needs can't be read, or is held by another process; its bytes are kept.
     ///
     /// What is said here holds as long as the disk returns what was written to it, and nobody
     /// else writes the file. A torn write is supposed to leave each byte old or new:
@@ -190,8 +192,8 @@ impl<D: Disk + Drop> Registry<FileStore<D>> {
 impl<S: Alter> Registry<S> {
     /// Takes over a connection that is open already, whatever store it is over: one that
     /// [`connect`](Registry::connect) or [`release`](Registry::release) gives can be taken. The
-    /// registry holds what the store holds where its tables are ours, and a database without tables
-    /// gets those of a fresh registry.
+    /// registry holds what the store holds where its tables are ours or those of an older schema,
+    /// which are migrated, and a database without tables gets those of a fresh registry.
     ///
     /// `Database` is answered where the connection is inside a transaction, where the database has
     /// the tables of another schema or another number of ours, counts in `sqlite_sequence` for more
@@ -309,7 +311,8 @@ fn fault_of_open(error: OpenError) -> Fault
     }
 }
 
-// Makes the tables where the database has none, and else tests that they are ours.
+// Makes the tables where the database has none, and those of an older schema into ours, and else tests
+// that they are ours.
 fn settle<S: Alter>(alloc: Global, conn: &mut Connection<S>) -> Result<(), Fault>
     requires idle { conn.old.in_transaction ≡ false }
     requires settled { IsSettled (state S.Store conn.old) }
@@ -327,10 +330,13 @@ fn settle<S: Alter>(alloc: Global, conn: &mut Connection<S>) -> Result<(), Fault
     if has_nothing(conn.schema()) {
         return create_tables(conn);
     }
-    if !has_our_tables(alloc, conn.schema())? {
-        return Err(Fault::Database);
+    if has_our_tables(alloc, conn.schema())? {
+        return check_contents(conn);
     }
-    check_contents(conn)
+    match older_schema(alloc, conn.schema())? {
+        Some(older) => migrate_tables(alloc, conn, older),
+        None => Err(Fault::Database),
+    }
 }
 
 fn has_nothing(schema: &Schema) -> bool
@@ -348,6 +354,29 @@ fn has_our_tables(alloc: Global, schema: &Schema) -> Result<bool, Fault>
     };
     create_tables(&mut conn)?;
     Ok(is_same_schema(conn.schema(), schema))
+}
+
+// Makes a registry of the older schema one of ours, in one transaction.
+fn migrate_tables<S: Alter>(
+    alloc: Global,
+    conn: &mut Connection<S>,
+    older: Older,
+) -> Result<(), Fault>
+    requires idle { conn.old.in_transaction ≡ false }
+    requires ready { Ready (schema_of older) (state S.Store conn.old) }
+    ensures rests { OnOk result (Rests (state S.Store conn.new)) }
+    ensures made { HasCleanDisk (state S.Store conn.new) → OnOk result
+        (IsMigrated older (state S.Store conn.old).now.trees (stored (state S.Store conn.new))) }
+    ensures served { HasCleanDisk (state S.Store conn.new)
+        → OnOk result (IsTrue (state S.Store conn.new).is_open) }
+    ensures idle { conn.new.in_transaction ≡ false }
+    ensures undone { OnErr result (IsUndone (state S.Store conn.old) (state S.Store conn.new)) }
+    ensures survives { Survives (state S.Store conn.old) (state S.Store conn.new)
+        (LeavesMigrated older (state S.Store conn.old).now.trees) }
+{
+    let mut tx = conn.transaction();
+    migrate(alloc, &mut tx, older)?;
+    commit(tx)
 }
 
 // Another number of the schema is `Database`, and so is a counter besides that of the archives.
