@@ -3,7 +3,7 @@ seven needs each, and memory. They run one after the other."""
 
 from tries import *
 
-FEW, MANY, ROUNDS = 1_000, 10_000, 100
+FEW, MANY, ROUNDS, SINGLE = 1_000, 10_000, 100, 2_000
 BODY, BODIES = 4_194_304, 100
 WITHDRAWAL = '/-/package/needed/versions/1.5.0'
 DELETE = 'DELETE', '/-/package/x/versions/1.0.0', b'', None
@@ -11,9 +11,10 @@ PACKUMENT = 'GET', '/p000500', b'', None
 
 
 def run(ground, tries, slack):
-    if any(one.work is bodies_by_nobody for one in tries):
-        with ground.registry('memory').serve() as server:
-            run_some(tries, [bodies_by_nobody], server)
+    for work in ALONE:
+        if any(one.work is work for one in tries):
+            with ground.registry('memory').serve() as server:
+                run_some(tries, [work], server)
     if any(one.work in LARGE for one in tries):
         with packages(ground, FEW).serve() as few, packages(ground, MANY).serve() as many:
             run_some(tries, LARGE, few, many)
@@ -90,6 +91,27 @@ def refused_withdrawal(server):
     return lambda _: client.must(409, 'DELETE', WITHDRAWAL)
 
 
+def head_in_bytes(server):
+    """The processor time of the server for single bytes at the front of a long head, and at its end."""
+    head = request_of('GET', '/' + 15_000 * 'x')[:15_000]
+    connection = connect(server.port)
+    front = for_single_bytes(server, connection, head[:SINGLE])
+    connection.sendall(head[SINGLE:-SINGLE])
+    time.sleep(0.1)
+    end = for_single_bytes(server, connection, head[-SINGLE:])
+    connection.close()
+    return want(end <= 1.25 * front, f'{milliseconds(front / SINGLE)} ms a byte at the front, {milliseconds(end / SINGLE)} at the end')
+
+
+def for_single_bytes(server, connection, some):
+    """The processor time for these bytes, each sent once the one before has been read."""
+    before = server.processor()
+    for byte in some:
+        connection.sendall(bytes([byte]))
+        time.sleep(0.0003)
+    return server.processor() - before
+
+
 # ---- memory
 
 def bodies_by_nobody(server):
@@ -108,6 +130,7 @@ def bodies_by_nobody(server):
 
 
 LARGE = delete_by_nobody, thousand_deletes, depended, depended_growth
+ALONE = head_in_bytes, bodies_by_nobody
 
 TRIES = [
     Try('delete-by-nobody', 'a withdrawal without a token, among 10,000 packages of seven needs each',
@@ -117,6 +140,8 @@ TRIES = [
     Try('depended', 'a withdrawal refused as Depended among 10,000 such packages', 'under 5 ms, at the median', depended),
     Try('depended-growth', 'the same among 1,000 and among 10,000 that need other packages',
         'at most 1.5 times as long', depended_growth),
+    Try('head-in-bytes', 'processor time for single bytes of a head of 15,000 bytes',
+        'at its end at most a quarter more than at its front', head_in_bytes),
     Try('bodies-by-nobody', 'resident memory after 100 refused bodies of 4 MiB with one byte more each',
         'under 60 MB more', bodies_by_nobody),
 ]
