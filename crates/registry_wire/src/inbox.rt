@@ -11,7 +11,8 @@ ghost use Rattle.registry_wire.specs.Spelling.{IsUnfinished, Says, request_limit
 ghost use Rattle.registry_wire.specs.declared.first.First.TheVariants.{Unfinished};
 ghost use Rattle.registry_wire.specs.declared.inbox.Taken.TheVariants.{ReadFault};
 
-use crate::first::{Ending, First, ending_of, first_in};
+use crate::first::{Ending, First, ending_of};
+use crate::incoming::Incoming;
 use crate::wanted::Wanted;
 use registry_names::{ByteIn, Fault, ReadFailed, Refusal};
 use std::alloc::Global;
@@ -28,7 +29,7 @@ const PIECE_LEN: usize = 4096;
 #[derive(Drop)]
 pub struct Inbox<R: ByteIn> {
     reader: R,
-    held: Vec<u8>,
+    held: Incoming,
     interruptions: u32,
 }
 
@@ -39,9 +40,9 @@ impl<R: ByteIn> Model for Inbox<R> {
 
     ghost coded = { unread_code R.code };
 
-    ghost view = { λ inbox. unread inbox.reader inbox.held.items inbox.interruptions };
+    ghost view = { λ inbox. unread inbox.reader inbox.held inbox.interruptions };
 
-    ghost invariant = { λ inbox. IsWithin inbox.held.items inbox.interruptions };
+    ghost invariant = { λ inbox. IsWithin inbox.held inbox.interruptions };
 }
 
 /// How a read of a request ended.
@@ -79,7 +80,7 @@ impl<R: ByteIn> Inbox<R> {
     {
         Inbox {
             reader,
-            held: Vec::new(alloc),
+            held: Incoming::new(alloc),
             interruptions: 0,
         }
     }
@@ -112,7 +113,7 @@ impl<R: ByteIn> Inbox<R> {
         'pieces: loop {
             match self.first(alloc) {
                 Ok(First::Whole(wanted, used)) => {
-                    self.drop_first(used);
+                    self.drop_first(alloc, used);
                     return Taken::Whole(wanted);
                 }
                 Ok(First::Bad(refusal)) => return Taken::Bad(refusal),
@@ -129,13 +130,14 @@ impl<R: ByteIn> Inbox<R> {
     }
 
     // What the bytes that are held say of the first request.
-    fn first(&self, alloc: Global) -> Result<First, Fault>
-        ensures says { IfOk result (Says self.now.held) }
+    fn first(&mut self, alloc: Global) -> Result<First, Fault>
+        ensures says { IfOk result (Says self.old.held) }
         ensures fault { IfErr result (λ fault. fault ≡ Memory) }
-        ensures short { result ≡ Ok Unfinished → length self.now.held < request_limit }
-        ensures bounded { length self.now.held < held_limit }
+        ensures short { result ≡ Ok Unfinished → length self.old.held < request_limit }
+        ensures bounded { length self.old.held < held_limit }
+        ensures stays { self.new ≡ self.old }
     {
-        first_in(alloc, self.held.as_slice())
+        self.held.first(alloc)
     }
 
     // Reads once, and holds what came. The memory for it is taken first, so that nothing is lost.
@@ -157,7 +159,7 @@ impl<R: ByteIn> Inbox<R> {
         match self.reader.read(&mut piece) {
             Ok(0) => Piece::End,
             Ok(n) => {
-                if self.held.extend_from_slice(&piece[..n]).is_ok() {
+                if self.held.came(&piece[..n]).is_ok() {
                     Piece::More
                 } else {
                     Piece::Memory
@@ -179,17 +181,17 @@ impl<R: ByteIn> Inbox<R> {
     fn ended(&self) -> Taken
         ensures { IsUnfinished self.now.held → IsEndOf self.now.held result }
     {
-        match ending_of(&self.held) {
+        match ending_of(self.held.as_slice()) {
             Ending::Closed => Taken::Closed,
             Ending::BadInput(refusal) => Taken::Bad(refusal),
         }
     }
 
-    fn drop_first(&mut self, used: usize)
+    fn drop_first(&mut self, alloc: Global, used: usize)
         requires { used ≤ length self.old.held }
         ensures { self.new
             ≡ unread self.old.reader (drop used self.old.held) self.old.interruptions }
     {
-        self.held.drain(..used);
+        self.held.drop_first(alloc, used);
     }
 }

@@ -57,6 +57,13 @@ impl Incoming {
         self.bytes.as_slice()
     }
 
+    /// Makes room for so many bytes more.
+    pub fn reserve(&mut self, additional: usize) -> Result<(), AllocError>
+        ensures { self.new ≡ self.old }
+    {
+        self.bytes.reserve(additional)
+    }
+
     /// These bytes came. After an error none of them is held.
     pub fn came(&mut self, bytes: &[u8]) -> Result<(), AllocError>
         ensures { self.new ≡ (if is_ok result then self.old ++ bytes.now else self.old) }
