@@ -1,5 +1,5 @@
 -- The longest prefix of a list of texts that has no more bytes than some.
-use Rattle.std.proofs.Common.{◌≡◌, ℕ, ◌+◌, ◌-◌, ◌<◌, ◌≤◌, nat_le, Bool, true, false, cond, [], ◌∷◌, ◌++◌, length, refl, ap, ◌∙◌, subst, arith}
+use Rattle.std.proofs.Common.{◌≡◌, ℕ, ◌+◌, ◌-◌, ◌<◌, ◌≤◌, nat_le, Bool, true, false, cond, [], ◌∷◌, ◌++◌, length, Option, refl, ap, ◌∙◌, subst, arith}
 use Rattle.std.proofs.lemmas.Bool.{leb-true, leb-false, le-leb, lt-leb}
 use Rattle.registry_names.specs.Texts.{Text}
 use Rattle.registry_cache.specs.Caches.{Entries, Cache, cache, size, prefix}
@@ -13,8 +13,8 @@ pub fits : (room : ℕ) (es : Entries) → size (prefix room es) ≤ room
 fits room [] = omega arith
 fits room (e ∷ es) = fits_cons room e (prefix (room - length e.1) es) (nat_le (length e.1) room) refl (fits (room - length e.1) es)
 
-pub room_fits : (s : Cache) (room limit : ℕ) (es : Entries) → s ≡ cache (prefix room es) limit → size s.entries ≤ room
-room_fits s room limit es e = let same = ap (λ (t : Cache). size t.entries) e in let low = fits room es in omega arith
+pub room_fits : (s : Cache) (room limit : ℕ) (es : Entries) (large : Option (Text × Text)) → s ≡ cache (prefix room es) large limit → size s.entries ≤ room
+room_fits s room limit es large e = let same = ap (λ (t : Cache). size t.entries) e in let low = fits room es in omega arith
 
 rest_cons : (e : Text × Text) (es fs : Entries) (b : Bool) → (rest : Entries) × (es ≡ fs ++ rest) → (rest : Entries) × (e ∷ es ≡ cond b (e ∷ fs) [] ++ rest)
 rest_cons e es fs true h = (h.0, ap (λ (l : Entries). e ∷ l) h.1)

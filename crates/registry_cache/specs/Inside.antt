@@ -9,9 +9,10 @@ abbrev pub named : {S : Type 0} → (S → Text) → List (S × Text) → Entrie
 named bytes es = map (λ e. (bytes e.0, e.1)) es
 
 abbrev pub shown : Inside → Cache
-shown fields = cache (named string_bytes fields.entries.entries) fields.limit
+shown fields = cache (named string_bytes fields.entries.entries) fields.large fields.limit
 
--- The bytes are counted and are few enough. They alone make texts go, and no number of entries does
+-- The bytes of all texts but the large one are counted and are few enough. They alone make texts go,
+-- and no number of entries does
 pub record IsCounted (fields : Inside) : Type 0 where
   pub counted : fields.size ≡ size (named string_bytes fields.entries.entries)
   pub limited : fields.size ≤ fields.limit

@@ -1,12 +1,13 @@
 -- What the words of a cache promise: the laws that the functions of `src/laws.rt` ensure.
-use Rattle.std.specs.Prelude.{◌≡◌, ◌≤◌, ◌<◌, ℕ, ◌+◌, cond, [], ◌∷◌, ◌++◌, length, Some, None, MatchBool}
+use Rattle.std.specs.Prelude.{◌≡◌, ◌≤◌, ◌<◌, ℕ, ◌+◌, false, cond, [], ◌∷◌, ◌++◌, length, Some, None, MatchBool}
 use Rattle.registry_names.specs.Texts.{Text, is}
-use Rattle.registry_cache.specs.Caches.{Entries, Cache, cache, kept, size, prefix, forgotten, asked, with_text, with_room}
+use Rattle.registry_names.specs.Maps.{first_at}
+use Rattle.registry_cache.specs.Caches.{Entries, Cache, cache, texts, kept, size, prefix, is_large, forgotten, asked, with_text, with_room}
 
 -- ---- what is kept under each name
 
 abbrev pub NewKeepsNothing : Type 0
-NewKeepsNothing = (limit : ℕ) (name : Text) → kept (cache [] limit) name ≡ None
+NewKeepsNothing = (limit : ℕ) (name : Text) → kept (cache [] None limit) name ≡ None
 
 abbrev pub AskedKeepsAll : Type 0
 AskedKeepsAll = (s : Cache) (name other : Text) → kept (asked s name) other ≡ kept s other
@@ -15,10 +16,9 @@ abbrev pub ForgottenAlone : Type 0
 ForgottenAlone = (s : Cache) (name other : Text)
     → kept (forgotten s name) other ≡ cond (is name other) None (kept s other)
 
--- a text that has room is kept
+-- a text is kept, however many bytes it has
 abbrev pub PutIsKept : Type 0
-PutIsKept = (s : Cache) (name text : Text)
-    → length text ≤ s.limit → kept (with_text s name text) name ≡ Some text
+PutIsKept = (s : Cache) (name text : Text) → kept (with_text s name text) name ≡ Some text
 
 -- under the name nothing else is kept than the text, and under another name nothing else than was
 -- kept there
@@ -31,6 +31,43 @@ abbrev pub RoomKeepsRight : Type 0
 RoomKeepsRight = (s : Cache) (name text other found : Text)
     → kept (with_room s name text) other ≡ Some found
     → MatchBool (is name other) ⊥ (kept s other ≡ Some found)
+
+-- ---- no name is kept twice
+
+abbrev pub AreOnce : Entries → Type 0
+AreOnce [] = Unit {0}
+AreOnce (e ∷ es) = (first_at is es e.0 ≡ None) × AreOnce es
+
+abbrev pub NewKeepsOnce : Type 0
+NewKeepsOnce = (limit : ℕ) → AreOnce (texts (cache [] None limit))
+
+abbrev pub StaysOnce : (Cache → Cache) → Type 0
+StaysOnce change = (s : Cache) → AreOnce (texts s) → AreOnce (texts (change s))
+
+abbrev pub AskedKeepsOnce : Type 0
+AskedKeepsOnce = (name : Text) → StaysOnce (λ s. asked s name)
+
+abbrev pub ForgottenKeepsOnce : Type 0
+ForgottenKeepsOnce = (name : Text) → StaysOnce (λ s. forgotten s name)
+
+abbrev pub PutKeepsOnce : Type 0
+PutKeepsOnce = (name text : Text) → StaysOnce (λ s. with_text s name text)
+
+abbrev pub RoomKeepsOnce : Type 0
+RoomKeepsOnce = (name text : Text) → StaysOnce (λ s. with_room s name text)
+
+-- ---- a text that alone has more bytes than the limit
+
+-- it lets none of the others go but what was kept under its name, and the one that was large before
+abbrev pub LargeLeavesOthers : Type 0
+LargeLeavesOthers = (s : Cache) (name text other : Text)
+    → s.limit < length text → is name other ≡ false → is_large s other ≡ false
+    → kept (with_text s name text) other ≡ kept s other
+
+-- the others don't let it go: it goes with its name
+abbrev pub OthersLeaveLarge : Type 0
+OthersLeaveLarge = (s : Cache) (name text : Text)
+    → length text ≤ s.limit → (with_text s name text).large ≡ (forgotten s name).large
 
 -- ---- the longest prefix
 

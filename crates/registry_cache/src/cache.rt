@@ -1,20 +1,25 @@
 //! The cache of texts.
 
-ghost use Rattle.std.specs.Prelude.{◌≡◌, ◌≤◌, ◌<◌, ◌+◌, ◌∷◌, [], length, option_copied, IsOk, IfOk, OnOk, OnErr};
-ghost use Rattle.registry_cache.specs.Caches.{cache, kept, size, asked, forgotten, with_text, with_room, prefix};
+ghost use Rattle.std.specs.Prelude.{◌≡◌, ◌≤◌, ◌+◌, ◌∷◌, [], length, option_copied, IfOk, OnOk, OnErr, Some, None, not};
+ghost use Rattle.registry_names.specs.Texts.{is};
+ghost use Rattle.registry_names.specs.Maps.{first_at};
+ghost use Rattle.registry_cache.specs.Caches.{cache, kept, size, large_size, asked, forgotten, with_text, with_room, prefix, entries_without, passed, without_large};
 
+use crate::named_text::NamedText;
 use crate::shared_text::SharedText;
 use lru::LruCache;
 use std::alloc::{AllocError, Global};
 use std::marker::Model;
 
-/// Texts by name, of which all together have a limited number of bytes. The names, and what a text
-/// takes in memory beside its bytes, aren't counted. Contracts see each name with its text, the
-/// latest asked first, and the limit.
+/// Texts by name, of which all together have a limited number of bytes, and beside them one text
+/// that alone has more. The names, and what a text takes in memory beside its bytes, aren't counted.
+/// Contracts see each name with its text, the latest asked first, then the large text with its name,
+/// if there is one, and the limit.
 #[derive(Drop)]
 pub struct TextCache {
     entries: LruCache<String, SharedText>,
     size: usize,
+    large: Option<NamedText>,
     limit: usize,
 }
 
@@ -33,16 +38,18 @@ impl Model for TextCache {
 }
 
 impl TextCache {
-    /// A cache that keeps nothing, and will keep texts of at most `limit` bytes together.
+    /// A cache that keeps nothing, and will keep texts of at most `limit` bytes together, and one
+    /// that alone has more.
     ///
     /// An error comes where no memory is left.
     pub fn new(alloc: Global, limit: usize) -> Result<TextCache, AllocError>
-        ensures { IfOk result (λ s. s ≡ cache [] limit) }
+        ensures { IfOk result (λ s. s ≡ cache [] None limit) }
     {
         let entries = LruCache::unbounded(alloc)?;
         Ok(TextCache {
             entries,
             size: 0,
+            large: None,
             limit,
         })
     }
@@ -65,25 +72,27 @@ impl TextCache {
     pub fn peek(&self, name: &str) -> Option<&SharedText>
         ensures { option_copied result ≡ kept self.now name.now }
     {
-        self.entries.peek(name)
+        match &self.large {
+            Some(large) if large.has_name(name) => Some(large.text()),
+            _ => self.entries.peek(name),
+        }
     }
 
     /// Keeps the text under the name, in place of what was kept there, as the latest asked. Others
     /// go where there are too many bytes, the least lately asked first. A text that alone has more
-    /// bytes than the limit isn't kept, and this is no error: what was kept under the name goes, and
-    /// of the others none.
+    /// bytes than the limit is kept in place of the one that was kept so before, and of the others
+    /// none goes.
     ///
-    /// An error comes where no memory is left for a text that has room. Then nothing is kept under
-    /// the name, and of the others as much as if the text were.
+    /// An error comes where no memory is left. Then nothing is kept under the name, and of the others
+    /// as much as if the text were.
     pub fn put(&mut self, name: &str, text: SharedText) -> Result<(), AllocError>
         ensures ok { OnOk result (self.new ≡ with_text self.old name.now text) }
         ensures err { OnErr result (self.new ≡ with_room self.old name.now text) }
-        ensures long { self.old.limit < length text → IsOk result }
     {
         self.forget(name);
         let len = text.as_str().len();
         if len > self.limit {
-            return Ok(());
+            return self.put_large(name, text);
         }
         self.make_room(self.limit - len);
         self.add(name, text, len)
@@ -93,13 +102,11 @@ impl TextCache {
     pub fn forget(&mut self, name: &str)
         ensures { self.new ≡ forgotten self.old name.now }
     {
-        let _names_differ = self.entries.len();
-        if let Some(text) = self.entries.pop(name) {
-            self.size -= text.as_str().len();
-        }
+        self.forget_large(name);
+        self.forget_entry(name);
     }
 
-    /// The number of bytes of all texts together.
+    /// The number of bytes of all texts together, without the large one.
     pub fn size(&self) -> usize
         ensures size { result ≡ size self.now.entries }
         ensures limited { result ≤ self.now.limit }
@@ -107,7 +114,17 @@ impl TextCache {
         self.size
     }
 
-    /// The limit of that number.
+    /// The number of bytes of the text that alone has more than the limit, and 0 where there is none.
+    pub fn large_size(&self) -> usize
+        ensures { result ≡ large_size self.now }
+    {
+        match &self.large {
+            Some(large) => large.text().as_str().len(),
+            None => 0,
+        }
+    }
+
+    /// The limit of the number of bytes of all texts together, without the large one.
     pub fn limit(&self) -> usize
         ensures { result ≡ self.now.limit }
     {
@@ -121,9 +138,51 @@ impl TextCache {
         self.entries.promote(name);
     }
 
+    fn forget_entry(&mut self, name: &str)
+        ensures { self.new ≡ cache (entries_without name.now self.old.entries) self.old.large self.old.limit }
+    {
+        let _names_differ = self.entries.len();
+        if let Some(text) = self.entries.pop(name) {
+            self.size -= text.as_str().len();
+        }
+    }
+
+    fn forget_large(&mut self, name: &str)
+        ensures { self.new ≡ cache self.old.entries (passed (λ q. not (is q name.now)) self.old.large) self.old.limit }
+    {
+        let is_large = match &self.large {
+            Some(large) => large.has_name(name),
+            None => false,
+        };
+        if is_large {
+            self.large = None;
+        }
+    }
+
+    // Keeps nothing under the name of the large text from now on.
+    fn give_place(&mut self)
+        ensures { self.new ≡ without_large self.old }
+    {
+        if let Some(large) = self.large.take() {
+            self.forget_entry(large.name());
+        }
+    }
+
+    // Keeps a large text in place of the one that was kept before.
+    fn put_large(&mut self, name: &str, text: SharedText) -> Result<(), AllocError>
+        ensures ok { OnOk result
+            (self.new ≡ cache (without_large self.old).entries (Some (name.now, text)) self.old.limit) }
+        ensures err { OnErr result (self.new ≡ without_large self.old) }
+    {
+        self.give_place();
+        let alloc = *self.entries.allocator();
+        self.large = Some(NamedText::new(alloc, name, text)?);
+        Ok(())
+    }
+
     // Lets the least lately asked go until no more bytes are kept than these.
     fn make_room(&mut self, room: usize)
-        ensures { self.new ≡ cache (prefix room self.old.entries) self.old.limit }
+        ensures { self.new ≡ cache (prefix room self.old.entries) self.old.large self.old.limit }
     {
         while self.size > room {
             let Some((_, text)) = self.entries.pop_lru() else {
@@ -135,11 +194,11 @@ impl TextCache {
 
     // Keeps a text more, under a name that has none.
     fn add(&mut self, name: &str, text: SharedText, len: usize) -> Result<(), AllocError>
-        requires new { kept self.old name.now ≡ None }
+        requires new { first_at is self.old.entries name.now ≡ None }
         requires len { len ≡ length text }
         requires room { size self.old.entries + len ≤ self.old.limit }
         ensures ok { OnOk result
-            (self.new ≡ cache ((name.now, text) ∷ self.old.entries) self.old.limit) }
+            (self.new ≡ cache ((name.now, text) ∷ self.old.entries) self.old.large self.old.limit) }
         ensures err { OnErr result (self.new ≡ self.old) }
     {
         let alloc = *self.entries.allocator();

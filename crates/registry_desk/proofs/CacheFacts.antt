@@ -1,15 +1,13 @@
 -- The texts that are kept stay the packuments of what is stored.
-use Rattle.std.proofs.Common.{◌≡◌, ◌⊎◌, inl, inr, ◌<◌, ◌+◌, ℕ, nat_le, Bool, true, false, cond, not, ◌&&◌, ◌||◌, List, [], ◌∷◌, ◌++◌, length, filter, map, take, get_or, MatchBool, Option, Some, None, Result, Ok, Err, OnOk, OnErr, IfOk, IfNone, IfSome, IsTrue, refl, sym, ap, ◌∙◌, subst, subst₂}
+use Rattle.std.proofs.Common.{◌≡◌, ◌⊎◌, inl, inr, ◌<◌, ◌+◌, ℕ, Bool, true, false, cond, not, ◌&&◌, ◌||◌, List, [], ◌∷◌, ◌++◌, length, map, take, get_or, MatchBool, Option, Some, None, Result, Ok, Err, OnOk, OnErr, IfOk, IfNone, IfSome, IsTrue, refl, sym, ap, ◌∙◌, subst, subst₂}
 use Rattle.std.proofs.lemmas.List.{map-append, take_more}
 use Rattle.std.proofs.lemmas.List.Folds.{list_any-append}
 use Rattle.sqlite.specs.State.{State as Shown, HasCleanDisk}
 use Rattle.registry_access.specs.declared.caller.Caller.{Caller}
 use Rattle.registry_names.specs.Texts.{Text, is}
 use Rattle.registry_names.specs.declared.refusal.Refusal.{Refusal}
-use Rattle.registry_cache.specs.Caches.{Entries, Cache, asked, forgotten, kept, cache, with_room, with_text}
-use Rattle.registry_cache.proofs.CacheFacts.{kept-asked, put_keeps_right, room_keeps_right}
-use Rattle.registry_names.proofs.KeyFacts.{text_key}
-use Rattle.registry_names.proofs.MapFacts.{first_at-kept}
+use Rattle.registry_cache.specs.Caches.{Cache, asked, forgotten, kept, with_room, with_text}
+use Rattle.registry_cache.proofs.CacheFacts.{kept-asked, kept-kept_where, kept_where-all, kept_where-same, kept_where-twice, limit-with_room, limit-with_text, put_keeps_right, room_keeps_right}
 use Rattle.registry_names.proofs.TextFacts.{is_sym, is_true}
 use Rattle.registry_rules.specs.Actions.{is_command}
 use Rattle.registry_rules.specs.Changes.{Change, change_of}
@@ -39,7 +37,7 @@ found_where false o text h = (refl, h)
 
 -- what is kept still is of no package that is changed, and was kept
 pub changed_found : (cs : List Change) (s : Cache) (p text : Text) → kept (without_changed cs s) p ≡ Some text → (are_about cs p ≡ false) × (kept s p ≡ Some text)
-changed_found cs s p text h = found_where (are_about cs p) (kept s p) text (sym (first_at-kept text_key s.entries (λ q. not (are_about cs q)) p) ∙ h)
+changed_found cs s p text h = found_where (are_about cs p) (kept s p) text (sym (kept-kept_where s (λ q. not (are_about cs q)) p) ∙ h)
 
 pub changed_no_more : (cs : List Change) (old new : Cache) → new ≡ without_changed cs old → KeepsNoMore old new
 changed_no_more cs old new is = subst (KeepsNoMore old) (sym is) (record { limit = refl; before = λ p text h. (changed_found cs old p text h).1 })
@@ -47,38 +45,22 @@ changed_no_more cs old new is = subst (KeepsNoMore old) (sym is) (record { limit
 pub same_no_more : (s : Cache) → KeepsNoMore s s
 same_no_more s = record { limit = refl; before = λ p text h. h }
 
-all_stay : (es : Entries) → filter (λ e. true) es ≡ es
-all_stay [] = refl
-all_stay (e ∷ es) = ap (λ (fs : Entries). e ∷ fs) (all_stay es)
-
 or_none : (b : Bool) → (b || false) ≡ b
 or_none true = refl
 or_none false = refl
 
 module _ (s : Cache) where
   pub without_none : s ≡ without_changed [] s
-  without_none = ap (λ (es : Entries). cache es s.limit) (sym (all_stay s.entries))
+  without_none = sym (kept_where-all s)
 
   module _ (change : Change) where
     -- the package of a change is forgotten
     pub forgets_one : (name : Text) → IsAbout change name → forgotten s name ≡ without_changed (change ∷ []) s
-    forgets_one name about =
-        let same : (q : Text) → is q name ≡ are_about (change ∷ []) q = λ q. is_sym q name ∙ sym (about q) ∙ sym (or_none (is_about change q)) in
-        λ i. cache (filter (λ (e : Text × Text). not (same e.0 i)) s.entries) s.limit
+    forgets_one name about = kept_where-same s (λ q. not (is q name)) (λ q. not (are_about (change ∷ []) q)) (λ q. ap not (is_sym q name ∙ sym (about q) ∙ sym (or_none (is_about change q))))
 
     -- a change is of no package
     pub forgets_none : IsAboutNone change → s ≡ without_changed (change ∷ []) s
-    forgets_none none =
-        let same : (q : Text) → false ≡ are_about (change ∷ []) q = λ q. sym (or_none (is_about change q) ∙ none q) in
-        without_none ∙ λ i. cache (filter (λ (e : Text × Text). not (same e.0 i)) s.entries) s.limit
-
-filter_more : (g : Text × Text → Bool) (e : Text × Text) (a : Bool) (fs hs : Entries) → filter g fs ≡ hs → filter g (cond a (e ∷ fs) fs) ≡ cond (a && g e) (e ∷ hs) hs
-filter_more g e true fs hs h = ap (λ (xs : Entries). cond (g e) (e ∷ xs) xs) h
-filter_more g e false fs hs h = h
-
-filter_twice : (f g : Text × Text → Bool) (es : Entries) → filter g (filter f es) ≡ filter (λ e. f e && g e) es
-filter_twice f g [] = refl
-filter_twice f g (e ∷ es) = filter_more g e (f e) (filter f es) (filter (λ x. f x && g x) es) (filter_twice f g es)
+    forgets_none none = without_none ∙ kept_where-same s (λ q. true) (λ q. not (are_about (change ∷ []) q)) (λ q. ap not (sym (or_none (is_about change q) ∙ none q)))
 
 not_either : (a b : Bool) → (not a && not b) ≡ not (a || b)
 not_either true b = refl
@@ -86,10 +68,8 @@ not_either false b = refl
 
 changed_then : (cs : List Change) (c : Change) (s : Cache) → without_changed (c ∷ []) (without_changed cs s) ≡ without_changed (cs ++ c ∷ []) s
 changed_then cs c s =
-    let stays : (q : Text) → (not (are_about cs q) && not (are_about (c ∷ []) q)) ≡ not (are_about (cs ++ c ∷ []) q) = λ q.
-    not_either (are_about cs q) (are_about (c ∷ []) q) ∙ ap not (sym (list_any-append (λ d. is_about d q) cs (c ∷ []))) in
-    ap (λ (es : Entries). cache es s.limit) (filter_twice (λ e. not (are_about cs e.0)) (λ e. not (are_about (c ∷ []) e.0)) s.entries)
-    ∙ λ i. cache (filter (λ (e : Text × Text). stays e.0 i) s.entries) s.limit
+    kept_where-twice s (λ q. not (are_about cs q)) (λ q. not (are_about (c ∷ []) q))
+    ∙ kept_where-same s (λ q. not (are_about cs q) && not (are_about (c ∷ []) q)) (λ q. not (are_about (cs ++ c ∷ []) q)) (λ q. not_either (are_about cs q) (are_about (c ∷ []) q) ∙ ap not (sym (list_any-append (λ d. is_about d q) cs (c ∷ []))))
 
 module _ (xs : List declared.Change) (i : ℕ) (x : declared.Change) (below : i < length xs) (is_next : x ≡ get_or xs i x) where
   more : map change_of (take i xs) ++ change_of x ∷ [] ≡ map change_of (take (i + 1) xs)
@@ -139,18 +119,14 @@ module _ (name text : Text) where
   put_or_before s p found true t h = inr (is_true name p t, sym h)
   put_or_before s p found false t h = inl h
 
-  limit_either : (s : Cache) (b : Bool) → (cond b (cache ((name, text) ∷ (with_room s name text).entries) s.limit) (forgotten s name)).limit ≡ s.limit
-  limit_either s true = refl
-  limit_either s false = refl
-
   more_put : (s : Cache) → HoldsMore s (with_text s name text)
   more_put s = record {
-    same_limit = limit_either s (nat_le (length text) s.limit);
+    same_limit = limit-with_text s name text;
     found = λ p found h. put_or_before s p found (is name p) refl (put_keeps_right s name text p found h);
   }
 
   more_room : (s : Cache) → HoldsMore s (with_room s name text)
-  more_room s = record { same_limit = refl; found = λ p found h. inl (other_found (is name p) _ (room_keeps_right s name text p found h)) }
+  more_room s = record { same_limit = limit-with_room s name text; found = λ p found h. inl (other_found (is name p) _ (room_keeps_right s name text p found h)) }
 
   more_either : (old new : Cache) → IsPut name text old new → HoldsMore old new
   more_either old new (inl put) = subst (HoldsMore old) (sym put) (more_put old)

@@ -1,9 +1,9 @@
 -- What the texts that are kept have to do with what is stored. `old` and `new` are what a cache
 -- keeps at the entry and at the exit.
-use Rattle.std.specs.Prelude.{◌≡◌, ◌⊎◌, ◌^◌, ℕ, false, not, List, filter, IfNone, IfSome, IsTrue, Some}
+use Rattle.std.specs.Prelude.{◌≡◌, ◌⊎◌, ◌^◌, ℕ, false, not, List, IfNone, IfSome, IsTrue, Some}
 use Rattle.sqlite.specs.State.{State as Shown, HasCleanDisk}
 use Rattle.registry_names.specs.Texts.{Text, is}
-use Rattle.registry_cache.specs.Caches.{Cache, AreRight, asked, kept, cache, with_room, with_text}
+use Rattle.registry_cache.specs.Caches.{Cache, AreRight, asked, kept, kept_where, with_room, with_text}
 use Rattle.registry_rules.specs.Changes.{Change}
 use Rattle.registry_rules.specs.declared.reply.Reply.{Reply}
 use Rattle.registry_rules.specs.declared.reply.Reply.TheVariants.{Doc}
@@ -24,7 +24,8 @@ ArePackuments c cache = AreRight (λ p text. text ≡ packument_in (registry_of 
 abbrev pub HasPackuments : Shown → Cache → Type 0
 HasPackuments s cache = HasCleanDisk s → IsTrue s.is_open → ArePackuments (stored s) cache
 
--- the most bytes that the texts which a registry keeps have together
+-- the most bytes that the texts which a registry keeps have together, without the one text that
+-- alone has more
 abbrev pub cache_limit : ℕ
 cache_limit = 2 ^ 26
 
@@ -39,7 +40,7 @@ pub record IsCached (s : Shown) (cache : Cache) : Type 0 where
 -- nothing is kept of the packages of which these change a version or a tag, and all else is as it
 -- was
 abbrev pub without_changed : List Change → Cache → Cache
-without_changed changes s = cache (filter (λ e. not (are_about changes e.0)) s.entries) s.limit
+without_changed changes s = kept_where s (λ q. not (are_about changes q))
 
 -- nothing is kept but what was, with the same limit
 pub record KeepsNoMore (old new : Cache) : Type 0 where

@@ -13,6 +13,6 @@ invariant_of-self c = record {
 
 pub returns : goal.returns
 returns c =
-    ap (λ q. cache (named string_bytes q.entries) c.self.inside.limit) c.promote.ensures.entries
-    ∙ ap (λ (es : Entries). cache es c.self.inside.limit) (named-promoted string_bytes c.args.name.now c.self.inside.entries.entries c.len-names_differ.ensures.valid.0)
+    ap (λ q. cache (named string_bytes q.entries) c.self.inside.large c.self.inside.limit) c.promote.ensures.entries
+    ∙ ap (λ (es : Entries). cache es c.self.inside.large c.self.inside.limit) (named-promoted string_bytes c.args.name.now c.self.inside.entries.entries c.len-names_differ.ensures.valid.0)
     ∙ ap (λ (s : Cache). asked s c.args.name.now) c.self.view_is

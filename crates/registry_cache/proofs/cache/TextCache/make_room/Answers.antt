@@ -1,4 +1,4 @@
-use Rattle.std.proofs.Common.{◌-◌, ◌<◌, ◌≤◌, [], ◌∷◌, ◌++◌, ap, sym, ◌∙◌, subst, string_bytes, length, take, arith}
+use Rattle.std.proofs.Common.{◌-◌, ◌<◌, ◌≤◌, [], ◌∷◌, ◌++◌, ap, ap₂, sym, ◌∙◌, subst, string_bytes, length, take, arith}
 use Rattle.registry_cache.specs.Caches.{Entries, cache, size, prefix}
 use Rattle.registry_cache.specs.Inside.{named}
 use Rattle.registry_cache.proofs.PrefixFacts.{prefix_push, all_stay}
@@ -29,6 +29,7 @@ loop-self-preserved c =
         limited = omega arith;
         unbounded = ap (λ q. q.cap) c.pop_lru.ensures.entries ∙ c.loop-self.invariant.sound.unbounded;
       };
+      large = c.loop-self.invariant.large;
       limit = c.loop-self.invariant.limit;
       prefix = ap (λ q. prefix c.args.room (named string_bytes q.entries)) c.pop_lru.ensures.entries
           ∙ sym (prefix_push c.args.room (named string_bytes (take (length es - 1) es)) (string_bytes c.in-Some.field-0-0, c.in-Some.text) over_cut)
@@ -39,5 +40,5 @@ pub returns : goal.returns
 returns c =
     let es = named string_bytes c.loop-self.self-inside.entries.entries in
     let fits : size es ≤ c.args.room = omega (arith, c.loop-self-test.false, c.loop-self.invariant.sound.counted) in
-    ap (λ (l : Entries). cache l c.loop-self.self-inside.limit) (sym (all_stay c.args.room es fits) ∙ c.loop-self.invariant.prefix)
-    ∙ ap (λ n. cache (prefix c.args.room c.args.self.now.entries) n) c.loop-self.invariant.limit
+    ap (λ (l : Entries). cache l c.loop-self.self-inside.large c.loop-self.self-inside.limit) (sym (all_stay c.args.room es fits) ∙ c.loop-self.invariant.prefix)
+    ∙ ap₂ (cache (prefix c.args.room c.args.self.now.entries)) c.loop-self.invariant.large c.loop-self.invariant.limit

@@ -6,6 +6,7 @@ use Rattle.registry_cache.proofs.cache.TextCache.make_room.Given as goal
 abbrev pub invariant-loop-self : goal.invariant-loop-self
 invariant-loop-self l = record {
   sound : IsCounted l.self-inside;
+  large : l.self-inside.large ≡ l.fn.self.large;
   limit : l.self-inside.limit ≡ l.fn.self.limit;
   prefix : prefix l.room (named string_bytes l.self-inside.entries.entries) ≡ prefix l.room l.fn.self.entries;
 }

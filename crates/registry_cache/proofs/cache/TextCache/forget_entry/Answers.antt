@@ -1,8 +1,8 @@
 use Rattle.std.proofs.Common.{ap, sym, ◌∙◌, string_bytes, length, arith}
-use Rattle.registry_cache.specs.Caches.{Entries, Cache, cache, size, forgotten}
+use Rattle.registry_cache.specs.Caches.{Entries, Cache, cache, size, entries_without}
 use Rattle.registry_cache.specs.Inside.{named}
 use Rattle.registry_cache.proofs.NamedFacts.{query, named-remove_entry, size-remove_entry, remove_entry-none}
-use Rattle.registry_cache.proofs.cache.TextCache.forget.Goals as goal
+use Rattle.registry_cache.proofs.cache.TextCache.forget_entry.Goals as goal
 
 pub overflow_sub-self : goal.overflow_sub-self
 overflow_sub-self c =
@@ -35,12 +35,12 @@ invariant_of-self-in_default c = record {
 
 pub returns-in-Some : goal.returns-in-Some
 returns-in-Some c =
-    ap (λ q. cache (named string_bytes q.entries) c.self.inside.limit) c.pop.ensures.entries
-    ∙ ap (λ (es : Entries). cache es c.self.inside.limit) (named-remove_entry string_bytes c.args.name.now c.self.inside.entries.entries c.len-names_differ.ensures.valid.0)
-    ∙ ap (λ (s : Cache). forgotten s c.args.name.now) c.self.view_is
+    ap (λ q. cache (named string_bytes q.entries) c.self.inside.large c.self.inside.limit) c.pop.ensures.entries
+    ∙ ap (λ (es : Entries). cache es c.self.inside.large c.self.inside.limit) (named-remove_entry string_bytes c.args.name.now c.self.inside.entries.entries c.len-names_differ.ensures.valid.0)
+    ∙ ap (λ (s : Cache). cache (entries_without c.args.name.now s.entries) s.large s.limit) c.self.view_is
 
 pub returns-in_default : goal.returns-in_default
 returns-in_default c =
-    ap (λ q. cache (named string_bytes q.entries) c.self.inside.limit) c.pop.ensures.entries
-    ∙ ap (λ (es : Entries). cache es c.self.inside.limit) (named-remove_entry string_bytes c.args.name.now c.self.inside.entries.entries c.len-names_differ.ensures.valid.0)
-    ∙ ap (λ (s : Cache). forgotten s c.args.name.now) c.self.view_is
+    ap (λ q. cache (named string_bytes q.entries) c.self.inside.large c.self.inside.limit) c.pop.ensures.entries
+    ∙ ap (λ (es : Entries). cache es c.self.inside.large c.self.inside.limit) (named-remove_entry string_bytes c.args.name.now c.self.inside.entries.entries c.len-names_differ.ensures.valid.0)
+    ∙ ap (λ (s : Cache). cache (entries_without c.args.name.now s.entries) s.large s.limit) c.self.view_is
