@@ -1,9 +1,9 @@
 -- The calendar that counts days is the library's.
-use Rattle.std.proofs.Common.{◌≡◌, ◌∙◌, ℕ, zero, suc, ◌+◌, ◌-◌, ◌≤◌, ◌<◌, nat_lt, Bool, true, false, refl, sym, ap, subst, arith, rules, ℤ, pos, neg_ℤ}
+use Rattle.std.proofs.Common.{◌≡◌, ◌∙◌, ℕ, zero, suc, ◌+◌, ◌≤◌, nat_lt, Bool, true, false, refl, sym, ap, subst, arith, rules, pos}
 use Rattle.std.specs.Int.{IsInRange}
 use Rattle.std.proofs.lemmas.Bool.{ltb-false, ltb-true}
 use Rattle.std.proofs.lemmas.Int.{by_lt_z}
-use Rattle.jiff_core.specs.Calendar.{day_count, days_from_civil, days_in_month, days_in_year, IsCivilDate}
+use Rattle.jiff_core.specs.Calendar.{day_count, days_from_civil, days_in_month, days_in_year}
 use Rattle.jiff_core.specs.Date.{epoch_day}
 use Rattle.jiff_core.specs.declared.civil.date.Date.{Date}
 use Rattle.jiff_core.proofs.CalendarLemmas.{days_from_civil-day_count, day_count-epoch, day_count-day, day_count-next_month, day_count-next_year, day_count-last_of_year, day_count-later_year, day_count-day_of_year, day_count-end, days_in_month_bounds}
@@ -15,7 +15,7 @@ use Rattle.jiff_fmt.specs.Text as text
 use Rattle.jiff_fmt.specs.Printer as printer
 use Rattle.jiff_fmt.specs.declared.temporal.printer.DateTimePrinter.{DateTimePrinter}
 use Rattle.std.specs.Prelude.{Option}
-use Rattle.registry_packument.specs.Calendar.{Day, after, next_day, date_on, utc_text}
+use Rattle.registry_packument.specs.Calendar.{Day, after, date_on, utc_text}
 use Rattle.registry_packument.specs.Dates.{IsDateOn, IsTimeAt, last_day}
 
 -- a day of the calendar, which is the nth after 1 January 1970

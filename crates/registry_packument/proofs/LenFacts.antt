@@ -84,3 +84,9 @@ pub row_fault : (head : HeadParts) (all : List VersionRow) (row : VersionRow) (o
 row_fault head all row old rows count later fault gives left (inl memory) = rw memory tt
 row_fault head all row old rows count later fault gives left (inr much) =
     is_fault fault _ (row_at head all row rows count later (version_pair row) refl (rw gives at left) much)
+
+-- memory ran out, or what comes before the first version is too much
+pub opening_fault : (head : HeadParts) (rows : List VersionRow) (fault : Fault) → (fault ≡ Memory) ⊎ (2 ^ 64 ≤ length (opening_text head)) → IsFaultOf (pack_len head rows) fault
+opening_fault head rows fault (inl memory) = rw memory tt
+opening_fault head rows fault (inr much) =
+    is_fault fault _ (too_many_at (length (opening_text head)) false (version_pairs rows) (pack_text head rows) (with_left-start head rows (length (opening_text head)) refl) much)

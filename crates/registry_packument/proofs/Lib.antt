@@ -6,5 +6,6 @@ pub mod MomentFacts
 pub mod OrderFacts
 pub mod PackFacts
 pub mod PassingFacts
+pub mod QuotedFacts
 pub mod StreamFacts
 pub mod ValueFacts

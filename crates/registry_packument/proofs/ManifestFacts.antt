@@ -13,7 +13,7 @@ use Rattle.json.proofs.Grammar.{value-begin_object}
 use Rattle.json.proofs.Nesting.{value-depth}
 use Rattle.json.proofs.Printed.Trees.{value-json_tokens}
 use Rattle.json.proofs.Unique.Spelling.{value-json_tokens_back}
-use Rattle.serde_json.specs.Data.{Data, Num, Items, Members, no_members, item, number, array, object, put}
+use Rattle.serde_json.specs.Data.{Num, Items, Members, no_members, item, number, array, object, put}
 use Rattle.serde_json.specs.Find.{as_object}
 use Rattle.serde_json.specs.Read.{read, of_json, of_items, of_members, number_of, number_from}
 use Rattle.registry_names.specs.declared.stop.Fault.{Fault}

@@ -1,6 +1,5 @@
 -- The first and the last of moments, taken one after the other.
 use Rattle.std.proofs.Common.{◌≡◌, ◌∙◌, ℕ, ◌+◌, ◌<◌, List, [], ◌∷◌, ◌++◌, length, drop, get_or, map, Option, Some, None, refl, ap, sym, arith}
-use Rattle.std.specs.Prelude.{min, max}
 use Rattle.std.proofs.lemmas.List.{drop_more}
 use Rattle.registry_packument.specs.Moments.{earlier, later, first_of, last_of}
 

@@ -1,7 +1,7 @@
 -- The packument's text is that of a value, and its pieces in turn are that text.
-use Rattle.std.proofs.Common.{◌≡◌, ℕ, Bool, true, false, List, [], ◌∷◌, ◌++◌, ◌+◌, ◌<◌, ◌≤◌, length, drop, get_or, Option, Some, None, option_map, unwrap_or, refl, ap, sym, ◌∙◌, codes, map, append_assoc}
-use Rattle.std.proofs.lemmas.List.{drop_all, drop_more}
-use Rattle.std.proofs.lemmas.Option.{none-some}
+use Rattle.std.proofs.Common.{◌≡◌, ℕ, Bool, true, false, List, [], ◌∷◌, ◌++◌, ◌+◌, ◌<◌, length, drop, get_or, Result, Ok, Err, Option, Some, None, option_map, unwrap_or, if◌then◌else◌, refl, ap, sym, ◌∙◌, codes, map, append_assoc}
+use Rattle.std.specs.Prelude.{OnOk, is_ok}
+use Rattle.std.proofs.lemmas.List.{drop_more}
 use Rattle.json.specs.Print.{quoted}
 use Rattle.serde_json.specs.Data.{string, object, Members, no_members, member}
 use Rattle.serde_json.specs.Written.{comma_if, compact_text}
@@ -9,13 +9,14 @@ use Rattle.serde_json.specs.Written as written
 use Rattle.registry_names.specs.declared.stop.Fault.{Fault}
 use Rattle.registry_names.specs.declared.stop.Fault.TheVariants.{Memory, Database}
 use Rattle.registry_packument.specs.ObjectTexts.{Pair, member_text, members_text, object_text}
-use Rattle.registry_packument.specs.Packuments.{tag_pair, time_pair, time_text, time_texts, moments_of, version_pair, version_pairs, pack_pairs, opening_text, versions_text, pack_text, tag_members, time_members, pack_value, AreDocumentsOf}
+use Rattle.registry_packument.specs.Packuments.{tag_pair, time_pair, time_text, time_texts, moments_of, version_pair, version_pairs, pack_pairs, before_times, times_text, opening_text, versions_text, pack_text, tag_members, time_members, pack_value, AreDocumentsOf}
 use Rattle.registry_packument.specs.Writing.{Adds, IsFaultOf}
-use Rattle.registry_packument.specs.Heads.{HeadParts}
+use Rattle.registry_packument.specs.Heads.{HeadParts, time_entry}
 use Rattle.registry_packument.specs.TextValues.{text_members}
 use Rattle.registry_packument.proofs.ValueFacts.{document_text-compact}
 use Rattle.registry_names.specs.declared.dist_tag.DistTag.{DistTag}
 use Rattle.registry_packument.specs.declared.packument.VersionRow.{VersionRow}
+use Rattle.registry_packument.specs.declared.times.VersionTime.{VersionTime}
 
 -- each key is the member's beside it, and each text the compact one of its value
 abbrev AreTextsOf : List Pair → Members → Type 0
@@ -86,21 +87,74 @@ some_same s t h = ap (λ o. unwrap_or o s) h
 keyed : (key value : List ℕ) → key ++ 58 ∷ value ≡ (key ++ 58 ∷ []) ++ value
 keyed key value = sym (append_assoc key (58 ∷ []) value)
 
-pieces : (b0 b1 b2 b3 b4 b5 b6 b7 b8 b9 o i k t n u m l e : List ℕ) → b0 ≡ [] → b1 ≡ b0 ++ o → b2 ≡ b1 ++ i → b3 ≡ b2 ++ k → b4 ≡ b3 ++ t → b5 ≡ b4 ++ n → b6 ≡ b5 ++ u
-    → b7 ≡ b6 ++ m → b8 ≡ b7 ++ l → b9 ≡ b8 ++ e → b9 ≡ o ++ (i ++ ((k ++ t) ++ (n ++ ((u ++ m) ++ (l ++ e)))))
-pieces b0 b1 b2 b3 b4 b5 b6 b7 b8 b9 o i k t n u m l e e0 e1 e2 e3 e4 e5 e6 e7 e8 e9 = rw (e9, e8, e7, e6, e5, e4, e3, e2, e1, e0) (simp append_assoc)
+pieces : (b0 b1 b2 b3 b4 b5 b6 b7 o i k t n u m : List ℕ) → b0 ≡ [] → b1 ≡ b0 ++ o → b2 ≡ b1 ++ i → b3 ≡ b2 ++ k → b4 ≡ b3 ++ t → b5 ≡ b4 ++ n → b6 ≡ b5 ++ u
+    → b7 ≡ b6 ++ m → b7 ≡ o ++ (i ++ ((k ++ t) ++ (n ++ (u ++ m))))
+pieces b0 b1 b2 b3 b4 b5 b6 b7 o i k t n u m e0 e1 e2 e3 e4 e5 e6 e7 = rw (e7, e6, e5, e4, e3, e2, e1, e0) (simp append_assoc)
 
--- the pieces in turn that come before the versions, with the texts of the keys, the name, the tags
--- and the moments as variables
-pub assembled : (b0 b1 b2 b3 b4 b5 b6 b7 b8 b9 k1 k2 k3 k4 k5 q t m : List ℕ) → b0 ≡ [] → b1 ≡ b0 ++ 123 ∷ [] → b2 ≡ b1 ++ (k1 ++ 58 ∷ q)
+-- the pieces in turn that come before the moments, with the texts of the keys, the name and the tags
+-- as variables
+pub assembled : (b0 b1 b2 b3 b4 b5 b6 b7 k1 k2 k3 k4 q t : List ℕ) → b0 ≡ [] → b1 ≡ b0 ++ 123 ∷ [] → b2 ≡ b1 ++ (k1 ++ 58 ∷ q)
     → b3 ≡ b2 ++ 44 ∷ (k2 ++ 58 ∷ []) → b4 ≡ b3 ++ t → b5 ≡ b4 ++ 44 ∷ (k3 ++ 58 ∷ q)
-    → b6 ≡ b5 ++ 44 ∷ (k4 ++ 58 ∷ []) → b7 ≡ b6 ++ m
-    → b8 ≡ b7 ++ 44 ∷ (k5 ++ 58 ∷ []) → b9 ≡ b8 ++ 123 ∷ []
-    → b9 ≡ 123 ∷ ((k1 ++ 58 ∷ q) ++ (44 ∷ (k2 ++ 58 ∷ t) ++ (44 ∷ (k3 ++ 58 ∷ q) ++ (44 ∷ (k4 ++ 58 ∷ m) ++ 44 ∷ (k5 ++ 58 ∷ 123 ∷ [])))))
-assembled b0 b1 b2 b3 b4 b5 b6 b7 b8 b9 k1 k2 k3 k4 k5 q t m e0 e1 e2 e3 e4 e5 e6 e7 e8 e9 =
-    rw (keyed k2 t, keyed k4 m, keyed k5 (123 ∷ []))
-    (pieces b0 b1 b2 b3 b4 b5 b6 b7 b8 b9 (123 ∷ []) (k1 ++ 58 ∷ q) (44 ∷ (k2 ++ 58 ∷ [])) t (44 ∷ (k3 ++ 58 ∷ q)) (44 ∷ (k4 ++ 58 ∷ [])) m (44 ∷ (k5 ++ 58 ∷ [])) (123 ∷ [])
-    e0 e1 e2 e3 e4 e5 e6 e7 e8 e9)
+    → b6 ≡ b5 ++ 44 ∷ (k4 ++ 58 ∷ []) → b7 ≡ b6 ++ 123 ∷ []
+    → b7 ≡ 123 ∷ ((k1 ++ 58 ∷ q) ++ (44 ∷ (k2 ++ 58 ∷ t) ++ (44 ∷ (k3 ++ 58 ∷ q) ++ 44 ∷ (k4 ++ 58 ∷ 123 ∷ []))))
+assembled b0 b1 b2 b3 b4 b5 b6 b7 k1 k2 k3 k4 q t e0 e1 e2 e3 e4 e5 e6 e7 =
+    rw (keyed k2 t, keyed k4 (123 ∷ []))
+    (pieces b0 b1 b2 b3 b4 b5 b6 b7 (123 ∷ []) (k1 ++ 58 ∷ q) (44 ∷ (k2 ++ 58 ∷ [])) t (44 ∷ (k3 ++ 58 ∷ q)) (44 ∷ (k4 ++ 58 ∷ [])) (123 ∷ [])
+    e0 e1 e2 e3 e4 e5 e6 e7)
+
+more_pieces : (b0 b1 b2 b3 b4 b5 a b c u m : List ℕ) → b1 ≡ b0 ++ a → b2 ≡ b1 ++ b → b3 ≡ b2 ++ c → b4 ≡ b3 ++ u → b5 ≡ b4 ++ m
+    → b5 ≡ b0 ++ ((a ++ (b ++ c)) ++ (u ++ m))
+more_pieces b0 b1 b2 b3 b4 b5 a b c u m e1 e2 e3 e4 e5 = rw (e5, e4, e3, e2, e1) (simp append_assoc)
+
+-- the pieces in turn that come behind the moments of the versions
+pub closed : (b0 b1 b2 b3 b4 b5 a b k : List ℕ) → b1 ≡ b0 ++ a → b2 ≡ b1 ++ b → b3 ≡ b2 ++ 125 ∷ [] → b4 ≡ b3 ++ 44 ∷ (k ++ 58 ∷ []) → b5 ≡ b4 ++ 123 ∷ []
+    → b5 ≡ b0 ++ ((a ++ (b ++ 125 ∷ [])) ++ 44 ∷ (k ++ 58 ∷ 123 ∷ []))
+closed b0 b1 b2 b3 b4 b5 a b k e1 e2 e3 e4 e5 =
+    rw (keyed k (123 ∷ [])) (more_pieces b0 b1 b2 b3 b4 b5 a b (125 ∷ []) (44 ∷ (k ++ 58 ∷ [])) (123 ∷ []) e1 e2 e3 e4 e5)
+
+spread_moments : (o a b c d m e : List ℕ) → o ++ (a ++ (b ++ (c ++ ((d ++ m) ++ e)))) ≡ (o ++ (a ++ (b ++ (c ++ d)))) ++ (m ++ e)
+spread_moments o a b c d m e = simp append_assoc
+
+parted_moments : (a b c key m e : List ℕ)
+    → 123 ∷ (a ++ (b ++ (c ++ ((44 ∷ (key ++ 58 ∷ 123 ∷ m)) ++ e)))) ≡ (123 ∷ (a ++ (b ++ (c ++ 44 ∷ (key ++ 58 ∷ 123 ∷ []))))) ++ (m ++ e)
+parted_moments a b c key m e =
+    let d : key ++ 58 ∷ 123 ∷ m ≡ (key ++ 58 ∷ 123 ∷ []) ++ m = sym (append_assoc key (58 ∷ 123 ∷ []) m) in
+    rw d (spread_moments (123 ∷ []) a b c (44 ∷ (key ++ 58 ∷ 123 ∷ [])) m e)
+
+-- what comes before the moments, and these with what follows them
+pub opening_text-parts : (head : HeadParts) → opening_text head ≡ before_times head ++ times_text head false head.times
+opening_text-parts head =
+    parted_moments (member_text false (codes "_id", quoted head.name)) (member_text true (codes "dist-tags", object_text (map tag_pair head.tags)))
+    (member_text true (codes "name", quoted head.name)) (quoted (codes "time")) (members_text false (map time_pair (moments_of head.times head.created head.modified)))
+    (member_text true (codes "versions", 123 ∷ []))
+
+-- the moment that is next, and those that are left then
+pub times_text-next : (head : HeadParts) (later : Bool) (times : List VersionTime) (i : ℕ) (time : VersionTime) → i < length times → time ≡ get_or times i time
+    → times_text head later (drop i times) ≡ member_text later (time_pair (time_entry time)) ++ times_text head true (drop (i + 1) times)
+times_text-next head later times i time lt is =
+    let left : drop i times ≡ time ∷ drop (i + 1) times = drop_more times i time lt ∙ ap (λ r. r ∷ drop (i + 1) times) (sym is) in
+    rw left (append_assoc (member_text later (time_pair (time_entry time))) (members_text true (map time_pair (moments_of (drop (i + 1) times) head.created head.modified)))
+    (member_text true (codes "versions", 123 ∷ [])))
+
+-- the moment that is next is written
+pub time_step : (head : HeadParts) (out new whole : List ℕ) (later : Bool) (times : List VersionTime) (i : ℕ) (time : VersionTime) → i < length times → time ≡ get_or times i time
+    → new ≡ out ++ member_text later (time_pair (time_entry time)) → out ++ times_text head later (drop i times) ≡ whole
+    → new ++ times_text head true (drop (i + 1) times) ≡ whole
+time_step head out new whole later times i time lt is e h =
+    rw e (append_assoc out (member_text later (time_pair (time_entry time))) (times_text head true (drop (i + 1) times)) ∙ (rw (times_text-next head later times i time lt is) at h))
+
+-- ---- what results say
+
+-- the last piece is written, or it isn't
+pub ended : {T E : Type 0} (r : Result T E) (new out last whole : List ℕ) → new ≡ (if is_ok r then out ++ last else out) → out ++ last ≡ whole → OnOk r (new ≡ whole)
+ended (Ok x) new out last whole e h = e ∙ h
+ended (Err x) new out last whole e h = tt
+
+pub ended_by : {T E : Type 0} (r : Result T E) (new last whole : List ℕ) → OnOk r (new ≡ last) → last ≡ whole → OnOk r (new ≡ whole)
+ended_by (Ok x) new last whole e h = e ∙ h
+ended_by (Err x) new last whole e h = tt
+
+-- ---- the whole in parts
 
 spread : (o a b c t d m e : List ℕ) → o ++ (a ++ (b ++ (c ++ (t ++ ((d ++ m) ++ e))))) ≡ (o ++ (a ++ (b ++ (c ++ (t ++ d))))) ++ (m ++ e)
 spread o a b c t d m e = simp append_assoc

@@ -1,7 +1,7 @@
 -- Items and members that are passed one after the other.
 use Rattle.std.proofs.Common.{◌≡◌, ℕ, zero, suc, ◌-◌, ◌<◌, ◌≤◌, Bool, true, false, List, length, Option, Some, None, if◌then◌else◌, unwrap_or, refl, ap, ◌∙◌, arith}
 use Rattle.std.proofs.lemmas.Option.{none-some}
-use Rattle.json.specs.Json.{Json, Items, no_items, item, Members, no_members, member, Parse, parse_map, after_end_array, read_key, items, members}
+use Rattle.json.specs.Json.{Json, Items, item, Members, member, Parse, parse_map, after_end_array, read_key, items, members}
 use Rattle.json.specs.Token.{Token}
 use Rattle.json.proofs.Grammar.{items_end, items_more, items_fail, members_end, members_more, members_fail, members_no_key}
 use Rattle.registry_packument.specs.Passing.{is_held, items_are_held, members_are_held, behind}

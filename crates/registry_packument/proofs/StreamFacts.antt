@@ -1,5 +1,5 @@
 -- What is written of a text piece by piece, and the pieces of a packument.
-use Rattle.std.proofs.Common.{◌≡◌, ℕ, ◌<◌, Bool, true, false, List, [], ◌∷◌, ◌++◌, length, Option, Some, None, option_map, option_and_then, unwrap_or, is_some, refl, ap, sym, ◌∙◌, arith, lit<, true≢false, append_assoc, append-nil, length-append}
+use Rattle.std.proofs.Common.{◌≡◌, ℕ, ◌<◌, Bool, true, false, List, [], ◌∷◌, ◌++◌, length, Option, Some, None, option_map, option_and_then, unwrap_or, is_some, refl, ap, sym, ◌∙◌, arith, lit<, true≢false, append_assoc, append-nil, length-append, map, codes}
 use Rattle.std.specs.Prelude.{IsSomeAnd, OnOk, Result, Ok, Err}
 use Rattle.std.proofs.lemmas.Option.{none-some}
 use Rattle.json.specs.Print.{quoted}
@@ -8,10 +8,11 @@ use Rattle.registry_names.specs.ByteStreams.{Writes, WritesPrefix}
 use Rattle.registry_names.proofs.ByteStreamFacts.{Writes-nothing, Writes-append, WritesPrefix-append, WritesPrefix-longer, WritesPrefix-stopped}
 use Rattle.registry_packument.specs.Documents.{document_text}
 use Rattle.registry_packument.specs.ObjectTexts.{Pair, member_text, members_text, object_text}
-use Rattle.registry_packument.specs.Packuments.{version_pair, version_pairs, pack_pairs, opening_text, versions_text, pack_text}
+use Rattle.registry_packument.specs.Packuments.{time_pair, moments_of, times_text, version_pair, version_pairs, pack_pairs, opening_text, versions_text, pack_text}
 use Rattle.registry_packument.specs.Streams.{row_prefix, versions_prefix, pack_prefix}
 use Rattle.registry_packument.specs.Heads.{HeadParts}
 use Rattle.registry_packument.specs.declared.packument.VersionRow.{VersionRow}
+use Rattle.registry_packument.specs.declared.times.VersionTime.{VersionTime}
 use Rattle.registry_packument.proofs.PackFacts.{pack_pairs-parts}
 
 -- a prefix of a text was written, and the rest is left
@@ -51,6 +52,12 @@ HasLeft-none {a} {b} {s} {text} prefix = rw (prefix.is, append-nil prefix.done) 
 pub length-member_text : (later : Bool) (p : Pair) → 0 < length (member_text later p)
 length-member_text later p =
     omega (arith, length-append (comma_if later) (quoted p.0 ++ 58 ∷ p.1), length-append (quoted p.0) (58 ∷ p.1))
+
+pub length-times_text : (head : HeadParts) (later : Bool) (times : List VersionTime) → 0 < length (times_text head later times)
+length-times_text head later times =
+    let moments = members_text later (map time_pair (moments_of times head.created head.modified)) in
+    let last = member_text true (codes "versions", 123 ∷ []) in
+    omega (arith, length-append moments last, length-member_text true (codes "versions", 123 ∷ []))
 
 member_text-append : (later : Bool) (key document rest : List ℕ) → member_text later (key, document ++ rest) ≡ member_text later (key, document) ++ rest
 member_text-append later key document rest = simp append_assoc
@@ -145,3 +152,7 @@ pack_text-written head rows some wrote =
 pub on_ok_both : {T E A B C : Type 0} (r : Result T E) → (A → B → C) → OnOk r A → OnOk r B → OnOk r C
 on_ok_both (Ok x) f a b = f a b
 on_ok_both (Err e) f a b = tt
+
+pub on_ok_weaker : {T E A B : Type 0} (r : Result T E) → (A → B) → OnOk r A → OnOk r B
+on_ok_weaker (Ok x) f a = f a
+on_ok_weaker (Err e) f a = tt

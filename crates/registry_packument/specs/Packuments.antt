@@ -58,6 +58,21 @@ pack_len head versions = option_and_then (λ text. if nat_lt (length text) (2 ^ 
 
 -- ---- the same in parts, as they are written one after the other
 
+-- all that comes before the first of the moments
+abbrev pub before_times : HeadParts → List ℕ
+before_times head =
+    123 ∷ (member_text false (codes "_id", quoted head.name)
+    ++ (member_text true (codes "dist-tags", object_text (map tag_pair head.tags))
+    ++ (member_text true (codes "name", quoted head.name)
+    ++ member_text true (codes "time", 123 ∷ []))))
+
+-- the moments of the versions that are left, those of the package, and what comes before the first
+-- version
+abbrev pub times_text : HeadParts → Bool → List VersionTime → List ℕ
+times_text head later times =
+    members_text later (map time_pair (moments_of times head.created head.modified))
+    ++ member_text true (codes "versions", 123 ∷ [])
+
 -- all that comes before the first version
 abbrev pub opening_text : HeadParts → List ℕ
 opening_text head =

@@ -1,5 +1,5 @@
 -- Values of JSON that are made of texts.
-use Rattle.std.specs.Prelude.{ℕ, List, [], ◌∷◌}
+use Rattle.std.specs.Prelude.{ℕ, Bool, nat_lt, not, ◌&&◌, ◌==◌, List, [], ◌∷◌}
 use Rattle.serde_json.specs.Data.{string, Items, no_items, item, Members, no_members, member}
 
 -- the items of an array, each a text
@@ -11,3 +11,7 @@ text_items (t ∷ ts) = item (string t) (text_items ts)
 abbrev pub text_members : {A : Type 0} → (A → List ℕ × List ℕ) → List A → Members
 text_members pair [] = no_members
 text_members pair (r ∷ rs) = member (pair r).0 (string (pair r).1) (text_members pair rs)
+
+-- the byte stands for itself in a JSON string: it is no control character, no quote and no backslash
+abbrev pub is_plain_char : ℕ → Bool
+is_plain_char x = not (nat_lt x 32) && (not (x == 34) && not (x == 92))

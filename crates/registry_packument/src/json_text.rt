@@ -1,11 +1,12 @@
 //! Pieces of compact JSON, written after what a text has already.
 
-ghost use Rattle.std.specs.Prelude.{◌≡◌, ◌++◌, ◌∷◌, [], List, ℕ, string_bytes, OnOk};
+ghost use Rattle.std.specs.Prelude.{◌≡◌, ◌++◌, ◌∷◌, [], List, ℕ, true, string_bytes, OnOk};
+ghost use Rattle.std.specs.List.{list_all};
 ghost use Rattle.json.specs.Print.{quoted};
 ghost use Rattle.serde_json.specs.Data.{array, object};
 ghost use Rattle.serde_json.specs.Written.{comma_if, compact_text};
 ghost use Rattle.registry_packument.specs.ObjectTexts.{member_text};
-ghost use Rattle.registry_packument.specs.TextValues.{text_items, text_members};
+ghost use Rattle.registry_packument.specs.TextValues.{is_plain_char, text_items, text_members};
 
 use registry_names::Text;
 use serde_json::Value;
@@ -27,8 +28,34 @@ pub(crate) trait TextMember {
 pub(crate) fn push_quoted(alloc: Global, out: &mut String, text: &str) -> Result<(), AllocError>
     ensures { OnOk result (string_bytes out.new ≡ string_bytes out.old ++ quoted text.now) }
 {
+    if is_plain(text) {
+        return push_plain(out, text);
+    }
     let quoted = Value::try_from_str(alloc, text)?.to_string(alloc)?;
     out.push_str(quoted.as_str())
+}
+
+// Whether nothing of the text has to be escaped.
+fn is_plain(text: &str) -> bool
+    ensures { result ≡ list_all is_plain_char text.now }
+{
+    text.as_bytes().iter().all(|byte| is_plain_byte(*byte))
+}
+
+fn is_plain_byte(byte: u8) -> bool
+    ensures { result ≡ is_plain_char byte }
+{
+    byte >= b' ' && byte != b'"' && byte != b'\\'
+}
+
+// A text in quotes of which nothing has to be escaped, without a copy of it.
+fn push_plain(out: &mut String, text: &str) -> Result<(), AllocError>
+    requires { list_all is_plain_char text.now ≡ true }
+    ensures { OnOk result (string_bytes out.new ≡ string_bytes out.old ++ quoted text.now) }
+{
+    out.push_str("\"")?;
+    out.push_str(text)?;
+    out.push_str("\"")
 }
 
 // A comma, where something came earlier.

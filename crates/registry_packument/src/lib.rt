@@ -19,6 +19,7 @@ pub mod laws;
 mod list;
 mod manifest;
 mod moment;
+mod opening;
 mod packument;
 mod source;
 mod stream;

@@ -12,6 +12,9 @@ use std::alloc::{AllocError, Global};
 
 const SECONDS_OF_A_DAY: u64 = 86_400;
 
+/// How many bytes the text of a moment has.
+const TEXT_LEN: usize = 24;
+
 /// A moment in UTC, as `1970-01-01T00:00:00.000Z`: its date in the Gregorian calendar, and its time
 /// of day.
 ///
@@ -33,7 +36,8 @@ pub(crate) fn moment_string(alloc: Global, moment: Moment) -> Result<String, All
     let time = time_at(seconds % SECONDS_OF_A_DAY);
     let printer = DateTimePrinter::new().precision(Some(3));
     let text = printer.datetime_text(date.to_datetime(time).to_plain());
-    let mut out = String::from_str(alloc, text.as_str())?;
+    let mut out = String::with_capacity(alloc, TEXT_LEN)?;
+    out.push_str(text.as_str())?;
     out.push_str("Z")?;
     Ok(out)
 }

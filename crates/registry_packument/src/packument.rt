@@ -2,17 +2,17 @@
 
 ghost use Rattle.std.specs.Prelude.{◌≡◌, [], Some, string_bytes, OnOk, IfOk, IfErr};
 ghost use Rattle.registry_packument.specs.ObjectTexts.{member_text};
-ghost use Rattle.registry_packument.specs.Packuments.{version_pair, opening_text, pack_text};
+ghost use Rattle.registry_packument.specs.Packuments.{version_pair, pack_text};
 ghost use Rattle.registry_packument.specs.Sources.{IsFaultFrom};
 ghost use Rattle.registry_packument.specs.Writing.{Adds, IsFaultOf};
 
 use crate::document::push_document;
 use crate::head::PackHead;
-use crate::json_text::{push_key, push_object, push_text_member};
+use crate::json_text::push_key;
+use crate::opening::opening;
 use crate::source::VersionSource;
-use crate::times::push_times;
 use registry_names::{Fault, Text};
-use std::alloc::{AllocError, Global};
+use std::alloc::Global;
 
 /// A version of a package, with its document.
 pub struct VersionRow {
@@ -36,30 +36,6 @@ impl Drop for VersionRow {
 
 /// What ends a packument: the brace of its versions, and its own.
 pub(crate) const CLOSING: &str = "}}";
-
-/// All of a packument that comes before its first version.
-pub(crate) fn opening(alloc: Global, head: &PackHead) -> Result<String, AllocError>
-    ensures { IfOk result (λ text. string_bytes text ≡ opening_text head.now) }
-{
-    let name = head.name();
-    let mut out = String::new(alloc);
-    out.push_str("{")?;
-    push_text_member(alloc, &mut out, false, "_id", name)?;
-    push_key(alloc, &mut out, true, "dist-tags")?;
-    push_object(alloc, &mut out, head.tags())?;
-    push_text_member(alloc, &mut out, true, "name", name)?;
-    push_key(alloc, &mut out, true, "time")?;
-    push_times(
-        alloc,
-        &mut out,
-        head.times(),
-        head.created(),
-        head.modified(),
-    )?;
-    push_key(alloc, &mut out, true, "versions")?;
-    out.push_str("{")?;
-    Ok(out)
-}
 
 /// The member of one version.
 pub(crate) fn push_version(

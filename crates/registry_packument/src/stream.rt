@@ -1,5 +1,5 @@
-//! Packuments version by version: of the versions' documents one is held at a time. The moments of
-//! all versions are in the head.
+//! Packuments version by version: of the versions' documents one is held at a time, and of the texts
+//! of their moments, too. The moments themselves are in the head.
 
 ghost use Rattle.std.specs.Prelude.{◌≡◌, ◌≢◌, ◌+◌, ◌≤◌, ◌<◌, ◌^◌, ◌⊎◌, true, false, [], Some, None, length, string_bytes, OnOk, OnErr, IfOk, IfErr, IsErr, IsSome, IsSomeAnd};
 ghost use Rattle.registry_names.specs.ByteStreams.{Writes, WritesPrefix, full_count};
@@ -12,7 +12,8 @@ ghost use Rattle.registry_names.specs.declared.stop.Fault.TheVariants.{Memory};
 ghost use Rattle.registry_packument.specs.declared.stream.PackFault.TheVariants.{Write, Source};
 
 use crate::head::PackHead;
-use crate::packument::{CLOSING, VersionRow, opening, push_version};
+use crate::opening::{opening_len, write_opening};
+use crate::packument::{CLOSING, VersionRow, push_version};
 use crate::source::VersionSource;
 use registry_names::{ByteOut, Fault, WriteFailed, write_whole};
 use std::alloc::{AllocError, Global};
@@ -76,23 +77,14 @@ fn version_member(alloc: Global, later: bool, row: &VersionRow) -> Result<String
     Ok(text)
 }
 
-// A count of bytes, and those of a text.
-fn counted(count: u64, text: &str) -> Result<u64, Fault>
+/// A count of bytes, and those of a text.
+pub(crate) fn counted(count: u64, text: &str) -> Result<u64, Fault>
     ensures ok { IfOk result (λ sum. sum ≡ count + length text.now) }
     ensures fits { IfOk result (λ sum. sum < 2 ^ 64) }
     ensures err { IfErr result (λ fault. (fault ≡ Fault.Database)
         × (2 ^ 64 ≤ count + length text.now)) }
 {
     count.checked_add(text.len() as u64).ok_or(Fault::Database)
-}
-
-// How many bytes come before the first version.
-fn opening_len(alloc: Global, head: &PackHead) -> Result<u64, Fault>
-    ensures ok { IfOk result (λ len. len ≡ length (opening_text head.now)) }
-    ensures err { IfErr result (λ fault. fault ≡ Fault.Memory) }
-{
-    let text = opening(alloc, head)?;
-    Ok(text.len() as u64)
 }
 
 // A count of bytes, and those of the member of one version.
@@ -186,7 +178,8 @@ fn write_versions<W: ByteOut, S: VersionSource>(
 /// `Write` comes only where a write failed. `Source` has the source's own fault, or `Database`
 /// where a manifest is none (see [`version_text`](crate::version_text)), or `Memory` where no
 /// memory is left. After a fault a prefix of the packument was written, and not all of it; it ends
-/// before the document that is missing, if one is. No more than one row is held at a time.
+/// before the document that is missing, if one is. No more than one row is held at a time, and of the
+/// versions' moments no more than one as a text.
 pub fn write_packument<W: ByteOut, S: VersionSource>(
     alloc: Global,
     head: &PackHead,
@@ -207,6 +200,6 @@ pub fn write_packument<W: ByteOut, S: VersionSource>(
     ensures told { result ≢ Err Write → W.is_unknown writer.new ≡ W.is_unknown writer.old }
     ensures unknown { W.is_unknown writer.old ≡ true → W.is_unknown writer.new ≡ true }
 {
-    write_whole(writer, opening(alloc, head)?.as_bytes())?;
+    write_opening(alloc, head, writer)?;
     write_versions(alloc, source, writer)
 }

@@ -2,8 +2,8 @@
 
 ghost use Rattle.std.specs.Prelude.{◌≡◌, ◌++◌, Some, map, min, option_map, string_bytes, IfSome, OnOk};
 ghost use Rattle.registry_packument.specs.Moments.{earlier, first_of, last_of, later};
-ghost use Rattle.registry_packument.specs.ObjectTexts.{member_text, object_text};
-ghost use Rattle.registry_packument.specs.Packuments.{moments_of, time_pair};
+ghost use Rattle.registry_packument.specs.ObjectTexts.{member_text};
+ghost use Rattle.registry_packument.specs.Packuments.{time_pair};
 
 use crate::json_text::push_text_member;
 use crate::moment::moment_string;
@@ -136,8 +136,8 @@ fn last_of_both(one: Moment, other: Option<Moment>) -> Moment
     }
 }
 
-// A member whose value is a moment.
-fn push_moment(
+/// A member whose value is a moment.
+pub(crate) fn push_moment(
     alloc: Global,
     out: &mut String,
     later: bool,
@@ -149,27 +149,4 @@ fn push_moment(
 {
     let text = moment_string(alloc, moment)?;
     push_text_member(alloc, out, later, key, text.as_str())
-}
-
-/// The object of the moments: each version with its own, and then those at which the package was
-/// created and modified.
-pub(crate) fn push_times(
-    alloc: Global,
-    out: &mut String,
-    times: &[VersionTime],
-    created: Moment,
-    modified: Moment,
-) -> Result<(), AllocError>
-    ensures { OnOk result (string_bytes out.new ≡ string_bytes out.old
-        ++ object_text (map time_pair (moments_of times.now created modified))) }
-{
-    out.push_str("{")?;
-    let mut later = false;
-    for time in times {
-        push_moment(alloc, out, later, time.version.as_str(), time.published)?;
-        later = true;
-    }
-    push_moment(alloc, out, later, "created", created)?;
-    push_moment(alloc, out, true, "modified", modified)?;
-    out.push_str("}")
 }

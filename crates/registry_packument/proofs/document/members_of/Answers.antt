@@ -1,4 +1,3 @@
-use Rattle.std.proofs.Common.{◌≡◌, Some, None, ap, ◌∙◌, rules}
 use Rattle.std.proofs.lemmas.Result.{err_from_is_err_and}
 use Rattle.json.specs.Value.{value_view, members_view}
 use Rattle.registry_packument.proofs.ManifestFacts.{is_fault-document, is_fault-no_object}

@@ -1,6 +1,5 @@
-use Rattle.std.proofs.Common.{◌≡◌, ◌≤◌, length, refl, ap, sym, ◌∙◌, rules, arith}
+use Rattle.std.proofs.Common.{◌≡◌, length, refl, ap, ◌∙◌, rules, arith}
 use Rattle.std.proofs.lemmas.Fn.{filter_same}
-use Rattle.std.proofs.lemmas.List.Sums.{prefix_len-le-length}
 use Rattle.std.specs.List.{insert, position_or_len}
 use Rattle.std.specs.Vec.{vec_len}
 use Rattle.json.specs.Value.{members_view}

@@ -1,7 +1,5 @@
-use Rattle.std.proofs.Common.{◌≡◌, ◌∷◌, true, false, not, is_some, is_none, Some, None, ap, sym, ◌∙◌, rules, arith}
-use Rattle.json.specs.Lex.{tokens}
+use Rattle.std.proofs.Common.{◌≡◌, ◌∷◌, true, false, is_some, is_none, Some, None, ap, sym, ◌∙◌, rules}
 use Rattle.json.specs.Token.{begin_object}
-use Rattle.registry_packument.specs.Documents.{manifest_members}
 use Rattle.registry_packument.specs.Passing.{IsNoObject, behind_members}
 use Rattle.registry_packument.proofs.ManifestFacts.{manifest_members-no_object, manifest_members-object, is_end, is_none-is_end}
 use Rattle.registry_packument.proofs.manifest.is_manifest.Goals as goal

@@ -13,5 +13,5 @@ returns c =
     subst (λ (z : ℤ). IsDateOn (unsigned_abs z / 86400) c.date_on-date.result) small (rw c.seconds-seconds.ensures.seconds at c.date_on-date.ensures) in
     let time : IsTimeAt (c.args.moment % 86400) c.time_at-time.result =
     subst (λ (z : ℤ). IsTimeAt (unsigned_abs z % 86400) c.time_at-time.result) small (rw c.seconds-seconds.ensures.seconds at c.time_at-time.ensures) in
-    c.in_ok-push_str.ensures.bytes ∙ ap (λ b. b ++ 90 ∷ []) (c.in_ok-out.ensures.ok ∙ c.as_str.ensures.value ∙ c.datetime_text-text.ensures ∙ printed_by c.precision-printer.result c.to_plain.result options)
+    c.in_ok-push_str-2.ensures.bytes ∙ ap (λ b. b ++ 90 ∷ []) (c.in_ok-push_str.ensures.bytes ∙ ap (λ b. b ++ c.as_str.result.now) c.in_ok-out.ensures.bytes ∙ c.as_str.ensures.value ∙ c.datetime_text-text.ensures ∙ printed_by c.precision-printer.result c.to_plain.result options)
     ∙ printed c.args.moment c.to_plain.result (rw (c.to_plain.ensures, c.to_datetime.ensures.date) date) (rw (c.to_plain.ensures, c.to_datetime.ensures.time) time)

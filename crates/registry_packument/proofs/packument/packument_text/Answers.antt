@@ -1,6 +1,5 @@
-use Rattle.std.proofs.Common.{◌≡◌, ◌∙◌, Some, inr, sym, ap, string_bytes}
+use Rattle.std.proofs.Common.{◌∙◌, inr, string_bytes}
 use Rattle.std.proofs.lemmas.Result.{err_from_is_err_and}
-use Rattle.registry_packument.specs.Packuments.{pack_text}
 use Rattle.registry_packument.proofs.PackFacts.{rows_start, row_step, row_stop, rows_end}
 use Rattle.registry_packument.proofs.packument.packument_text.Goals as goal
 

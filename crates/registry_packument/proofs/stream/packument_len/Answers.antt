@@ -1,7 +1,12 @@
 use Rattle.std.proofs.Common.{inr}
 use Rattle.std.proofs.lemmas.Result.{err_from_is_err_and}
-use Rattle.registry_packument.proofs.LenFacts.{whole_len, with_left-start, with_left-step, row_fault}
+use Rattle.registry_packument.proofs.LenFacts.{whole_len, with_left-start, with_left-step, opening_fault, row_fault}
 use Rattle.registry_packument.proofs.stream.packument_len.Goals as goal
+
+pub returns-in_err-count-clause-err : goal.returns-in_err-count-clause-err
+returns-in_err-count-clause-err g c =
+    let q = err_from_is_err_and c.from_residual.result c.from_residual.ensures.1 in
+    rw (q.1, q.2) (inr (opening_fault c.args.head.now (g.S.VersionSource.rows c.args.source.now) _ c.in_err-count.ensures.err))
 
 pub versions-init : goal.versions-init
 versions-init g c =

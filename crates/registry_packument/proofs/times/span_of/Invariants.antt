@@ -1,4 +1,4 @@
-use Rattle.std.proofs.Common.{◌≡◌, ℕ, drop, map, option_map}
+use Rattle.std.proofs.Common.{◌≡◌, drop, option_map}
 use Rattle.registry_packument.specs.Moments.{earlier, later, first_of, last_of}
 use Rattle.registry_packument.specs.declared.times.Span.{Span}
 use Rattle.registry_packument.proofs.times.span_of.Given as goal

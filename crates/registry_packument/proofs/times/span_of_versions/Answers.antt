@@ -1,4 +1,4 @@
-use Rattle.std.proofs.Common.{◌≡◌, ◌∙◌, ℕ, Option, Some, ap, sym, map, option_map}
+use Rattle.std.proofs.Common.{◌∙◌, ℕ, Some, ap, sym, option_map}
 use Rattle.std.proofs.lemmas.List.{drop_all}
 use Rattle.registry_packument.specs.Moments.{earlier, later}
 use Rattle.registry_packument.specs.declared.times.Span.{Span}

@@ -1,4 +1,4 @@
-use Rattle.std.proofs.Common.{◌≡◌, ◌∙◌, ℕ, List, Option, ap, map}
+use Rattle.std.proofs.Common.{◌∙◌, ℕ, List, Option, ap, map}
 use Rattle.registry_packument.specs.Moments.{first_of, last_of, later}
 use Rattle.registry_packument.specs.declared.times.VersionTime.{VersionTime}
 use Rattle.registry_packument.proofs.MomentFacts.{first_joined, last_joined}
