@@ -2,20 +2,22 @@
 //! holds of the definitions themselves, and its proof is the law's.
 
 ghost use Rattle.registry_rows.specs.Laws.{OfEachTable, OfEachBytesTable, OfEachNumberedTable, OfEachPairTable, OfEachTripleTable};
-ghost use Rattle.registry_rows.specs.CreateLaws.{CreateAddsEmpty, CreateAddsCounter, IndexKeepsEmpty, IndexKeepsRows};
+ghost use Rattle.registry_rows.specs.CreateLaws.{CreateAddsEmpty, CreateAddsCounter, CreateKeepsRows, CreateCounterKeepsRows, IndexKeepsEmpty, IndexKeepsRows};
 ghost use Rattle.registry_rows.specs.WriteLaws.{OneRowEach, RowsTellMap, InsertPuts, InsertMeetsNone, DeleteErases, UpdateRevises, UpdatePuts};
 ghost use Rattle.registry_rows.specs.QueryLaws.{SelectFinds, SelectHas, SelectListsAll, SelectLists, SelectListsFirst, SelectListsTwo};
 ghost use Rattle.registry_rows.specs.Counting.{InsertNumbers, NextIsNew, NextIsAfter};
 
 use sqlite::Alter;
 
-/// A table that is made is empty and leaves the others empty, and the first that counts makes the
-/// table that counts beside it. An index leaves every table's rows, and so all that they give.
+/// A table that is made is empty and leaves the others' rows, and so all that they give, and the
+/// first that counts makes the table that counts beside it. An index leaves every table's rows.
 pub fn creations_add_empty_tables<S: Alter, C>()
     ensures create { CreateAddsEmpty S.Store }
     ensures counter { CreateAddsCounter S.Store }
     ensures index { IndexKeepsEmpty S.Store }
-    ensures rows { IndexKeepsRows S.Store C }
+    ensures create_rows { CreateKeepsRows S.Store C }
+    ensures counter_rows { CreateCounterKeepsRows S.Store C }
+    ensures index_rows { IndexKeepsRows S.Store C }
 {}
 
 /// The map that a ready table's rows give has at each key what the row of that key says, and no

@@ -21,7 +21,7 @@ use Rattle.registry_rows.specs.Statements.{Means, MeansQuery, insert_values, sel
 use Rattle.registry_rows.proofs.CountFacts.{insert_numbers}
 use Rattle.registry_rows.proofs.KeyedFacts.{by_number_given}
 use Rattle.registry_rows.proofs.LookUpFacts.{first_listed, select_finds, select_finds_by, select_has_by}
-use Rattle.registry_rows.proofs.StatementFacts.{insert_puts}
+use Rattle.registry_rows.proofs.StatementFacts.{insert_puts, insert_meets_none}
 use Rattle.registry_tables.specs.Archives.{is_archive, number_of, next_archive, archive_number, with_archive}
 use Rattle.registry_tables.specs.Contents.{Archive, Contents, contents, archive_in}
 use Rattle.registry_tables.specs.Effects.{stored}
@@ -125,6 +125,10 @@ hold_means = (refl, (refl, refl))
 pub archive_held : (p v : Text) (n : ℤ) (old new : Shown) → Ready schema old → Wrote hold_text (Stored p ∷ Stored v ∷ Int n ∷ []) old new → HasCleanDisk new
     → Leaves schema contents (record (stored old) { held = put (stored old).held (p, v) n }) new
 archive_held p v n old new form call = insert_puts held_mapped hold_text hold_cells hold_means (Stored p ∷ Stored v ∷ Int n ∷ []) refl old new (Ok call.0) form call.1
+
+-- an answered INSERT had a new key
+pub held_was_new : (p v : Text) (n : ℤ) (old new : Shown) → Ready schema old → Wrote hold_text (Stored p ∷ Stored v ∷ Int n ∷ []) old new → HasCleanDisk new → at (stored old).held (p, v) ≡ None
+held_was_new p v n old new form call = insert_meets_none held_mapped hold_text hold_cells hold_means (Stored p ∷ Stored v ∷ Int n ∷ []) refl old new (Ok call.0) form call.1
 
 abbrev held_text : List ℕ
 held_text = codes "SELECT archive FROM held WHERE package = ?1 AND version = ?2"

@@ -32,7 +32,7 @@ one_more true true true false o = refl
 one_more true true false others o = refl
 
 -- a target and a range are where they were, and under this version where the list names them
-at-with_needs : (m : TextsMap 3 (Unit {0})) (p v : Text) (needs : List Need) (q w target range : Text)
+pub at-with_needs : (m : TextsMap 3 (Unit {0})) (p v : Text) (needs : List Need) (q w target range : Text)
     → is_some (at (with_needs m p v needs) (q, (w, (target, range)))) ≡ ((pair_is (p, v) (q, w) && names_range target range needs) || is_some (at m (q, (w, (target, range)))))
 at-with_needs m p v [] q w target range = sym (none_more (pair_is (p, v) (q, w)) _)
 at-with_needs m p v (need ∷ needs) q w target range =

@@ -9,9 +9,9 @@ ghost use Rattle.registry_names.specs.Texts.{is};
 ghost use Rattle.registry_rows.specs.Columns.{blob_in};
 ghost use Rattle.registry_rows.specs.Frames.{Stays};
 ghost use Rattle.registry_tables.specs.Archives.{archive_number, next_archive, number_of, with_archive, with_next_archive};
-ghost use Rattle.registry_tables.specs.Changes.{with_archive_of};
+ghost use Rattle.registry_tables.specs.Changes.{IsFree, with_archive_of};
 ghost use Rattle.registry_tables.specs.Contents.{live_of};
-ghost use Rattle.registry_tables.specs.Effects.{InForm, IsUnderWay, Makes, Loads, shown, stored_in};
+ghost use Rattle.registry_tables.specs.Effects.{InForm, IsUnderWay, Makes, Loads, OnlyWhere, shown, stored_in};
 ghost use Rattle.registry_tables.specs.Spelled.{archive_spelled, bytes_spelled, held_spelled, number_among};
 ghost use Rattle.registry_tables.specs.Withdrawals as withdrawals;
 
@@ -97,12 +97,17 @@ pub(crate) fn put_archive<S: Alter>(
     ensures stays { Stays S.Store tx.old tx.new }
     ensures makes { Makes S.Store tx.old tx.new result (with_archive_of form.now) }
 {
-    let number = store(tx, form.integrity(), form.archive())?;
-    hold(tx, form.name().text(), form.version().text(), number)
+    let number = store_archive(tx, form.integrity(), form.archive())?;
+    hold_archive(tx, form.name().text(), form.version().text(), number)
 }
 
-// The number of the archive with these bytes, which is added where none is stored.
-fn store<S: Alter>(tx: &mut Transaction<'_, S>, integrity: &str, bytes: &[u8]) -> Result<i64, Fault>
+/// The number of the archive with this integrity and these bytes, which is added where none is
+/// stored.
+pub fn store_archive<S: Alter>(
+    tx: &mut Transaction<'_, S>,
+    integrity: &str,
+    bytes: &[u8],
+) -> Result<i64, Fault>
     requires under_way { IsUnderWay S.Store tx.old }
     ensures stays { Stays S.Store tx.old tx.new }
     ensures makes { Makes S.Store tx.old tx.new result (with_archive integrity.now bytes.now) }
@@ -173,8 +178,11 @@ fn add<S: Alter>(tx: &mut Transaction<'_, S>, integrity: &str, bytes: &[u8]) -> 
     Ok(tx.last_insert_rowid())
 }
 
-// Lets a version have the archive with this number.
-fn hold<S: Alter>(
+/// Lets a version have the archive with this number. A version that has one already is a fault.
+///
+/// No clause says so, but a version that doesn't live and a number that no archive has are faults,
+/// too.
+pub fn hold_archive<S: Alter>(
     tx: &mut Transaction<'_, S>,
     name: &str,
     version: &str,
@@ -184,6 +192,8 @@ fn hold<S: Alter>(
     ensures stays { Stays S.Store tx.old tx.new }
     ensures makes { Makes S.Store tx.old tx.new result
         (λ c. record c { held = put c.held (name.now, version.now) number }) }
+    ensures was_new { OnlyWhere S.Store tx.old tx.new result
+        (λ c. IsFree c.held (name.now, version.now)) }
 {
     write(
         tx,

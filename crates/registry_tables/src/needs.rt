@@ -22,8 +22,8 @@ use std::alloc::Global;
 
 /// Puts what a version depends on. A pair of a target and a range that is named twice is put once.
 ///
-/// A version that doesn't live is a fault, but where nothing is listed.
-pub(crate) fn put_needs<S: Alter>(
+/// No clause says so, but a version that doesn't live is a fault, except where nothing is listed.
+pub fn put_needs<S: Alter>(
     tx: &mut Transaction<'_, S>,
     name: &str,
     version: &str,

@@ -24,8 +24,9 @@ use registry_names::Fault;
 use registry_rows::write;
 use sqlite::{Alter, Transaction};
 
-// The texts that make the tables and the indexes, in their order.
-const TABLES: [&str; 19] = [
+/// The texts that make the tables and the indexes, in their order. The first 14 make those of
+/// schema 1, the first 17 those of schema 2.
+pub const TABLES: [&str; 19] = [
     "CREATE TABLE users (name TEXT NOT NULL, PRIMARY KEY (name)) STRICT",
     "CREATE TABLE tokens (digest BLOB NOT NULL, user TEXT NOT NULL, PRIMARY KEY (digest), FOREIGN KEY (user) REFERENCES users) STRICT",
     "CREATE TABLE orgs (name TEXT NOT NULL, PRIMARY KEY (name)) STRICT",
