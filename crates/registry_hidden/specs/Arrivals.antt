@@ -43,7 +43,8 @@ second_outcomes (in_both r o q ∷ xs) = q ∷ second_outcomes xs
 second_outcomes (in_first r o ∷ xs) = second_outcomes xs
 second_outcomes (in_second r q ∷ xs) = q ∷ second_outcomes xs
 
--- the request names the package, or it became no entry: it was a query, refused, or met a fault
+-- it is a command that names the package, or it became no entry: it was a query, refused, or met a
+-- fault
 abbrev pub leaves_the_rest : Request → Outcome → Text → Bool
 leaves_the_rest r o p = names_package r.what p || not (enters r o)
 

@@ -1,4 +1,4 @@
--- Two runs whose requests are one list once the accepted requests that name a package are dropped
+-- Two runs whose requests are one list once the accepted commands that name a package are dropped
 -- from both.
 use Rattle.std.specs.Prelude.{◌≡◌, Bool, true, false, ◌&&◌, List, [], ◌∷◌, if◌then◌else◌}
 use Rattle.registry_names.specs.Texts.{Text}
@@ -10,7 +10,7 @@ use Rattle.registry_history.specs.Runs.{Outcome, HaveOutcomes, enters, next}
 use Rattle.registry_hidden.specs.Arrivals.{Arrival, AreRuns, IsAnsweredAlike, StaysClose, first_outcomes, first_requests, in_both, in_first, in_second, second_outcomes, second_requests}
 use Rattle.registry_hidden.specs.Runs.{DifferInPackage}
 
--- whether the request names the package, and was accepted
+-- whether it is a command that names the package, and was accepted: a query never is
 abbrev pub is_dropped : Request → Outcome → Text → Bool
 is_dropped r o p = names_package r.what p && enters r o
 
@@ -43,7 +43,7 @@ AreAnsweredAlike p (m ∷ ms) (n ∷ ns) = (m.request ≡ n.request) × IsAnswer
 AreAnsweredAlike p _ _ = ⊥
 
 -- Two runs, after legal histories that differ in what named the package, whose requests are one list
--- once the accepted requests that name the package are dropped from both
+-- once the accepted commands that name the package are dropped from both
 abbrev pub ListsAreAnsweredAlike : Type 0
 ListsAreAnsweredAlike = (g h : List Entry) (p : Text) → DifferInPackage g h p → (rs qs : List Request) (os ps : List Outcome) → HaveOutcomes (after g) rs os → HaveOutcomes (after h) qs ps
     → except_accepted p rs os ≡ except_accepted p qs ps → AreAnsweredAlike p (exchanges p (after g) rs os) (exchanges p (after h) qs ps)

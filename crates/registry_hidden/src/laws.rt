@@ -60,17 +60,18 @@ pub fn unread_packages_do_not_interfere()
     ensures { StrangersSeeTheSame }
 {}
 
-/// Such are any two runs whose requests are one list once those that named the package and were
-/// accepted are dropped from both: what is left is asked in both, and what was dropped in one alone.
+/// Such are any two runs whose requests are one list once the accepted commands that name the
+/// package are dropped from both: what is left is asked in both, and what was dropped in one alone.
 pub fn lists_have_arrivals()
     ensures { ListsHaveArrivals }
 {}
 
 /// So take two lists of requests, by any callers at any moments, after such histories, that are one
-/// list once the accepted requests that name the package are dropped from both. What is left is
-/// answered alike in both runs to every caller who has no level on the package at that point of
-/// both, whatever others did with it in between, with the same two exceptions and up to the same
-/// points.
+/// list once the accepted commands that name the package are dropped from both. What is left, each
+/// query among it, is answered alike in both runs to every caller who has no level on the package at
+/// that point of both, whatever others did with it in between, with the first exception alone and up
+/// to the same points. The second shows nothing here: a publish of the package that is left was
+/// accepted in neither run.
 pub fn strangers_are_answered_alike()
     ensures { ListsAreAnsweredAlike }
 {}
