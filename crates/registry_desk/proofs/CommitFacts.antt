@@ -1,5 +1,5 @@
 -- The first tables, and what a commit leaves.
-use Rattle.std.proofs.Common.{◌≡◌, ◌⊎◌, ◌∙◌, ◌+◌, ◌-◌, ◌^◌, ◌≤◌, Bool, min, arith, inl, inr, IsTrue, OnOk, Result, Ok, Err, true, false, true≢false, refl, sym, ap, subst}
+use Rattle.std.proofs.Common.{◌≡◌, ◌⊎◌, ◌∙◌, ◌+◌, ◌-◌, ◌^◌, ◌≤◌, Bool, min, arith, inl, inr, IfErr, IsTrue, OnErr, OnOk, Result, Ok, Err, true, false, true≢false, refl, sym, ap, subst}
 use Rattle.std.specs.List.{AllByRecursion}
 use Rattle.sqlite.specs.Effect.{Database, IsDatabase}
 use Rattle.sqlite.specs.Held.{Held, state}
@@ -7,23 +7,30 @@ use Rattle.sqlite.specs.State.{State as Shown, HasCleanDisk, IsRolledBack, Keeps
 use Rattle.sqlite.specs.Steps.{FailsToCommit, IsEmpty}
 use Rattle.sqlite.specs.declared.error.Error.{Error}
 use Rattle.sqlite_catalog.specs.Listing.{IsSound}
+use Rattle.sqlite_schema.specs.declared.schema.Schema.{Schema}
 use Rattle.sqlite_trees.specs.Tree.{Trees}
 use Rattle.sqlite_trees.specs.declared.store.Store.{Ghosts}
-use Rattle.registry_rows.specs.Frames.{IsCommitted}
+use Rattle.registry_names.specs.declared.stop.Fault.{Fault}
+use Rattle.registry_rows.specs.Frames.{CommitFails, IsCommitted}
 use Rattle.registry_rows.specs.Ready.{IsReady, Leaves, Ready}
 use Rattle.registry_rows.specs.Rows.{HasRowids}
 use Rattle.registry_tables.specs.Contents.{Contents, contents}
 use Rattle.registry_rows.specs.Tables.{no_tables}
 use Rattle.registry_tables.specs.Effects.{stored}
 use Rattle.registry_tables.specs.Schema.{schema}
+use Rattle.registry_desk.specs.Adopted.{CanBeAdopted, IsHandedBack, IsSettled, IsUndone}
 use Rattle.registry_desk.specs.Promises.{IsSure}
 use Rattle.registry_desk.specs.Resting.{IsRegistryOf, Rests}
 
--- an empty database has no tables, also once a transaction is begun
-pub empty_begun : {S : Type 0} (store : Ghosts S) (h : Held S) → (HasCleanDisk (state store h) → IsEmpty (state store h)) → Ready no_tables (state store (record h { in_transaction = true }))
-empty_begun store h empty clean on = record { schema_is = (empty clean).2; sound = ((empty clean).1 on).0; rowids = tt }
+-- an empty database has no tables
+pub empty_ready : (s : Shown) → IsEmpty s → Ready no_tables s
+empty_ready s empty clean on = record { schema_is = empty.2; sound = (empty.1 on).0; rowids = tt }
 
-ready_again : (mid new : Shown) → new.now ≡ mid.now → IsReady schema mid → IsReady schema new
+-- so it is once a transaction is begun
+pub begun_empty : {S : Type 0} (store : Ghosts S) (h : Held S) → Ready no_tables (state store h) → Ready no_tables (state store (record h { in_transaction = true }))
+begun_empty store h ready clean on = let it = ready clean on in record { schema_is = it.schema_is; sound = it.sound; rowids = tt }
+
+pub ready_again : (mid new : Shown) → new.now ≡ mid.now → IsReady schema mid → IsReady schema new
 ready_again mid new same ready = record {
   schema_is = ap (λ (d : Database). d.schema) same ∙ ready.schema_is;
   sound = subst IsDatabase (sym same) ready.sound;
@@ -74,6 +81,10 @@ module _ (old mid new : Shown) where
   pub undone_open : KeepsCommit old mid → IsRolledBack mid new → IsTrue new.is_open → IsTrue old.is_open
   undone_open keeps back on = (undone keeps back on).0
 
+  -- what was committed is seen again
+  pub undone_is : KeepsCommit old mid → (HasCleanDisk new → IsRolledBack mid new) → HasCleanDisk new → IsTrue new.is_open → IsTrue old.is_open × (new.now ≡ old.committed)
+  undone_is keeps back clean on = let left = undone keeps (back clean) on in (left.0, left.1)
+
   undone_now : Rests old → HasCleanDisk old → KeepsCommit old mid → IsRolledBack mid new → IsTrue new.is_open → new.now ≡ old.now
   undone_now rests clean keeps back on = let left = undone keeps back on in left.1 ∙ sym (rests.settled clean left.0)
 
@@ -87,6 +98,37 @@ module _ (old mid new : Shown) where
         ready_again old new (undone_now rests b.0 b.1 b.2 on) (rests.in_form b.0 (undone b.1 b.2 on).0);
     settled = λ clean on. let b = back clean in let left = undone b.1 b.2 on in left.1 ∙ sym left.2;
   }
+
+-- what is so is so of a fault, too
+pub on_fault : {A E : Type 0} {P : Type 0} (result : Result A E) → P → OnErr result P
+on_fault (Ok done) is = tt
+on_fault (Err e) is = is
+
+-- a commit that fails leaves what was committed
+pub commit_undone : {A : Type 0} (result : Result A Fault) (old mid new : Shown) → (HasCleanDisk new → KeepsCommit old mid × (mid.in_transaction ≡ true)) → (HasCleanDisk new → IfErr result (CommitFails mid new)) → OnErr result (IsUndone old new)
+commit_undone (Ok done) old mid new before fails = tt
+commit_undone (Err fault) old mid new before fails = λ clean on.
+    let were = before clean in
+    undone_is old mid new were.0 (λ again. failed_undone mid new (fails again).0 were.1 (fails again).1) clean on
+
+-- ---- a connection that is given away
+
+-- between requests the rowids rise
+pub rests_rises : (s : Shown) → Rests s → CanBeAdopted s
+rests_rises s rests clean on =
+    let it = rests.in_form clean on in
+    subst (λ (k : Schema). AllByRecursion (λ t. HasRowids (s.now.trees t.tree)) k.tables) (sym it.schema_is) it.rowids
+
+module _ (old new : Shown) where
+  -- where what it saw was committed, it sees it again
+  pub handed_back : old.in_transaction ≡ false → new.in_transaction ≡ false → IsSettled old → IsUndone old new → IsHandedBack old new
+  handed_back was is settled undone = (is ∙ sym was, λ clean on. let it = undone clean on in (it.0, it.1 ∙ sym (settled it.0)))
+
+  -- so it can be adopted as before
+  pub rises_again : CanBeAdopted old → (HasCleanDisk new → HasCleanDisk old) → IsHandedBack old new → CanBeAdopted new
+  rises_again rises were back clean on =
+      let it = back.1 clean on in
+      subst (λ (d : Database). AllByRecursion (λ t. HasRowids (d.trees t.tree)) d.schema.tables) (sym it.1) (rises (were clean) it.0)
 
 -- ---- a store without faults
 

@@ -4,6 +4,7 @@ mod EarlyFacts
 mod GrantFacts
 mod KeepingFacts
 mod LoadedFacts
+mod LookFacts
 mod MakingFacts
 mod OpenedFacts
 mod SettlingFacts

@@ -27,15 +27,16 @@ use Rattle.sqlite_disk.specs.declared.Files.{Files}
 use Rattle.sqlite_store.specs.declared.store.FileStore.{FileStore}
 use Rattle.sqlite.specs.Effect.{Database, IsDatabase}
 use Rattle.sqlite.specs.Start.{FindsIn}
-use Rattle.sqlite.specs.State.{State as Shown, HasCleanDisk, IsLive, Opens}
-use Rattle.registry_rows.specs.Ready.{IsReady}
+use Rattle.sqlite.specs.State.{State as Shown, HasCleanDisk, IsLive, Opens, Survives}
+use Rattle.registry_rows.specs.Ready.{Ready}
 use Rattle.registry_rows.specs.Rows.{HasRowids}
 use Rattle.registry_rows.specs.Tables.{no_tables}
 use Rattle.registry_tables.specs.Contents.{Contents}
 use Rattle.registry_tables.specs.Effects.{stored}
 use Rattle.registry_tables.specs.Fresh.{fresh}
 use Rattle.registry_tables.specs.Schema as ours
-use Rattle.registry_desk.specs.Opened.{GivesFound, HoldsEach, HoldsFound, IsFreshIfEmpty, IsJustOpened, IsLeftOf, IsMadeOf, LeavesFound}
+use Rattle.registry_desk.specs.Adopted.{CanBeAdopted, IsMade}
+use Rattle.registry_desk.specs.Opened.{GivesFound, HoldsEach, HoldsFound, IsFreshIfEmpty, IsLeftOf, IsMadeOf, LeavesFound}
 
 -- ---- rowids
 
@@ -63,14 +64,16 @@ found_rises image db schema (inr (nothing, empty)) sound = all_from (λ t. HasRo
 -- ---- what is seen at first
 
 -- where the schema is ours, the tables are in form
-pub ours_ready : (s : Shown) → IsJustOpened s → s.now.schema ≡ ours.schema → HasCleanDisk s → IsTrue s.is_open → IsReady ours.schema s
-ours_ready s opened is clean on =
-    let it = opened clean in
-    record {
-      schema_is = is;
-      sound = (it.1 on).0;
-      rowids = subst (λ (schema : Schema). AllByRecursion (λ t. HasRowids (s.now.trees t.tree)) schema.tables) is it.2;
-    }
+pub ours_ready : (s : Shown) → CanBeAdopted s → IsLive s → s.now.schema ≡ ours.schema → Ready ours.schema s
+ours_ready s rises live is clean on = record {
+  schema_is = is;
+  sound = (live on).0;
+  rowids = subst (λ (schema : Schema). AllByRecursion (λ t. HasRowids (s.now.trees t.tree)) schema.tables) is (rises clean on);
+}
+
+-- and so they are where there is none
+pub none_ready : (s : Shown) → IsLive s → s.now.schema ≡ no_tables → Ready no_tables s
+none_ready s live is clean on = record { schema_is = is; sound = (live on).0; rowids = tt }
 
 -- two facts of an answer
 pub both_ok : {A E : Type 0} {P Q R : Type 0} (r : Result A E) → (P → Q → R) → OnOk r P → OnOk r Q → OnOk r R
@@ -108,13 +111,13 @@ pub finds_in : {D : Type 0} {g : disk.Ghosts D} (files : Files D) (c : Held (Fil
 finds_in files c finds clean = record { holds = (finds clean).holds; reads = (finds clean).reads }
 
 module _ (image : Image) (seen later : Shown) (opened : HasCleanDisk seen → Opens seen × IsLive seen) (finds : HasCleanDisk seen → FindsIn image seen) where
-  pub just_opened : IsJustOpened seen
-  just_opened clean =
+  pub opened_rises : CanBeAdopted seen
+  opened_rises clean on =
       let now = opened clean in
       let same = ap (λ (d : Database). d.trees) now.0.clean in
-      (now.0, now.1, found_rises image seen.now.trees seen.now.schema (subst (AreFoundIn image) (sym same) (finds clean).reads) (now.1 now.0.is_open).0)
+      found_rises image seen.now.trees seen.now.schema (subst (AreFoundIn image) (sym same) (finds clean).reads) (now.1 now.0.is_open).0
 
-  module _ (made : HasCleanDisk later → HasCleanDisk seen × IsMadeOf seen.now (stored later)) where
+  module _ (made : IsMade seen later) where
     given : (clean : HasCleanDisk later) → GivesFound seen.committed.trees (stored later)
     given clean =
         let it = made clean in
@@ -130,12 +133,16 @@ module _ (image : Image) (seen later : Shown) (opened : HasCleanDisk seen → Op
     pub fresh_if_empty : IsFreshIfEmpty image later
     fresh_if_empty clean none = empty_gives_fresh image seen.committed.trees (stored later) none (finds (made clean).0).reads (given clean)
 
-  pub leaves_at_most : (HasCleanDisk later → HasCleanDisk seen × ((db : Trees) → later.may_leave db → IsLeftOf seen.now db))
+  -- a crash could leave what was found alone, since the connection was open
+  pub leaves_at_most : ((db : Trees) → IsTrue seen.is_open → seen.may_leave db → db ≡ seen.committed.trees) → Survives seen later (IsLeftOf seen.now)
       → HasCleanDisk later → (db : Trees) × AreFoundIn image db × ((left : Trees) → later.may_leave left → LeavesFound db left)
-  leaves_at_most leaves clean =
-      let it = leaves clean in
-      let now = opened it.0 in (
+  leaves_at_most settled survives clean =
+      let before : HasCleanDisk seen = omega (arith, survives.clean, clean) in
+      let now = opened before in (
         seen.committed.trees,
-        (finds it.0).reads,
-        λ left may. subst (λ d. LeavesFound d left) (ap (λ (d : Database). d.trees) now.0.clean) (leaves_found seen.now left (now.1 now.0.is_open).0 (it.1 left may)),
+        (finds before).reads,
+        λ left may. elim (survives.crash clean left may) [
+          | inl earlier ↦ inl (settled left now.0.is_open earlier)
+          | inr made ↦ subst (λ d. LeavesFound d left) (ap (λ (d : Database). d.trees) now.0.clean) (leaves_found seen.now left (now.1 now.0.is_open).0 made)
+        ],
       )

@@ -12,10 +12,12 @@ use Rattle.registry_tables.specs.Effects.{stored}
 use Rattle.registry_tables.specs.Needs.{HoldsNeeds}
 use Rattle.registry_tables.specs.Schema as ours
 use Rattle.registry_tables.specs.Teams.{GrantsInScope}
+use Rattle.registry_desk.proofs.CommitFacts.{registry_left}
+use Rattle.registry_desk.proofs.OpenedFacts.{gives_found, holds_each}
 use Rattle.registry_desk.specs.Opened.{GivesFound}
 use Rattle.registry_desk.specs.Promises.{HoldsReferences}
 use Rattle.registry_desk.specs.Resting.{IsRegistryOf}
-use Rattle.registry_desk.specs.Stops.{GoesOn, StopsLoseNothing}
+use Rattle.registry_desk.specs.Stops.{GoesOn, ReleasesAreAdopted, StopsAreAdopted, StopsLoseNothing}
 
 -- a database with a registry's tables isn't one without tables
 not_empty : (db : Trees) → IsSound ours.schema db → IsSound no_tables db → ⊥
@@ -44,3 +46,14 @@ goes_on last next same = record {
 pub stops_lose_nothing : {C D : Type 0} (show : C → Shown) (show_next : D → Shown) → StopsLoseNothing show show_next
 stops_lose_nothing show show_next last next image db sure left holds each clean =
     goes_on (show last) (show_next next) (found_again db (stored (show last)) (stored (show_next next)) (sure db left) (each clean db holds))
+
+pub stops_are_adopted : {C D : Type 0} (show : C → Shown) (show_next : D → Shown) → StopsAreAdopted show show_next
+stops_are_adopted show show_next last seen next image db sure left holds opened finds made =
+    stops_lose_nothing show show_next last next image db sure left holds (holds_each image (show_next seen) (show_next next) opened finds made)
+
+pub releases_are_adopted : {C D : Type 0} (show : C → Shown) (show_next : D → Shown) → ReleasesAreAdopted show show_next
+releases_are_adopted show show_next last next rests on made clean =
+    let it = made clean in
+    let ready = rests.in_form it.0 on in
+    let here = (show last).now in
+    goes_on (show last) (show_next next) (found_again here.trees (stored (show last)) (stored (show_next next)) (registry_left (show last) here.trees _ ready refl refl) (gives_found here (stored (show_next next)) it.1 ready.sound))

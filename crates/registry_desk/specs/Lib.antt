@@ -1,3 +1,4 @@
+pub mod Adopted
 pub mod Found
 pub mod Opened
 pub mod Promises

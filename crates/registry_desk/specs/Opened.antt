@@ -1,9 +1,8 @@
 -- What an open gives of the database that it finds, and what a crash leaves of that.
 use Rattle.std.specs.Prelude.{◌≡◌, ◌⊎◌, ◌++◌, [], Some, codes}
-use Rattle.std.specs.List.{AllByRecursion}
 use Rattle.sqlite.specs.Effect.{Database}
 use Rattle.sqlite.specs.Files.{AreFoundIn, HoldsDatabase, IsCleanLeft, LeavesFiles, file_state, image_of}
-use Rattle.sqlite.specs.State.{State as Shown, HasCleanDisk, IsLive, Opens}
+use Rattle.sqlite.specs.State.{State as Shown, HasCleanDisk}
 use Rattle.sqlite_catalog.specs.Listing.{IsSound}
 use Rattle.sqlite_disk.specs.declared.Disk as disk
 use Rattle.sqlite_disk.specs.declared.Files.{Files}
@@ -11,7 +10,6 @@ use Rattle.sqlite_trees.specs.Tree.{Trees}
 use Rattle.sqlite_wal.specs.Recovery.{Image}
 use Rattle.registry_names.specs.Maps.{at}
 use Rattle.registry_names.specs.Texts.{Text}
-use Rattle.registry_rows.specs.Rows.{HasRowids}
 use Rattle.registry_rows.specs.Tables.{no_tables}
 use Rattle.registry_tables.specs.Contents.{Contents, contents}
 use Rattle.registry_tables.specs.Effects.{stored}
@@ -20,14 +18,6 @@ use Rattle.registry_tables.specs.Schema.{schema}
 use Rattle.registry_desk.specs.Resting.{IsRegistryOf}
 use Rattle.registry_desk.specs.declared.open.Unopened.{Unopened}
 use Rattle.registry_desk.specs.declared.open.Unopened.TheVariants as unopened
-
--- the rowids of each table rise
-abbrev pub HaveRowids : Shown → Type 0
-HaveRowids s = AllByRecursion (λ t. HasRowids (s.now.trees t.tree)) s.now.schema.tables
-
--- just opened: the database obeys its own schema, and nothing was asked of it
-abbrev pub IsJustOpened : Shown → Type 0
-IsJustOpened s = HasCleanDisk s → Opens s × IsLive s × HaveRowids s
 
 -- the number of our schema is there
 abbrev pub IsNumbered : Contents → Type 0

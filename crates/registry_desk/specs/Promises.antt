@@ -34,14 +34,21 @@
 --   open  the registry is open at the exit: a fault of the disk may have shut it.
 -- A new registry has S and N of every request (`HoldsSound`), and every request keeps that by
 -- `grants` and `needs`.
-use Rattle.std.specs.Prelude.{◌≡◌, false, List, OnOk, IsTrue}
+use Rattle.std.specs.Prelude.{◌≡◌, false, Bool, List, IfErr, IfOk, OnOk, Result, Ok, Err, IsTrue}
 use Rattle.std.specs.List.{AllByRecursion}
 use Rattle.sqlite_trees.specs.Tree.{Trees}
 use Rattle.sqlite.specs.State.{State as Shown, HasCleanDisk, Survives}
+use Rattle.sqlite.specs.declared.error.Error.{Error}
+use Rattle.sqlite.specs.declared.error.Error.TheVariants.{SqliteFailure}
+use Rattle.sqlite.specs.declared.error.ErrorCode.TheVariants.{Closed}
+use Rattle.sqlite_disk.specs.Disk.{MoreFaults}
 use Rattle.registry_names.specs.Texts.{Text}
+use Rattle.registry_names.specs.declared.stop.Fault.{Fault}
+use Rattle.registry_names.specs.declared.stop.Fault.TheVariants.{Database}
 use Rattle.registry_rules.specs.Kept.{IsKept, IsSound}
 use Rattle.registry_rules.specs.State.{nothing}
 use Rattle.registry_rules.specs.declared.request.Request.{Request}
+use Rattle.registry_rows.specs.Faults.{as_fault}
 use Rattle.registry_tables.specs.Contents.{Contents, registry_of}
 use Rattle.registry_tables.specs.Effects.{registry_in, stored}
 use Rattle.registry_tables.specs.Needs.{HoldsNeeds}
@@ -89,6 +96,11 @@ pub record HoldsSoundForEach (rs : List Request) (s : Shown) : Type 0 where
 pub record HoldsSound (s : Shown) : Type 0 where
   pub grants : GrantsInScope (stored s)
   pub needs : HoldsNeeds (stored s)
+
+-- what an error says of whether a registry is open: a shut one alone is closed
+abbrev pub seen_by : Error → Result Bool Fault
+seen_by (SqliteFailure Closed) = Ok false
+seen_by e = Err (as_fault e)
 
 module _ (old new : Shown) where
   -- it was open where it is open
@@ -139,6 +151,20 @@ module _ (old new : Shown) where
   -- a crash leaves what it could have left before, or what an open registry makes of the request
   abbrev pub SurvivesOne : Request → Type 0
   SurvivesOne r = Survives old new (λ db. IsTrue old.is_open × (HoldsSoundFor r old → IsRegistryOf db (settled_by r (stored old))))
+
+  -- ---- a look at whether it is open
+
+  -- it was open or shut before, as the look says, and is so after it
+  abbrev pub LooksOpen : Result Bool Fault → Type 0
+  LooksOpen look = HasCleanDisk new → IfOk look (λ seen. (old.is_open ≡ seen) × (new.is_open ≡ seen))
+
+  -- nothing that is stored is changed
+  abbrev pub KeepsStored : Type 0
+  KeepsStored = HasCleanDisk new → IsTrue new.is_open → stored new ≡ stored old
+
+  -- the fault of the tables comes only where the disk failed meanwhile
+  abbrev pub StoppedByDisk : Result Bool Fault → Type 0
+  StoppedByDisk look = HasCleanDisk new → IfErr look (λ fault. fault ≡ Database → MoreFaults old.faults new.faults)
 
   -- ---- a run
 

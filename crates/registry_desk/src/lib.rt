@@ -25,5 +25,5 @@ mod same;
 mod teams;
 mod withdrawals;
 
-pub use crate::open::Unopened;
+pub use crate::open::{SCHEMA, Unopened};
 pub use crate::registry::Registry;

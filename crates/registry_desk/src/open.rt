@@ -1,19 +1,19 @@
 //! A registry in a file.
 
-ghost use Rattle.std.specs.Prelude.{◌≡◌, codes, false, true, IfErr, IfOk, IfSome, IsErrAnd, IsTrue, OnOk};
+ghost use Rattle.std.specs.Prelude.{◌≡◌, codes, false, true, Err, IfErr, IfOk, IfSome, IsErrAnd, IsTrue, OnErr, OnOk};
 ghost use Rattle.sqlite.specs.Files.{Finds, IsBlankAs, IsCleanLeft, IsOpened, LeavesFiles, file_state, image_of};
 ghost use Rattle.sqlite.specs.Held.{state};
 ghost use Rattle.sqlite.specs.State.{HasCleanDisk, Survives};
 ghost use Rattle.sqlite_std_file.specs.File.{IsFresh, file_is_usable};
 ghost use Rattle.sqlite_store.specs.FileStore.{view};
-ghost use Rattle.sqlite_trees.specs.Tree.{Trees};
 ghost use Rattle.sqlite_wal.specs.Files.{image_at};
 ghost use Rattle.registry_rows.specs.Ready.{Ready};
 ghost use Rattle.registry_rows.specs.Tables.{no_tables};
 ghost use Rattle.registry_tables.specs.Effects.{stored};
 ghost use Rattle.registry_tables.specs.Fresh.{CountsArchivesAlone};
 ghost use Rattle.registry_tables.specs.Schema as tables;
-ghost use Rattle.registry_desk.specs.Opened.{HoldsEach, HoldsFound, IsFreshIfEmpty, IsJustOpened, IsLeftOf, IsMadeOf, IsNumbered, IsUri, LeavesAtMost};
+ghost use Rattle.registry_desk.specs.Adopted.{AreFilesOf, CanBeAdopted, IsHandedBack, IsMade, IsSettled, IsUndone};
+ghost use Rattle.registry_desk.specs.Opened.{HoldsEach, HoldsFound, IsFreshIfEmpty, IsLeftOf, IsMadeOf, IsNumbered, IsUri, LeavesAtMost};
 ghost use Rattle.registry_desk.specs.Promises.{IsSure};
 ghost use Rattle.registry_desk.specs.Resting.{Rests};
 
@@ -30,15 +30,21 @@ use sqlite_disk::Disk;
 use sqlite_schema::schema::Schema;
 use sqlite_std_file::OpenError;
 use std::alloc::Global;
+use std::fs::OpenOptions;
 use std::hash::{BuildHasher, RandomState};
 use std::io::ErrorKind;
+use std::os::unix::fs::OpenOptionsExt;
 
-/// The number of the schema that a registry's tables have.
-const SCHEMA: u32 = 3;
+/// The number of the schema that a registry's tables have. A program that knows other tables gives
+/// them a greater number.
+pub const SCHEMA: u32 = 3;
 
 /// How many of the file's pages are kept in memory. Room for all of them is made when it is opened:
 /// 4 MB, since a page has 4 kB.
 const CACHE_PAGES: usize = 1_000;
+
+/// The mode of a new file: its owner reads and writes it, and nobody else.
+const MODE: u32 = 0o600;
 
 /// What is left of the files after an open that failed.
 pub enum Unopened<D: Disk> {
@@ -55,6 +61,29 @@ impl<D: Disk + Drop> Drop for Unopened<D> {
             Unopened::Files(_files) => {}
             Unopened::Database(_conn) => {}
         }
+    }
+}
+
+impl<D: Disk + Drop> Unopened<D> {
+    /// Gives the files back. A database is closed first, which copies its log into its file; where
+    /// that fails, the files are given as they are.
+    pub fn into_files(self) -> Files<D>
+        ensures { AreFilesOf self result }
+    {
+        match self {
+            Unopened::Files(left) => left.into_files(),
+            Unopened::Database(conn) => closed(conn),
+        }
+    }
+}
+
+// The files of a connection, closed if they can be.
+fn closed<D: Disk + Drop>(conn: Connection<FileStore<D>>) -> Files<D>
+    ensures { AreFilesOf (Unopened.Database conn) result }
+{
+    match conn.close_files() {
+        Ok(files) => files,
+        Err((_, store)) => store.close(),
     }
 }
 
@@ -122,34 +151,77 @@ impl<D: Disk + Drop> Registry<FileStore<D>> {
         ensures stays { IfOk result (λ r. HasCleanDisk (file_state r) → IsSure (file_state r)) }
         ensures left { IfErr result (λ e. LeavesAtMost files e.1) }
     {
-        match connected(alloc, files, options) {
-            Ok(conn) => match held(alloc, conn) {
+        match Registry::connect(alloc, files, options) {
+            Ok(conn) => match Registry::adopt(alloc, conn) {
                 Ok(registry) => Ok(registry),
                 Err((fault, conn)) => Err((fault, Unopened::Database(conn))),
             },
             Err((fault, left)) => Err((fault, Unopened::Files(left))),
         }
     }
+
+    /// Opens the database in these files, as [`open_files`](Registry::open_files) does first, for
+    /// [`adopt`](Registry::adopt). Files that are empty become an empty database, whose pages end
+    /// in sums. `Database` is answered where the files can't be read or written or hold no
+    /// database, and `Memory` where there is no room for it. A fault hands back what is left of the
+    /// files.
+    pub fn connect(
+        alloc: Global,
+        files: Files<D>,
+        options: Options,
+    ) -> Result<Connection<FileStore<D>>, (Fault, Leftover<D>)>
+        requires log { IsTrue (D.Disk.is_usable files.log) }
+        requires db { IsTrue (D.Disk.is_usable files.db) }
+        ensures idle { IfOk result (λ conn. conn.in_transaction ≡ false) }
+        ensures opened { IfOk result (λ conn. HasCleanDisk (file_state conn) → IsOpened conn) }
+        ensures found { IfOk result (λ conn. HasCleanDisk (file_state conn) → Finds files conn) }
+        ensures rises { IfOk result (λ conn. CanBeAdopted (file_state conn)) }
+        ensures sums { IfOk result (λ conn. HasCleanDisk (file_state conn)
+            → IsBlankAs true (image_of D.Disk files) → (view conn.store).has_sums ≡ true) }
+        ensures left { IfErr result (λ e. IsCleanLeft e.1 → LeavesFiles files e.1) }
+    {
+        match Connection::open_files_with(alloc, files, options, true) {
+            Ok(conn) => Ok(conn),
+            Err((error, left)) => Err((fault_of(error), left)),
+        }
+    }
 }
 
-// Opens the database in the files. Each page of a new one ends in a sum.
-fn connected<D: Disk + Drop>(
-    alloc: Global,
-    files: Files<D>,
-    options: Options,
-) -> Result<Connection<FileStore<D>>, (Fault, Leftover<D>)>
-    requires log { IsTrue (D.Disk.is_usable files.log) }
-    requires db { IsTrue (D.Disk.is_usable files.db) }
-    ensures idle { IfOk result (λ conn. conn.in_transaction ≡ false) }
-    ensures opened { IfOk result (λ conn. HasCleanDisk (file_state conn) → IsOpened conn) }
-    ensures found { IfOk result (λ conn. HasCleanDisk (file_state conn) → Finds files conn) }
-    ensures sums { IfOk result (λ conn. HasCleanDisk (file_state conn)
-        → IsBlankAs true (image_of D.Disk files) → (view conn.store).has_sums ≡ true) }
-    ensures left { IfErr result (λ e. IsCleanLeft e.1 → LeavesFiles files e.1) }
-{
-    match Connection::open_files_with(alloc, files, options, true) {
-        Ok(conn) => Ok(conn),
-        Err((error, left)) => Err((fault_of(error), left)),
+impl<S: Alter> Registry<S> {
+    /// Takes over a connection that is open already, whatever store it is over: one that
+    /// [`connect`](Registry::connect) or [`release`](Registry::release) gives can be taken. The
+    /// registry holds what the store holds where its tables are ours, and a database without tables
+    /// gets those of a fresh registry.
+    ///
+    /// `Database` is answered where the connection is inside a transaction, where the database has
+    /// the tables of another schema or another number of ours, counts in `sqlite_sequence` for more
+    /// than the archives, or fails; `Memory` where there is no room to read it. A fault hands the
+    /// connection back. It shows what it showed, so that it can be adopted again, unless a fault of
+    /// the disk has shut it.
+    pub fn adopt(alloc: Global, conn: Connection<S>) -> Result<Registry<S>, (Fault, Connection<S>)>
+        requires rises { CanBeAdopted (state S.Store conn) }
+        ensures made { IfOk result (λ r. IsMade (state S.Store conn) (state S.Store r)) }
+        ensures served { IfOk result (λ r. HasCleanDisk (state S.Store r)
+            → IsTrue (state S.Store r).is_open) }
+        ensures stays { IfOk result (λ r. HasCleanDisk (state S.Store r) → IsSure (state S.Store r)) }
+        ensures idle { conn.in_transaction ≡ true → result ≡ Err (Fault.Database, conn) }
+        ensures back { IfErr result (λ e. IsHandedBack (state S.Store conn) (state S.Store e.1)) }
+        ensures again { IfErr result (λ e. CanBeAdopted (state S.Store e.1)) }
+        ensures left { IfErr result (λ e. Survives (state S.Store conn) (state S.Store e.1)
+            (IsLeftOf (state S.Store conn).now)) }
+    {
+        if !conn.is_autocommit() {
+            return Err((Fault::Database, conn));
+        }
+        let cache = match TextCache::new(alloc, CACHE_LIMIT) {
+            Ok(cache) => cache,
+            Err(_) => return Err((Fault::Memory, conn)),
+        };
+        let mut conn = conn;
+        match settle(alloc, &mut conn) {
+            Ok(()) => Ok(Registry { conn, cache }),
+            Err(fault) => Err((fault, conn)),
+        }
     }
 }
 
@@ -211,7 +283,18 @@ fn files_at<S: Start>(rt: &HostRuntime, path: &str, start: S) -> Result<Files<Fi
     if path == ":memory:" || path.starts_with("file:") {
         return Err(Fault::Database);
     }
+    make(rt, path);
     sqlite_std_file::open(rt, path, start).map_err(fault_of_open)
+}
+
+// Makes a file that isn't there, for its owner alone. A new log gets the same mode. Where the file
+// can't be made, the open says so.
+fn make(rt: &HostRuntime, path: &str) {
+    let _ = OpenOptions::new()
+        .write(true)
+        .create_new(true)
+        .mode(MODE)
+        .open(rt, path);
 }
 
 // The fault that is answered where the files at a path can't be opened.
@@ -226,41 +309,18 @@ fn fault_of_open(error: OpenError) -> Fault
     }
 }
 
-// The registry of a connection that was just opened. A fault hands the connection back.
-fn held<S: Alter>(alloc: Global, conn: Connection<S>) -> Result<Registry<S>, (Fault, Connection<S>)>
-    requires idle { conn.in_transaction ≡ false }
-    requires opened { IsJustOpened (state S.Store conn) }
-    ensures made { IfOk result (λ r. HasCleanDisk (state S.Store r)
-        → HasCleanDisk (state S.Store conn)
-        × IsMadeOf (state S.Store conn).now (stored (state S.Store r))) }
-    ensures served { IfOk result (λ r. HasCleanDisk (state S.Store r)
-        → IsTrue (state S.Store r).is_open) }
-    ensures stays { IfOk result (λ r. HasCleanDisk (state S.Store r) → IsSure (state S.Store r)) }
-    ensures left { IfErr result (λ e. HasCleanDisk (state S.Store e.1)
-        → HasCleanDisk (state S.Store conn)
-        × ((db : Trees) → (state S.Store e.1).may_leave db
-        → IsLeftOf (state S.Store conn).now db)) }
-{
-    let mut conn = conn;
-    let cache = match TextCache::new(alloc, CACHE_LIMIT) {
-        Ok(cache) => cache,
-        Err(_) => return Err((Fault::Memory, conn)),
-    };
-    match settle(alloc, &mut conn) {
-        Ok(()) => Ok(Registry { conn, cache }),
-        Err(fault) => Err((fault, conn)),
-    }
-}
-
 // Makes the tables where the database has none, and else tests that they are ours.
 fn settle<S: Alter>(alloc: Global, conn: &mut Connection<S>) -> Result<(), Fault>
     requires idle { conn.old.in_transaction ≡ false }
-    requires opened { IsJustOpened (state S.Store conn.old) }
+    requires settled { IsSettled (state S.Store conn.old) }
+    requires rises { CanBeAdopted (state S.Store conn.old) }
     ensures rests { OnOk result (Rests (state S.Store conn.new)) }
     ensures made { HasCleanDisk (state S.Store conn.new)
         → OnOk result (IsMadeOf (state S.Store conn.old).now (stored (state S.Store conn.new))) }
     ensures served { HasCleanDisk (state S.Store conn.new)
         → OnOk result (IsTrue (state S.Store conn.new).is_open) }
+    ensures idle { conn.new.in_transaction ≡ false }
+    ensures undone { OnErr result (IsUndone (state S.Store conn.old) (state S.Store conn.new)) }
     ensures survives { Survives (state S.Store conn.old) (state S.Store conn.new)
         (IsLeftOf (state S.Store conn.old).now) }
 {
@@ -303,6 +363,8 @@ fn check_contents<S: Alter>(conn: &mut Connection<S>) -> Result<(), Fault>
         → OnOk result ((state S.Store conn.new).now ≡ (state S.Store conn.old).now) }
     ensures served { HasCleanDisk (state S.Store conn.new)
         → OnOk result (IsTrue (state S.Store conn.new).is_open) }
+    ensures idle { conn.new.in_transaction ≡ false }
+    ensures undone { OnErr result (IsUndone (state S.Store conn.old) (state S.Store conn.new)) }
     ensures survives { Survives (state S.Store conn.old) (state S.Store conn.new)
         (λ db. db ≡ (state S.Store conn.old).now.trees) }
 {

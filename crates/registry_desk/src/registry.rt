@@ -3,17 +3,21 @@
 ghost use Rattle.std.specs.Prelude.{◌≡◌, false, IfErr, IfOk, IsTrue, OnErr, OnOk};
 ghost use Rattle.sqlite.specs.Held.{state};
 ghost use Rattle.sqlite.specs.State.{HasCleanDisk, Survives};
-ghost use Rattle.sqlite.specs.Steps.{IsEmpty, over_memory};
+ghost use Rattle.sqlite.specs.Steps.{over_memory};
 ghost use Rattle.registry_rules.specs.Kept.{IsKept};
 ghost use Rattle.registry_rules.specs.State.{nothing};
+ghost use Rattle.registry_rows.specs.Ready.{Ready};
+ghost use Rattle.registry_rows.specs.Tables.{no_tables};
 ghost use Rattle.registry_tables.specs.Archives.{HoldsArchives};
 ghost use Rattle.registry_tables.specs.Effects.{registry_in, stored};
 ghost use Rattle.registry_tables.specs.Fresh.{fresh};
 ghost use Rattle.registry_tables.specs.Needs.{HoldsNeeds};
 ghost use Rattle.registry_tables.specs.Teams.{GrantsInScope};
 ghost use Rattle.registry_history.specs.Headline.{Headline};
-ghost use Rattle.registry_desk.specs.Promises.{Answered, GrowsHistory, HasHeadline, HidesUnread, HoldsReferences, HoldsSound, Keeps, KeepsForm, KeepsFormRun, KeepsRun, KeepsSure, Moves, RanTo, Served, ServedRun, ShutByFaults, StaysSure, Stepped, Stored, SurvivesOne, SurvivesRun, Unchanged, WasOpen, WritesHistory};
+ghost use Rattle.registry_desk.specs.Promises.{Answered, GrowsHistory, HasHeadline, HidesUnread, HoldsReferences, HoldsSound, Keeps, KeepsForm, KeepsFormRun, KeepsRun, KeepsStored, KeepsSure, LooksOpen, Moves, RanTo, Served, ServedRun, ShutByFaults, StaysSure, Stepped, Stored, StoppedByDisk, SurvivesOne, SurvivesRun, Unchanged, WasOpen, WritesHistory};
+ghost use Rattle.registry_desk.specs.Promises as promises;
 ghost use Rattle.registry_desk.specs.Resting.{IsRegistryOf, Rests, end_stored};
+ghost use Rattle.registry_desk.specs.Adopted.{CanBeAdopted, IsUndone};
 ghost use Rattle.registry_desk.specs.Caches.{HasPackuments, KeepsAnswer, KeepsNoMore};
 
 use crate::answer::answered_inside;
@@ -21,16 +25,19 @@ use crate::cache::keep_reply;
 use registry_cache::TextCache;
 use registry_hidden::laws::unread_packages_are_unheard_of;
 use registry_names::Fault;
-use registry_rows::commit;
+use registry_rows::{commit, fault_of};
 use registry_rules::laws::requests_are_in_form;
 use registry_rules::{Reply, Request};
 use registry_tables::create;
-use sqlite::{Alter, Connection, MemStore};
+use sqlite::{Alter, Connection, Error, ErrorCode, MemStore};
 use std::alloc::Global;
 use std::marker::Model;
 
 /// The most bytes that the texts of packuments have together which a registry keeps.
 pub(crate) const CACHE_LIMIT: usize = 64 << 20;
+
+/// A statement that is compiled to see whether a connection is open. It is never run.
+const PROBE: &str = "COMMIT";
 
 /// A registry of packages, over any store that keeps its tables. Contracts see the connection.
 ///
@@ -203,11 +210,28 @@ impl<S: Alter> Registry<S> {
         Ok(outcomes)
     }
 
-    /// Gives the connection, which is between requests. Over files, its `close` copies the log
-    /// into the database file.
+    /// Whether it is open. If not, a fault of the disk has shut it for good. Nothing that is stored
+    /// is changed.
+    ///
+    /// `Memory` is answered where there was no memory to look, and `Database` where the disk failed
+    /// at the look.
+    pub fn is_open(&mut self) -> Result<bool, Fault>
+        ensures seen { LooksOpen (state S.Store self.old) (state S.Store self.new) result }
+        ensures opened { WasOpen (state S.Store self.old) (state S.Store self.new) }
+        ensures stored { KeepsStored (state S.Store self.old) (state S.Store self.new) }
+        ensures survives { Survives (state S.Store self.old) (state S.Store self.new) (λ _. ⊥) }
+        ensures faults { StoppedByDisk (state S.Store self.old) (state S.Store self.new) result }
+    {
+        looks_open(&mut self.conn)
+    }
+
+    /// Gives the connection, which is between requests: it shows what the registry held, and a
+    /// crash leaves what it could have left. [`adopt`](Registry::adopt) takes it again. Over files,
+    /// its `close` copies the log into the database file.
     pub fn release(self) -> Connection<S>
         ensures same { result ≡ self }
         ensures rests { Rests (state S.Store result) }
+        ensures rises { CanBeAdopted (state S.Store result) }
     {
         let Registry { conn, cache: _ } = self;
         conn
@@ -217,18 +241,46 @@ impl<S: Alter> Registry<S> {
 // Makes the tables of an empty database, in one transaction.
 pub(crate) fn create_tables<S: Alter>(conn: &mut Connection<S>) -> Result<(), Fault>
     requires idle { conn.old.in_transaction ≡ false }
-    requires empty { HasCleanDisk (state S.Store conn.old) → IsEmpty (state S.Store conn.old) }
+    requires empty { Ready no_tables (state S.Store conn.old) }
     ensures rests { OnOk result (Rests (state S.Store conn.new)) }
     ensures made { HasCleanDisk (state S.Store conn.new)
         → OnOk result (stored (state S.Store conn.new) ≡ fresh) }
     ensures served { HasCleanDisk (state S.Store conn.new)
         → OnOk result (IsTrue (state S.Store conn.new).is_open) }
+    ensures idle { conn.new.in_transaction ≡ false }
+    ensures undone { OnErr result (IsUndone (state S.Store conn.old) (state S.Store conn.new)) }
     ensures survives { Survives (state S.Store conn.old) (state S.Store conn.new)
         (λ db. IsRegistryOf db fresh) }
 {
     let mut tx = conn.transaction();
     create(&mut tx)?;
     commit(tx)
+}
+
+// Whether a connection is open. One that isn't compiles no statement.
+fn looks_open<S: Alter>(conn: &mut Connection<S>) -> Result<bool, Fault>
+    requires rests { Rests (state S.Store conn.old) }
+    ensures rests { Rests (state S.Store conn.new) }
+    ensures seen { LooksOpen (state S.Store conn.old) (state S.Store conn.new) result }
+    ensures opened { WasOpen (state S.Store conn.old) (state S.Store conn.new) }
+    ensures stored { KeepsStored (state S.Store conn.old) (state S.Store conn.new) }
+    ensures survives { Survives (state S.Store conn.old) (state S.Store conn.new) (λ _. ⊥) }
+    ensures faults { StoppedByDisk (state S.Store conn.old) (state S.Store conn.new) result }
+{
+    match conn.prepare(PROBE) {
+        Ok(_statement) => Ok(true),
+        Err(error) => seen_by(error),
+    }
+}
+
+// What is seen where no statement is compiled. Only a shut connection says that it is closed.
+fn seen_by(error: Error) -> Result<bool, Fault>
+    ensures { result ≡ promises.seen_by error }
+{
+    match error {
+        Error::SqliteFailure(ErrorCode::Closed) => Ok(false),
+        error => Err(fault_of(error)),
+    }
 }
 
 // One transaction, which rolls back where `?` drops it. What is replied is kept after the commit,
