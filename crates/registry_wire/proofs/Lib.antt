@@ -1,5 +1,7 @@
 pub mod FieldFacts
 pub mod HeadFacts
+pub mod PlaceFacts
+pub mod KnownFacts
 pub mod LengthFacts
 pub mod RequestFacts
 pub mod InboxFacts

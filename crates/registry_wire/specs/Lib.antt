@@ -1,6 +1,8 @@
 pub mod Fields
 pub mod Asked
 pub mod Spelling
+pub mod Places
+pub mod Knowledge
 pub mod Parts
 pub mod Inboxes
 pub mod Pieces

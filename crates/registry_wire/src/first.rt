@@ -4,12 +4,14 @@ ghost use Rattle.std.specs.Prelude.{◌≡◌, ◌<◌, length, Ok, IfOk, IfErr}
 ghost use Rattle.httparse.specs.Grammar.{RequestHead};
 ghost use Rattle.registry_names.specs.declared.stop.Fault.TheVariants.{Memory};
 ghost use Rattle.registry_wire.specs.Asked.{authorization_of, wanted_of};
+ghost use Rattle.registry_wire.specs.Knowledge.{IsKnown};
 ghost use Rattle.registry_wire.specs.Parts.{ArePartsOf, said_of};
 ghost use Rattle.registry_wire.specs.Spelling.{EndsWith, IsUnfinished, Says, request_limit};
 ghost use Rattle.registry_wire.specs.declared.first.First.TheVariants.{Unfinished};
 
 use crate::field::Values;
 use crate::head::{HeadFound, HeadParts, head_in, prefix_of};
+use crate::known::{Known, UNSEEN_HEAD};
 use crate::wanted::{Authorization, Wanted};
 use registry_names::{Blob, Fault, Refusal};
 use std::alloc::{AllocError, Global};
@@ -53,21 +55,33 @@ pub fn first_in(alloc: Global, bytes: &[u8]) -> Result<First, Fault>
     ensures fault { IfErr result (λ fault. fault ≡ Memory) }
     ensures short { result ≡ Ok Unfinished → length bytes.now < request_limit }
 {
+    let (first, _) = looked_at(alloc, bytes)?;
+    Ok(first)
+}
+
+/// What the bytes that have come say of the first request, and what is known where it isn't whole.
+pub fn looked_at(alloc: Global, bytes: &[u8]) -> Result<(First, Known), Fault>
+    ensures says { IfOk result (λ r. Says bytes.now r.0) }
+    ensures known { IfOk result (λ r. IsKnown bytes.now r.1) }
+    ensures fault { IfErr result (λ fault. fault ≡ Memory) }
+    ensures short { IfOk result (λ r. r.0 ≡ Unfinished → length bytes.now < request_limit) }
+{
     let parts = match head_in(prefix_of(bytes)) {
         HeadFound::Whole(parts) => parts,
-        HeadFound::Unfinished => return Ok(First::Unfinished),
-        HeadFound::Never => return Ok(First::Bad(Refusal::BadBody)),
+        HeadFound::Unfinished => return Ok((First::Unfinished, UNSEEN_HEAD)),
+        HeadFound::Never => return Ok((First::Bad(Refusal::BadBody), Known::Nothing)),
     };
     let len = match parts.body {
         Ok(len) => len,
-        Err(refusal) => return Ok(First::Bad(refusal)),
+        Err(refusal) => return Ok((First::Bad(refusal), Known::Nothing)),
     };
     let (_, after) = bytes.split_at(parts.len);
     if after.len() < len {
-        return Ok(First::Unfinished);
+        return Ok((First::Unfinished, Known::Body(parts.len + len)));
     }
     let (body, _) = after.split_at(len);
-    Ok(First::Whole(wanted(alloc, &parts, body)?, parts.len + len))
+    let wanted = wanted(alloc, &parts, body)?;
+    Ok((First::Whole(wanted, parts.len + len), Known::Nothing))
 }
 
 fn wanted(alloc: Global, parts: &HeadParts<'_>, body: &[u8]) -> Result<Wanted, AllocError>

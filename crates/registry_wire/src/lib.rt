@@ -2,9 +2,10 @@
 //!
 //! The bytes of a connection spell requests, one after the other, and then an end: it is closed, or
 //! what comes is no request that is served. [`first_in`] gives what the bytes that have come say of
-//! the first request, and an [`Inbox`] reads until they say it. A head is read by `httparse`; it
-//! has at most 16,384 bytes and 64 fields, and a body at most 4,194,304 bytes. Nothing that was
-//! read is lost where no request was whole yet, so it can be asked for again.
+//! the first request. An [`Incoming`] holds bytes as they come, and says the same of them without
+//! reading all of them again, however few come at once; an [`Inbox`] reads until they say it. A head
+//! is read by `httparse`; it has at most 16,384 bytes and 64 fields, and a body at most 4,194,304
+//! bytes. Nothing that was read is lost where no request was whole yet, so it can be asked for again.
 //!
 //! A [`Response`] is written with no memory taken: its head from a buffer of fixed size, its body
 //! as it is.
@@ -14,14 +15,18 @@ mod field;
 mod first;
 mod head;
 mod inbox;
+mod incoming;
+mod known;
 pub mod laws;
 mod method;
+mod place;
 mod response;
 mod short_text;
 mod wanted;
 
 pub use crate::first::{Ending, FIELD_LIMIT, First, HEAD_LIMIT, ending_of, first_in};
 pub use crate::inbox::{INTERRUPTION_LIMIT, Inbox, Taken};
+pub use crate::incoming::Incoming;
 pub use crate::response::{ContentKind, Response, write_response};
 pub use crate::short_text::{SHORT_LIMIT, ShortText};
 pub use crate::wanted::{Authorization, Wanted};

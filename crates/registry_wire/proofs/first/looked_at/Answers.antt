@@ -3,8 +3,9 @@ use Rattle.std.proofs.lemmas.List.{length-drop, length-take}
 use Rattle.registry_names.specs.Bodies.{body_limit}
 use Rattle.registry_wire.specs.Spelling.{head_limit}
 use Rattle.registry_wire.proofs.HeadFacts.{head-of_prefix, never-of_prefix, lacks-of_prefix}
+use Rattle.registry_wire.proofs.KnownFacts.{needs}
 use Rattle.registry_wire.proofs.RequestFacts.{has-request}
-use Rattle.registry_wire.proofs.first.first_in.Goals as goal
+use Rattle.registry_wire.proofs.first.looked_at.Goals as goal
 
 pub returns-in-Unfinished-clause-says : goal.returns-in-Unfinished-clause-says
 returns-in-Unfinished-clause-says c = inl (lacks-of_prefix c.args.bytes.now (rw c.prefix_of.ensures.value at c.in-Unfinished.ensures))
@@ -66,6 +67,16 @@ returns-clause-says c =
     let low0 : n ≤ length c.split_at.result.1.now = omega arith in
     let low : n ≤ length (drop k bytes) = omega (arith, low0, c.split_at.ensures.back_len, length-drop k bytes) in
     let body = c.split_at-2.ensures.front ∙ ap (take n) c.split_at.ensures.back in (
-      has-request bytes found.head k n c.in_ok-wanted.field-0 _ begins (sym found.parts.body ∙ c.in-Ok.is) low body (c.in_ok-wanted.ensures found.head found.parts),
+      has-request bytes found.head k n c.in_ok-wanted.wanted _ begins (sym found.parts.body ∙ c.in-Ok.is) low body (c.in_ok-wanted.ensures found.head found.parts),
       omega (arith, low, found.len, length-drop k bytes, length-take head_limit bytes),
     )
+
+pub returns-then-after-len-clause-known : goal.returns-then-after-len-clause-known
+returns-then-after-len-clause-known c =
+    let bytes = c.args.bytes.now in
+    let found = rw c.prefix_of.ensures.value at c.in-Whole.ensures in
+    let k = c.in-Whole.parts.len in
+    let low : k ≤ length bytes = omega (arith, found.len, length-take head_limit bytes) in
+    let few : k ≤ head_limit = omega (arith, found.len, length-take head_limit bytes) in
+    let bound : c.in-Ok.len ≤ body_limit = rw c.in-Ok.is at found.bound in
+    needs bytes found.head k c.in-Ok.len (head-of_prefix bytes head_limit k found.head found.len found.begins) (sym found.parts.body ∙ c.in-Ok.is) low few bound
