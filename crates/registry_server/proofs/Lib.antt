@@ -8,3 +8,4 @@ mod IdleFacts
 mod TimeFacts
 mod OrderFacts
 mod RestFacts
+mod HeldFacts

@@ -1,10 +1,10 @@
 -- The place at which nothing was begun for longest, looked for from the first place on.
-use Rattle.std.proofs.Common.{◌≡◌, ◌≢◌, ◌<◌, ◌≤◌, ◌+◌, ◌++◌, ◌∷◌, [], ◌∙◌, ℕ, zero, suc, Bool, true, false, List, Option, None, Some, cond, length, nat_le, get_or, set, take, drop, refl, ap, sym, subst, arith, below_more, ◌&&◌, not}
+use Rattle.std.proofs.Common.{◌≡◌, ◌≢◌, ◌<◌, ◌≤◌, ◌+◌, ◌-◌, ◌==◌, ◌++◌, ◌∷◌, [], ◌∙◌, ℕ, zero, suc, Bool, true, false, List, Option, None, Some, cond, fold, length, nat_le, get_or, map, set, sum_by, take, drop, refl, ap, sym, subst, arith, below_more, ◌&&◌, not}
 use Rattle.std.proofs.lemmas.Bool.Decides.{nat_tests}
 use Rattle.std.proofs.lemmas.Option.{slice_get_read}
 use Rattle.std.proofs.lemmas.List.{drop-drop, drop-set-lt, get_or-drop, take_more, take_more_set}
 use Rattle.registry_service.specs.Turns.{Answering}
-use Rattle.registry_server.specs.Pools.{IsIdleLongest, IsLongestOf, VisitsAll, VisitsAt, VisitsIf, VisitsThere, after_visit, at_place, earlier, idle_at, idle_in, idle_times, placed}
+use Rattle.registry_server.specs.Pools.{Chooses, IsFirstInRank, IsIdleLongest, IsLongestOf, VisitsAll, VisitsAt, VisitsIf, VisitsThere, after_visit, at_place, chosen, earlier, held_at, held_limit, idle_at, idle_in, idle_times, is_crowd, is_held_back, rank_at, rank_in, ranks, released, waiting_at, with_connection}
 use Rattle.registry_server.specs.Connections.{IsLost, OpenConnection, Visits}
 use Rattle.registry_server.specs.declared.connection.Visit.{Visit}
 use Rattle.registry_server.specs.declared.connection.Visit.TheVariants.{Rests, Over}
@@ -72,9 +72,31 @@ longest-step idle n (Some best) (Some t) h is = longest-chosen idle n best t (na
 pub idle-read : {S : Type 0} (places : List (Place S)) (n : ℕ) (p : Place S) → n < length places → p ≡ get_or places n p → idle_times places n ≡ idle_in p
 idle-read places n p within is = ap idle_at (slice_get_read places (length places) n p refl within is)
 
+-- the rank at a place that was read
+pub rank-read : {S : Type 0} (now : ℕ) (oldest : Bool) (places : List (Place S)) (n : ℕ) (p : Place S) → n < length places → p ≡ get_or places n p → ranks now oldest places n ≡ rank_in now oldest p
+rank-read now oldest places n p within is = ap (rank_at now oldest) (slice_get_read places (length places) n p refl within is)
+
+-- ---- what is left of the limit
+
+room-left : {A : Type 0} (f : A → ℕ) (n s : ℕ) (xs : List A) → fold (λ (a : ℕ) (x : A). a - f x) (n - s) xs ≡ n - fold (λ (a : ℕ) (x : A). a + f x) s xs
+room-left f n s [] = refl
+room-left f n s (x ∷ xs) = ap (λ (a : ℕ). fold (λ (b : ℕ) (y : _). b - f y) a xs) (omega arith) ∙ room-left f n (s + f x) xs
+
+no-room : (n s : ℕ) → (n - s == 0) ≡ nat_le n s
+no-room n s = search (arith, nat_tests)
+
+-- none is left where they hold as much or more
+pub crowd-of : {S : Type 0} (places : List (Place S)) → (fold (λ (room : ℕ) (p : Place S). room - held_at p) held_limit places == 0) ≡ is_crowd places
+crowd-of places = ap (λ (room : ℕ). room == 0) (room-left held_at held_limit 0 places) ∙ no-room held_limit (sum_by held_at places)
+
 -- the place alone
-pub longest-place : (idle : ℕ → Option ℕ) (n : ℕ) (best : ℕ × ℕ) → IsLongestOf idle n (Some best) → IsIdleLongest idle n (Some best.0)
+longest-place : (idle : ℕ → Option ℕ) (n : ℕ) (best : ℕ × ℕ) → IsLongestOf idle n (Some best) → IsIdleLongest idle n (Some best.0)
 longest-place idle n best h = (best.1, h.0, h.1, h.2)
+
+-- the same once all places were looked at
+pub longest-of : (idle : ℕ → Option ℕ) (n count : ℕ) (r : Option (ℕ × ℕ)) (k t : ℕ) → IsLongestOf idle n r → n ≡ count → r ≡ Some (k, t) → IsIdleLongest idle count (Some k)
+longest-of idle n count r k t h all is =
+    longest-place idle count (k, t) (subst (λ (m : ℕ). IsLongestOf idle m (Some (k, t))) all (subst (λ (o : Option (ℕ × ℕ)). IsLongestOf idle n o) is h))
 
 -- ---- one place changed
 
@@ -93,62 +115,85 @@ at-none change [] k beyond = refl
 at-none change (y ∷ xs) zero beyond = absurd (omega (arith, beyond))
 at-none change (y ∷ xs) (suc k) beyond = ap (λ (l : List _). y ∷ l) (at-none change xs k (omega (arith, beyond)))
 
+-- ---- which body is read
+
+-- the next one
+pub chooses-next : {S : Type 0} (now : ℕ) (old middle : List (Place S)) (oldest oldest1 : Bool) (k : ℕ) (p : Place S) → middle ≡ map released old → oldest1 ≡ oldest
+    → IsFirstInRank (ranks now oldest1 middle) (length middle) (Some k) → p ≡ get_or middle k p → Chooses now old oldest (set middle k (chosen p)) (not oldest1)
+chooses-next now old middle oldest oldest1 k p is same first at = record {
+  next = Some k;
+  first = subst (λ (l : List (Place _)). IsFirstInRank (ranks now oldest l) (length l) (Some k)) is
+      (subst (λ (o : Bool). IsFirstInRank (ranks now o middle) (length middle) (Some k)) same first);
+  places = at-set chosen middle k p first.1 at ∙ ap (λ (l : List (Place _)). at_place chosen l k) is;
+  turn = ap not same;
+}
+
 -- ---- the visits of the places, one after the other
 
 module _ {S : Type 0} (received sent : S → Option (List ℕ)) (must_wait is_ended is_broken : S → Bool) {D : Type 0} (answers : Answering D) (over : D → Bool) where
   -- no connection is to be visited there, or the service is over
-  pub visits-none : (now most : ℕ) (p : Place S) (M : D) (r : Option (List ℕ)) → (p.is_ready && not (over M)) ≡ false → VisitsAt received sent must_wait is_ended is_broken answers over now most p p M M r r
-  visits-none now most p M r is = subst (λ (b : Bool). VisitsIf received sent must_wait is_ended is_broken answers b now most p p M M r r) (sym is) (record { place = refl; service = refl; unasked = refl })
+  pub visits-none : (crowd : Bool) (now most : ℕ) (p : Place S) (M : D) (r : Option (List ℕ)) → (p.is_ready && not (over M)) ≡ false → VisitsAt received sent must_wait is_ended is_broken answers over crowd now most p p M M r r
+  visits-none crowd now most p M r is = subst (λ (b : Bool). VisitsIf received sent must_wait is_ended is_broken answers b (is_held_back crowd p) now most p p M M r r) (sym is) (record { place = refl; service = refl; unasked = refl })
 
-  there : (now most : ℕ) (p q : Place S) (M N : D) (r r2 : Option (List ℕ)) (c : Option (OpenConnection S)) → (p.is_ready && not (over M)) ≡ true → p.connection ≡ c
-      → VisitsThere received sent must_wait is_ended is_broken answers now most c q M N r r2 → VisitsAt received sent must_wait is_ended is_broken answers over now most p q M N r r2
-  there now most p q M N r r2 c is at visits =
-      subst (λ (b : Bool). VisitsIf received sent must_wait is_ended is_broken answers b now most p q M N r r2) (sym is)
-      (subst (λ (o : Option (OpenConnection S)). VisitsThere received sent must_wait is_ended is_broken answers now most o q M N r r2) (sym at) visits)
+  -- the connection there is held back
+  pub visits-waits : (crowd : Bool) (now most : ℕ) (p q : Place S) (M : D) (r : Option (List ℕ)) → (p.is_ready && not (over M)) ≡ true → is_held_back crowd p ≡ true → q ≡ waiting_at now p
+      → VisitsAt received sent must_wait is_ended is_broken answers over crowd now most p q M M r r
+  visits-waits crowd now most p q M r is held waits =
+      subst (λ (b : Bool). VisitsIf received sent must_wait is_ended is_broken answers b (is_held_back crowd p) now most p q M M r r) (sym is)
+      (subst (λ (b : Bool). VisitsIf received sent must_wait is_ended is_broken answers true b now most p q M M r r) (sym held)
+      (record { place = waits; service = refl; unasked = refl }))
+
+  there : (crowd : Bool) (now most : ℕ) (p q : Place S) (M N : D) (r r2 : Option (List ℕ)) (c : Option (OpenConnection S)) → (p.is_ready && not (over M)) ≡ true → is_held_back crowd p ≡ false → p.connection ≡ c
+      → VisitsThere received sent must_wait is_ended is_broken answers now most p c q M N r r2 → VisitsAt received sent must_wait is_ended is_broken answers over crowd now most p q M N r r2
+  there crowd now most p q M N r r2 c is held at visits =
+      subst (λ (b : Bool). VisitsIf received sent must_wait is_ended is_broken answers b (is_held_back crowd p) now most p q M N r r2) (sym is)
+      (subst (λ (b : Bool). VisitsIf received sent must_wait is_ended is_broken answers true b now most p q M N r r2) (sym held)
+      (subst (λ (o : Option (OpenConnection S)). VisitsThere received sent must_wait is_ended is_broken answers now most p o q M N r r2) (sym at) visits))
 
   -- nobody is there
-  pub visits-free : (now most : ℕ) (p : Place S) (M : D) (r : Option (List ℕ)) → (p.is_ready && not (over M)) ≡ true → p.connection ≡ None → VisitsAt received sent must_wait is_ended is_broken answers over now most p (placed p.connection false) M M r r
-  visits-free now most p M r is at = there now most p (placed p.connection false) M M r r None is at
-      (record { place = ap (λ (o : Option (OpenConnection S)). placed o false) at; service = refl; unasked = refl })
+  pub visits-free : (crowd : Bool) (now most : ℕ) (p : Place S) (M : D) (r : Option (List ℕ)) → (p.is_ready && not (over M)) ≡ true → is_held_back crowd p ≡ false → p.connection ≡ None
+      → VisitsAt received sent must_wait is_ended is_broken answers over crowd now most p (with_connection p p.connection false) M M r r
+  visits-free crowd now most p M r is held at = there crowd now most p (with_connection p p.connection false) M M r r None is held at
+      (record { place = ap (λ (o : Option (OpenConnection S)). with_connection p o false) at; service = refl; unasked = refl })
 
   -- a connection is there, and was visited
-  pub visits-there : (now most : ℕ) (p : Place S) (c d : OpenConnection S) (v : Visit) (M N : D) (r r2 : Option (List ℕ)) → (p.is_ready && not (over M)) ≡ true → p.connection ≡ Some c
+  pub visits-there : (crowd : Bool) (now most : ℕ) (p : Place S) (c d : OpenConnection S) (v : Visit) (M N : D) (r r2 : Option (List ℕ)) → (p.is_ready && not (over M)) ≡ true → is_held_back crowd p ≡ false → p.connection ≡ Some c
       → Visits received sent answers now most c d M N r r2 → (v ≡ Rests → d.phase.stage ≢ Next) → (v ≡ Rests → must_wait d.socket ≡ true)
       → (v ≡ Over → IsLost is_ended is_broken d)
-      → VisitsAt received sent must_wait is_ended is_broken answers over now most p (after_visit v d) M N r r2
-  visits-there now most p c d v M N r r2 is at visits rests waits over = there now most p (after_visit v d) M N r r2 (Some c) is at
+      → VisitsAt received sent must_wait is_ended is_broken answers over crowd now most p (after_visit v p d) M N r r2
+  visits-there crowd now most p c d v M N r r2 is held at visits rests waits over = there crowd now most p (after_visit v p d) M N r r2 (Some c) is held at
       (record { connection = d; visits = visits; visit = v; place = refl; rests = rests; waits = waits; over = over })
 
-  visits-more : (now most : ℕ) (ps qs : List (Place S)) (p q : Place S) (M m N : D) (r r1 r2 : Option (List ℕ))
-      → VisitsAll received sent must_wait is_ended is_broken answers over now most ps qs M m r r1 → VisitsAt received sent must_wait is_ended is_broken answers over now most p q m N r1 r2
-      → VisitsAll received sent must_wait is_ended is_broken answers over now most (ps ++ p ∷ []) (qs ++ q ∷ []) M N r r2
-  visits-more now most [] [] p q M m N r r1 r2 all one = (
+  visits-more : (crowd : Bool) (now most : ℕ) (ps qs : List (Place S)) (p q : Place S) (M m N : D) (r r1 r2 : Option (List ℕ))
+      → VisitsAll received sent must_wait is_ended is_broken answers over crowd now most ps qs M m r r1 → VisitsAt received sent must_wait is_ended is_broken answers over crowd now most p q m N r1 r2
+      → VisitsAll received sent must_wait is_ended is_broken answers over crowd now most (ps ++ p ∷ []) (qs ++ q ∷ []) M N r r2
+  visits-more crowd now most [] [] p q M m N r r1 r2 all one = (
     N,
     r2,
-    subst (λ (d : D). VisitsAt received sent must_wait is_ended is_broken answers over now most p q d N r r2) all.0
-        (subst (λ (x : Option (List ℕ)). VisitsAt received sent must_wait is_ended is_broken answers over now most p q m N x r2) all.1 one),
+    subst (λ (d : D). VisitsAt received sent must_wait is_ended is_broken answers over crowd now most p q d N r r2) all.0
+        (subst (λ (x : Option (List ℕ)). VisitsAt received sent must_wait is_ended is_broken answers over crowd now most p q m N x r2) all.1 one),
     (refl, refl),
   )
-  visits-more now most (a ∷ ps) (b ∷ qs) p q M m N r r1 r2 all one = (all.0, all.1, all.2, visits-more now most ps qs p q all.0 m N all.1 r1 r2 all.3 one)
-  visits-more now most [] (b ∷ qs) p q M m N r r1 r2 all one = absurd all
-  visits-more now most (a ∷ ps) [] p q M m N r r1 r2 all one = absurd all
+  visits-more crowd now most (a ∷ ps) (b ∷ qs) p q M m N r r1 r2 all one = (all.0, all.1, all.2, visits-more crowd now most ps qs p q all.0 m N all.1 r1 r2 all.3 one)
+  visits-more crowd now most [] (b ∷ qs) p q M m N r r1 r2 all one = absurd all
+  visits-more crowd now most (a ∷ ps) [] p q M m N r r1 r2 all one = absurd all
 
   -- one more place was visited
-  pub visits-step : (now most : ℕ) (old items : List (Place S)) (i : ℕ) (p q : Place S) (M m N : D) (r r1 r2 : Option (List ℕ))
+  pub visits-step : (crowd : Bool) (now most : ℕ) (old items : List (Place S)) (i : ℕ) (p q : Place S) (M m N : D) (r r1 r2 : Option (List ℕ))
       → i < length old → length items ≡ length old → drop i items ≡ drop i old → p ≡ get_or items i p
-      → VisitsAll received sent must_wait is_ended is_broken answers over now most (take i old) (take i items) M m r r1
-      → VisitsAt received sent must_wait is_ended is_broken answers over now most p q m N r1 r2
-      → VisitsAll received sent must_wait is_ended is_broken answers over now most (take (i + 1) old) (take (i + 1) (set items i q)) M N r r2
-  visits-step now most old items i p q M m N r r1 r2 within len rest is all one =
+      → VisitsAll received sent must_wait is_ended is_broken answers over crowd now most (take i old) (take i items) M m r r1
+      → VisitsAt received sent must_wait is_ended is_broken answers over crowd now most p q m N r1 r2
+      → VisitsAll received sent must_wait is_ended is_broken answers over crowd now most (take (i + 1) old) (take (i + 1) (set items i q)) M N r r2
+  visits-step crowd now most old items i p q M m N r r1 r2 within len rest is all one =
       let none : i + 0 ≡ i = omega arith in
       let first : get_or (drop i items) 0 p ≡ get_or items i p = get_or-drop i items 0 p ∙ ap (λ (n : ℕ). get_or items n p) none in
       let second : get_or (drop i old) 0 p ≡ get_or old i p = get_or-drop i old 0 p ∙ ap (λ (n : ℕ). get_or old n p) none in
       let here : p ≡ get_or old i p = is ∙ sym first ∙ ap (λ (l : List (Place S)). get_or l 0 p) rest ∙ second in
       let before : take (i + 1) old ≡ take i old ++ p ∷ [] = take_more old i p within ∙ ap (λ (x : Place S). take i old ++ x ∷ []) (sym here) in
       let after : take (i + 1) (set items i q) ≡ take i items ++ q ∷ [] = take_more_set items i q (omega (arith, within, len)) in
-      subst (λ (l : List (Place S)). VisitsAll received sent must_wait is_ended is_broken answers over now most l (take (i + 1) (set items i q)) M N r r2) (sym before)
-      (subst (λ (l : List (Place S)). VisitsAll received sent must_wait is_ended is_broken answers over now most (take i old ++ p ∷ []) l M N r r2) (sym after)
-      (visits-more now most (take i old) (take i items) p q M m N r r1 r2 all one))
+      subst (λ (l : List (Place S)). VisitsAll received sent must_wait is_ended is_broken answers over crowd now most l (take (i + 1) (set items i q)) M N r r2) (sym before)
+      (subst (λ (l : List (Place S)). VisitsAll received sent must_wait is_ended is_broken answers over crowd now most (take i old ++ p ∷ []) l M N r r2) (sym after)
+      (visits-more crowd now most (take i old) (take i items) p q M m N r r1 r2 all one))
 
 -- the places that weren't visited yet are as they were
 pub rest-step : {A : Type 0} (old items : List A) (i : ℕ) (q : A) → drop i items ≡ drop i old → drop (i + 1) (set items i q) ≡ drop (i + 1) old

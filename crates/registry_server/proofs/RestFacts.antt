@@ -1,14 +1,15 @@
 -- Whom a new connection ends.
 use Rattle.std.proofs.Common.{◌≡◌, ◌∷◌, ◌∙◌, [], ℕ, zero, suc, Bool, true, false, List, Option, None, Some, get_or, is_none, length, refl, ap, subst, sym, if◌then◌else◌, ◌&&◌, not}
-use Rattle.std.specs.Prelude.{All, MatchOption, position, slice_get}
+use Rattle.std.specs.Prelude.{All, MatchOption, map, position, slice_get}
+use Rattle.std.specs.List.{list_any}
 use Rattle.std.proofs.lemmas.Bool.{false≢true}
 use Rattle.std.proofs.lemmas.List.Elements.{All-cons, All-head, All-map, All-replicate, All-tail, All-weaker}
 use Rattle.std.proofs.lemmas.List.Quantifiers.{position-Some}
 use Rattle.std.proofs.lemmas.Option.{get_or_from_slice_get, slice_get_within}
 use Rattle.registry_service.specs.Turns.{Answering}
-use Rattle.registry_server.specs.Connections.{OpenConnection}
+use Rattle.registry_server.specs.Connections.{OpenConnection, waiting}
 use Rattle.registry_server.specs.Phases.{idle_from, is_late}
-use Rattle.registry_server.specs.Pools.{EndsLeaveRest, IsAtRest, IsIdleLongest, NewConnectionsLeaveRest, NewPoolRests, NewcomersEndIdle, VisitsAll, VisitsIf, VisitsLeaveRest, VisitsThere, WakesLeaveRest, after_visit, at_place, free, idle_at, idle_times, idle_with, in_time, is_free, kept_at, new_at, place_count, woken}
+use Rattle.registry_server.specs.Pools.{ChoosesIf, EndsLeaveRest, IsAtRest, IsIdleLongest, NewConnectionsLeaveRest, NewPoolRests, NewcomersEndIdle, VisitsAll, VisitsIf, VisitsLeaveRest, VisitsThere, WakesLeaveRest, after_visit, at_place, chosen, chosen_of, free, idle_at, idle_times, idle_with, in_time, is_crowd, is_free, is_held_back, is_read_alone, kept_at, new_at, place_count, released, waiting_at, waiting_with, woken}
 use Rattle.registry_server.specs.declared.connection.Visit.{Visit}
 use Rattle.registry_server.specs.declared.connection.Visit.TheVariants.{Again, Rests, Over}
 use Rattle.registry_server.specs.declared.phase.Stage.{Stage}
@@ -66,10 +67,38 @@ module _ {S : Type 0} (must_wait : S → Bool) where
       (All-weaker (IsAtRest must_wait) (λ p. IsAtRest must_wait (kept_at now p)) (kept-rest now) places h)
 
   -- after a visit
-  after-rest : (v : Visit) (d : OpenConnection S) → (v ≡ Rests → must_wait d.socket ≡ true) → IsAtRest must_wait (after_visit v d)
-  after-rest Again d waits c ready at = absurd (false≢true (sym ready))
-  after-rest Rests d waits c ready at = let same : d ≡ c = cc in subst (λ (x : OpenConnection S). must_wait x.socket ≡ true) same (waits refl)
-  after-rest Over d waits c ready at = none-some c at
+  after-rest : (v : Visit) (p : Place S) (d : OpenConnection S) → (v ≡ Rests → must_wait d.socket ≡ true) → IsAtRest must_wait (after_visit v p d)
+  after-rest Again p d waits c ready at = absurd (false≢true (sym ready))
+  after-rest Rests p d waits c ready at = let same : d ≡ c = cc in subst (λ (x : OpenConnection S). must_wait x.socket ≡ true) same (waits refl)
+  after-rest Over p d waits c ready at = none-some c at
+
+  -- one that is held back
+  waiting-rest : (now : ℕ) (p : Place S) (o : Option (OpenConnection S)) → p.connection ≡ o → IsAtRest must_wait p → (c : OpenConnection S) → p.is_ready ≡ false → waiting_with now o ≡ Some c → must_wait c.socket ≡ true
+  waiting-rest now p None is h c ready at = none-some c at
+  waiting-rest now p (Some d) is h c ready at = let same : waiting now d ≡ c = cc in subst (λ (x : OpenConnection S). must_wait x.socket ≡ true) same (h d ready is)
+
+  pub waiting-at-rest : (now : ℕ) (p : Place S) → IsAtRest must_wait p → IsAtRest must_wait (waiting_at now p)
+  waiting-at-rest now p h c ready at = waiting-rest now p p.connection refl h c ready at
+
+  -- nobody, or another one, is read of a crowd
+  released-rest : (places : List (Place S)) → All (IsAtRest must_wait) places → All (IsAtRest must_wait) (map released places)
+  released-rest places h = All-map (IsAtRest must_wait) released places
+      (All-weaker (IsAtRest must_wait) (λ p. IsAtRest must_wait (released p)) (λ p rests c ready at. rests c ready at) places h)
+
+  chosen-at-rest : (places : List (Place S)) (k : ℕ) → All (IsAtRest must_wait) places → All (IsAtRest must_wait) (at_place chosen places k)
+  chosen-at-rest [] k h = h
+  chosen-at-rest (p ∷ places) zero h = All-cons (IsAtRest must_wait) (chosen p) places
+      (λ c ready at. All-head (IsAtRest must_wait) p places h c ready at) (All-tail (IsAtRest must_wait) p places h)
+  chosen-at-rest (p ∷ places) (suc k) h = All-cons (IsAtRest must_wait) p (at_place chosen places k)
+      (All-head (IsAtRest must_wait) p places h) (chosen-at-rest places k (All-tail (IsAtRest must_wait) p places h))
+
+  chosen-rest : (places : List (Place S)) (next : Option ℕ) → All (IsAtRest must_wait) places → All (IsAtRest must_wait) (chosen_of places next)
+  chosen-rest places None h = h
+  chosen-rest places (Some k) h = chosen-at-rest places k h
+
+  looked-rest : (b : Bool) (now : ℕ) (old new : List (Place S)) (oldest oldest2 : Bool) → ChoosesIf b now old oldest new oldest2 → All (IsAtRest must_wait) old → All (IsAtRest must_wait) new
+  looked-rest true now old new oldest oldest2 chooses h = subst (All (IsAtRest must_wait)) (sym chooses.places) (chosen-rest (map released old) chooses.next (released-rest old h))
+  looked-rest false now old new oldest oldest2 chooses h = subst (All (IsAtRest must_wait)) (sym chooses.places) h
 
   idle-if : (b : Bool) (o : Option (OpenConnection S)) (c : OpenConnection S) (t : ℕ) → o ≡ Some c → (if b then None else idle_with o) ≡ Some t → (b ≡ false) × (c.phase.stage ≡ Idle)
   idle-if true o c t at is = none-some t is
@@ -92,24 +121,26 @@ module _ {S : Type 0} (must_wait : S → Bool) where
       (idle.0, rest c idle.0 at, idle.1)
 
 module _ {S : Type 0} (received sent : S → Option (List ℕ)) (must_wait is_ended is_broken : S → Bool) {D : Type 0} (answers : Answering D) (over : D → Bool) where
-  there-rests : (now most : ℕ) (o : Option (OpenConnection S)) (q : Place S) (M N : D) (r r2 : Option (List ℕ))
-      → VisitsThere received sent must_wait is_ended is_broken answers now most o q M N r r2 → IsAtRest must_wait q
-  there-rests now most None q M N r r2 v = subst (IsAtRest must_wait) (sym v.place) (rest-free must_wait)
-  there-rests now most (Some c) q M N r r2 v = subst (IsAtRest must_wait) (sym v.place) (after-rest must_wait v.visit v.connection v.waits)
+  there-rests : (now most : ℕ) (p : Place S) (o : Option (OpenConnection S)) (q : Place S) (M N : D) (r r2 : Option (List ℕ))
+      → VisitsThere received sent must_wait is_ended is_broken answers now most p o q M N r r2 → IsAtRest must_wait q
+  there-rests now most p None q M N r r2 v = subst (IsAtRest must_wait) (sym v.place) (λ c ready at. none-some c at)
+  there-rests now most p (Some c) q M N r r2 v = subst (IsAtRest must_wait) (sym v.place) (after-rest must_wait v.visit p v.connection v.waits)
 
-  visited-rests : (b : Bool) (now most : ℕ) (p q : Place S) (M N : D) (r r2 : Option (List ℕ)) → IsAtRest must_wait p
-      → VisitsIf received sent must_wait is_ended is_broken answers b now most p q M N r r2 → IsAtRest must_wait q
-  visited-rests true now most p q M N r r2 h v = there-rests now most p.connection q M N r r2 v
-  visited-rests false now most p q M N r r2 h v = subst (IsAtRest must_wait) (sym v.place) h
+  visited-rests : (b held : Bool) (now most : ℕ) (p q : Place S) (M N : D) (r r2 : Option (List ℕ)) → IsAtRest must_wait p
+      → VisitsIf received sent must_wait is_ended is_broken answers b held now most p q M N r r2 → IsAtRest must_wait q
+  visited-rests true true now most p q M N r r2 h v = subst (IsAtRest must_wait) (sym v.place) (waiting-at-rest must_wait now p h)
+  visited-rests true false now most p q M N r r2 h v = there-rests now most p p.connection q M N r r2 v
+  visited-rests false held now most p q M N r r2 h v = subst (IsAtRest must_wait) (sym v.place) h
 
-  visited-rest : (now most : ℕ) (ps qs : List (Place S)) (M N : D) (r r2 : Option (List ℕ)) → All (IsAtRest must_wait) ps
-      → VisitsAll received sent must_wait is_ended is_broken answers over now most ps qs M N r r2 → All (IsAtRest must_wait) qs
-  visited-rest now most [] [] M N r r2 h v = h
-  visited-rest now most (p ∷ ps) (q ∷ qs) M N r r2 h v = All-cons (IsAtRest must_wait) q qs
-      (visited-rests (p.is_ready && not (over M)) now most p q M v.0 r v.1 (All-head (IsAtRest must_wait) p ps h) v.2)
-      (visited-rest now most ps qs v.0 N v.1 r2 (All-tail (IsAtRest must_wait) p ps h) v.3)
-  visited-rest now most [] (q ∷ qs) M N r r2 h v = absurd v
-  visited-rest now most (p ∷ ps) [] M N r r2 h v = absurd v
+  visited-rest : (crowd : Bool) (now most : ℕ) (ps qs : List (Place S)) (M N : D) (r r2 : Option (List ℕ)) → All (IsAtRest must_wait) ps
+      → VisitsAll received sent must_wait is_ended is_broken answers over crowd now most ps qs M N r r2 → All (IsAtRest must_wait) qs
+  visited-rest crowd now most [] [] M N r r2 h v = h
+  visited-rest crowd now most (p ∷ ps) (q ∷ qs) M N r r2 h v = All-cons (IsAtRest must_wait) q qs
+      (visited-rests (p.is_ready && not (over M)) (is_held_back crowd p) now most p q M v.0 r v.1 (All-head (IsAtRest must_wait) p ps h) v.2)
+      (visited-rest crowd now most ps qs v.0 N v.1 r2 (All-tail (IsAtRest must_wait) p ps h) v.3)
+  visited-rest crowd now most [] (q ∷ qs) M N r r2 h v = absurd v
+  visited-rest crowd now most (p ∷ ps) [] M N r r2 h v = absurd v
 
   pub visits-leave-rest : VisitsLeaveRest received sent must_wait is_ended is_broken answers over
-  visits-leave-rest now most old new M N r r2 h v = visited-rest now most old new M N r r2 h v
+  visits-leave-rest now most old new oldest oldest2 M N r r2 h round = visited-rest (is_crowd old) now most round.looked new M N r r2
+      (looked-rest must_wait (is_crowd old && not (list_any is_read_alone old)) now old round.looked oldest oldest2 round.looks h) round.visits

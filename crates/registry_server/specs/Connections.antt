@@ -1,10 +1,10 @@
 -- An open connection with its socket, and what a visit makes of both.
-use Rattle.std.specs.Prelude.{◌≡◌, ◌≢◌, ◌≤◌, ◌==◌, ◌⊎◌, ◌++◌, [], ℕ, Bool, true, List, Option, None, IsSome, is_some, length, if◌then◌else◌}
+use Rattle.std.specs.Prelude.{◌≡◌, ◌≢◌, ◌≤◌, ◌==◌, ◌⊎◌, ◌++◌, [], ℕ, Bool, true, false, List, Option, None, IsSome, is_some, length, nat_lt, if◌then◌else◌}
 use Rattle.std.specs.Io.KnownBytes.{append_known}
 use Rattle.registry_wire.specs.Spelling.{IsUnfinished}
 use Rattle.registry_service.specs.Turns.{Answering}
 use Rattle.registry_server.specs.ConnectionStates.{IsStarved, MayTakeTurn, Pending, TakesNone, TakesTurn, holding, sending}
-use Rattle.registry_server.specs.Phases.{HeardAt, LookedAt, SentAt, entered, receives, takes_turns}
+use Rattle.registry_server.specs.Phases.{HeardAt, LookedAt, SentAt, begun_anew, entered, receives, takes_turns}
 use Rattle.registry_server.specs.declared.phase.Phase.{Phase}
 use Rattle.registry_server.specs.declared.phase.Stage.{Stage}
 use Rattle.registry_server.specs.declared.phase.Stage.TheVariants.{Idle, Begun, Next, Sends, Drains}
@@ -35,6 +35,25 @@ pub record IsInOrder (stage : Stage) (p : Pending) : Type 0 where
 -- what a connection is at once all is sent
 abbrev pub stage_after : Pending → Stage
 stage_after p = if is_some p.ends then Drains else (if length p.held == 0 then Idle else Next)
+
+-- where more bytes are held of a request that isn't whole, a body is under way
+abbrev pub body_least : ℕ
+body_least = 16_384
+
+abbrev pub has_body_in : Stage → ℕ → Bool
+has_body_in Idle held = false
+has_body_in Begun held = nat_lt body_least held
+has_body_in Next held = false
+has_body_in Sends held = false
+has_body_in Drains held = false
+
+-- a body is under way on a connection
+abbrev pub has_body : {S : Type 0} → OpenConnection S → Bool
+has_body c = has_body_in c.phase.stage (length c.state.held)
+
+-- the same connection, and the time of what it is at begins anew
+abbrev pub waiting : {S : Type 0} → ℕ → OpenConnection S → OpenConnection S
+waiting now c = connected c.socket c.state (begun_anew c.phase now) c.is_over
 
 -- The other side sends no more, or the connection is broken.
 abbrev pub IsLost : {S : Type 0} → (S → Bool) → (S → Bool) → OpenConnection S → Type 0
@@ -90,8 +109,8 @@ Keeps got old over read due =
     ((old.ends ≡ None) × (read ≡ holding old (old.held ++ got)) × (over ≡ true → got ≡ []))
     ⊎ ((read ≡ old) × (IsSome old.ends ⊎ IsStarved old due))
 
--- No more is received than is needed: only where all is sent, and no whole request is held or what
--- comes is dropped.
+-- No more is received than is needed: something only where before the visit all was sent, and no
+-- whole request was held or the connection had ended.
 abbrev pub ReceivesLean : List ℕ → Pending → Type 0
 ReceivesLean got old = (got ≡ []) ⊎ ((old.outgoing ≡ []) × (IsUnfinished old.held ⊎ IsSome old.ends))
 

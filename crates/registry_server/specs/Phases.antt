@@ -61,6 +61,10 @@ entered old stage now =
       spare = if lasts then old.spare else left_at old now;
     }
 
+-- the time of its stage begins anew
+abbrev pub begun_anew : Phase → ℕ → Phase
+begun_anew p now = record { stage = p.stage; until = after (limit_of p.stage p.spare) now; spare = p.spare }
+
 -- so many bytes of a response were taken at this time
 abbrev pub paid : Phase → ℕ → ℕ → Phase
 paid old count now = record {

@@ -4,10 +4,11 @@ ghost use Rattle.std.specs.Prelude.{◌≡◌, ◌≤◌, ◌+◌};
 
 use registry_names::Moment;
 use registry_service::Clock;
+use std::time;
 use std::time::{Instant, SystemTime};
-use std::{io, time};
 
-/// The moment that it is, by the system's clock.
+/// The moment that it is, by the system's clock. Where that can't be read, or is before 1970, the
+/// last reading counts again.
 #[derive(Drop)]
 pub struct WallClock<'a, R: time::Clock> {
     source: &'a R,
@@ -15,7 +16,7 @@ pub struct WallClock<'a, R: time::Clock> {
 }
 
 impl<'a, R: time::Clock> WallClock<'a, R> {
-    /// A clock that was read once.
+    /// A clock that was read once, and this was its reading.
     pub fn new(source: &'a R, last: Moment) -> WallClock<'a, R> {
         WallClock { source, last }
     }
@@ -27,18 +28,20 @@ impl<R: time::Clock> Clock for WallClock<'_, R> {
     ghost readings = { λ _. None };
 
     fn now(&mut self) -> Moment {
-        if let Ok(at) = clamped_moment(self.source) {
+        if let Some(at) = read_moment(self.source) {
             self.last = at;
         }
         self.last
     }
 }
 
-/// The moment that it is. An error comes where the clock can't be read.
-pub fn clamped_moment<R: time::Clock>(source: &R) -> io::Result<Moment> {
-    let since = SystemTime::now(source)?.duration_since(SystemTime::UNIX_EPOCH);
-    let seconds = since.map_or(0, |passed| passed.as_secs());
-    Ok(Moment::clamped(i64::try_from(seconds).unwrap_or(i64::MAX)))
+// The moment that a clock has, the last one there is where it is later. None where the clock can't
+// be read, or is before 1970.
+fn read_moment<R: time::Clock>(source: &R) -> Option<Moment> {
+    let now = SystemTime::now(source).ok()?;
+    let since = now.duration_since(SystemTime::UNIX_EPOCH).ok()?;
+    let seconds = i64::try_from(since.as_secs()).unwrap_or(i64::MAX);
+    Some(Moment::clamped(seconds))
 }
 
 /// The time of a server, in milliseconds. A round counts for as long as it took, and for no more

@@ -3,7 +3,7 @@
 ghost use Rattle.std.specs.Prelude.{◌≡◌, ◌≢◌, [], true, false, IfOk, IsSome, OnOk, OnErr, length};
 ghost use Rattle.registry_wire.specs.Spelling.{IsUnfinished};
 ghost use Rattle.registry_server.specs.ConnectionStates.{Does, MayTakeTurn, fresh};
-ghost use Rattle.registry_server.specs.Connections.{AnswersOnce, Drops, IsLost, Receives, SendsDue, StarvesOnce, Visits, connected, stage_after};
+ghost use Rattle.registry_server.specs.Connections.{AnswersOnce, Drops, IsLost, Receives, SendsDue, StarvesOnce, Visits, connected, has_body, stage_after, waiting};
 ghost use Rattle.registry_server.specs.Phases as phases;
 ghost use Rattle.registry_server.specs.declared.connection.Visit.TheVariants as visits;
 ghost use Rattle.registry_server.specs.declared.phase.Stage.TheVariants as stages;
@@ -16,6 +16,9 @@ use crate::state::{ConnectionState, Progress};
 use registry_service::{Clock, Service};
 use std::alloc::{AllocError, Global};
 use std::marker::Model;
+
+/// Where more bytes are held of a request that isn't whole, a body is under way: a head has no more.
+pub const BODY_LEAST: usize = 16_384;
 
 /// How a visit ended.
 #[derive(Clone, Copy, Debug, PartialEq, Eq)]
@@ -75,6 +78,30 @@ impl<S: Socket> Connection<S> {
         ensures { result ≡ phases.idle_since self.now.phase }
     {
         self.phase.idle_since()
+    }
+
+    /// How many bytes are held.
+    pub fn held_len(&self) -> usize
+        ensures { result ≡ length self.now.state.held }
+    {
+        self.state.held_len()
+    }
+
+    /// Whether a body is under way.
+    pub fn has_body(&self) -> bool
+        ensures { result ≡ has_body self.now }
+    {
+        match self.phase.stage {
+            Stage::Begun => self.held_len() > BODY_LEAST,
+            _ => false,
+        }
+    }
+
+    /// It waits until others are done. The time of what it is at begins anew.
+    pub fn wait(&mut self, now: u64)
+        ensures { self.new ≡ waiting now self.old }
+    {
+        self.phase.begin_anew(now);
     }
 
     /// Goes on with the connection: receives once, answers one request at most, and sends once.

@@ -1,7 +1,7 @@
 //! Laws of connections. Each is the contract of a function that does nothing.
 
 ghost use Rattle.registry_server.specs.Phases.{BytesGive, NeverGiveMore, ResponseTimePasses, StagesGiveNone};
-ghost use Rattle.registry_server.specs.Pools.{EndsLeaveRest, NewConnectionsLeaveRest, NewPoolRests, NewcomersEndIdle, VisitsLeaveRest, WakesLeaveRest};
+ghost use Rattle.registry_server.specs.Pools.{EndsLeaveOne, EndsLeaveRest, NewConnectionsLeaveOne, NewConnectionsLeaveRest, NewPoolReadsOne, NewPoolRests, NewcomersEndIdle, RoundsHoldLittleMore, RoundsReadOne, VisitsLeaveRest, WakesLeaveOne, WakesLeaveRest};
 ghost use Rattle.registry_server.specs.Worlds.{Begins, Comes, Sends, Shuts, Starves, TakesTurns, VisitsLead};
 
 use crate::socket::Socket;
@@ -49,4 +49,17 @@ pub fn newcomers_end_idle_connections<S: Socket, D: Service>()
     ensures late { EndsLeaveRest S.must_wait }
     ensures visits { VisitsLeaveRest S.received S.sent S.must_wait S.is_ended S.is_broken D.answers D.over }
     ensures ended { NewcomersEndIdle S.must_wait }
+{}
+
+/// A crowd holds little more after a round than before it: a connection holds no more bytes than one
+/// read gives beside those that it held, and no more where it is held back. At most one body is the
+/// one that is read of a crowd: so it is in a new pool, and new connections, wakes, ends and rounds
+/// leave it so. So a round in which some are held back makes one body longer, by one read.
+pub fn a_crowd_holds_little_more<S: Socket, D: Service>()
+    ensures begins { NewPoolReadsOne S }
+    ensures comes { NewConnectionsLeaveOne S }
+    ensures wakes { WakesLeaveOne S }
+    ensures late { EndsLeaveOne S }
+    ensures one { RoundsReadOne S.received S.sent S.must_wait S.is_ended S.is_broken D.answers D.over }
+    ensures few { RoundsHoldLittleMore S.received S.sent S.must_wait S.is_ended S.is_broken D.answers D.over }
 {}

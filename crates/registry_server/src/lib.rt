@@ -22,13 +22,13 @@ mod server;
 mod socket;
 mod state;
 
-pub use crate::connection::{Connection, Visit};
+pub use crate::connection::{BODY_LEAST, Connection, Visit};
 pub use crate::listener::UNCOUNTED;
 pub use crate::outgoing::Outgoing;
 pub use crate::phase::{
     DRAIN_LIMIT, IDLE_LIMIT, LEAST_RATE, Phase, REQUEST_TIME_LIMIT, RESPONSE_LIMIT, Stage,
 };
-pub use crate::pool::CONNECTION_COUNT;
+pub use crate::pool::{CONNECTION_COUNT, HELD_LIMIT};
 pub use crate::server::{Ended, Server};
 pub use crate::socket::{Flow, Socket};
 pub use crate::state::{ConnectionState, Progress};

@@ -2,7 +2,7 @@
 
 ghost use Rattle.std.specs.Prelude.{◌≡◌};
 ghost use Rattle.registry_server.specs.Phases as spec;
-ghost use Rattle.registry_server.specs.Phases.{entered, first_phase, left_at, limit_of, paid};
+ghost use Rattle.registry_server.specs.Phases.{begun_anew, entered, first_phase, left_at, limit_of, paid};
 
 /// A connection with nothing begun ends after so many milliseconds.
 pub const IDLE_LIMIT: u64 = 60_000;
@@ -111,6 +111,13 @@ impl Phase {
         let more = self.until.saturating_add((count / LEAST_RATE) as u64);
         let most = now.saturating_add(RESPONSE_LIMIT);
         self.until = self.until.max(more.min(most));
+    }
+
+    /// The time of the stage begins anew.
+    pub fn begin_anew(&mut self, now: u64)
+        ensures { self.new ≡ begun_anew self.old now }
+    {
+        self.until = now.saturating_add(self.stage.limit(self.spare));
     }
 
     /// Whether its time is up.

@@ -3,11 +3,12 @@
 ghost use Rattle.std.specs.Prelude.{◌≡◌, ◌≤◌, IfOk};
 ghost use Rattle.registry_server.specs.Pools as spec;
 
-use crate::clocks::{Timer, WallClock, clamped_moment};
+use crate::clocks::{Timer, WallClock};
 use crate::listener::Listener;
 use crate::pool::{CONNECTION_COUNT, ConnectionPool};
 use mio::net::TcpStream;
 use mio::{Events, Interest, Poll, Token};
+use registry_names::Moment;
 use registry_service::Service;
 use std::alloc::Global;
 use std::net::Net;
@@ -70,19 +71,20 @@ impl Server {
 
     /// Serves with a service until the last connection has come in and all have ended, if they are
     /// counted, or until the service is over. After the visit in which it is over no connection is
-    /// visited, and all of them end. An error comes where a clock can't be read at first, or the
-    /// system can't be asked what is ready.
+    /// visited, and all of them end. The clock was read before, and said that it is `at`: this is the
+    /// moment of requests where it can't be read, or is before 1970, until it was read again. An
+    /// error comes where the time of the server can't be read at first, or the system can't be asked
+    /// what is ready.
     pub fn run<R: time::Clock, D: Service>(
         mut self,
         rt: &R,
         alloc: Global,
+        at: Moment,
         service: &mut D,
     ) -> io::Result<Ended>
         ensures { IfOk result (λ ended. ended ≡ spec.why_ended (D.over service.new)) }
     {
-        let start = Instant::now(rt)?;
-        let at = clamped_moment(rt)?;
-        let mut timer = Timer::new(rt, start);
+        let mut timer = Timer::new(rt, Instant::now(rt)?);
         let mut clock = WallClock::new(rt, at);
         let mut events = Events::with_capacity(alloc, EVENT_COUNT)?;
         let mut buffer = [0; BUFFER_LEN];

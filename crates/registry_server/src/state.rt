@@ -1,6 +1,7 @@
 //! One connection, apart from its socket.
 
 ghost use Rattle.std.specs.Prelude.{◌≡◌, ◌≤◌, ◌-◌, ◌==◌, ◌++◌, ◌∷◌, ◌↔◌, [], ℕ, length, drop, IfOk, IsTrue, OnOk, OnErr};
+ghost use Rattle.registry_wire.specs.Spelling.{EndsWith, IsUnfinished, Says};
 ghost use Rattle.registry_service.specs.Courses.{Gave};
 ghost use Rattle.registry_service.specs.Servings.{bytes_of};
 ghost use Rattle.registry_service.specs.Turns.{Turns, request};
@@ -8,21 +9,19 @@ ghost use Rattle.registry_server.specs.declared.state.Progress.TheVariants.{Answ
 ghost use Rattle.registry_server.specs.ConnectionStates.{Does, IsStarved, MayTakeTurn, fresh, holding, pending, sending};
 
 use crate::outgoing::Outgoing;
+use registry_names::Fault;
 use registry_service::{
     Clock, End, REQUESTS_PER_CONNECTION, Service, Turned, turn, turn_away, turn_starved,
 };
-use registry_wire::{Ending, First, Wanted, ending_of, first_in};
+use registry_wire::{Ending, First, Incoming, Wanted, ending_of};
 use std::alloc::{AllocError, Global};
 use std::marker::Model;
-
-/// A buffer of more bytes is given back once no more than these are held in it.
-const KEPT_LIMIT: usize = 16_384;
 
 /// What came on a connection and isn't used yet, what isn't sent of a response, how many requests
 /// it may still have, and how it ends once all is sent, if it does.
 #[derive(Drop)]
 pub struct ConnectionState {
-    held: Vec<u8>,
+    held: Incoming,
     outgoing: Outgoing,
     left: u32,
     ends: Option<End>,
@@ -33,7 +32,7 @@ impl Model for ConnectionState {
 
     ghost Value = { Pending };
 
-    ghost view = { λ l. pending l.held.items l.outgoing l.left l.ends };
+    ghost view = { λ l. pending l.held l.outgoing l.left l.ends };
 }
 
 /// What a turn did.
@@ -53,7 +52,7 @@ impl ConnectionState {
         ensures { result ≡ fresh }
     {
         ConnectionState {
-            held: Vec::new(alloc),
+            held: Incoming::new(alloc),
             outgoing: Outgoing::none(),
             left: REQUESTS_PER_CONNECTION,
             ends: None,
@@ -81,6 +80,13 @@ impl ConnectionState {
         &self.outgoing
     }
 
+    /// How many bytes are held.
+    pub fn held_len(&self) -> usize
+        ensures { result ≡ length self.now.held }
+    {
+        self.held.as_slice().len()
+    }
+
     /// Whether a turn may be taken: all of the response before is sent, and the connection goes on.
     pub fn may_take_turn(&self) -> bool
         ensures { IsTrue result ↔ MayTakeTurn self.now }
@@ -93,7 +99,7 @@ impl ConnectionState {
         ensures ok { OnOk result (self.new ≡ holding self.old (self.old.held ++ bytes.now)) }
         ensures err { OnErr result (self.new ≡ self.old) }
     {
-        self.held.extend_from_slice(bytes)
+        self.held.came(bytes)
     }
 
     /// So many bytes of the response were sent.
@@ -121,7 +127,7 @@ impl ConnectionState {
         ensures { Does D.answers self.old self.new service.old service.new
             (C.readings clock.old) (C.readings clock.new) is_over result }
     {
-        match first_in(alloc, &self.held) {
+        match self.first(alloc) {
             Ok(First::Whole(wanted, used)) => {
                 self.drop_first(alloc, used);
                 let turned = self.answered(alloc, service, clock, &wanted);
@@ -129,7 +135,7 @@ impl ConnectionState {
             }
             Ok(First::Bad(refusal)) => self.put(turn_away(refusal)),
             Ok(First::Unfinished) if !is_over => Progress::Waits,
-            Ok(First::Unfinished) => match ending_of(&self.held) {
+            Ok(First::Unfinished) => match self.ending() {
                 Ending::Closed => Progress::Closed,
                 Ending::BadInput(refusal) => self.put(turn_away(refusal)),
             },
@@ -142,6 +148,21 @@ impl ConnectionState {
         ensures { IsStarved self.old self.new }
     {
         let _answered = self.put(turn_starved());
+    }
+
+    // What the bytes that are held say of the first request.
+    fn first(&mut self, alloc: Global) -> Result<First, Fault>
+        ensures says { IfOk result (Says self.old.held) }
+        ensures stays { self.new ≡ self.old }
+    {
+        self.held.first(alloc)
+    }
+
+    // How the connection ends where no more bytes come.
+    fn ending(&self) -> Ending
+        ensures { IsUnfinished self.now.held → EndsWith self.now.held result }
+    {
+        ending_of(self.held.as_slice())
     }
 
     // The turn of a whole request. It is one of those that the connection may have.
@@ -179,28 +200,6 @@ impl ConnectionState {
         requires { used ≤ length self.old.held }
         ensures { self.new ≡ holding self.old (drop used self.old.held) }
     {
-        self.held.drain(..used);
-        let is_grown = self.held.capacity() > KEPT_LIMIT;
-        if is_grown && self.held.len() <= KEPT_LIMIT {
-            shrink(alloc, &mut self.held);
-        }
+        self.held.drop_first(alloc, used);
     }
-}
-
-// Moves bytes to a buffer of their own size, where there is memory for one.
-fn shrink(alloc: Global, bytes: &mut Vec<u8>)
-    ensures { bytes.new.items ≡ bytes.old.items }
-{
-    if let Ok(small) = copied(alloc, bytes) {
-        *bytes = small;
-    }
-}
-
-// The same bytes, in no more memory than they need.
-fn copied(alloc: Global, bytes: &[u8]) -> Result<Vec<u8>, AllocError>
-    ensures { IfOk result (λ small. small.items ≡ bytes.now) }
-{
-    let mut small = Vec::with_capacity(alloc, bytes.len())?;
-    small.extend_from_slice(bytes)?;
-    Ok(small)
 }
