@@ -1,4 +1,5 @@
 pub mod HidingFacts
+pub mod LookFacts
 pub mod RunningFacts
 pub mod UnseenFacts
 pub mod AloneFacts

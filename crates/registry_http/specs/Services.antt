@@ -1,6 +1,12 @@
 -- A registry as the service that connections ask, and the run that turns come to.
-use Rattle.std.specs.Prelude.{◌≡◌, ◌⊎◌, ◌++◌, ◌∷◌, [], ℕ, List, map, Ok, Err}
-use Rattle.sqlite.specs.State.{State as Shown}
+use Rattle.std.specs.Prelude.{◌≡◌, ◌⊎◌, ◌++◌, ◌∷◌, [], ℕ, Bool, false, true, IfErr, List, map, Ok, Err, refl}
+use Rattle.std.specs.Coded.{Coded, code_by, coded×, coded_bool}
+use Rattle.sqlite.specs.Held.{Held, held_code, state}
+use Rattle.sqlite.specs.State.{State as Shown, HasCleanDisk}
+use Rattle.sqlite_trees.specs.declared.store.Store.{Ghosts}
+use Rattle.sqlite_disk.specs.Disk.{MoreFaults}
+use Rattle.registry_names.specs.declared.stop.Fault.{Fault}
+use Rattle.registry_names.specs.declared.stop.Fault.TheVariants.{Database}
 use Rattle.registry_names.specs.declared.stop.Stop.{Stop}
 use Rattle.registry_rules.specs.declared.request.Request.{Request}
 use Rattle.registry_tables.specs.Archives.{HoldsArchives}
@@ -30,6 +36,38 @@ pub record Applies (old new : Shown) (r : Request) (o : Outcome) : Type 0 where
   pub form : KeepsForm old new r
   pub survives : SurvivesOne old new r
   pub stays : StaysSure new
+
+-- ---- a registry that is served
+
+-- the connection of a registry, and whether the service is over
+pub record Serving (S : Type 0) : Type 0 where
+  pub registry : Held S
+  pub is_over : Bool
+
+abbrev pub serving_code : {S : Type 0} → Coded S → Coded (Serving S)
+serving_code {S} store = code_by (Held S × Bool) (coded× (held_code store) coded_bool) (λ s. (s.registry, s.is_over)) (λ p. record { registry = p.0; is_over = p.1 }) (λ _. refl)
+
+-- what the registry of a service shows
+abbrev pub shown : {S : Type 0} → Ghosts S → Serving S → Shown
+shown store s = state store s.registry
+
+-- the fault of the tables, met in a registry that the disk has shut, ends its service
+abbrev pub EndsShut : Shown → Bool → Fault → Type 0
+EndsShut new is_over fault = HasCleanDisk new → fault ≡ Database → new.is_open ≡ false → is_over ≡ true
+
+-- Only that fault does, where the registry is shut, or the disk failed in this turn
+abbrev pub EndsBy : Shown → Shown → Bool → Bool → Fault → Type 0
+EndsBy old new was_over is_over fault = is_over ≡ true → (was_over ≡ true) ⊎ ((fault ≡ Database) × (HasCleanDisk new → (new.is_open ≡ false) ⊎ MoreFaults old.faults new.faults))
+
+module _ {S : Type 0} (store : Ghosts S) where
+  -- the service is over once its registry was seen to be shut
+  abbrev pub EndsIfShut : Serving S → Outcome → Type 0
+  EndsIfShut new o = IfErr o (EndsShut (shown store new) new.is_over)
+
+  -- no reply ends it, and no want of memory
+  abbrev pub EndsByFault : Serving S → Serving S → Outcome → Type 0
+  EndsByFault old new (Ok reply) = new.is_over ≡ old.is_over
+  EndsByFault old new (Err fault) = EndsBy (shown store old) (shown store new) old.is_over new.is_over fault
 
 -- ---- the requests of turns
 

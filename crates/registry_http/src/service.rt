@@ -2,7 +2,9 @@
 
 ghost use Rattle.std.specs.Prelude.{◌≡◌, false};
 ghost use Rattle.sqlite.specs.Held.{state};
-ghost use Rattle.registry_http.specs.Services.{applied};
+ghost use Rattle.sqlite.specs.State.{Survives};
+ghost use Rattle.registry_desk.specs.Promises.{KeepsStored, WasOpen};
+ghost use Rattle.registry_http.specs.Services.{Applies, EndsBy, EndsByFault, EndsIfShut, EndsShut, applied, shown};
 
 use registry_desk::Registry;
 use registry_names::Fault;
@@ -12,57 +14,113 @@ use sqlite::Alter;
 use std::alloc::Global;
 use std::marker::Model;
 
-/// A registry that is asked over HTTP. Contracts see its connection to the tables.
+/// A registry that is asked over HTTP, until a fault of the disk has shut it: then the service is
+/// over. Contracts see its connection to the tables, and whether it is over.
 pub struct RegistryService<S: Alter> {
     registry: Registry<S>,
+    is_over: bool,
 }
 
 // Written out, so that to drop a service is one call and not one for each part.
 impl<S: Alter + Drop> Drop for RegistryService<S> {
     fn drop(self) {
-        let RegistryService { registry: _ } = self;
+        let RegistryService {
+            registry: _,
+            is_over: _,
+        } = self;
     }
 }
 
 impl<S: Alter> Model for RegistryService<S> {
-    ghost use Rattle.sqlite.specs.Held.{Held, held_code};
+    ghost use Rattle.registry_http.specs.Services.{Serving, serving_code};
 
-    ghost Value = { Held S };
+    ghost Value = { Serving S };
 
-    ghost coded = { held_code S.code };
+    ghost coded = { serving_code S.code };
 
-    ghost view = { λ service. service.registry };
+    ghost view = { λ s. record { registry = s.registry; is_over = s.is_over } };
 }
 
 impl<S: Alter> RegistryService<S> {
-    /// A registry as a service. It takes no memory.
+    /// A registry as a service, which isn't over. It takes no memory.
     pub fn new(registry: Registry<S>) -> RegistryService<S>
-        ensures { result ≡ registry }
+        ensures { result ≡ record { registry = registry; is_over = false } }
     {
-        RegistryService { registry }
+        RegistryService {
+            registry,
+            is_over: false,
+        }
     }
 
     /// The registry itself. It takes no memory.
     pub fn into_registry(self) -> Registry<S>
-        ensures { result ≡ self }
+        ensures { result ≡ self.registry }
     {
-        let RegistryService { registry } = self;
+        let RegistryService {
+            registry,
+            is_over: _,
+        } = self;
         registry
     }
 }
 
 impl<S: Alter> Service for RegistryService<S> {
-    ghost answers = { applied (state S.Store) };
+    ghost answers = { applied (shown S.Store) };
 
-    ghost over = { λ _. false };
+    ghost over = { λ s. s.is_over };
 
-    /// Answers one request in one transaction, as `Registry::apply` does.
-    fn answer(&mut self, alloc: Global, request: &Request) -> Result<Reply, Fault> {
-        self.registry.apply(alloc, request)
+    /// Answers one request in one transaction, as `Registry::apply` does. After the fault
+    /// `Database` it looks whether the registry is still open: the service is over where it isn't,
+    /// and where the disk fails at the look, too. If there is no memory to look, `Memory` is
+    /// answered, and the service goes on.
+    fn answer(&mut self, alloc: Global, request: &Request) -> Result<Reply, Fault>
+        ensures answers { applied (shown S.Store) self.old request.now result self.new }
+        ensures shut { EndsIfShut S.Store self.new result }
+        ensures ends { EndsByFault S.Store self.old self.new result }
+    {
+        match asked(alloc, &mut self.registry, request) {
+            Ok(reply) => Ok(reply),
+            Err(Fault::Memory) => Err(Fault::Memory),
+            Err(Fault::Database) => Err(look(&mut self.registry, &mut self.is_over)),
+        }
     }
 
-    /// A registry is never over.
     fn is_over(&self) -> bool {
-        false
+        self.is_over
+    }
+}
+
+// The outcome of a request, with all that is promised of it.
+fn asked<S: Alter>(
+    alloc: Global,
+    registry: &mut Registry<S>,
+    request: &Request,
+) -> Result<Reply, Fault>
+    ensures { Applies (state S.Store registry.old) (state S.Store registry.new)
+        request.now result }
+{
+    registry.apply(alloc, request)
+}
+
+// Looks whether a registry that has answered `Database` is still open, and gives the fault to
+// answer. A service is over unless that is seen.
+fn look<S: Alter>(registry: &mut Registry<S>, is_over: &mut bool) -> Fault
+    ensures opened { WasOpen (state S.Store registry.old) (state S.Store registry.new) }
+    ensures stored { KeepsStored (state S.Store registry.old) (state S.Store registry.new) }
+    ensures survives { Survives (state S.Store registry.old) (state S.Store registry.new) (λ _. ⊥) }
+    ensures shut { EndsShut (state S.Store registry.new) is_over.new result }
+    ensures ends { EndsBy (state S.Store registry.old) (state S.Store registry.new)
+        is_over.old is_over.new result }
+{
+    match registry.is_open() {
+        Ok(seen) => {
+            *is_over = !seen;
+            Fault::Database
+        }
+        Err(Fault::Database) => {
+            *is_over = true;
+            Fault::Database
+        }
+        Err(Fault::Memory) => Fault::Memory,
     }
 }

@@ -26,6 +26,8 @@ pub enum Failure {
     Registry(Fault),
     /// The registry's file, which can't be opened.
     Opening(Obstacle),
+    /// The disk of the registry's file, which is shut for it.
+    Shut,
     /// Standard input, the machine's clock, or the port where connections are to come in.
     Read,
     /// A file that the arguments name.
@@ -45,6 +47,8 @@ pub enum Obstacle {
     Full,
     /// It holds no registry that can be read.
     Foreign,
+    /// A newer program wrote it: the number of its schema is above ours.
+    Newer,
 }
 
 impl From<Fault> for Ending {

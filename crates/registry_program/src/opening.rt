@@ -1,8 +1,9 @@
 //! Opening the file that keeps the registry, and letting go of it.
 
 use crate::ending::{Ending, Failure, Obstacle};
-use registry_desk::Registry;
+use registry_desk::{Registry, SCHEMA};
 use registry_names::Fault;
+use sqlite::types::ValueRef;
 use sqlite::{Alter, Connection, Error, ErrorCode, File, FileStore};
 use sqlite_disk::Disk;
 
@@ -29,8 +30,8 @@ fn close<D: Disk + Drop>(conn: Connection<FileStore<D>>) {
 // Why the file at the path wasn't opened: it is tried once more, as any database.
 fn obstacle(rt: &HostRuntime, path: &str) -> Obstacle {
     match Connection::open_with_sums(rt, path) {
-        Ok(conn) => {
-            let obstacle = obstacle_in(&conn);
+        Ok(mut conn) => {
+            let obstacle = obstacle_in(&mut conn);
             close(conn);
             obstacle
         }
@@ -40,11 +41,24 @@ fn obstacle(rt: &HostRuntime, path: &str) -> Obstacle {
 
 // What keeps an open database from being a registry. One that has no tables yet is a registry's
 // that couldn't be written.
-fn obstacle_in<S: Alter>(conn: &Connection<S>) -> Obstacle {
+fn obstacle_in<S: Alter>(conn: &mut Connection<S>) -> Obstacle {
     if conn.schema().tables.is_empty() {
         Obstacle::Unreachable
+    } else if is_newer(conn) {
+        Obstacle::Newer
     } else {
         Obstacle::Foreign
+    }
+}
+
+// Whether the tables have the number of a schema that only a newer program makes.
+fn is_newer<S: Alter>(conn: &mut Connection<S>) -> bool {
+    let Ok(row) = conn.query_row("SELECT value FROM meta WHERE name = 'schema'", &[]) else {
+        return false;
+    };
+    match row.get_ref(0) {
+        Ok(ValueRef::Int(number)) => number > i64::from(SCHEMA),
+        _ => false,
     }
 }
 

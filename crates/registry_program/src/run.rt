@@ -10,6 +10,9 @@ use std::alloc::Global;
 /// One byte more than a body may have: enough to see that it is too large.
 pub(crate) const MOST_READ: usize = BODY_LIMIT + 1;
 
+/// What is said where the disk has failed under a server.
+const SHUT: &str = "the disk failed while the registry was served";
+
 /// Runs the program on the arguments after its name, and answers its exit status.
 ///
 /// Without arguments it reads a publish body from the input. The user `first` publishes it at
@@ -23,7 +26,7 @@ pub(crate) const MOST_READ: usize = BODY_LIMIT + 1;
 /// - 1: `refused: ` and the refusal;
 /// - 2: what is wrong with the arguments, or the help that they ask for;
 /// - 3: `fault: ` and what failed, with a second line that gives the reason where the registry's
-///   file can't be opened.
+///   file can't be opened, or its disk fails while it is served.
 pub fn program<I: ByteIn, O: ByteOut, E: ByteOut>(
     rt: &HostRuntime,
     alloc: Global,
@@ -66,8 +69,8 @@ pub fn report<E: ByteOut>(errors: &mut E, ending: &Ending) -> u8 {
         Ending::Fault(failure) => (3, "fault: ", failure_text(*failure)),
     };
     print_line(errors, front, text);
-    if let Ending::Fault(Failure::Opening(obstacle)) = ending {
-        print_line(errors, "", obstacle_text(*obstacle));
+    if let Some(reason) = reason(ending) {
+        print_line(errors, "", reason);
     }
     status
 }
@@ -83,10 +86,19 @@ fn print_line<E: ByteOut>(errors: &mut E, front: &str, text: &str) {
 fn failure_text(failure: Failure) -> &'static str {
     match failure {
         Failure::Registry(fault) => fault.text(),
-        Failure::Opening(_) => Fault::Database.text(),
+        Failure::Opening(_) | Failure::Shut => Fault::Database.text(),
         Failure::Read => "Read",
         Failure::File => "File",
         Failure::Write => "Write",
+    }
+}
+
+// What the second line says, where there is one.
+fn reason(ending: &Ending) -> Option<&'static str> {
+    match ending {
+        Ending::Fault(Failure::Opening(obstacle)) => Some(obstacle_text(*obstacle)),
+        Ending::Fault(Failure::Shut) => Some(SHUT),
+        _ => None,
     }
 }
 
@@ -96,6 +108,7 @@ fn obstacle_text(obstacle: Obstacle) -> &'static str {
         Obstacle::Unreachable => "the registry's file can't be opened or written",
         Obstacle::Full => "the disk is full",
         Obstacle::Foreign => "the file holds no registry, or was changed by another hand",
+        Obstacle::Newer => "a newer program wrote the registry's file",
     }
 }
 

@@ -7,7 +7,7 @@ use registry_cli::Line;
 use registry_desk::Registry;
 use registry_http::RegistryService;
 use registry_names::{ByteOut, Text, write_whole};
-use registry_server::Server;
+use registry_server::{Ended, Server};
 use sqlite::{Alter, FileStore};
 use sqlite_disk::Disk;
 use std::alloc::Global;
@@ -37,7 +37,7 @@ impl Entrance {
 /// Serves the registry in the line's file to as many connections as it says, and answers the exit
 /// status, 0, once all have ended; the errors then say why it ends. The greatest number is that of
 /// no count: then it serves all that come. Where it listens is printed on the output before the
-/// first one is accepted.
+/// first one is accepted. A registry that a fault of its disk has shut is a fault.
 pub fn serve<O: ByteOut, E: ByteOut>(
     rt: &HostRuntime,
     alloc: Global,
@@ -48,24 +48,11 @@ pub fn serve<O: ByteOut, E: ByteOut>(
     let Some(entrance) = Entrance::of(line.what.as_slice()) else {
         return Err(Ending::Wrong(NO_NUMBER));
     };
-    match open(rt, line.db.as_str()) {
-        Ok(registry) => serve_counted(rt, alloc, entrance, registry, output, errors),
-        Err(ending) => Err(ending),
-    }
-}
-
-// Serves a registry, and says why it ends once it does.
-fn serve_counted<D: Disk + Drop, O: ByteOut, E: ByteOut>(
-    rt: &HostRuntime,
-    alloc: Global,
-    entrance: Entrance,
-    registry: Registry<FileStore<D>>,
-    output: &mut O,
-    errors: &mut E,
-) -> Result<u8, Ending> {
-    let status = serve_registry(rt, alloc, entrance, registry, output)?;
-    let _ = write_whole(errors, ENOUGH.as_bytes());
-    Ok(status)
+    let ended = match open(rt, line.db.as_str()) {
+        Ok(registry) => serve_registry(rt, alloc, entrance, registry, output)?,
+        Err(ending) => return Err(ending),
+    };
+    end(ended, errors)
 }
 
 // Serves a registry, and lets go of it.
@@ -75,28 +62,39 @@ fn serve_registry<D: Disk + Drop, O: ByteOut>(
     entrance: Entrance,
     registry: Registry<FileStore<D>>,
     output: &mut O,
-) -> Result<u8, Ending> {
+) -> Result<Ended, Ending> {
     let mut service = RegistryService::new(registry);
-    let status = serve_at(rt, alloc, entrance, &mut service, output);
+    let ended = serve_at(rt, alloc, entrance, &mut service, output);
     let_go(service.into_registry());
-    status
+    ended
 }
 
-// Serves with the service. The clock is read before anything is printed.
+// Serves with the service, from the moment on that it is now. The clock is read before anything is
+// printed.
 fn serve_at<S: Alter, O: ByteOut>(
     rt: &HostRuntime,
     alloc: Global,
     entrance: Entrance,
     service: &mut RegistryService<S>,
     output: &mut O,
-) -> Result<u8, Ending> {
-    if read_moment(rt).is_none() {
+) -> Result<Ended, Ending> {
+    let Some(at) = read_moment(rt) else {
         return Err(Ending::Fault(Failure::Read));
-    }
+    };
     let server = Server::bind(rt, alloc, entrance.port, entrance.connections)?;
     announce(alloc, &server, output)?;
-    server.run(rt, alloc, service)?;
-    Ok(0)
+    Ok(server.run(rt, alloc, at, service)?)
+}
+
+// What a server that ended so leaves: the exit status, or the fault of its disk.
+fn end<E: ByteOut>(ended: Ended, errors: &mut E) -> Result<u8, Ending> {
+    match ended {
+        Ended::Enough => {
+            let _ = write_whole(errors, ENOUGH.as_bytes());
+            Ok(0)
+        }
+        Ended::ServiceOver => Err(Ending::Fault(Failure::Shut)),
+    }
 }
 
 // Prints where the server listens.

@@ -1,9 +1,9 @@
-use Rattle.sqlite.specs.Held.{state}
+use Rattle.registry_http.specs.Services.{shown}
 use Rattle.registry_http.proofs.RunningFacts.{log-run, turns-run}
 use Rattle.registry_http.proofs.laws.turns_are_one_run.Goals as goal
 
 pub returns-clause-connection : goal.returns-clause-connection
-returns-clause-connection g c = turns-run (state g.S.Store)
+returns-clause-connection g c = turns-run (shown g.S.Store)
 
 pub returns-clause-all : goal.returns-clause-all
-returns-clause-all g c = log-run (state g.S.Store)
+returns-clause-all g c = log-run (shown g.S.Store)

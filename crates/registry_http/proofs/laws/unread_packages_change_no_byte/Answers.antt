@@ -1,6 +1,6 @@
-use Rattle.sqlite.specs.Held.{state}
+use Rattle.registry_http.specs.Services.{shown}
 use Rattle.registry_http.proofs.UnseenFacts.{strangers-answered_the_same}
 use Rattle.registry_http.proofs.laws.unread_packages_change_no_byte.Goals as goal
 
 pub returns : goal.returns
-returns g c = strangers-answered_the_same (state g.S.Store)
+returns g c = strangers-answered_the_same (shown g.S.Store)

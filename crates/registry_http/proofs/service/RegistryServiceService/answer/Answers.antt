@@ -1,23 +1,17 @@
-use Rattle.std.proofs.Common.{subst}
+use Rattle.std.proofs.Common.{Err, subst}
 use Rattle.sqlite.specs.Held.{state}
-use Rattle.registry_http.specs.Services.{Applies}
+use Rattle.registry_http.specs.Services.{Applies, EndsBy, shown}
+use Rattle.registry_http.proofs.LookFacts.{ends-later, looked-applies}
 use Rattle.registry_http.proofs.service.RegistryServiceService.answer.Goals as goal
 
-pub returns : goal.returns
-returns g c = subst (λ was. Applies (state g.S.Store was) (state g.S.Store c.apply.new.self) c.args.request.now c.apply.result) c.self.view_is (record {
-  answer = c.apply.ensures.answer;
-  served = c.apply.ensures.served;
-  opened = c.apply.ensures.opened;
-  unchanged = c.apply.ensures.unchanged;
-  step = c.apply.ensures.step;
-  moves = c.apply.ensures.moves;
-  history = c.apply.ensures.history;
-  hidden = c.apply.ensures.hidden;
-  grants = c.apply.ensures.grants;
-  needs = c.apply.ensures.needs;
-  refers = c.apply.ensures.refers;
-  archives = c.apply.ensures.archives;
-  form = c.apply.ensures.form;
-  survives = c.apply.ensures.survives;
-  stays = c.apply.ensures.stays;
-})
+pub returns-in-Err-Database-clause-answers : goal.returns-in-Err-Database-clause-answers
+returns-in-Err-Database-clause-answers g c =
+    let new = state g.S.Store c.look.new.registry in
+    subst (λ was. Applies (shown g.S.Store was) new c.args.request.now (Err c.look.result)) c.self.view_is
+    (looked-applies _ (state g.S.Store c.asked.new.registry) new c.args.request.now _ c.look.result c.look.ensures.opened c.look.ensures.stored c.look.ensures.survives c.in-Err-Database.ensures)
+
+pub returns-in-Err-Database-clause-ends : goal.returns-in-Err-Database-clause-ends
+returns-in-Err-Database-clause-ends g c =
+    let new = state g.S.Store c.look.new.registry in
+    subst (λ was. EndsBy (shown g.S.Store was) new was.is_over c.look.new.is_over c.look.result) c.self.view_is
+    (ends-later (state g.S.Store c.self.inside.registry) (state g.S.Store c.asked.new.registry) new c.self.inside.is_over c.look.new.is_over c.look.result c.asked.ensures.survives.counts c.look.ensures.ends)
