@@ -5,7 +5,7 @@ ghost use Rattle.std.specs.Prelude.{nat_lt};
 use crate::outcome::same;
 use crate::parts::as_text;
 use crate::talk::connections::{CONNECTIONS, CUT_OUT, Case, FixedTags, Steps, TAGS, TAGS_OUT};
-use registry_names::Fault;
+use registry_names::{Fault, Moment};
 use registry_rules::{Reply, Request};
 use registry_server::{ConnectionState, Ended, Progress, Server};
 use registry_service::{End, Service};
@@ -107,7 +107,9 @@ fn a_server_answers_over_loopback(rt: HostRuntime) {
     let mut service = FixedTags {
         asked: Vec::new(alloc),
     };
-    let ended = server.run(&rt, alloc, &mut service).expect(&rt, "a run");
+    let ended = server
+        .run(&rt, alloc, Moment::clamped(0), &mut service)
+        .expect(&rt, "a run");
     same(&rt, "why it ended", &ended, &Ended::Enough);
     hears(&rt, alloc, "whole", &mut whole, TAGS_OUT);
     hears(&rt, alloc, "cut", &mut cut, CUT_OUT);
@@ -146,7 +148,9 @@ fn a_server_ends_once_its_service_is_over(rt: HostRuntime) {
     let mut first = client(&rt, port, TAGS);
     let _second = client(&rt, port, TAGS);
     let mut service = Failing { asked: 0 };
-    let ended = server.run(&rt, alloc, &mut service).expect(&rt, "a run");
+    let ended = server
+        .run(&rt, alloc, Moment::clamped(0), &mut service)
+        .expect(&rt, "a run");
     same(&rt, "why it ended", &ended, &Ended::ServiceOver);
     same(&rt, "what was asked", &service.asked, &1);
     hears(&rt, alloc, "first", &mut first, FAULT_OUT);

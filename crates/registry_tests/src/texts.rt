@@ -12,9 +12,11 @@ enum Step {
     Get(&'static str, Option<&'static str>),
     Peek(&'static str, Option<&'static str>),
     Forget(&'static str),
+    /// How many bytes the text has that alone has more than the limit.
+    LargeSize(usize),
 }
 
-/// A step, and the number of bytes that are kept after it.
+/// A step, and the number of bytes that are kept after it, without such a text.
 type Stage = (Step, usize);
 
 /// What is asked of a store that keeps nothing yet. Texts show how long they are: each has its name
@@ -41,13 +43,14 @@ static LIMITS: [Case; 4] = [
         ],
     },
     Case {
-        shows: "a text of a byte more isn't kept, and no other goes",
+        shows: "a text of a byte more is kept apart, and no other goes",
         limit: 10,
         stages: &[
             (Step::Put("a", "a234"), 4),
             (Step::Put("b", "b2345678901"), 4),
-            (Step::Get("b", None), 4),
+            (Step::Get("b", Some("b2345678901")), 4),
             (Step::Peek("a", Some("a234")), 4),
+            (Step::LargeSize(11), 4),
         ],
     },
     Case {
@@ -57,17 +60,20 @@ static LIMITS: [Case; 4] = [
             (Step::Put("a", "a234"), 4),
             (Step::Put("b", "b2345"), 9),
             (Step::Put("a", "a2345678901"), 5),
-            (Step::Get("a", None), 5),
+            (Step::Get("a", Some("a2345678901")), 5),
+            (Step::LargeSize(11), 5),
         ],
     },
     Case {
-        shows: "under a limit of 0 an empty text alone is kept",
+        shows: "under a limit of 0 each text but an empty one is kept apart",
         limit: 0,
         stages: &[
             (Step::Put("a", ""), 0),
             (Step::Get("a", Some("")), 0),
+            (Step::LargeSize(0), 0),
             (Step::Put("a", "a"), 0),
-            (Step::Get("a", None), 0),
+            (Step::Get("a", Some("a")), 0),
+            (Step::LargeSize(1), 0),
         ],
     },
 ];
@@ -187,6 +193,80 @@ static ORDER: [Case; 5] = [
     },
 ];
 
+// A text that alone has more bytes than the limit.
+static LARGE: [Case; 6] = [
+    Case {
+        shows: "it takes the place of the one before",
+        limit: 4,
+        stages: &[
+            (Step::Put("a", "a2345"), 0),
+            (Step::LargeSize(5), 0),
+            (Step::Put("b", "b23456"), 0),
+            (Step::LargeSize(6), 0),
+            (Step::Get("a", None), 0),
+            (Step::Get("b", Some("b23456")), 0),
+        ],
+    },
+    Case {
+        shows: "others come and go beside it",
+        limit: 4,
+        stages: &[
+            (Step::Put("a", "a2345"), 0),
+            (Step::Put("b", "b23"), 3),
+            (Step::Put("c", "c2"), 2),
+            (Step::Peek("b", None), 2),
+            (Step::Peek("a", Some("a2345")), 2),
+            (Step::LargeSize(5), 2),
+        ],
+    },
+    Case {
+        shows: "who asks for it leaves the order of the others",
+        limit: 10,
+        stages: &[
+            (Step::Put("a", "a234"), 4),
+            (Step::Put("b", "b2345"), 9),
+            (Step::Put("c", "c2345678901"), 9),
+            (Step::Get("c", Some("c2345678901")), 9),
+            (Step::Put("d", "d2"), 7),
+            (Step::Peek("a", None), 7),
+            (Step::Peek("c", Some("c2345678901")), 7),
+        ],
+    },
+    Case {
+        shows: "it is forgotten with its name, and with no other",
+        limit: 4,
+        stages: &[
+            (Step::Put("a", "a2345"), 0),
+            (Step::Put("b", "b23"), 3),
+            (Step::Forget("b"), 0),
+            (Step::Peek("a", Some("a2345")), 0),
+            (Step::Forget("a"), 0),
+            (Step::Peek("a", None), 0),
+            (Step::LargeSize(0), 0),
+        ],
+    },
+    Case {
+        shows: "a short text under its name takes its place",
+        limit: 4,
+        stages: &[
+            (Step::Put("a", "a2345"), 0),
+            (Step::Put("a", "a23"), 3),
+            (Step::Get("a", Some("a23")), 3),
+            (Step::LargeSize(0), 3),
+        ],
+    },
+    Case {
+        shows: "another large one under its name takes its place",
+        limit: 4,
+        stages: &[
+            (Step::Put("a", "a2345"), 0),
+            (Step::Put("a", "a23456"), 0),
+            (Step::Get("a", Some("a23456")), 0),
+            (Step::LargeSize(6), 0),
+        ],
+    },
+];
+
 // Sees that a store of the case's limit keeps what it is to keep.
 fn keeps(rt: &impl Abort, alloc: Global, case: &Case) {
     let mut store = TextCache::new(alloc, case.limit).expect(rt, "memory");
@@ -216,6 +296,7 @@ fn take(rt: &impl Abort, alloc: Global, store: &mut TextCache, shows: &str, step
         }
         Step::Peek(name, wanted) => is_found(rt, shows, store.peek(name), wanted),
         Step::Forget(name) => store.forget(name),
+        Step::LargeSize(wanted) => same(rt, shows, store.large_size(), wanted),
     }
 }
 
@@ -244,6 +325,13 @@ fn others_are_kept_where_they_have_room(rt: HostRuntime) {
 #[test]
 fn the_latest_asked_are_kept(rt: HostRuntime) {
     for case in &ORDER {
+        keeps(&rt, rt.alloc(), case);
+    }
+}
+
+#[test]
+fn one_large_text_is_kept_beside_the_others(rt: HostRuntime) {
+    for case in &LARGE {
         keeps(&rt, rt.alloc(), case);
     }
 }

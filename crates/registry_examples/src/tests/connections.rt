@@ -4,6 +4,7 @@
 
 mod ends;
 mod loopback;
+mod shut;
 mod source;
 
 ghost use Rattle.std.specs.Prelude.{None, false};

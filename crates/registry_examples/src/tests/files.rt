@@ -14,11 +14,14 @@ use sqlite::{Alter, Connection, Error, FileStore, Files, Options};
 use sqlite_disk::{Disk, Memory};
 use std::alloc::Global;
 use std::fs;
+use std::os::unix::fs::PermissionsExt;
 use std::test::Fail;
 
 const FOLDER: &str = "files_of_registries";
 
 const PATH: &str = "files_of_registries/registry.db";
+
+const LOG: &str = "files_of_registries/registry.db-wal";
 
 /// A place in each field of a database's head: the name of the format, the size of pages, both
 /// versions, the bytes of sums, the three fractions, the counter of changes, the number of pages,
@@ -218,6 +221,17 @@ fn a_registry_is_held_by_one(rt: HostRuntime) -> Result<(), Fail> {
         added(&rt)?,
         Ok(Reply::Refused(Refusal::Exists)),
     )?;
+    Ok(fs::remove_dir_all(&rt, FOLDER)?)
+}
+
+#[test]
+fn new_files_are_their_owners_alone(rt: HostRuntime) -> Result<(), Fail> {
+    lay(&rt, Lies::Nothing)?;
+    let _registry = Registry::open(&rt, PATH)?;
+    for path in [PATH, LOG] {
+        let mode = fs::metadata(&rt, path)?.permissions().mode();
+        same(path, mode & 0o777, 0o600)?;
+    }
     Ok(fs::remove_dir_all(&rt, FOLDER)?)
 }
 

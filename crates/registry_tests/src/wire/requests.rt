@@ -4,7 +4,9 @@ use super::reader::{Drip, Faltering, Halting};
 use crate::outcome::same;
 use crate::parts::{as_text, concat, joined, shown, string};
 use registry_names::{ByteIn, FromRead};
-use registry_wire::{Authorization, Ending, First, Inbox, Taken, Wanted, ending_of, first_in};
+use registry_wire::{
+    Authorization, FIELD_LIMIT, First, Inbox, Incoming, Taken, Wanted, ending_of, first_in,
+};
 use std::alloc::Global;
 use std::io::ErrorKind;
 use std::process::Abort;
@@ -187,8 +189,13 @@ fn nothing_is_read_after_a_whole_request(rt: HostRuntime) {
 
 // What bytes that have come say of the first request, in a line with its length.
 fn said(rt: &impl Abort, alloc: Global, bytes: &[u8]) -> String {
-    match first_in(alloc, bytes).expect(rt, "memory") {
-        First::Whole(wanted, len) => whole(rt, alloc, &wanted, len),
+    let first = first_in(alloc, bytes).expect(rt, "memory");
+    line_of(rt, alloc, bytes, &first)
+}
+
+fn line_of(rt: &impl Abort, alloc: Global, bytes: &[u8], first: &First) -> String {
+    match first {
+        First::Whole(wanted, len) => whole(rt, alloc, wanted, *len),
         First::Unfinished => shown(rt, alloc, &ending_of(bytes)),
         First::Bad(refusal) => string(rt, alloc, refusal.text()),
     }
@@ -216,4 +223,84 @@ fn a_prefix_of_a_request_is_unfinished(rt: HostRuntime) {
     is_said(&rt, alloc, INPUT, "Put|/a||ab| 40");
     is_said(&rt, alloc, b"GET", "BadInput(BadBody)");
     is_said(&rt, alloc, b"G\0", "BadBody");
+}
+
+// Heads with each kind of byte at each of their places, and with one that may not stand there.
+static COMING: [&[u8]; 24] = [
+    b"\n\r\n\r\nPUT /a?x=%20 HTTP/1.0\r\na:\n!b: \t\x80c \r\ncontent-length: 3\r\n\r\nabcGET",
+    b"GET /\xc3\xa9 HTTP/1.1\nhost: a\n\n",
+    b"PUT /a HTTP/1.1\r\ncontent-length: 4194305\r\n\r\n",
+    b"PUT /a HTTP/1.1\r\ntransfer-encoding: chunked\r\n\r\n",
+    b"\rGET / HTTP/1.1\r\n\r\n",
+    b" GET / HTTP/1.1\r\n\r\n",
+    b"G@T / HTTP/1.1\r\n\r\n",
+    b"GET\t/ HTTP/1.1\r\n\r\n",
+    b"GET  / HTTP/1.1\r\n\r\n",
+    b"GET /\x7f HTTP/1.1\r\n\r\n",
+    b"GET /\xff HTTP/1.1\r\n\r\n",
+    b"GET /\r\n\r\n",
+    b"GET / HTTQ/1.1\r\n\r\n",
+    b"GET / HTTP/2.1\r\n\r\n",
+    b"GET / HTTP/1.2\r\n\r\n",
+    b"GET / HTTP/1.1 \r\n\r\n",
+    b"GET / HTTP/1.1\rhost: a\r\n\r\n",
+    b"GET / HTTP/1.1\r\n host: a\r\n\r\n",
+    b"GET / HTTP/1.1\r\n: a\r\n\r\n",
+    b"GET / HTTP/1.1\r\nhost : a\r\n\r\n",
+    b"GET / HTTP/1.1\r\nhost\r\n\r\n",
+    b"GET / HTTP/1.1\r\nhost: a\x01\r\n\r\n",
+    b"GET / HTTP/1.1\r\nhost: a\r\r\n\r\n",
+    b"GET / HTTP/1.1\r\n\rhost: a\r\n\r\n",
+];
+
+// Sees that these bytes say the same of the first request if they come one by one.
+fn says_the_same(rt: &impl Abort, alloc: Global, bytes: &[u8]) {
+    let mut incoming = Incoming::new(alloc);
+    for byte in bytes {
+        incoming.came(&[*byte]).expect(rt, "memory");
+        let first = incoming.first(alloc).expect(rt, "memory");
+        let line = line_of(rt, alloc, incoming.as_slice(), &first);
+        is_said(rt, alloc, incoming.as_slice(), line.as_str());
+    }
+}
+
+#[test]
+fn bytes_that_come_one_by_one_say_the_same(rt: HostRuntime) {
+    for bytes in &COMING {
+        says_the_same(&rt, rt.alloc(), bytes);
+    }
+}
+
+#[test]
+fn one_field_too_many_is_refused_as_it_comes(rt: HostRuntime) {
+    let alloc = rt.alloc();
+    let mut bytes = Vec::new(alloc);
+    bytes
+        .extend_from_slice(b"GET / HTTP/1.1\n")
+        .expect(&rt, "memory");
+    for _ in 0..FIELD_LIMIT {
+        bytes.extend_from_slice(b"a:\n").expect(&rt, "memory");
+    }
+    is_said(&rt, alloc, &bytes, "BadInput(BadBody)");
+    bytes.extend_from_slice(b"a:\n").expect(&rt, "memory");
+    is_said(&rt, alloc, &bytes, "BadBody");
+    says_the_same(&rt, alloc, &bytes);
+}
+
+#[test]
+fn what_a_request_needs_is_forgotten_with_it(rt: HostRuntime) {
+    let alloc = rt.alloc();
+    let mut incoming = Incoming::new(alloc);
+    incoming
+        .came(b"PUT /a HTTP/1.1\r\ncontent-length: 1000\r\n\r\n")
+        .expect(&rt, "memory");
+    let first = incoming.first(alloc).expect(&rt, "memory");
+    let line = line_of(&rt, alloc, incoming.as_slice(), &first);
+    same(&rt, "a head", line.as_str(), "BadInput(BadBody)");
+    let all = incoming.as_slice().len();
+    incoming.drop_first(alloc, all);
+    incoming.came(KIT.as_bytes()).expect(&rt, "memory");
+    let first = incoming.first(alloc).expect(&rt, "memory");
+    let line = line_of(&rt, alloc, incoming.as_slice(), &first);
+    same(&rt, "the next request", line.as_str(), "Get|/kit||| 21");
 }

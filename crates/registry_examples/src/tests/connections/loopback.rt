@@ -1,7 +1,7 @@
 //! A connection over loopback.
 
 use super::{Noon, TAGS, TAGS_OUT, kit, same};
-use registry_names::{FromRead, ToWrite, read_whole, write_whole};
+use registry_names::{FromRead, Moment, ToWrite, read_whole, write_whole};
 use registry_server::Server;
 use registry_service::{End, Served, serve};
 use registry_wire::Inbox;
@@ -57,7 +57,7 @@ fn a_server_answers_at_a_registry(rt: HostRuntime) -> Result<(), Fail> {
     let first = client(&rt, port, TAGS)?;
     let second = client(&rt, port, TAGS)?;
     let mut service = kit(rt.alloc())?;
-    server.run(&rt, rt.alloc(), &mut service)?;
+    server.run(&rt, rt.alloc(), Moment::clamped(0), &mut service)?;
     is_sent(&rt, &second, TAGS_OUT)?;
     is_sent(&rt, &first, TAGS_OUT)
 }

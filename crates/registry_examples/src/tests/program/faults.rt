@@ -2,17 +2,23 @@
 
 use super::{Case, Failing, leaves_it, path, with_db};
 use registry_desk::Registry;
-use registry_program::let_go;
+use registry_names::ToWrite;
+use registry_program::{Ending, Failure, let_go, report};
+use registry_test_support::same;
 use sqlite::{Connection, Error};
-use std::fs;
 use std::test::Fail;
+use std::{fs, str};
 
 const FOREIGN: &str =
     "fault: Database\nthe file holds no registry, or was changed by another hand\n";
 
+const NEWER: &str = "fault: Database\na newer program wrote the registry's file\n";
+
 const UNREACHABLE: &str = "fault: Database\nthe registry's file can't be opened or written\n";
 
 const BUSY: &str = "fault: Database\nanother process has the registry's file\n";
+
+const FAILED: &str = "fault: Database\nthe disk failed while the registry was served\n";
 
 /// What lies at the path.
 #[derive(Clone, Copy)]
@@ -25,6 +31,8 @@ enum Lies {
     Folder,
     /// A database of another program.
     OfAnother,
+    /// A registry's file whose tables have this number of a schema.
+    Numbered(u8),
     /// A registry's file that has a second name.
     Linked,
     /// The first half of a registry's file.
@@ -34,12 +42,14 @@ enum Lies {
 }
 
 /// What lies at the path, and what the program prints on the errors.
-static CASES: [(Lies, &'static str); 8] = [
+static CASES: [(Lies, &'static str); 10] = [
     (Lies::Nowhere, UNREACHABLE),
     (Lies::Folder, UNREACHABLE),
     (Lies::Linked, UNREACHABLE),
     (Lies::Text("a text, and no registry"), FOREIGN),
     (Lies::OfAnother, FOREIGN),
+    (Lies::Numbered(0), FOREIGN),
+    (Lies::Numbered(4), NEWER),
     (Lies::Half, FOREIGN),
     (Lies::Changed(24), FOREIGN),
     (Lies::Changed(100_000), FOREIGN),
@@ -76,6 +86,15 @@ fn a_file_that_another_has_is_reported(rt: HostRuntime) -> Result<(), Fail> {
     Ok(fs::remove_dir_all(&rt, folder.as_str())?)
 }
 
+#[test]
+fn a_disk_that_failed_under_a_server_is_reported(rt: HostRuntime) -> Result<(), Fail> {
+    let mut errors = Vec::new(rt.alloc());
+    let ending = Ending::Fault(Failure::Shut);
+    let status = report(&mut ToWrite::new(&mut errors), &ending);
+    same("the status", status, 3)?;
+    same("the errors", str::from_utf8(&errors).unwrap_or("?"), FAILED)
+}
+
 // Each line ends in the fault, and the file is as it was.
 fn is_reported_and_kept(rt: &HostRuntime, db: &str, errors: &'static str) -> Result<(), Fail> {
     let before = fs::read(rt, db).ok();
@@ -108,6 +127,7 @@ fn lay(rt: &HostRuntime, folder: &str, db: &str, lies: Lies) -> Result<(), Fail>
         Lies::Folder => Ok(fs::create_dir(rt, db)?),
         Lies::Text(text) => Ok(fs::write(rt, db, text.as_bytes())?),
         Lies::OfAnother => Ok(make_of_another(rt, db)?),
+        Lies::Numbered(number) => number_schema(rt, db, number),
         Lies::Linked => link(rt, folder, db),
         Lies::Half => cut(rt, db),
         Lies::Changed(place) => change(rt, db, place),
@@ -125,6 +145,13 @@ fn make_of_another(rt: &HostRuntime, db: &str) -> Result<(), Error> {
     let made = conn.execute_batch("CREATE TABLE note (title TEXT)");
     conn.close()?;
     made
+}
+
+fn number_schema(rt: &HostRuntime, db: &str, number: u8) -> Result<(), Fail> {
+    let mut conn = Registry::open(rt, db)?.release();
+    let text = format!(in rt.alloc(); "UPDATE meta SET value = {number} WHERE name = 'schema'")?;
+    conn.execute_batch(text.as_str())?;
+    Ok(conn.close()?)
 }
 
 fn link(rt: &HostRuntime, folder: &str, db: &str) -> Result<(), Fail> {

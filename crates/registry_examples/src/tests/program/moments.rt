@@ -6,7 +6,7 @@ use crate::beginnings::{BOBS_TOKEN, LAB};
 use crate::tests::all_have_their_reply;
 use registry_desk::Registry;
 use registry_http::RegistryService;
-use registry_names::{FromRead, ToWrite, read_whole, write_whole};
+use registry_names::{FromRead, Moment, ToWrite, read_whole, write_whole};
 use registry_server::Server;
 use registry_test_support::same;
 use sqlite::{Alter, Connection, Error, MemStore};
@@ -165,7 +165,7 @@ fn answers_of(rt: &HostRuntime, clock: &Jumping<'_>) -> Result<String, Fail> {
     let server = Server::bind(rt, alloc, 0, 1)?;
     let client = client(rt, server.port()?)?;
     let mut service = lab(alloc)?;
-    server.run(clock, alloc, &mut service)?;
+    server.run(clock, alloc, Moment::clamped(1_700_000_000), &mut service)?;
     let answers = read_whole(alloc, &mut FromRead::new(&client), 100_000)?;
     Ok(String::from_str(alloc, str::from_utf8(&answers).unwrap_or("?"))?)
 }
