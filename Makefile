@@ -7,9 +7,11 @@ EXAMPLE := examples/lab-kit-1.0.0.publish.json
 PACKUMENT := examples/lab-kit-1.0.0.packument.json
 BODY := $(EXAMPLE)
 FILES := *.txt
-EVERY := 20
+EVERY := 1
+JOBS := 1
+SECONDS := 600
 
-.PHONY: help try run build test check stories plants fmt npm kill files limits soak starve bench compare examples kit
+.PHONY: help try run build test check stories stops plants fmt npm front kill files limits large soak starve fuzz bench compare examples kit
 
 help:
 	@echo 'Build:'
@@ -21,16 +23,20 @@ help:
 	@echo '  make test     the gate: proves every crate from nothing, and runs every test and story'
 	@echo '  make check    proves every crate over what earlier checks kept'
 	@echo '  make stories  runs the stories alone: FILES=tags.txt runs one file'
+	@echo '  make stops    stops a disk at each of its calls, and a page gives back another byte'
 	@echo '  make plants   tries every wrong body, also those outside the gate'
 	@echo '  make fmt      formats the files'
 	@echo
 	@echo 'Try the built program out/registry:'
 	@echo '  make npm      publishes and installs with the stock npm client: a minute'
+	@echo '  make front    the same through nginx with TLS: it needs nginx, and yarn where it is there'
 	@echo '  make kill     kills a server 500 times while versions are published: 6 minutes'
 	@echo '  make files    fills a disk, and opens files that hold no registry'
 	@echo '  make limits   tries the limits of connections, and hostile clients: 4 minutes'
+	@echo '  make large    two million bytes of each thing, and whether they are refused soon'
 	@echo '  make soak     a hundred clients for ten minutes, and whether memory and answers hold'
-	@echo '  make starve   refuses memory at every 20th call of each command (EVERY=1: at each)'
+	@echo '  make starve   refuses each piece of memory in turn (EVERY=20: every 20th; JOBS=4: four at once)'
+	@echo '  make fuzz     lets afl++ at it for ten minutes (SECONDS=3600: an hour; 0: the examples alone)'
 	@echo
 	@echo 'Measure the built program out/registry:'
 	@echo '  make bench    how long requests and the reading of bodies take: 5 minutes'
@@ -65,6 +71,9 @@ out/registry:
 npm: out/registry
 	@examples/npm.sh out/registry
 
+front: out/registry
+	@examples/front.sh out/registry
+
 kill: out/registry
 	@examples/kill.sh out/registry
 
@@ -74,11 +83,17 @@ files: out/registry
 limits: out/registry
 	@tools/measure_limits --program out/registry
 
+large: out/registry
+	@tools/measure_large --program out/registry
+
 soak: out/registry
 	@tools/soak --program out/registry
 
 starve: out/registry
-	@tools/starve --program out/registry --every $(EVERY)
+	@tools/starve --program out/registry --every $(EVERY) --jobs $(JOBS)
+
+fuzz: out/registry
+	@tools/fuzz --program out/registry --seconds $(SECONDS)
 
 compare: out/registry
 	@echo 'measuring the program out/registry: this is no part of the gate' >&2
@@ -99,6 +114,10 @@ stories: kit
 	@work=$$(mktemp -d); cp -r $(STORIES)/data/. $$work; \
 	(cd $$work && $(CURDIR)/$(STORIES)/out/registry_stories $(FILES)); \
 	status=$$?; rm -rf $$work; exit $$status
+
+# Its tests are in the gate, too.
+stops: kit
+	@cd crates/registry_stops && rt test
 
 plants: kit
 	@tools/plants

@@ -1,15 +1,17 @@
 #!/bin/sh
-# What a full disk leaves, and files from which no registry opens.
+# What a full disk leaves, and a disk that fails; and files from which no registry opens.
 #
 #     examples/refused_files.sh [PROGRAM]
 #
 # PROGRAM is out/registry where it is left out. A disk of 2 MB is filled by publishes until one is
 # answered by a fault, first by the program's commands and then over HTTP: once there is room again
 # the file must open, and have each version whose publish was answered with its archive, and no
-# other one. Then the registry's file is one that is none, or that may not be written: each command
+# other one; the server goes on meanwhile. Then a disk's syncs fail under a server: the publish that
+# meets this is answered by a fault, the server ends with status 3 and says why, and started again it
+# has what was answered. Then the registry's file is one that is none, or that may not be written: each command
 # must say so, as docs/CLI.md has it, and leave every byte. What can't be had here is left out, and
-# the script says so: the disk needs root and mount, a file that may not be written setpriv or su
-# where root runs it, another program's file python3. The status is 0 where all else came out. It
+# the script says so: the full disk needs root and mount, one that fails cc, a file that may not be
+# written setpriv or su where root runs it, another program's file python3. The status is 0 where all else came out. It
 # needs curl, sha512sum, base64 and timeout.
 set -eu
 
@@ -65,7 +67,7 @@ begin() {
 serve() {
     port=$((20000 + $(od -An -N2 -tu2 /dev/urandom) % 20000))
     : > "$work/server"
-    "$program" --db "$1" serve --port "$port" > "$work/server" 2>&1 &
+    LD_PRELOAD=${2:-} UNSYNCED=$work/unsynced "$program" --db "$1" serve --port "$port" > "$work/server" 2>&1 &
     server=$!
     for _ in $(seq 1 300); do
         if grep -q listening "$work/server"; then return 0; fi
@@ -116,6 +118,7 @@ fill_by_server() {
     [ "$status $(cat "$work/out")" = '500 {"error":"Database"}' ] || fail "a full disk is answered with $status, $(cat "$work/out")"
     say "  $(wc -l < "$work/answered") publishes over HTTP were answered, and then: $status $(cat "$work/out")"
     status=$(ask -o "$work/out" -w '%{http_code}' "http://127.0.0.1:$port/-/package/kit/dist-tags")
+    [ "$status" = 200 ] || fail "a query on a full disk is answered with $status, $(cat "$work/out")"
     say "  a query of the server after that: $status $(cat "$work/out")"
     stop
 }
@@ -157,6 +160,53 @@ full_disk() {
 
 full_disk fill_by_words
 full_disk fill_by_server
+
+# ---- a disk whose syncs fail
+
+# Publishes a version over HTTP. The status is in `status`.
+publish() {
+    write_body "$1"
+    status=$(ask -o "$work/out" -w '%{http_code}' -X PUT --data-binary "@$work/body" "http://127.0.0.1:$port/kit")
+}
+
+failing_disk() {
+    if ! cc -shared -fPIC -D_GNU_SOURCE -o "$work/unsynced.so" "$top/tools/unsynced.c" 2> /dev/null; then
+        say 'left out: a disk whose syncs fail, which cc makes'
+        return 0
+    fi
+    db=$work/failing.db
+    : > "$work/answered"
+    begin "$db"
+    serve "$db" "$work/unsynced.so"
+    publish 1.0.1
+    [ "$status" = 201 ] || fail "a publish is answered with $status, $(cat "$work/out")"
+    : > "$work/unsynced"
+    publish 1.0.2
+    [ "$status $(cat "$work/out")" = '500 {"error":"Database"}' ] || fail "a publish whose sync fails is answered with $status, $(cat "$work/out")"
+    for _ in $(seq 1 100); do
+        if ! kill -0 "$server" 2>/dev/null; then break; fi
+        sleep 0.1
+    done
+    if kill -0 "$server" 2>/dev/null; then fail 'the server goes on'; fi
+    status=0
+    wait "$server" || status=$?
+    server=
+    [ "$status" -eq 3 ] || fail "the server ended with status $status"
+    tail -n +2 "$work/server" | paste -s -d '|' > "$work/out"
+    [ "$(cat "$work/out")" = 'fault: Database|the disk failed while the registry was served' ] || fail "the server said $(cat "$work/server")"
+    rm "$work/unsynced"
+    serve "$db"
+    publish 1.0.3
+    [ "$status" = 201 ] || fail "a publish after that is answered with $status, $(cat "$work/out")"
+    stop
+    for version in 1.0.1 1.0.3; do
+        must "$db" archive kit "$version"
+        cmp -s "$work/out" "$work/$version.tgz" || fail "the archive of $version is another"
+    done
+    say 'a disk whose syncs fail: 500, and the server ends with status 3; started again, it publishes'
+}
+
+failing_disk
 
 # ---- files from which no registry opens
 

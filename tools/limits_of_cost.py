@@ -1,19 +1,35 @@
 """Tries of what a refused request costs everybody else: time in a registry of 10,000 packages of
-seven needs each, and memory. They run one after the other."""
+seven needs each, and memory; and of the memory that a packument takes which many read at once. They
+run one after the other."""
+
+import itertools
+import threading
 
 from tries import *
 
-FEW, MANY, ROUNDS = 1_000, 10_000, 100
+FEW, MANY, ROUNDS, SINGLE = 1_000, 10_000, 100, 2_000
 BODY, BODIES = 4_194_304, 100
+VERSIONS, LONG, READERS = 17, 4_100_000, 40
+
+# Of a body under way so many bytes are sent before its client stops.
+FRONT = 3_900_000
+
+# What is published in a round has a version of its own.
+ROUND = itertools.count(1)
 WITHDRAWAL = '/-/package/needed/versions/1.5.0'
 DELETE = 'DELETE', '/-/package/x/versions/1.0.0', b'', None
 PACKUMENT = 'GET', '/p000500', b'', None
 
 
 def run(ground, tries, slack):
-    if any(one.work is bodies_by_nobody for one in tries):
-        with ground.registry('memory').serve() as server:
-            run_some(tries, [bodies_by_nobody], server)
+    for work in ALONE:
+        if any(one.work is work for one in tries):
+            with ground.registry('memory').serve() as server:
+                run_some(tries, [work], server)
+    if any(one.work is packument_by_many for one in tries):
+        versions = (Publication('kit', f'{number}.0.0', 100, more=LONG) for number in range(1, VERSIONS + 1))
+        with ground.registry('long', versions).serve() as server:
+            run_some(tries, [packument_by_many], server)
     if any(one.work in LARGE for one in tries):
         with packages(ground, FEW).serve() as few, packages(ground, MANY).serve() as many:
             run_some(tries, LARGE, few, many)
@@ -90,6 +106,27 @@ def refused_withdrawal(server):
     return lambda _: client.must(409, 'DELETE', WITHDRAWAL)
 
 
+def head_in_bytes(server):
+    """The processor time of the server for single bytes at the front of a long head, and at its end."""
+    head = request_of('GET', '/' + 15_000 * 'x')[:15_000]
+    connection = connect(server.port)
+    front = for_single_bytes(server, connection, head[:SINGLE])
+    connection.sendall(head[SINGLE:-SINGLE])
+    time.sleep(0.1)
+    end = for_single_bytes(server, connection, head[-SINGLE:])
+    connection.close()
+    return want(end <= 1.25 * front, f'{milliseconds(front / SINGLE)} ms a byte at the front, {milliseconds(end / SINGLE)} at the end')
+
+
+def for_single_bytes(server, connection, some):
+    """The processor time for these bytes, each sent once the one before has been read."""
+    before = server.processor()
+    for byte in some:
+        connection.sendall(bytes([byte]))
+        time.sleep(0.0003)
+    return server.processor() - before
+
+
 # ---- memory
 
 def bodies_by_nobody(server):
@@ -107,7 +144,111 @@ def bodies_by_nobody(server):
     return want(after - before < 60, f'{figure(after - before)} MB more, {figure(most - before)} at most')
 
 
+def packument_by_many(server):
+    """A packument of more than 64 MiB. Many connections ask for it, and read it slowly, all at once."""
+    before, _ = server.memory()
+    readers = [connect(server.port) for _ in range(READERS)]
+    for one in readers:
+        one.sendall(request_of('GET', '/kit'))
+    size = min(asked_size(one) for one in readers) / 2 ** 20
+    want(size > 64, f'the packument has {figure(size)} MB')
+    for one in readers * 4:
+        want(one.recv(1 << 16), 'the server ended a connection')
+    after, most = server.memory()
+    for one in readers:
+        one.close()
+    return want(after - before < 2.5 * size,
+                f'{figure(after - before)} MB more, {figure(most - before)} at most, for {figure(size)} MB')
+
+
+def asked_size(connection):
+    """How many bytes the body has of a response that has begun."""
+    head = connection.recv(1 << 16)
+    want(status_of(head) == 200, f'answered by {head[:100]}')
+    return int(re.search(rb'\r\ncontent-length: (\d+)', head)[1])
+
+
+class Crowd:
+    """Clients that all send the front of a body without a token at the same time, as far as the
+    server takes it."""
+
+    def __init__(self, port, count):
+        whole = request_of('PUT', '/kit', Publication('kit', '1.0.0', 3_144_000).body.ljust(BODY))
+        front, self.rest = whole[:FRONT], whole[FRONT:]
+        self.clients = [connect(port) for _ in range(count)]
+        for one in self.clients:
+            one.setblocking(False)
+        self.left = {one: memoryview(front) for one in self.clients}
+        self.begin()
+
+    def begin(self):
+        self.is_over = False
+        self.sender = threading.Thread(target=self.send, daemon=True)
+        self.sender.start()
+
+    def stop(self):
+        self.is_over = True
+        self.sender.join()
+
+    def send(self):
+        while self.left and not self.is_over:
+            _, ready, _ = select.select([], list(self.left), [], 0.1)
+            for one in ready:
+                self.send_some(one)
+
+    def send_some(self, one):
+        try:
+            self.left[one] = self.left[one][one.send(self.left[one][:1 << 16]):]
+        except BlockingIOError:
+            pass
+        except OSError:
+            self.left[one] = b''
+        if not self.left[one]:
+            del self.left[one]
+
+    def go_on(self):
+        """All of them send what they have not sent. Gives how many are answered by 401."""
+        self.stop()
+        self.left = {one: memoryview(bytes(self.left.get(one, b'')) + self.rest) for one in self.clients}
+        self.begin()
+        return sum(is_refused(one) for one in self.clients)
+
+    def close(self):
+        self.stop()
+        for one in self.clients:
+            one.close()
+
+
+def is_refused(connection):
+    """Whether the next response comes within a minute, and is 401."""
+    try:
+        head = connection.recv(1 << 16) if is_answered(connection, 60) else b''
+        return head != b'' and status_of(head) == 401
+    except OSError:
+        return False
+
+
+def bodies_under_way(server):
+    """100 clients without a token that stop within a body, at the same time. Beside them others ask
+    and publish, and then all of them go on."""
+    client, before, number = Client(server.port), server.memory()[0], next(ROUND)
+    client.must(201, 'PUT', '/small', Publication('small', f'1.{number}.0', 1000).body)
+    crowd = Crowd(server.port, BODIES)
+    time.sleep(3)
+    after, _ = server.memory()
+    small = max(client.must(200, 'GET', '/small') for _ in range(20))
+    publish = client.must(201, 'PUT', '/small', Publication('small', f'1.{number}.1', 1000).body)
+    large = Client(server.port).must(201, 'PUT', '/large', Publication('large', f'1.{number}.0', 3_144_000).body)
+    refused = crowd.go_on()
+    crowd.close()
+    _, most = server.memory()
+    came = (f'{figure(after - before)} MB more, {figure(most - before)} at most; a packument {milliseconds(small)} ms, '
+            f'a publish {milliseconds(publish)} ms, one of 4 MiB {large:.1f} s; {refused} of {BODIES} are answered')
+    return want(most - before < 180 and small < 0.1 and publish < 0.5 and large < 15 and refused >= BODIES - 2, came)
+
+
 LARGE = delete_by_nobody, thousand_deletes, depended, depended_growth
+ALONE = head_in_bytes, bodies_by_nobody, bodies_under_way
 
 TRIES = [
     Try('delete-by-nobody', 'a withdrawal without a token, among 10,000 packages of seven needs each',
@@ -117,6 +258,13 @@ TRIES = [
     Try('depended', 'a withdrawal refused as Depended among 10,000 such packages', 'under 5 ms, at the median', depended),
     Try('depended-growth', 'the same among 1,000 and among 10,000 that need other packages',
         'at most 1.5 times as long', depended_growth),
+    Try('head-in-bytes', 'processor time for single bytes of a head of 15,000 bytes',
+        'at its end at most a quarter more than at its front', head_in_bytes),
     Try('bodies-by-nobody', 'resident memory after 100 refused bodies of 4 MiB with one byte more each',
         'under 60 MB more', bodies_by_nobody),
+    Try('packument-by-many', 'resident memory while 40 connections slowly read one packument of more than 64 MiB',
+        'less than two and a half such packuments more', packument_by_many),
+    Try('bodies-under-way', '100 clients without a token that stop within a body of 4 MiB, others beside them, and then all go on',
+        'under 180 MB more, a packument and a small publish at once, one of 4 MiB within 15 s, and all but two are answered',
+        bodies_under_way),
 ]

@@ -158,6 +158,27 @@ def hardly_read(server, slack):
     return took
 
 
+class ServerTime:
+    """How many seconds of a server's own time have passed at least. Of a round it counts 25 ms at most
+    beside what it waited, so that its time is slower than ours where it, or the machine, is busy. A
+    connection with half a request ends after ten seconds of it: so one comes after the other."""
+
+    def __init__(self, server):
+        self.server, self.seconds = server, 0
+        self.begin()
+
+    def begin(self):
+        self.half = connect(self.server.port)
+        self.half.sendall(NOBODY[:10])
+
+    def passed(self):
+        if not is_open(self.half):
+            self.half.close()
+            self.seconds += REQUEST
+            self.begin()
+        return self.seconds
+
+
 class SlowReader:
     """A client that asks for 30 kB 900 times at once, and reads so many bytes a second."""
 
@@ -174,8 +195,8 @@ class SlowReader:
         if file == 0:
             return True
         self.taken = self.read + held
-        if self.taken_first is None:
-            self.taken_first = self.taken
+        # Bytes on their way count at both ends for a moment, so the least that was seen is nearest.
+        self.taken_first = self.taken if self.taken_first is None else min(self.taken_first, self.taken)
         if self.rate and is_answered(self.connection, 0):
             self.read += len(self.connection.recv(self.rate))
         return False
@@ -186,18 +207,19 @@ class SlowReader:
         return RESPONSE + (self.taken - self.taken_first) / RATE
 
 
-def let_go_in_time(server, clients, slack):
-    """Waits until the server has ended each connection within the time that its responses have.
-    Gives how long that took."""
+def let_go_in_time(server, clients):
+    """Waits until the server has ended each connection within the time that its responses have, in
+    the server's own time. Gives how long that took."""
     time.sleep(1)
-    began, still = time.monotonic(), clients
+    began, still, server_time = time.monotonic(), clients, None
     while still:
         ends = ends_of(server)
         still = [one for one in still if not one.look(ends)]
-        passed = time.monotonic() - began
-        late = [one for one in still if passed > one.time_given() + LOOK + slack + 1]
+        server_time = server_time or ServerTime(server)
+        passed = server_time.passed()
+        late = [one for one in still if passed > one.time_given() + LOOK]
         if late:
-            raise Otherwise(f'{len(still)} of {len(clients)} are still open after {passed:.0f} s, '
+            raise Otherwise(f'{len(still)} of {len(clients)} are still open after {passed:.0f} s of the server\'s time, '
                             f'where {late[0].time_given():.0f} s are given to one')
         time.sleep(1)
     return time.monotonic() - began
@@ -205,7 +227,7 @@ def let_go_in_time(server, clients, slack):
 
 def readers_of_nothing(server, slack):
     """30 clients that read nothing, until they are let go."""
-    took = let_go_in_time(server, [SlowReader(server, 0) for _ in range(30)], slack)
+    took = let_go_in_time(server, [SlowReader(server, 0) for _ in range(30)])
     return f'the last after {took:.0f} s'
 
 
@@ -213,7 +235,7 @@ def slow_readers(server, slack):
     """The same, where each reads 2,000 bytes a second in small segments, so that the server sends a
     part of a response again and again."""
     clients = [SlowReader(server, 2000, 536) for _ in range(30)]
-    took = let_go_in_time(server, clients, slack)
+    took = let_go_in_time(server, clients)
     return f'the last after {took:.0f} s, where {clients[-1].time_given():.0f} s are given to one'
 
 
