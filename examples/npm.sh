@@ -76,13 +76,14 @@ stop_server() {
 say "the program is $program, npm is $(npm --version), node is $(node --version)"
 for user in ann bob eve; do
     registry --operator user-add $user
-    registry --operator token-add $user npm_${user}_000000001
+    registry --operator token-new $user
+    mv "$work/out" "$work/$user.token"
 done
 registry --operator org-create lab ann
 registry --as ann org-set lab bob
 port=$(node -e 'const s = require("net").createServer().listen(0, "127.0.0.1", () => { console.log(s.address().port); s.close() })')
 for user in ann bob eve; do
-    printf 'registry=http://127.0.0.1:%s/\n//127.0.0.1:%s/:_authToken=npm_%s_000000001\n' "$port" "$port" $user > "$work/$user.npmrc"
+    printf 'registry=http://127.0.0.1:%s/\n//127.0.0.1:%s/:_authToken=%s\n' "$port" "$port" "$(cat "$work/$user.token")" > "$work/$user.npmrc"
 done
 
 # ---- versions of some days: what npm sends is kept, and published at moments of then

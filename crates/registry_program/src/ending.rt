@@ -28,17 +28,33 @@ pub enum Failure {
     Opening(Obstacle),
     /// The disk of the registry's file, which is shut for it.
     Shut,
-    /// Standard input, the machine's clock, or the port where connections are to come in.
+    /// Standard input, the machine's clock or its randomness, or the port where connections are to
+    /// come in.
     Read,
     /// A file that the arguments name.
     File,
+    /// The copy that the arguments name.
+    Backup(Snag),
     /// Standard output.
     Write,
+}
+
+/// Why there is no copy.
+#[derive(Clone, Copy)]
+pub enum Snag {
+    /// A file, or a log, has its name already.
+    Taken,
+    /// It can't be written.
+    Unwritable,
+    /// What was written doesn't open.
+    Unreadable,
 }
 
 /// Why the registry's file can't be opened.
 #[derive(Clone, Copy)]
 pub enum Obstacle {
+    /// It isn't there, and is to be.
+    Missing,
     /// Another process has it.
     Busy,
     /// It, or its log, can't be opened or written.
@@ -49,6 +65,8 @@ pub enum Obstacle {
     Foreign,
     /// A newer program wrote it: the number of its schema is above ours.
     Newer,
+    /// It has the tables of an older schema, which can't be migrated.
+    Older,
 }
 
 impl From<Fault> for Ending {

@@ -14,3 +14,4 @@ pub mod CombinationFacts
 pub mod PieceFacts
 pub mod RangeFacts
 pub mod SelectorFacts
+pub mod BindingFacts

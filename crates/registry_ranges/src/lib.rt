@@ -4,9 +4,11 @@
 //!
 //! A text is a range exactly where the grammar has it, and a range allows exactly the versions that
 //! the tables say. A range is read in one scan, a selector and a tag in two, in time linear in the
-//! text, with no recursion; asking takes no memory.
+//! text, with no recursion; asking takes no memory. Whether a text binds one version is decided
+//! while it is read.
 #![tactic(auto)]
 
+mod binding;
 mod bound;
 mod comparator;
 mod component;
@@ -24,6 +26,7 @@ mod relation;
 mod selector;
 mod simple;
 
+pub use crate::binding::binds;
 pub use crate::dist_tag::tag;
 pub use crate::range::Range;
 pub use crate::range_text::is_range;

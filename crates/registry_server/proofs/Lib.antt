@@ -9,3 +9,4 @@ mod TimeFacts
 mod OrderFacts
 mod RestFacts
 mod HeldFacts
+mod RemainderFacts

@@ -10,6 +10,8 @@ mod access;
 #[cfg(test)]
 mod arguments;
 #[cfg(test)]
+mod crowd;
+#[cfg(test)]
 mod ends;
 #[cfg(test)]
 mod names;
@@ -35,5 +37,7 @@ mod server;
 mod talk;
 #[cfg(test)]
 mod texts;
+#[cfg(test)]
+mod tokens;
 #[cfg(test)]
 mod wire;

@@ -2,3 +2,5 @@
 
 mod answers;
 pub mod connections;
+mod ends;
+mod source;

@@ -1,0 +1,3 @@
+pub mod Older
+pub mod Migration
+pub mod Steps

@@ -1,0 +1,40 @@
+-- What a migration asks of what is stored, and what it makes of it.
+use Rattle.std.specs.Prelude.{◌≡◌, Some, IsSome}
+use Rattle.registry_names.specs.Keys.{Pair}
+use Rattle.registry_names.specs.Maps.{at, empty, put}
+use Rattle.registry_publish.specs.Needs.{needs_of}
+use Rattle.registry_rules.specs.State.{Release}
+use Rattle.registry_tables.specs.Archives.{HoldsArchives}
+use Rattle.registry_tables.specs.Contents.{Contents, registry_of}
+use Rattle.registry_tables.specs.Fresh.{CountsArchivesAlone, schema_key, schema_number}
+use Rattle.registry_tables.specs.Needs.{HoldsNeeds}
+use Rattle.registry_migration.specs.Older.{number_of, registry_of_older}
+use Rattle.registry_migration.specs.declared.older.Older.{Older}
+use Rattle.registry_migration.specs.declared.older.Older.TheVariants.{First, Second}
+
+-- each live version has a manifest whose needs can be read
+abbrev pub NeedsAreReadable : Contents → Type 0
+NeedsAreReadable c = (k : Pair) (release : Release) → at c.versions k ≡ Some release → IsSome (needs_of release.manifest)
+
+-- The number is that of the schema, each manifest can be read, and SQLite counts for nothing but
+-- the archives
+pub record MayMigrate (older : Older) (c : Contents) : Type 0 where
+  pub numbered : at c.meta schema_key ≡ Some (number_of older)
+  pub readable : NeedsAreReadable c
+  pub counted : CountsArchivesAlone c
+
+-- archives of the rows are stored each once now, and those that were stored so are as they were
+abbrev pub KeepsArchives : Older → Contents → Contents → Type 0
+KeepsArchives First before after = HoldsArchives after
+KeepsArchives Second before after = (after.versions ≡ before.versions) × (after.held ≡ before.held) × (after.archives ≡ before.archives) × (after.last_archive ≡ before.last_archive)
+
+pub record Migrates (older : Older) (before after : Contents) : Type 0 where
+  -- it is the same registry
+  pub same : registry_of after ≡ registry_of_older older before
+  -- the needs that are stored are those of live manifests, with their ranges
+  pub needs : HoldsNeeds after
+  -- and none without
+  pub targets : after.needs ≡ empty
+  pub archives : KeepsArchives older before after
+  pub numbered : after.meta ≡ put before.meta schema_key schema_number
+  pub counted : CountsArchivesAlone after

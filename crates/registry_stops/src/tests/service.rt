@@ -1,0 +1,115 @@
+//! A service over a registry whose log fails after so many calls: a fault is answered, and the
+//! service is over where that has shut the registry.
+
+use crate::disks::{Stopping, StoppingDisk, empty_files, opened};
+use crate::requests::{ADD_ANN, TAGS_OF_NONE};
+use registry_http::RegistryService;
+use registry_names::Fault;
+use registry_rules::Request;
+use registry_service::Service;
+use registry_test_requests::request_of;
+use registry_test_support::same;
+use sqlite_disk::{Fuse, Memory};
+use std::alloc::Global;
+use std::test::Fail;
+
+/// More calls than an open and a request make of the log.
+const ENOUGH: u64 = 1_000;
+
+/// What comes of a registry in files, and of one request to it.
+#[derive(Clone, Copy, Debug, PartialEq, Eq)]
+enum Comes {
+    /// It doesn't open.
+    Unopened,
+    /// The request is answered by a fault, and others are answered.
+    GoesOn,
+    /// The request is answered by a fault, and the service is over.
+    IsOver,
+    /// The request is answered.
+    Answered,
+}
+
+/// The request, and one more.
+struct Asked {
+    add: Request,
+    query: Request,
+}
+
+// Written out, so that to drop it is one call and not one for each part.
+impl Drop for Asked {
+    fn drop(self) {
+        let Asked { add: _, query: _ } = self;
+    }
+}
+
+#[test]
+fn a_service_is_over_once_the_disk_has_shut_its_registry(rt: HostRuntime) -> Result<(), Fail> {
+    let add = request_of(rt.alloc(), ADD_ANN)?;
+    let query = request_of(rt.alloc(), TAGS_OF_NONE)?;
+    both_are_seen(rt.alloc(), &Asked { add, query })
+}
+
+// Lets the log fail after its first call, after its second, and so on, until the request is
+// answered.
+fn both_are_seen(alloc: Global, asked: &Asked) -> Result<(), Fail> {
+    let mut is_over = false;
+    let mut goes_on = false;
+    for calls in 0..ENOUGH {
+        match comes_of::<Fuse<Memory>>(alloc, calls, asked)? {
+            Comes::Unopened => {}
+            Comes::GoesOn => goes_on = true,
+            Comes::IsOver => is_over = true,
+            Comes::Answered => return same("both are seen", (goes_on, is_over), (true, true)),
+        }
+    }
+    Err(Fail::new(format_args!("no request is answered")))
+}
+
+// What comes of a registry whose log fails after so many calls.
+fn comes_of<D: StoppingDisk>(alloc: Global, calls: u64, asked: &Asked) -> Result<Comes, Fail> {
+    match opened(alloc, empty_files::<D>(alloc, Stopping::Log, calls)) {
+        Ok(registry) => {
+            let mut service = RegistryService::new(registry);
+            answers(alloc, calls, &mut service, asked)
+        }
+        Err(_files) => Ok(Comes::Unopened),
+    }
+}
+
+fn answers<S: Service>(
+    alloc: Global,
+    calls: u64,
+    service: &mut S,
+    asked: &Asked,
+) -> Result<Comes, Fail> {
+    match service.answer(alloc, &asked.add) {
+        Ok(_) => {
+            let is_over = service.is_over();
+            same(("an answered request ends it", calls), is_over, false)?;
+            Ok(Comes::Answered)
+        }
+        Err(fault) => {
+            same(("a disk that fails", calls), fault, Fault::Database)?;
+            after_the_fault(alloc, calls, service, asked)
+        }
+    }
+}
+
+// Whether the service is over exactly if its registry answers nothing more.
+fn after_the_fault<S: Service>(
+    alloc: Global,
+    calls: u64,
+    service: &mut S,
+    asked: &Asked,
+) -> Result<Comes, Fail> {
+    let is_over = service.is_over();
+    let is_shut = service.answer(alloc, &asked.query).is_err();
+    same(("after the fault", calls), is_over, is_shut)?;
+    let is_still_over = service.is_over();
+    same(("after one more request", calls), is_still_over, is_shut)?;
+    Ok(if is_over {
+        Comes::IsOver
+    } else {
+        Comes::GoesOn
+    })
+}
