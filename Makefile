@@ -11,7 +11,7 @@ EVERY := 1
 JOBS := 1
 SECONDS := 600
 
-.PHONY: help try run build test check stories stops plants fmt npm front kill files older limits large soak starve fuzz bench compare examples kit
+.PHONY: help try run build test check stories stops plants fmt npm front kill files limits large soak starve fuzz bench compare examples kit
 
 help:
 	@echo 'Build:'
@@ -32,7 +32,6 @@ help:
 	@echo '  make front    the same through nginx with TLS: it needs nginx, and yarn where it is there'
 	@echo '  make kill     kills a server 500 times while versions are published: 6 minutes'
 	@echo '  make files    fills a disk, and opens files that hold no registry'
-	@echo '  make older    migrates files of older schemas, and kills that at any moment: two minutes'
 	@echo '  make limits   tries the limits of connections, and hostile clients: 4 minutes'
 	@echo '  make large    two million bytes of each thing, and whether they are refused soon'
 	@echo '  make soak     a hundred clients for ten minutes, and whether memory and answers hold'
@@ -80,9 +79,6 @@ kill: out/registry
 
 files: out/registry
 	@examples/refused_files.sh out/registry
-
-older: out/registry
-	@tools/measure_older --program out/registry
 
 limits: out/registry
 	@tools/measure_limits --program out/registry

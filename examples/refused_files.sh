@@ -259,29 +259,16 @@ lay 'a text' "$foreign"
 echo 'a text, and no registry' > "$db"
 is_refused "$program"
 
-# Another program's file, in which these texts were run, is refused.
-another_is_refused() {
-    lay "another program's file, with $1" "$foreign"
-    shift
+if command -v python3 > /dev/null; then
+    lay "another program's file" "$foreign"
     python3 -c 'import sqlite3, sys
 conn = sqlite3.connect(sys.argv[1])
-for text in sys.argv[2:]:
-    conn.execute(text)
+conn.execute("CREATE TABLE note (title TEXT)")
 conn.commit()
-conn.close()' "$db" "$@"
+conn.close()' "$db"
     is_refused "$program"
-}
-
-if command -v python3 > /dev/null; then
-    table="CREATE TABLE note (title TEXT)"
-    another_is_refused 'a table' "$table"
-    another_is_refused 'a view alone' 'CREATE VIEW note AS SELECT 1'
-    another_is_refused 'a trigger' "$table" 'CREATE TRIGGER none AFTER INSERT ON note BEGIN DELETE FROM note; END'
-    another_is_refused 'a view and its trigger' 'CREATE VIEW note AS SELECT 1 AS title' \
-        'CREATE TRIGGER none INSTEAD OF INSERT ON note BEGIN SELECT 1; END'
-    another_is_refused 'a table of no rowids' 'CREATE TABLE note (title TEXT PRIMARY KEY) WITHOUT ROWID'
 else
-    say "left out: another program's files, which python3 makes"
+    say "left out: another program's file, which python3 makes"
 fi
 
 lay 'half of a registry' "$foreign"

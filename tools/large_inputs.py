@@ -78,7 +78,6 @@ def other_bodies():
     yield 'a string as a level', 'PUT', '/-/grant/lab/core/@lab%2fkit', text(MUCH), '400 BadBody'
     yield 'nested arrays as a deprecation', 'POST', deprecate, nested('[', ']'), '400 BadBody'
     yield 'a selector of `1||`', 'POST', deprecate, f'{{"selector":"{much("1||")}","message":"old"}}', '200 1'
-    yield 'a selector of `1 `', 'POST', deprecate, f'{{"selector":"{much("1 ")}","message":"old"}}', '200 1'
     yield 'a selector of `1||` that ends in `^1`', 'POST', deprecate, f'{{"selector":"{much("1||")}^1","message":"old"}}', '400 BadSelector'
     yield 'a string as a selector', 'POST', deprecate, f'{{"selector":{text(MUCH)},"message":"old"}}', '400 BadSelector'
     yield 'a string as a message', 'POST', deprecate, f'{{"selector":"1.x","message":{text(MUCH)}}}', '400 BadBody'

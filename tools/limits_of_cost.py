@@ -8,7 +8,7 @@ import threading
 from tries import *
 
 FEW, MANY, ROUNDS, SINGLE = 1_000, 10_000, 100, 2_000
-BODY, BODIES, STALLED = 4_194_304, 100, 20
+BODY, BODIES = 4_194_304, 100
 VERSIONS, LONG, READERS = 17, 4_100_000, 40
 
 # Of a body under way so many bytes are sent before its client stops.
@@ -230,8 +230,7 @@ def is_refused(connection):
 
 def bodies_under_way(server):
     """100 clients without a token that stop within a body, at the same time. Beside them others ask
-    and publish what is small, and then all of them go on, before the time of those is up that are
-    read side by side."""
+    and publish, and then all of them go on."""
     client, before, number = Client(server.port), server.memory()[0], next(ROUND)
     client.must(201, 'PUT', '/small', Publication('small', f'1.{number}.0', 1000).body)
     crowd = Crowd(server.port, BODIES)
@@ -239,27 +238,17 @@ def bodies_under_way(server):
     after, _ = server.memory()
     small = max(client.must(200, 'GET', '/small') for _ in range(20))
     publish = client.must(201, 'PUT', '/small', Publication('small', f'1.{number}.1', 1000).body)
+    large = Client(server.port).must(201, 'PUT', '/large', Publication('large', f'1.{number}.0', 3_144_000).body)
     refused = crowd.go_on()
     crowd.close()
     _, most = server.memory()
     came = (f'{figure(after - before)} MB more, {figure(most - before)} at most; a packument {milliseconds(small)} ms, '
-            f'a publish {milliseconds(publish)} ms; {refused} of {BODIES} are answered')
-    return want(most - before < 320 and small < 0.1 and publish < 0.5 and refused >= BODIES - 2, came)
-
-
-def bodies_that_stall(server):
-    """20 clients without a token that stop within a body, and send nothing more. Beside them one
-    publishes 100 kB."""
-    body = Publication('middle', f'1.{next(ROUND)}.0', 75_000).body
-    crowd = Crowd(server.port, STALLED)
-    time.sleep(3)
-    took = Client(server.port).must(201, 'PUT', '/middle', body)
-    crowd.close()
-    return want(took < 15, f'a publish of {len(body)} bytes takes {took:.1f} s')
+            f'a publish {milliseconds(publish)} ms, one of 4 MiB {large:.1f} s; {refused} of {BODIES} are answered')
+    return want(most - before < 180 and small < 0.1 and publish < 0.5 and large < 15 and refused >= BODIES - 2, came)
 
 
 LARGE = delete_by_nobody, thousand_deletes, depended, depended_growth
-ALONE = head_in_bytes, bodies_by_nobody, bodies_under_way, bodies_that_stall
+ALONE = head_in_bytes, bodies_by_nobody, bodies_under_way
 
 TRIES = [
     Try('delete-by-nobody', 'a withdrawal without a token, among 10,000 packages of seven needs each',
@@ -276,7 +265,6 @@ TRIES = [
     Try('packument-by-many', 'resident memory while 40 connections slowly read one packument of more than 64 MiB',
         'less than two and a half such packuments more', packument_by_many),
     Try('bodies-under-way', '100 clients without a token that stop within a body of 4 MiB, others beside them, and then all go on',
-        'under 320 MB more, a packument and a small publish at once, and all but two are answered', bodies_under_way),
-    Try('bodies-that-stall', '20 clients without a token that stop within a body of 4 MiB, and a publish of 100 kB beside them',
-        'within 15 s', bodies_that_stall),
+        'under 180 MB more, a packument and a small publish at once, one of 4 MiB within 15 s, and all but two are answered',
+        bodies_under_way),
 ]

@@ -87,7 +87,7 @@ fn token_add_words(alloc: Global, user: Text, token: Text) -> Result<Arguments, 
 /// `Memory` comes where no memory is left. Arguments that name an errand and that the program
 /// doesn't take, or that ask for help on it, are `Usage::Words` with what is to be said of them: the
 /// text of `clap`, which ends in a newline, or `--as excludes --operator` where they have both.
-pub fn errand_of(alloc: Global, arguments: &[Text]) -> Result<Option<Errand>, Usage>
+pub fn errand(alloc: Global, arguments: &[Text]) -> Result<Option<Errand>, Usage>
     ensures ok { IfOk result (λ found. IfSome found (λ _. found ≡ errand_of arguments.now)) }
     ensures one { IfOk result (λ found. IfSome found (λ _.
         are_both_in (matches_of house arguments.now) ≡ false)) }

@@ -18,7 +18,7 @@ mod usage;
 
 pub use crate::action::action_of;
 pub use crate::arguments::Arguments;
-pub use crate::errands::{Errand, NewToken, errand_of};
+pub use crate::errands::{Errand, NewToken, errand};
 pub use crate::meaning::{Line, Who};
 pub use crate::printed::{Printed, render};
 pub use crate::printing::print_reply;

@@ -21,8 +21,7 @@ step_counts r c = changes_count (effects_of (registry_of c) r) c
 
 pub opens_count : OpensCountArchivesAlone
 opens_count db c (inl (sound, found, is)) = ap (λ (d : Contents). d.counters) is ∙ found.1
-opens_count db c (inr (inl (none, is))) = ap (λ (d : Contents). d.counters) is
-opens_count db c (inr (inr (older, sound, is))) = is.made.counted
+opens_count db c (inr (none, is)) = ap (λ (d : Contents). d.counters) is
 
 pub outcomes_keep : OutcomesKeepCounters
 outcomes_keep r o c = elim (enters r o) as (λ b. (if b then stepped r c else c).counters ≡ c.counters) [ true ↦ step_counts r c | false ↦ refl ]

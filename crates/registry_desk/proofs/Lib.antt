@@ -1,10 +1,8 @@
-mod AdoptedFacts
 mod CommitFacts
 mod CountingFacts
 mod EarlyFacts
 mod GrantFacts
 mod KeepingFacts
-mod LifeFacts
 mod LoadedFacts
 mod LookFacts
 mod MakingFacts

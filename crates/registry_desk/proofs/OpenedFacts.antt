@@ -1,5 +1,5 @@
 -- What an open finds in files: rows whose rowids rise.
-use Rattle.std.proofs.Common.{◌≡◌, ◌⊎◌, ◌∙◌, ◌==◌, ℕ, filter, true, false, List, [], ◌∷◌, inl, inr, ap, sym, subst, IsTrue, OnOk, Result, Ok, Err, length, ne_eqb, refl, arith}
+use Rattle.std.proofs.Common.{◌≡◌, ◌==◌, ℕ, filter, true, false, List, [], ◌∷◌, inl, inr, ap, sym, subst, IsTrue, OnOk, Result, Ok, Err, length, ne_eqb, refl, arith}
 use Rattle.std.proofs.Math.Logic.{∥∥₁_elim}
 use Rattle.std.specs.List.{AllByRecursion}
 use Rattle.sqlite_rules.specs.Lists.{Has}
@@ -20,22 +20,14 @@ use Rattle.sqlite_store.proofs.ListingLemmas.{all_ordered}
 use Rattle.sqlite_pages.specs.PageMap.{PageMap}
 use Rattle.sqlite_pool.specs.File.{in_use, version_in}
 use Rattle.sqlite_wal.specs.Recovery.{Image}
-use Rattle.sqlite.specs.Files.{AreFoundIn, Finds, HoldsDatabase, file_state, image_of}
+use Rattle.sqlite.specs.Files.{AreFoundIn, Finds, file_state, image_of}
 use Rattle.sqlite.specs.Held.{Held}
 use Rattle.sqlite_disk.specs.declared.Disk as disk
 use Rattle.sqlite_disk.specs.declared.Files.{Files}
 use Rattle.sqlite_store.specs.declared.store.FileStore.{FileStore}
 use Rattle.sqlite.specs.Effect.{Database, IsDatabase}
 use Rattle.sqlite.specs.Start.{FindsIn}
-use Rattle.sqlite.specs.Opening.{FailsAs}
-use Rattle.sqlite.specs.State.{State as Shown, HasCleanDisk, IsLive, Opens, Survives, store_error}
-use Rattle.sqlite.specs.declared.error.Error.{Error}
-use Rattle.sqlite_disk.specs.Disk.{MoreFaults}
-use Rattle.sqlite_trees.specs.declared.error.StoreError.{StoreError}
-use Rattle.sqlite_trees.specs.declared.error.StoreError.TheVariants as kinds
-use Rattle.registry_names.specs.declared.stop.Fault.{Fault}
-use Rattle.registry_names.specs.declared.stop.Fault.TheVariants as faults
-use Rattle.registry_rows.specs.Faults.{as_fault}
+use Rattle.sqlite.specs.State.{State as Shown, HasCleanDisk, IsLive, Opens, Survives}
 use Rattle.registry_rows.specs.Ready.{Ready}
 use Rattle.registry_rows.specs.Rows.{HasRowids}
 use Rattle.registry_rows.specs.Tables.{no_tables}
@@ -43,11 +35,8 @@ use Rattle.registry_tables.specs.Contents.{Contents}
 use Rattle.registry_tables.specs.Effects.{stored}
 use Rattle.registry_tables.specs.Fresh.{fresh}
 use Rattle.registry_tables.specs.Schema as ours
-use Rattle.registry_migration.specs.Older.{schema_of}
-use Rattle.registry_migration.specs.declared.older.Older.{Older}
-use Rattle.registry_migration.specs.declared.older.Older.TheVariants.{First, Second}
-use Rattle.registry_desk.specs.Adopted.{CanBeAdopted, IsMade, SurvivesAdoption}
-use Rattle.registry_desk.specs.Opened.{GivesFound, HoldsEach, HoldsFound, IsFreshIfEmpty, IsLeftOf, IsMadeOf, LeavesFound, LeavesMigrated}
+use Rattle.registry_desk.specs.Adopted.{CanBeAdopted, IsMade}
+use Rattle.registry_desk.specs.Opened.{GivesFound, HoldsEach, HoldsFound, IsFreshIfEmpty, IsLeftOf, IsMadeOf, LeavesFound}
 
 -- ---- rowids
 
@@ -82,31 +71,9 @@ ours_ready s rises live is clean on = record {
   rowids = subst (λ (schema : Schema). AllByRecursion (λ t. HasRowids (s.now.trees t.tree)) schema.tables) is (rises clean on);
 }
 
--- and so they are where it is an older one
-pub older_ready : (older : Older) (s : Shown) → CanBeAdopted s → IsLive s → s.now.schema ≡ schema_of older → Ready (schema_of older) s
-older_ready older s rises live is clean on = record {
-  schema_is = is;
-  sound = (live on).0;
-  rowids = subst (λ (schema : Schema). AllByRecursion (λ t. HasRowids (s.now.trees t.tree)) schema.tables) is (rises clean on);
-}
-
--- and where there is none
+-- and so they are where there is none
 pub none_ready : (s : Shown) → IsLive s → s.now.schema ≡ no_tables → Ready no_tables s
 none_ready s live is clean on = record { schema_is = is; sound = (live on).0; rowids = tt }
-
--- what a migration may leave is left of the tables of an older schema
-pub migrated_left : (older : Older) (old new : Shown) → old.now.schema ≡ schema_of older → Survives old new (λ db. IsTrue old.is_open × LeavesMigrated older old.now.trees db) → SurvivesAdoption old new
-migrated_left older old new is survives = record {
-  clean = survives.clean;
-  shield = survives.shield;
-  counts = survives.counts;
-  limit = survives.limit;
-  closes = survives.closes;
-  crash = λ clean db left. elim (survives.crash clean db left) [
-    | inl earlier ↦ inl earlier
-    | inr made ↦ inr (made.0, inr (inr (older, is, made.1)))
-  ];
-}
 
 -- two facts of an answer
 pub both_ok : {A E : Type 0} {P Q R : Type 0} (r : Result A E) → (P → Q → R) → OnOk r P → OnOk r Q → OnOk r R
@@ -126,24 +93,16 @@ sound_as schema seen is sound = subst (λ s. IsSound s seen.trees) is sound
 -- what is made of the database that was seen is given of the trees that the files hold
 pub gives_found : (seen : Database) (c : Contents) → IsMadeOf seen c → IsDatabase seen → GivesFound seen.trees c
 gives_found seen c (inl (schema_is, number, is)) sound = inl (sound_as ours.schema seen schema_is sound, number, is)
-gives_found seen c (inr (inl (none, is))) sound = inr (inl (sound_as no_tables seen none sound, is))
-gives_found seen c (inr (inr (older, was, is))) sound = inr (inr (older, sound_as (schema_of older) seen was sound, is))
+gives_found seen c (inr (none, is)) sound = inr (sound_as no_tables seen none sound, is)
 
 pub leaves_found : (seen : Database) (left : Trees) → IsDatabase seen → IsLeftOf seen left → LeavesFound seen.trees left
 leaves_found seen left sound (inl same) = inl same
-leaves_found seen left sound (inr (inl (none, is))) = inr (inl (sound_as no_tables seen none sound, is))
-leaves_found seen left sound (inr (inr (older, was, is))) = inr (inr (older, sound_as (schema_of older) seen was sound, is))
-
--- the older schemas have users
-pub has_users : (older : Older) → Has (schema_of older).tables ours.users
-has_users First = inl refl
-has_users Second = inl refl
+leaves_found seen left sound (inr (none, is)) = inr (sound_as no_tables seen none sound, is)
 
 pub empty_gives_fresh : (image : Image) (db : Trees) (c : Contents) → image.db ≡ [] → AreFoundIn image db → GivesFound db c → c ≡ fresh
 empty_gives_fresh image db c none (inl found) gives = absurd (let some = found.3.found.present in let bytes = ap length none in omega (arith, some, bytes))
 empty_gives_fresh image db c none (inr (nothing, empty)) (inl (sound, number, is)) = absurd (no_table db ours.schema empty.1 sound ours.users (inl refl))
-empty_gives_fresh image db c none (inr (nothing, empty)) (inr (inl (sound, is))) = is
-empty_gives_fresh image db c none (inr (nothing, empty)) (inr (inr (older, sound, is))) = absurd (no_table db (schema_of older) empty.1 sound ours.users (has_users older))
+empty_gives_fresh image db c none (inr (nothing, empty)) (inr (sound, is)) = is
 
 -- ---- of an open
 
@@ -163,7 +122,7 @@ module _ (image : Image) (seen later : Shown) (opened : HasCleanDisk seen → Op
     given clean =
         let it = made clean in
         let now = opened it.0 in
-        subst (λ d. GivesFound d (stored later)) (ap (λ (d : Database). d.trees) now.0.clean) (gives_found seen.now (stored later) it.2 (now.1 now.0.is_open).0)
+        subst (λ d. GivesFound d (stored later)) (ap (λ (d : Database). d.trees) now.0.clean) (gives_found seen.now (stored later) it.1 (now.1 now.0.is_open).0)
 
     pub holds_found : HoldsFound image later
     holds_found clean = (seen.committed.trees, (finds (made clean).0).reads, given clean)
@@ -175,48 +134,15 @@ module _ (image : Image) (seen later : Shown) (opened : HasCleanDisk seen → Op
     fresh_if_empty clean none = empty_gives_fresh image seen.committed.trees (stored later) none (finds (made clean).0).reads (given clean)
 
   -- a crash could leave what was found alone, since the connection was open
-  pub leaves_at_most : ((db : Trees) → IsTrue seen.is_open → seen.may_leave db → db ≡ seen.committed.trees) → SurvivesAdoption seen later
-      → HasCleanDisk later → (db : Trees) × AreFoundIn image db × ((held : Trees) → HoldsDatabase image held → db ≡ held) × ((left : Trees) → later.may_leave left → LeavesFound db left)
+  pub leaves_at_most : ((db : Trees) → IsTrue seen.is_open → seen.may_leave db → db ≡ seen.committed.trees) → Survives seen later (IsLeftOf seen.now)
+      → HasCleanDisk later → (db : Trees) × AreFoundIn image db × ((left : Trees) → later.may_leave left → LeavesFound db left)
   leaves_at_most settled survives clean =
       let before : HasCleanDisk seen = omega (arith, survives.clean, clean) in
       let now = opened before in (
         seen.committed.trees,
         (finds before).reads,
-        (finds before).holds,
         λ left may. elim (survives.crash clean left may) [
           | inl earlier ↦ inl (settled left now.0.is_open earlier)
-          | inr made ↦ subst (λ d. LeavesFound d left) (ap (λ (d : Database). d.trees) now.0.clean) (leaves_found seen.now left (now.1 now.0.is_open).0 made.1)
+          | inr made ↦ subst (λ d. LeavesFound d left) (ap (λ (d : Database). d.trees) now.0.clean) (leaves_found seen.now left (now.1 now.0.is_open).0 made)
         ],
       )
-
--- ---- why an open fails
-
-module _ (old new : ℕ) (AtLimit Wanted : Type 0) (fault : Fault) where
-  abbrev Why : Type 0
-  Why = (fault ≡ faults.Memory) ⊎ ((fault ≡ faults.Database) × ((¬ Wanted) ⊎ (MoreFaults old new ⊎ AtLimit)))
-
-  by_kind : (kind : StoreError) → fault ≡ as_fault (store_error kind) → MoreFaults old new → Why
-  by_kind kinds.OutOfMemory is more = inl is
-  by_kind kinds.Io is more = inr (is, inr (inl more))
-  by_kind kinds.Corrupt is more = inr (is, inr (inl more))
-  by_kind kinds.Full is more = inr (is, inr (inl more))
-  by_kind kinds.Broken is more = inr (is, inr (inl more))
-  by_kind kinds.Unstorable is more = inr (is, inr (inl more))
-
-  pub fails_as : (kind : StoreError) (e : Error) → FailsAs kind old new AtLimit Wanted e → fault ≡ as_fault e → Why
-  fails_as kind e fails is = elim fails [
-    | inl memory ↦ inl (is ∙ ap as_fault memory)
-    | inr other ↦ elim other [
-      | inl none ↦ inr (
-        elim none.0 [
-          | inl foreign ↦ is ∙ ap as_fault foreign
-          | inr corrupt ↦ is ∙ ap as_fault corrupt
-        ],
-        inl none.1,
-      )
-      | inr met ↦ elim met [
-        | inl failed ↦ by_kind kind (is ∙ ap as_fault failed.0) failed.1
-        | inr full ↦ inr (is ∙ ap as_fault full.0, inr (inr full.1))
-      ]
-    ]
-  ]

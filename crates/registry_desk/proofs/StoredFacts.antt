@@ -9,12 +9,13 @@ use Rattle.registry_rules.specs.declared.request.Action.TheVariants.{Withdraw}
 use Rattle.registry_rules.specs.declared.request.Request.{Request}
 use Rattle.registry_tables.specs.Contents.{Contents}
 use Rattle.registry_tables.specs.Effects.{registry_in, stored}
+use Rattle.registry_tables.specs.Archives.{HoldsArchives}
 use Rattle.registry_tables.specs.Needs.{HoldsNeeds}
+use Rattle.registry_tables.specs.Teams.{GrantsInScope}
 use Rattle.registry_tables.proofs.TeamFacts.{sound_teams}
 use Rattle.registry_rows.proofs.QuietFacts.{on_answer}
 use Rattle.registry_desk.specs.Found.{NeedsFor}
-use Rattle.registry_desk.specs.Lives.{HasAnswered, HasRun}
-use Rattle.registry_desk.specs.Promises.{HoldsReferences, HoldsSound, HoldsSoundFor, HoldsSoundForEach, NeedsForEach}
+use Rattle.registry_desk.specs.Promises.{Answered, HoldsReferences, HoldsSound, HoldsSoundFor, HoldsSoundForEach, Keeps, KeepsForm, KeepsFormRun, KeepsRun, KeepsSure, Moves, NeedsForEach, RanTo, Served, ServedRun, ShutByFaults, StaysSure, Stepped, Stored, SurvivesOne, SurvivesRun, WasOpen}
 use Rattle.registry_desk.specs.Resting.{IsRegistryOf, Serves, end_stored, left_by, next_stored, settled_by}
 use Rattle.registry_desk.proofs.SettlingFacts.{faulted_next}
 use Rattle.registry_history.specs.Runs.{Outcome, HaveOutcomes, IsAnswer, next}
@@ -108,6 +109,34 @@ answer_of T r (Ok reply) P on answered = answered on
 answer_of T r (Err fault) P on answered = tt
 
 -- ---- all that holds of a request, and of a run
+
+pub record HasAnswered (old new : Shown) (r : Request) (o : Outcome) : Type 0 where
+  pub answer : Answered old new r o
+  pub served : Served old new o
+  pub opened : WasOpen old new
+  pub step : Stepped old new r o
+  pub moves : Moves old new r o
+  pub grants : Keeps old new r GrantsInScope
+  pub needs : Keeps old new r HoldsNeeds
+  pub refers : Keeps old new r HoldsReferences
+  pub archives : Keeps old new r HoldsArchives
+  pub form : KeepsForm old new r
+  pub survives : SurvivesOne old new r
+  pub stays : StaysSure new
+
+pub record HasRun (old new : Shown) (rs : List Request) (os : List Outcome) : Type 0 where
+  pub ran : RanTo old new rs os
+  pub stored : Stored old new rs os
+  pub served : ServedRun old new os
+  pub opened : WasOpen old new
+  pub grants : KeepsRun old new rs GrantsInScope
+  pub needs : KeepsRun old new rs HoldsNeeds
+  pub refers : KeepsRun old new rs HoldsReferences
+  pub archives : KeepsRun old new rs HoldsArchives
+  pub form : KeepsFormRun old new rs
+  pub survives : SurvivesRun old new rs os
+  pub stays : KeepsSure old new
+  pub closes : ShutByFaults old new
 
 pub has_run_none : (s : Shown) → HasRun s s [] []
 has_run_none s = record {

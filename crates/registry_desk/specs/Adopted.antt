@@ -3,14 +3,14 @@ use Rattle.std.specs.Prelude.{◌≡◌, IsTrue}
 use Rattle.std.specs.List.{AllByRecursion}
 use Rattle.sqlite.specs.Closing.{files_left}
 use Rattle.sqlite.specs.Files.{IsClosed}
-use Rattle.sqlite.specs.State.{State as Shown, HasCleanDisk, Survives}
+use Rattle.sqlite.specs.State.{State as Shown, HasCleanDisk}
 use Rattle.sqlite_disk.specs.declared.Disk as disk
 use Rattle.sqlite_disk.specs.declared.Files.{Files}
 use Rattle.sqlite_store.specs.FileStore.{files}
 use Rattle.sqlite_store.specs.declared.store.FileStore.{FileStore}
 use Rattle.registry_rows.specs.Rows.{HasRowids}
 use Rattle.registry_tables.specs.Effects.{stored}
-use Rattle.registry_desk.specs.Opened.{IsLeftOf, IsMadeOf}
+use Rattle.registry_desk.specs.Opened.{IsMadeOf}
 use Rattle.registry_desk.specs.declared.open.Unopened.{Unopened}
 use Rattle.registry_desk.specs.declared.open.Unopened.TheVariants as unopened
 
@@ -24,15 +24,9 @@ abbrev pub IsSettled : Shown → Type 0
 IsSettled s = IsTrue s.is_open → s.now ≡ s.committed
 
 module _ (old new : Shown) where
-  -- a registry is made of an open connection alone, and holds what is made of what that saw
+  -- what the registry holds is made of what the connection saw
   abbrev pub IsMade : Type 0
-  IsMade = HasCleanDisk new → HasCleanDisk old × IsTrue old.is_open × IsMadeOf old.now (stored new)
-
-  -- A crash leaves what it could have left before or, of an open connection alone, what that saw or,
-  -- where there was no table, a fresh registry. No fault is forgotten, a limit of steps stays, and so
-  -- do tests of what is read
-  abbrev pub SurvivesAdoption : Type 0
-  SurvivesAdoption = Survives old new (λ db. IsTrue old.is_open × IsLeftOf old.now db)
+  IsMade = HasCleanDisk new → HasCleanDisk old × IsMadeOf old.now (stored new)
 
   -- where it is open, it was, and it sees what was committed then
   abbrev pub IsUndone : Type 0

@@ -5,6 +5,5 @@ pub mod Promises
 pub mod Resting
 pub mod Caches
 pub mod Counting
-pub mod Lives
 pub mod Stops
 pub mod Early

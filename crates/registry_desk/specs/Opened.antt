@@ -1,27 +1,20 @@
 -- What an open gives of the database that it finds, and what a crash leaves of that.
-use Rattle.std.specs.Prelude.{◌≡◌, ◌⊎◌, ◌++◌, [], None, Some, codes}
+use Rattle.std.specs.Prelude.{◌≡◌, ◌⊎◌, ◌++◌, [], Some, codes}
 use Rattle.sqlite.specs.Effect.{Database}
-use Rattle.sqlite.specs.Files.{AreFoundIn, HoldsDatabase, IsCleanLeft, IsFullLeft, IsNothing, LeavesFiles, faults_left, faults_of, file_state, image_of}
+use Rattle.sqlite.specs.Files.{AreFoundIn, HoldsDatabase, IsCleanLeft, LeavesFiles, file_state, image_of}
 use Rattle.sqlite.specs.State.{State as Shown, HasCleanDisk}
-use Rattle.sqlite.specs.declared.file.Leftover.{Leftover}
 use Rattle.sqlite_catalog.specs.Listing.{IsSound}
-use Rattle.sqlite_disk.specs.Disk.{MoreFaults}
 use Rattle.sqlite_disk.specs.declared.Disk as disk
 use Rattle.sqlite_disk.specs.declared.Files.{Files}
 use Rattle.sqlite_trees.specs.Tree.{Trees}
 use Rattle.sqlite_wal.specs.Recovery.{Image}
 use Rattle.registry_names.specs.Maps.{at}
 use Rattle.registry_names.specs.Texts.{Text}
-use Rattle.registry_names.specs.declared.stop.Fault.{Fault}
-use Rattle.registry_names.specs.declared.stop.Fault.TheVariants as faults
 use Rattle.registry_rows.specs.Tables.{no_tables}
 use Rattle.registry_tables.specs.Contents.{Contents, contents}
 use Rattle.registry_tables.specs.Effects.{stored}
 use Rattle.registry_tables.specs.Fresh.{CountsArchivesAlone, fresh, schema_key, schema_number}
 use Rattle.registry_tables.specs.Schema.{schema}
-use Rattle.registry_migration.specs.Migration.{MayMigrate, Migrates}
-use Rattle.registry_migration.specs.Older.{contents_of, schema_of}
-use Rattle.registry_migration.specs.declared.older.Older.{Older}
 use Rattle.registry_desk.specs.Resting.{IsRegistryOf}
 use Rattle.registry_desk.specs.declared.open.Unopened.{Unopened}
 use Rattle.registry_desk.specs.declared.open.Unopened.TheVariants as unopened
@@ -34,34 +27,22 @@ IsNumbered c = at c.meta schema_key ≡ Some schema_number
 abbrev pub IsOurs : Contents → Type 0
 IsOurs c = IsNumbered c × CountsArchivesAlone c
 
--- c is what a migration makes of a registry of the older schema
-pub record IsMigrated (older : Older) (db : Trees) (c : Contents) : Type 0 where
-  pub asked : MayMigrate older (contents_of older db)
-  pub made : Migrates older (contents_of older db) c
-
--- the database has the tables of a registry, and they hold such a c
-pub record LeavesMigrated (older : Older) (db left : Trees) : Type 0 where
-  pub held : Contents
-  pub migrated : IsMigrated older db held
-  pub is : IsRegistryOf left held
-
--- the tables of a registry give what they hold, a database without tables a fresh registry, and
--- tables of an older schema what is made of them. Any other gives none
+-- the tables of a registry give what they hold, and a database without tables a fresh registry. Any
+-- other gives none
 abbrev pub IsMadeOf : Database → Contents → Type 0
-IsMadeOf db c = ((db.schema ≡ schema) × IsOurs (contents db.trees) × (c ≡ contents db.trees)) ⊎ (((db.schema ≡ no_tables) × (c ≡ fresh)) ⊎ ((older : Older) × (db.schema ≡ schema_of older) × IsMigrated older db.trees c))
+IsMadeOf db c = ((db.schema ≡ schema) × IsOurs (contents db.trees) × (c ≡ contents db.trees)) ⊎ ((db.schema ≡ no_tables) × (c ≡ fresh))
 
--- a crash leaves the database as it was, or, where it had no tables, a fresh registry, or, where its
--- tables were those of an older schema, what is made of them
+-- a crash leaves the database as it was, or, where it had no tables, a fresh registry
 abbrev pub IsLeftOf : Database → Trees → Type 0
-IsLeftOf db left = (left ≡ db.trees) ⊎ (((db.schema ≡ no_tables) × IsRegistryOf left fresh) ⊎ ((older : Older) × (db.schema ≡ schema_of older) × LeavesMigrated older db.trees left))
+IsLeftOf db left = (left ≡ db.trees) ⊎ ((db.schema ≡ no_tables) × IsRegistryOf left fresh)
 
 -- ---- the same of the trees that files held, which list their schema
 
 abbrev pub GivesFound : Trees → Contents → Type 0
-GivesFound db c = (IsSound schema db × IsOurs (contents db) × (c ≡ contents db)) ⊎ ((IsSound no_tables db × (c ≡ fresh)) ⊎ ((older : Older) × IsSound (schema_of older) db × IsMigrated older db c))
+GivesFound db c = (IsSound schema db × IsOurs (contents db) × (c ≡ contents db)) ⊎ (IsSound no_tables db × (c ≡ fresh))
 
 abbrev pub LeavesFound : Trees → Trees → Type 0
-LeavesFound db left = (left ≡ db) ⊎ ((IsSound no_tables db × IsRegistryOf left fresh) ⊎ ((older : Older) × IsSound (schema_of older) db × LeavesMigrated older db left))
+LeavesFound db left = (left ≡ db) ⊎ (IsSound no_tables db × IsRegistryOf left fresh)
 
 -- ---- what is promised of an open of files that held this
 
@@ -79,39 +60,13 @@ module _ (image : Image) where
     abbrev pub IsFreshIfEmpty : Type 0
     IsFreshIfEmpty = HasCleanDisk s → image.db ≡ [] → stored s ≡ fresh
 
--- After an open of these files that failed, a crash leaves what it could have left before; or, where
--- no table was found, none or those of a fresh registry, and, where tables of an older schema were,
--- what is made of them. Where a database was opened, it was each one that the files hold
+-- after an open of these files that failed, a crash leaves what it could have left before, or, where
+-- no table was found, none or those of a fresh registry
 module _ {D : Type 0} {g : disk.Ghosts D} (files : Files D) where
   abbrev pub LeavesAtMost : Unopened D g → Type 0
   LeavesAtMost (unopened.Files rest) = IsCleanLeft rest → LeavesFiles files rest
   LeavesAtMost (unopened.Database conn) =
-      HasCleanDisk (file_state conn) → (db : Trees) × AreFoundIn (image_of g files) db × ((held : Trees) → HoldsDatabase (image_of g files) held → db ≡ held)
-      × ((later : Trees) → (file_state conn).may_leave later → LeavesFound db later)
-
--- what is read later is tested against a digest of what was written
-abbrev pub IsGuarded : Shown → Type 0
-IsGuarded s = HasCleanDisk s → s.IsShielded
-
--- no query is cut short
-abbrev pub IsUnlimited : Shown → Type 0
-IsUnlimited s = s.step_limit ≡ None
-
--- the files hold something that is no database
-abbrev pub HoldNone : Image → Type 0
-HoldNone image = ¬ (((db : Trees) × HoldsDatabase image db) ⊎ IsNothing image)
-
--- why files aren't opened: memory was short; or they hold no database, or failed meanwhile, or are at
--- their limit
-module _ {D : Type 0} {g : disk.Ghosts D} (files : Files D) where
-  abbrev pub FailsToConnect : Leftover D g → Fault → Type 0
-  FailsToConnect rest fault = (fault ≡ faults.Memory)
-      ⊎ ((fault ≡ faults.Database) × (HoldNone (image_of g files) ⊎ (MoreFaults (faults_of g files) (faults_left rest) ⊎ IsFullLeft rest)))
-
-  -- the same of an open, where it got no further
-  abbrev pub FailsToOpen : Unopened D g → Fault → Type 0
-  FailsToOpen (unopened.Files rest) fault = IsCleanLeft rest → FailsToConnect rest fault
-  FailsToOpen (unopened.Database conn) fault = Unit {0}
+      HasCleanDisk (file_state conn) → (db : Trees) × AreFoundIn (image_of g files) db × ((later : Trees) → (file_state conn).may_leave later → LeavesFound db later)
 
 -- a path that begins with "file:", which is a URI to SQLite
 abbrev pub IsUri : Text → Type 0

@@ -1,21 +1,16 @@
 -- What is found again after a stop.
-use Rattle.std.specs.Prelude.{◌≡◌, List}
+use Rattle.std.specs.Prelude.{◌≡◌, IsTrue, List}
 use Rattle.sqlite.specs.Files.{HoldsDatabase}
 use Rattle.sqlite.specs.Start.{FindsIn}
 use Rattle.sqlite.specs.State.{State as Shown, HasCleanDisk, IsLive, Opens}
-use Rattle.sqlite_catalog.specs.Listing.{IsSound}
 use Rattle.sqlite_trees.specs.Tree.{Trees}
 use Rattle.sqlite_wal.specs.Recovery.{Image}
 use Rattle.registry_rules.specs.Kept.{IsKept}
 use Rattle.registry_tables.specs.Archives.{HoldsArchives}
-use Rattle.registry_tables.specs.Contents.{Contents, registry_of}
 use Rattle.registry_tables.specs.Effects.{registry_in, stored}
-use Rattle.registry_tables.specs.Needs.{HoldsNeeds}
-use Rattle.registry_migration.specs.Older.{contents_of, registry_of_older, schema_of}
-use Rattle.registry_migration.specs.declared.older.Older.{Older}
 use Rattle.registry_history.specs.History.{Entry, after}
 use Rattle.registry_desk.specs.Adopted.{IsMade}
-use Rattle.registry_desk.specs.Opened.{GivesFound, HoldsEach, LeavesFound}
+use Rattle.registry_desk.specs.Opened.{HoldsEach}
 use Rattle.registry_desk.specs.Promises.{HoldsReferences, HoldsSound, IsSure}
 use Rattle.registry_desk.specs.Resting.{Rests}
 
@@ -28,11 +23,6 @@ pub record GoesOn (last next : Shown) : Type 0 where
   pub archives : HoldsArchives (stored last) → HoldsArchives (stored next)
   pub form : IsKept (registry_in last) → IsKept (registry_in next)
   pub history : (h : List Entry) → registry_in last ≡ after h → registry_in next ≡ after h
-
--- files are opened, and a registry takes over the connection: it holds what an open of them gives
-abbrev pub AdoptionsAreOpens : {D : Type 0} → (D → Shown) → Type 0
-AdoptionsAreOpens {D} show = (seen next : D) (image : Image) → (HasCleanDisk (show seen) → Opens (show seen) × IsLive (show seen)) → (HasCleanDisk (show seen) → FindsIn image (show seen))
-    → IsMade (show seen) (show next) → HoldsEach image (show next)
 
 module _ {C D : Type 0} (show : C → Shown) (show_next : D → Shown) where
   -- a crash leaves what was stored and nothing else, the files hold one of the databases that it may
@@ -47,17 +37,6 @@ module _ {C D : Type 0} (show : C → Shown) (show_next : D → Shown) where
       → (HasCleanDisk (show_next seen) → Opens (show_next seen) × IsLive (show_next seen)) → (HasCleanDisk (show_next seen) → FindsIn image (show_next seen))
       → IsMade (show_next seen) (show_next next) → HasCleanDisk (show_next next) → GoesOn (show last) (show_next next)
 
-  -- What one registry gives back the next one takes over. Of a connection that a fault has shut there
-  -- is no next one
+  -- what one registry gives back the next one takes over
   abbrev pub ReleasesAreAdopted : Type 0
-  ReleasesAreAdopted = (last : C) (next : D) → Rests (show last) → IsMade (show last) (show_next next) → HasCleanDisk (show_next next) → GoesOn (show last) (show_next next)
-
--- ---- of an older schema
-
--- c holds the registry that the database of the older schema held, and the needs of its live versions
-abbrev pub HoldsMigrated : Older → Trees → Contents → Type 0
-HoldsMigrated older db c = (registry_of c ≡ registry_of_older older (contents_of older db)) × HoldsNeeds c
-
--- whatever a stop in an open leaves of such a database, the next open makes that registry of it
-abbrev pub MigrationsLoseNothing : Type 0
-MigrationsLoseNothing = (older : Older) (db left : Trees) (c : Contents) → IsSound (schema_of older) db → LeavesFound db left → GivesFound left c → HoldsMigrated older db c
+  ReleasesAreAdopted = (last : C) (next : D) → Rests (show last) → IsTrue (show last).is_open → IsMade (show last) (show_next next) → HasCleanDisk (show_next next) → GoesOn (show last) (show_next next)

@@ -1,12 +1,10 @@
 //! The registry itself: each request is one transaction, whose reply is made before its commit.
 //!
-//! A request that is refused changes nothing. A fault may come instead of any reply, and changes
-//! nothing as long as the registry is open. Where a fault of the disk has shut it, its last request
-//! was done, or nothing of it: an open of its files tells which.
+//! A fault may come instead of any reply, and changes nothing. A request that is refused
+//! changes nothing either.
 //!
-//! The texts of packuments that were asked for are kept until a change of a version or a tag of the
-//! package: those asked for last, of at most 64 MiB together, and beside them one that alone has
-//! more.
+//! The texts of packuments that were asked for are kept, of at most 64 MiB together, until a change
+//! of a version or a tag of the package.
 #![tactic(auto)]
 
 mod answer;
@@ -23,6 +21,7 @@ mod policy;
 mod registry;
 mod reply;
 mod rows;
+mod same;
 mod teams;
 mod withdrawals;
 

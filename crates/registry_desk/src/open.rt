@@ -2,8 +2,7 @@
 
 ghost use Rattle.std.specs.Prelude.{◌≡◌, codes, false, true, Err, IfErr, IfOk, IfSome, IsErrAnd, IsTrue, OnErr, OnOk};
 ghost use Rattle.sqlite.specs.Files.{Finds, IsBlankAs, IsCleanLeft, IsOpened, LeavesFiles, file_state, image_of};
-ghost use Rattle.sqlite.specs.Held.{IsNew, state};
-ghost use Rattle.sqlite.specs.Start.{FindsIn};
+ghost use Rattle.sqlite.specs.Held.{state};
 ghost use Rattle.sqlite.specs.State.{HasCleanDisk, Survives};
 ghost use Rattle.sqlite_std_file.specs.File.{IsFresh, file_is_usable};
 ghost use Rattle.sqlite_store.specs.FileStore.{view};
@@ -13,15 +12,14 @@ ghost use Rattle.registry_rows.specs.Tables.{no_tables};
 ghost use Rattle.registry_tables.specs.Effects.{stored};
 ghost use Rattle.registry_tables.specs.Fresh.{CountsArchivesAlone};
 ghost use Rattle.registry_tables.specs.Schema as tables;
-ghost use Rattle.registry_migration.specs.Older.{schema_of};
-ghost use Rattle.registry_desk.specs.Adopted.{AreFilesOf, CanBeAdopted, IsHandedBack, IsMade, IsSettled, IsUndone, SurvivesAdoption};
-ghost use Rattle.registry_desk.specs.Opened.{FailsToConnect, FailsToOpen, HoldsEach, HoldsFound, IsFreshIfEmpty, IsGuarded, IsMadeOf, IsMigrated, IsNumbered, IsUnlimited, IsUri, LeavesAtMost, LeavesMigrated};
+ghost use Rattle.registry_desk.specs.Adopted.{AreFilesOf, CanBeAdopted, IsHandedBack, IsMade, IsSettled, IsUndone};
+ghost use Rattle.registry_desk.specs.Opened.{HoldsEach, HoldsFound, IsFreshIfEmpty, IsLeftOf, IsMadeOf, IsNumbered, IsUri, LeavesAtMost};
 ghost use Rattle.registry_desk.specs.Promises.{IsSure};
 ghost use Rattle.registry_desk.specs.Resting.{Rests};
 
 use crate::registry::{CACHE_LIMIT, Registry, create_tables};
+use crate::same::is_same_schema;
 use registry_cache::TextCache;
-use registry_migration::{Older, is_same_schema, migrate, older_schema};
 use registry_names::Fault;
 use registry_rows::{commit, fault_of};
 use registry_tables::{counts_archives_alone, opened};
@@ -92,10 +90,9 @@ fn closed<D: Disk + Drop>(conn: Connection<FileStore<D>>) -> Files<D>
 impl Registry<FileStore<File>> {
     /// The registry in the file at the path, with its log beside it. A file that isn't there or is
     /// empty becomes a fresh registry, whose pages end in sums, so that a byte changed later is
-    /// refused. A registry of an older schema is migrated, with all that it holds. `Database` is
-    /// answered where the file can't be opened, is another program's, has the tables of another
-    /// schema, counts in `sqlite_sequence` for more than the archives, is of an older schema and
-    /// has a manifest whose needs can't be read, or is held by another process; its bytes are kept.
+    /// refused. `Database` is answered where the file can't be opened, is another program's, has
+    /// the tables of another schema, counts in `sqlite_sequence` for more than the archives, or is
+    /// held by another process; its bytes are kept.
     ///
     /// What is said here holds as long as the disk returns what was written to it, and nobody
     /// else writes the file. A torn write is supposed to leave each byte old or new:
@@ -106,8 +103,6 @@ impl Registry<FileStore<File>> {
         ensures served { IfOk result (λ r. HasCleanDisk (file_state r)
             → IsTrue (file_state r).is_open) }
         ensures stays { IfOk result (λ r. HasCleanDisk (file_state r) → IsSure (file_state r)) }
-        ensures guarded { IfOk result (λ r. IsGuarded (file_state r)) }
-        ensures unlimited { IfOk result (λ r. IsUnlimited (file_state r)) }
         ensures memory { path.now ≡ codes ":memory:" → result ≡ Err Fault.Database }
         ensures uri { IsUri path.now → result ≡ Err Fault.Database }
     {
@@ -128,8 +123,6 @@ impl<S: Start> Registry<FileStore<FileFrom<S>>> {
         ensures served { IfOk result (λ r. HasCleanDisk (file_state r)
             → IsTrue (file_state r).is_open) }
         ensures stays { IfOk result (λ r. HasCleanDisk (file_state r) → IsSure (file_state r)) }
-        ensures guarded { IfOk result (λ r. IsGuarded (file_state r)) }
-        ensures unlimited { IfOk result (λ r. IsUnlimited (file_state r)) }
         ensures memory { path.now ≡ codes ":memory:" → result ≡ Err Fault.Database }
         ensures uri { IsUri path.now → result ≡ Err Fault.Database }
     {
@@ -156,10 +149,7 @@ impl<D: Disk + Drop> Registry<FileStore<D>> {
         ensures served { IfOk result (λ r. HasCleanDisk (file_state r)
             → IsTrue (file_state r).is_open) }
         ensures stays { IfOk result (λ r. HasCleanDisk (file_state r) → IsSure (file_state r)) }
-        ensures guarded { IfOk result (λ r. IsGuarded (file_state r)) }
-        ensures unlimited { IfOk result (λ r. IsUnlimited (file_state r)) }
         ensures left { IfErr result (λ e. LeavesAtMost files e.1) }
-        ensures cause { IfErr result (λ e. FailsToOpen files e.1 e.0) }
     {
         match Registry::connect(alloc, files, options) {
             Ok(conn) => match Registry::adopt(alloc, conn) {
@@ -172,10 +162,9 @@ impl<D: Disk + Drop> Registry<FileStore<D>> {
 
     /// Opens the database in these files, as [`open_files`](Registry::open_files) does first, for
     /// [`adopt`](Registry::adopt). Files that are empty become an empty database, whose pages end
-    /// in sums. What is read later is tested against a digest of what was written, and no query is
-    /// cut short. `Database` is answered where the files can't be read or written, hold no database,
-    /// or are at their limit, and `Memory` where there is no room for it. A fault hands back what is
-    /// left of the files.
+    /// in sums. `Database` is answered where the files can't be read or written or hold no
+    /// database, and `Memory` where there is no room for it. A fault hands back what is left of the
+    /// files.
     pub fn connect(
         alloc: Global,
         files: Files<D>,
@@ -186,15 +175,10 @@ impl<D: Disk + Drop> Registry<FileStore<D>> {
         ensures idle { IfOk result (λ conn. conn.in_transaction ≡ false) }
         ensures opened { IfOk result (λ conn. HasCleanDisk (file_state conn) → IsOpened conn) }
         ensures found { IfOk result (λ conn. HasCleanDisk (file_state conn) → Finds files conn) }
-        ensures finds { IfOk result (λ conn. HasCleanDisk (file_state conn)
-            → FindsIn (image_of D.Disk files) (file_state conn)) }
         ensures rises { IfOk result (λ conn. CanBeAdopted (file_state conn)) }
         ensures sums { IfOk result (λ conn. HasCleanDisk (file_state conn)
             → IsBlankAs true (image_of D.Disk files) → (view conn.store).has_sums ≡ true) }
-        ensures fresh { IfOk result IsNew }
-        ensures guarded { IfOk result (λ conn. IsGuarded (file_state conn)) }
         ensures left { IfErr result (λ e. IsCleanLeft e.1 → LeavesFiles files e.1) }
-        ensures cause { IfErr result (λ e. IsCleanLeft e.1 → FailsToConnect files e.1 e.0) }
     {
         match Connection::open_files_with(alloc, files, options, true) {
             Ok(conn) => Ok(conn),
@@ -206,32 +190,25 @@ impl<D: Disk + Drop> Registry<FileStore<D>> {
 impl<S: Alter> Registry<S> {
     /// Takes over a connection that is open already, whatever store it is over: one that
     /// [`connect`](Registry::connect) or [`release`](Registry::release) gives can be taken. The
-    /// registry holds what the store holds where its tables are ours or those of an older schema,
-    /// which are migrated, and a database without tables gets those of a fresh registry.
+    /// registry holds what the store holds where its tables are ours, and a database without tables
+    /// gets those of a fresh registry.
     ///
     /// `Database` is answered where the connection is inside a transaction, where the database has
     /// the tables of another schema or another number of ours, counts in `sqlite_sequence` for more
-    /// than the archives, or fails; `Memory` where there is no room to read it. A connection that a
-    /// fault of the disk has shut gives no registry, but one of the two. A fault hands the connection
-    /// back. It shows what it showed, so that it can be adopted again, unless a fault of the disk has
-    /// shut it.
-    ///
-    /// A step limit of the connection stays: what would take more steps is answered by a fault, here
-    /// and in each request to the registry.
+    /// than the archives, or fails; `Memory` where there is no room to read it. A fault hands the
+    /// connection back. It shows what it showed, so that it can be adopted again, unless a fault of
+    /// the disk has shut it.
     pub fn adopt(alloc: Global, conn: Connection<S>) -> Result<Registry<S>, (Fault, Connection<S>)>
-        requires rises { conn.in_transaction ≡ false → CanBeAdopted (state S.Store conn) }
+        requires rises { CanBeAdopted (state S.Store conn) }
         ensures made { IfOk result (λ r. IsMade (state S.Store conn) (state S.Store r)) }
         ensures served { IfOk result (λ r. HasCleanDisk (state S.Store r)
             → IsTrue (state S.Store r).is_open) }
         ensures stays { IfOk result (λ r. HasCleanDisk (state S.Store r) → IsSure (state S.Store r)) }
         ensures idle { conn.in_transaction ≡ true → result ≡ Err (Fault.Database, conn) }
         ensures back { IfErr result (λ e. IsHandedBack (state S.Store conn) (state S.Store e.1)) }
-        ensures again { IfErr result (λ e. e.1.in_transaction ≡ false
-            → CanBeAdopted (state S.Store e.1)) }
-        ensures left { IfErr result (λ e.
-            SurvivesAdoption (state S.Store conn) (state S.Store e.1)) }
-        ensures carried { IfOk result (λ r.
-            SurvivesAdoption (state S.Store conn) (state S.Store r)) }
+        ensures again { IfErr result (λ e. CanBeAdopted (state S.Store e.1)) }
+        ensures left { IfErr result (λ e. Survives (state S.Store conn) (state S.Store e.1)
+            (IsLeftOf (state S.Store conn).now)) }
     {
         if !conn.is_autocommit() {
             return Err((Fault::Database, conn));
@@ -261,8 +238,6 @@ fn opened_from<S: Start>(
     ensures served { IfOk result (λ r. HasCleanDisk (file_state r)
         → IsTrue (file_state r).is_open) }
     ensures stays { IfOk result (λ r. HasCleanDisk (file_state r) → IsSure (file_state r)) }
-    ensures guarded { IfOk result (λ r. IsGuarded (file_state r)) }
-    ensures unlimited { IfOk result (λ r. IsUnlimited (file_state r)) }
     ensures memory { path.now ≡ codes ":memory:"
         → IsErrAnd result (λ e. e.0 ≡ Fault.Database) }
     ensures uri { IsUri path.now → IsErrAnd result (λ e. e.0 ≡ Fault.Database) }
@@ -334,8 +309,7 @@ fn fault_of_open(error: OpenError) -> Fault
     }
 }
 
-// Makes the tables where the database has none, and ours of those of an older schema. Else tests
-// that they are ours.
+// Makes the tables where the database has none, and else tests that they are ours.
 fn settle<S: Alter>(alloc: Global, conn: &mut Connection<S>) -> Result<(), Fault>
     requires idle { conn.old.in_transaction ≡ false }
     requires settled { IsSettled (state S.Store conn.old) }
@@ -347,20 +321,16 @@ fn settle<S: Alter>(alloc: Global, conn: &mut Connection<S>) -> Result<(), Fault
         → OnOk result (IsTrue (state S.Store conn.new).is_open) }
     ensures idle { conn.new.in_transaction ≡ false }
     ensures undone { OnErr result (IsUndone (state S.Store conn.old) (state S.Store conn.new)) }
-    ensures opened { HasCleanDisk (state S.Store conn.new)
-        → OnOk result (IsTrue (state S.Store conn.old).is_open) }
-    ensures survives { SurvivesAdoption (state S.Store conn.old) (state S.Store conn.new) }
+    ensures survives { Survives (state S.Store conn.old) (state S.Store conn.new)
+        (IsLeftOf (state S.Store conn.old).now) }
 {
     if has_nothing(conn.schema()) {
         return create_tables(conn);
     }
-    if has_our_tables(alloc, conn.schema())? {
-        return check_contents(conn);
+    if !has_our_tables(alloc, conn.schema())? {
+        return Err(Fault::Database);
     }
-    match older_schema(alloc, conn.schema())? {
-        Some(older) => migrate_tables(alloc, conn, older),
-        None => Err(Fault::Database),
-    }
+    check_contents(conn)
 }
 
 fn has_nothing(schema: &Schema) -> bool
@@ -380,32 +350,6 @@ fn has_our_tables(alloc: Global, schema: &Schema) -> Result<bool, Fault>
     Ok(is_same_schema(conn.schema(), schema))
 }
 
-// Makes a registry of the older schema one of ours, in one transaction.
-fn migrate_tables<S: Alter>(
-    alloc: Global,
-    conn: &mut Connection<S>,
-    older: Older,
-) -> Result<(), Fault>
-    requires idle { conn.old.in_transaction ≡ false }
-    requires ready { Ready (schema_of older) (state S.Store conn.old) }
-    ensures rests { OnOk result (Rests (state S.Store conn.new)) }
-    ensures made { HasCleanDisk (state S.Store conn.new) → OnOk result
-        (IsMigrated older (state S.Store conn.old).now.trees (stored (state S.Store conn.new))) }
-    ensures served { HasCleanDisk (state S.Store conn.new)
-        → OnOk result (IsTrue (state S.Store conn.new).is_open) }
-    ensures opened { HasCleanDisk (state S.Store conn.new)
-        → OnOk result (IsTrue (state S.Store conn.old).is_open) }
-    ensures idle { conn.new.in_transaction ≡ false }
-    ensures undone { OnErr result (IsUndone (state S.Store conn.old) (state S.Store conn.new)) }
-    ensures survives { Survives (state S.Store conn.old) (state S.Store conn.new)
-        (λ db. IsTrue (state S.Store conn.old).is_open
-        × LeavesMigrated older (state S.Store conn.old).now.trees db) }
-{
-    let mut tx = conn.transaction();
-    migrate(alloc, &mut tx, older)?;
-    commit(tx)
-}
-
 // Another number of the schema is `Database`, and so is a counter besides that of the archives.
 fn check_contents<S: Alter>(conn: &mut Connection<S>) -> Result<(), Fault>
     requires idle { conn.old.in_transaction ≡ false }
@@ -421,11 +365,8 @@ fn check_contents<S: Alter>(conn: &mut Connection<S>) -> Result<(), Fault>
         → OnOk result (IsTrue (state S.Store conn.new).is_open) }
     ensures idle { conn.new.in_transaction ≡ false }
     ensures undone { OnErr result (IsUndone (state S.Store conn.old) (state S.Store conn.new)) }
-    ensures opened { HasCleanDisk (state S.Store conn.new)
-        → OnOk result (IsTrue (state S.Store conn.old).is_open) }
     ensures survives { Survives (state S.Store conn.old) (state S.Store conn.new)
-        (λ db. IsTrue (state S.Store conn.old).is_open
-        × (db ≡ (state S.Store conn.old).now.trees)) }
+        (λ db. db ≡ (state S.Store conn.old).now.trees) }
 {
     let mut tx = conn.transaction();
     if opened(&mut tx)? != Some(SCHEMA) {

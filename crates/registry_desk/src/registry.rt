@@ -33,8 +33,7 @@ use sqlite::{Alter, Connection, Error, ErrorCode, MemStore};
 use std::alloc::Global;
 use std::marker::Model;
 
-/// The most bytes that the texts of packuments have together which a registry keeps, beside one
-/// text that alone has more.
+/// The most bytes that the texts of packuments have together which a registry keeps.
 pub(crate) const CACHE_LIMIT: usize = 64 << 20;
 
 /// A statement that is compiled to see whether a connection is open. It is never run.
@@ -114,8 +113,8 @@ impl Registry<MemStore> {
 }
 
 impl<S: Alter> Registry<S> {
-    /// Answers one request: the reply, and the request's step is made; or a fault, and nothing has
-    /// changed, as long as the registry is open.
+    /// Answers one request: the reply, and the request's step is made; or a fault, and nothing
+    /// has changed.
     ///
     /// What is said here holds as long as the disk returns what was written to it, which memory
     /// always does; and of a registry where each grant is on a package of its organisation's scope
@@ -123,10 +122,9 @@ impl<S: Alter> Registry<S> {
     /// in a new one, and every request keeps it. That a fault, a refusal and a query change nothing
     /// doesn't suppose it.
     ///
-    /// A crash leaves what is stored, as long as the registry is open, as it is after a reply. A
-    /// fault of the disk may shut it: then a crash leaves what it could have left before or, if the
-    /// registry was open before, what the request makes. Nobody knows which until the files are
-    /// opened again.
+    /// A crash leaves what is stored, as long as the registry is open, as it is after a reply.
+    /// Where a fault of the disk has shut it, a crash leaves what it could have left before, or
+    /// what the request makes.
     pub fn apply(&mut self, alloc: Global, request: &Request) -> Result<Reply, Fault>
         ensures answer { Answered (state S.Store self.old) (state S.Store self.new)
             request.now result }
@@ -251,10 +249,8 @@ pub(crate) fn create_tables<S: Alter>(conn: &mut Connection<S>) -> Result<(), Fa
         → OnOk result (IsTrue (state S.Store conn.new).is_open) }
     ensures idle { conn.new.in_transaction ≡ false }
     ensures undone { OnErr result (IsUndone (state S.Store conn.old) (state S.Store conn.new)) }
-    ensures opened { HasCleanDisk (state S.Store conn.new)
-        → OnOk result (IsTrue (state S.Store conn.old).is_open) }
     ensures survives { Survives (state S.Store conn.old) (state S.Store conn.new)
-        (λ db. IsTrue (state S.Store conn.old).is_open × IsRegistryOf db fresh) }
+        (λ db. IsRegistryOf db fresh) }
 {
     let mut tx = conn.transaction();
     create(&mut tx)?;

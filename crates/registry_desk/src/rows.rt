@@ -1,16 +1,14 @@
 //! The rows that answer an action which nothing refuses. Nothing is changed.
 
-ghost use Rattle.std.specs.Prelude.{◌≡◌, List, map, option_map, IfSome};
+ghost use Rattle.std.specs.Prelude.{◌≡◌, List, option_map, IfSome};
 ghost use Rattle.registry_access.specs.declared.caller.Caller.{Caller};
 ghost use Rattle.registry_history.specs.Answers.{asked_release};
-ghost use Rattle.registry_names.specs.Maps.{of, seen};
 ghost use Rattle.registry_names.specs.Texts.{Text as SpecText};
-ghost use Rattle.registry_packument.specs.Heads.{time_entry};
 ghost use Rattle.registry_ranges.specs.Selectors.{Condition};
 ghost use Rattle.registry_rows.specs.Frames.{Stays};
-ghost use Rattle.registry_tables.specs.Contents.{live_of, registry_of};
+ghost use Rattle.registry_tables.specs.Contents.{registry_of};
 ghost use Rattle.registry_tables.specs.Effects.{InForm, Knows, Loads};
-ghost use Rattle.registry_tables.specs.Spelled.{document, document_entry, published};
+ghost use Rattle.registry_tables.specs.Spelled.{document, document_entry};
 ghost use Rattle.registry_tables.specs.Teams.{AreTeamsSound};
 ghost use Rattle.registry_cache.specs.Caches.{kept};
 ghost use Rattle.registry_desk.specs.Found.{AreRowsOf, AreTimesOf};
@@ -21,12 +19,12 @@ ghost use Rattle.registry_rules.specs.declared.request.Asked.TheVariants as whic
 use registry_access::Caller;
 use registry_cache::{SharedText, TextCache};
 use registry_names::{Blob, DistTag, Fault, Ident, LATEST, Name, Text, Ver};
-use registry_packument::{Granted, Member, PackTimes, VersionRow, VersionTime};
+use registry_packument::{Granted, Member, PackTimes, VersionRow};
 use registry_rules::{Action, Asked};
 use registry_tables::{
-    DocumentRow, LiveVersions, load_archive, load_document, load_last_withdrawal, load_live,
-    load_members, load_spent_publications, load_tag, load_tags, load_team_packages,
-    load_team_users, load_teams, load_versions,
+    DocumentRow, load_archive, load_document, load_last_withdrawal, load_live, load_members,
+    load_spent_publications, load_tag, load_tags, load_team_packages, load_team_users, load_teams,
+    load_version_times, load_versions,
 };
 use sqlite::{Alter, Transaction};
 use std::alloc::Global;
@@ -160,9 +158,9 @@ fn stored_rows<S: Alter>(
     ensures loads { Loads S.Store tx.old tx.new result
         (λ rows c. (who : Caller) → AreRowsOf rows (registry_of c) who (asked.Packument name.now)) }
 {
-    let LiveVersions { versions, times } = load_versions(alloc, tx, name)?;
+    let versions = load_versions(alloc, tx, name)?;
     let tags = load_tags(alloc, tx, name)?;
-    let times = load_times(alloc, tx, name, times)?;
+    let times = load_times(alloc, tx, name)?;
     Ok(Rows::Packument {
         versions,
         tags,
@@ -170,22 +168,21 @@ fn stored_rows<S: Alter>(
     })
 }
 
-// The moments of a package of which a version was published, where its live versions are these.
+// The moments of a package of which a version was published.
 fn load_times<S: Alter>(
     alloc: Global,
     tx: &mut Transaction<'_, S>,
     name: &Name,
-    live: Vec<VersionTime>,
 ) -> Result<PackTimes, Fault>
     requires in_form { InForm S.Store tx.old }
     ensures stays { Stays S.Store tx.old tx.new }
-    ensures loads { Loads S.Store tx.old tx.new result (λ times c.
-        map time_entry live.items ≡ map (seen published) (of (live_of c) name.now)
-        → AreTimesOf times (registry_of c) name.now) }
+    ensures loads { Loads S.Store tx.old tx.new result
+        (λ times c. AreTimesOf times (registry_of c) name.now) }
 {
+    let versions = load_version_times(alloc, tx, name)?;
     let withdrawn = load_spent_publications(alloc, tx, name)?;
     let last = load_last_withdrawal(tx, name)?;
-    let Some(times) = PackTimes::new(live, &withdrawn, last) else {
+    let Some(times) = PackTimes::new(versions, &withdrawn, last) else {
         return Err(Fault::Database);
     };
     Ok(times)

@@ -1,5 +1,5 @@
 -- A look at a registry after a fault leaves all that is promised of the request.
-use Rattle.std.proofs.Common.{◌≡◌, ◌⊎◌, ◌∙◌, ◌+◌, ◌-◌, ◌^◌, ◌≤◌, min, Bool, Err, ap, arith, inl, inr, sym, subst}
+use Rattle.std.proofs.Common.{◌≡◌, ◌⊎◌, ◌∙◌, ◌+◌, ◌-◌, ◌^◌, ◌≤◌, min, Bool, true, false, not, Err, ap, arith, inl, inr, refl, sym, subst, true≢false}
 use Rattle.sqlite.proofs.StateLemmas.{survives_then}
 use Rattle.sqlite.specs.State.{State as Shown, HasCleanDisk, Survives}
 use Rattle.sqlite_trees.specs.Tree.{Trees}
@@ -16,6 +16,11 @@ use Rattle.registry_history.specs.Says.{Says}
 use Rattle.registry_desk.specs.Promises.{HoldsReferences, KeepsStored, WasOpen}
 use Rattle.registry_desk.specs.Resting.{IsRegistryOf}
 use Rattle.registry_http.specs.Services.{Applies, EndsBy}
+
+-- what a look says, of whether a service is over
+pub not-open : (b : Bool) → not b ≡ true → b ≡ false
+not-open true is = absurd (true≢false (sym is))
+not-open false is = refl
 
 -- more faults since a request's end are more since its begin
 pub ends-later : (old mid new : Shown) (was is_now : Bool) (f : Fault) → old.faults ≤ mid.faults → EndsBy mid new was is_now f → EndsBy old new was is_now f

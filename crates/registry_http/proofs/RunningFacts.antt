@@ -7,8 +7,7 @@ use Rattle.registry_rules.specs.State.{State}
 use Rattle.registry_rules.specs.declared.request.Request.{Request}
 use Rattle.registry_history.specs.Runs.{Outcome}
 use Rattle.registry_history.proofs.RunFacts.{headline_from, history_says, run_says}
-use Rattle.registry_desk.specs.Lives.{HasAnswered, HasRun}
-use Rattle.registry_desk.proofs.StoredFacts.{has_run_more, has_run_none, refers_for_each}
+use Rattle.registry_desk.proofs.StoredFacts.{HasAnswered, HasRun, has_run_more, has_run_none, refers_for_each}
 use Rattle.registry_wire.specs.declared.wanted.Wanted.{Wanted}
 use Rattle.registry_service.specs.Courses.{Follow}
 use Rattle.registry_service.specs.Histories.{LogEntry, FollowAll}

@@ -1,6 +1,6 @@
 //! A registry as the service that connections ask.
 
-ghost use Rattle.std.specs.Prelude.{◌≡◌, false, true};
+ghost use Rattle.std.specs.Prelude.{◌≡◌, false};
 ghost use Rattle.sqlite.specs.Held.{state};
 ghost use Rattle.sqlite.specs.State.{Survives};
 ghost use Rattle.registry_desk.specs.Promises.{KeepsStored, WasOpen};
@@ -72,12 +72,11 @@ impl<S: Alter> Service for RegistryService<S> {
     /// Answers one request in one transaction, as `Registry::apply` does. After the fault
     /// `Database` it looks whether the registry is still open: the service is over where it isn't,
     /// and where the disk fails at the look, too. If there is no memory to look, `Memory` is
-    /// answered, and the service goes on. A service that is over stays so.
+    /// answered, and the service goes on.
     fn answer(&mut self, alloc: Global, request: &Request) -> Result<Reply, Fault>
         ensures answers { applied (shown S.Store) self.old request.now result self.new }
         ensures shut { EndsIfShut S.Store self.new result }
         ensures ends { EndsByFault S.Store self.old self.new result }
-        ensures latched { self.old.is_over ≡ true → self.new.is_over ≡ true }
     {
         match asked(alloc, &mut self.registry, request) {
             Ok(reply) => Ok(reply),
@@ -104,7 +103,7 @@ fn asked<S: Alter>(
 }
 
 // Looks whether a registry that has answered `Database` is still open, and gives the fault to
-// answer. The service is over where it is shut or the disk fails now, and stays over.
+// answer. A service is over unless that is seen.
 fn look<S: Alter>(registry: &mut Registry<S>, is_over: &mut bool) -> Fault
     ensures opened { WasOpen (state S.Store registry.old) (state S.Store registry.new) }
     ensures stored { KeepsStored (state S.Store registry.old) (state S.Store registry.new) }
@@ -112,11 +111,13 @@ fn look<S: Alter>(registry: &mut Registry<S>, is_over: &mut bool) -> Fault
     ensures shut { EndsShut (state S.Store registry.new) is_over.new result }
     ensures ends { EndsBy (state S.Store registry.old) (state S.Store registry.new)
         is_over.old is_over.new result }
-    ensures latched { is_over.old ≡ true → is_over.new ≡ true }
 {
     match registry.is_open() {
-        Ok(true) => Fault::Database,
-        Ok(false) | Err(Fault::Database) => {
+        Ok(seen) => {
+            *is_over = !seen;
+            Fault::Database
+        }
+        Err(Fault::Database) => {
             *is_over = true;
             Fault::Database
         }

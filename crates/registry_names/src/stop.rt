@@ -10,9 +10,8 @@ use std::alloc::{AllocError, AllocFailed};
 use std::error::Error;
 use std::fmt;
 
-/// What went wrong in the machine. A fault may come at any place instead of an answer. What was
-/// asked for is then not done, with one exception: where a fault of the disk has shut a registry for
-/// good, the last request that it was asked may have been done, all of it.
+/// What went wrong in the machine. A fault may come at any place instead of an answer, and it
+/// changes nothing.
 #[derive(Clone, Copy, Debug, PartialEq, Eq)]
 pub enum Fault {
     /// No memory was left.

@@ -30,7 +30,7 @@ pub fn print_check<O: ByteOut, E: ByteOut>(
 ) -> Result<u8, Ending> {
     let problems = problems_at(rt, alloc, path)?;
     if problems.is_empty() {
-        write_whole(output, DONE.as_bytes())?;
+        write_whole(output, DONE)?;
         return Ok(0);
     }
     print_problems(alloc, &problems, errors)
@@ -75,7 +75,7 @@ fn problems_in<D: Disk + Drop>(
 // requests suppose is so.
 fn problems_of<S: Alter>(alloc: Global, conn: &mut Connection<S>) -> Result<Vec<Problem>, Fault>
     requires rests { Rests (state S.Store conn.old) }
-    ensures { HasCleanDisk (state S.Store conn.new)
+    ensures met { HasCleanDisk (state S.Store conn.new)
         → IfOk result (λ found. TellsPremises found.items (stored (state S.Store conn.old))) }
 {
     let mut tx = conn.transaction();

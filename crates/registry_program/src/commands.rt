@@ -9,7 +9,7 @@ use crate::moment::read_moment;
 use crate::registries::Registries;
 use crate::run::MOST_READ;
 use crate::serving::serve;
-use registry_cli::{Line, Usage, action_of, errand_of, line, print_reply};
+use registry_cli::{Line, Usage, action_of, errand, line, print_reply};
 use registry_names::{ByteOut, Fault, FromRead, Moment, ReadStop, Text, read_whole};
 use registry_rules::Request;
 use std::alloc::Global;
@@ -63,7 +63,7 @@ fn answer_errand<R: Registries, O: ByteOut, E: ByteOut>(
     output: &mut O,
     errors: &mut E,
 ) -> Result<u8, Ending> {
-    match errand_of(alloc, arguments) {
+    match errand(alloc, arguments) {
         Ok(Some(errand)) => run_errand(rt, alloc, registries, errand, output, errors),
         Ok(None) => Err(Ending::from(usage)),
         Err(usage) => Err(Ending::from(usage)),

@@ -65,8 +65,6 @@ pub enum Obstacle {
     Foreign,
     /// A newer program wrote it: the number of its schema is above ours.
     Newer,
-    /// It has the tables of an older schema, which can't be migrated.
-    Older,
 }
 
 impl From<Fault> for Ending {

@@ -12,7 +12,7 @@ use std::alloc::Global;
 use std::random::RandomSource;
 
 /// What is printed for an errand that was done.
-pub(crate) const DONE: &str = "{\"ok\":true}\n";
+pub(crate) const DONE: &[u8] = b"{\"ok\":true}\n";
 
 /// Runs an errand, prints what comes of it, and gives the exit status. A check and a copy are of
 /// the file at the path all the same.
@@ -93,6 +93,6 @@ fn print_backup<O: ByteOut>(
     output: &mut O,
 ) -> Result<u8, Ending> {
     back_up(rt, alloc, path, copy)?;
-    write_whole(output, DONE.as_bytes())?;
+    write_whole(output, DONE)?;
     Ok(0)
 }

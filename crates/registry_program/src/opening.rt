@@ -2,12 +2,10 @@
 
 use crate::ending::{Ending, Failure, Obstacle};
 use registry_desk::{Registry, SCHEMA};
-use registry_migration::older_schema;
 use registry_names::Fault;
 use sqlite::types::ValueRef;
 use sqlite::{Alter, Connection, Error, ErrorCode, File, FileStore};
 use sqlite_disk::Disk;
-use std::alloc::Global;
 use std::fs;
 
 /// The registry in the file at the path.
@@ -43,7 +41,7 @@ pub fn close<D: Disk + Drop>(conn: Connection<FileStore<D>>) {
 fn obstacle(rt: &HostRuntime, path: &str) -> Obstacle {
     match Connection::open_with_sums(rt, path) {
         Ok(mut conn) => {
-            let obstacle = obstacle_in(rt.alloc(), &mut conn);
+            let obstacle = obstacle_in(&mut conn);
             close(conn);
             obstacle
         }
@@ -51,25 +49,16 @@ fn obstacle(rt: &HostRuntime, path: &str) -> Obstacle {
     }
 }
 
-// What keeps an open database from being a registry. One that has nothing yet is a registry's that
-// couldn't be written.
-fn obstacle_in<S: Alter>(alloc: Global, conn: &mut Connection<S>) -> Obstacle {
-    if has_nothing(conn) {
+// What keeps an open database from being a registry. One that has no tables yet is a registry's
+// that couldn't be written.
+fn obstacle_in<S: Alter>(conn: &mut Connection<S>) -> Obstacle {
+    if conn.schema().tables.is_empty() {
         Obstacle::Unreachable
     } else if is_newer(conn) {
         Obstacle::Newer
-    } else if is_older(alloc, conn) {
-        Obstacle::Older
     } else {
         Obstacle::Foreign
     }
-}
-
-// Whether the database has no table, no index and no view. A table that can't be read, as one with a
-// trigger, counts as a view.
-fn has_nothing<S: Alter>(conn: &Connection<S>) -> bool {
-    let schema = conn.schema();
-    schema.tables.is_empty() && schema.indexes.is_empty() && schema.views.is_empty()
 }
 
 // Whether the tables have the number of a schema that only a newer program makes.
@@ -81,11 +70,6 @@ fn is_newer<S: Alter>(conn: &mut Connection<S>) -> bool {
         Ok(ValueRef::Int(number)) => number > i64::from(SCHEMA),
         _ => false,
     }
-}
-
-// Whether the tables are those of an older schema.
-fn is_older<S: Alter>(alloc: Global, conn: &Connection<S>) -> bool {
-    matches!(older_schema(alloc, conn.schema()), Ok(Some(_)))
 }
 
 fn obstacle_of(error: Error) -> Obstacle {

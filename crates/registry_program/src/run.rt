@@ -111,7 +111,6 @@ fn obstacle_text(obstacle: Obstacle) -> &'static str {
         Obstacle::Full => "the disk is full",
         Obstacle::Foreign => "the file holds no registry, or was changed by another hand",
         Obstacle::Newer => "a newer program wrote the registry's file",
-        Obstacle::Older => "the registry's file has an older schema and can't be migrated",
     }
 }
 

@@ -14,4 +14,3 @@ pub mod CombinationFacts
 pub mod PieceFacts
 pub mod RangeFacts
 pub mod SelectorFacts
-pub mod BindingFacts

@@ -1,6 +1,6 @@
 -- Lists that follow one another in one list, as the pieces between their ends.
-use Rattle.std.proofs.Common.{◌≡◌, ◌≤◌, ◌<◌, ◌+◌, ◌-◌, ℕ, List, [], ◌∷◌, ◌++◌, Bool, true, false, length, drop, refl, ap, ◌∙◌, arith}
-use Rattle.std.proofs.lemmas.List.{drop-append-le, drop-map, drop_all, drop_more, length-drop, length-map, take-append-le, take-map, take_all}
+use Rattle.std.proofs.Common.{◌≡◌, ◌≤◌, ◌<◌, ◌+◌, ◌-◌, ℕ, List, [], ◌∷◌, ◌++◌, Bool, true, false, length, drop, refl, ap, arith}
+use Rattle.std.proofs.lemmas.List.{drop-append-le, drop-map, drop_more, length-drop, length-map, take-append-le, take-map, take_all}
 use Rattle.std.specs.List.{list_any}
 use Rattle.std.specs.Prelude.{map, slice_index, slice_range}
 use Rattle.registry_ranges.specs.RangeViews.{AreEnds, last_end, pieces}
@@ -30,14 +30,6 @@ pieces-more start (e ∷ ends) end xs = ap (λ ps. slice_range xs start e ∷ ps
 -- the last piece is all that is left
 pub last-piece : {X : Type 0} (from : ℕ) (xs : List X) → slice_range xs from (length xs) ≡ drop from xs
 last-piece from xs = let n = length-drop from xs in take_all (length xs - from) (drop from xs) (omega arith)
-
--- what follows the last end is a piece more
-pub piece-ends : {X : Type 0} (ends more : List ℕ) (xs : List X) → more ≡ ends ++ length xs ∷ [] → pieces 0 more xs ≡ pieces 0 ends xs ++ drop (last_end 0 ends) xs ∷ []
-piece-ends ends more xs m = rw m (pieces-more 0 ends (length xs) xs ∙ ap (λ p. pieces 0 ends xs ++ p ∷ []) (last-piece (last_end 0 ends) xs))
-
--- and then nothing does
-pub piece-left : {X : Type 0} (ends more : List ℕ) (xs : List X) → more ≡ ends ++ length xs ∷ [] → drop (last_end 0 more) xs ≡ []
-piece-left ends more xs m = rw (m, last-more 0 ends (length xs)) (drop_all (length xs) xs (omega arith))
 
 -- ---- more elements
 

@@ -1,6 +1,6 @@
 -- What is kept of a range set are the comparators of its value.
 use Rattle.std.proofs.Common.{◌≡◌, ◌+◌, ◌++◌, List, [], ◌∷◌, ℕ, Some, None, Option, Bool, true, length, drop, refl, ap, ◌∙◌, append_assoc, append-nil, arith}
-use Rattle.std.proofs.lemmas.List.{drop-append-le, length-append}
+use Rattle.std.proofs.lemmas.List.{drop-append-le, drop_all, length-append}
 use Rattle.std.proofs.lemmas.List.Folds.{list_all-map}
 use Rattle.std.specs.List.{list_any}
 use Rattle.std.specs.Prelude.{map, ◌||◌}
@@ -11,7 +11,7 @@ use Rattle.registry_ranges.specs.Grammar.{IsRangeText}
 use Rattle.registry_ranges.specs.RangeViews.{AreEnds, last_end, pieces}
 use Rattle.registry_ranges.specs.Values.{Part, Ranges}
 use Rattle.registry_ranges.specs.Steps.{part, or, end, wrong, reading, with_part, with_range, step}
-use Rattle.registry_ranges.proofs.PieceFacts.{ends-longer, ends-more, last-bound, piece-ends, piece-left, pieces-append}
+use Rattle.registry_ranges.proofs.PieceFacts.{ends-longer, ends-more, last-bound, last-more, last-piece, pieces-append, pieces-more}
 use Rattle.registry_ranges.proofs.ReadingFacts.{reading-sound, reading-step, unambiguous}
 use Rattle.registry_ranges.proofs.RangeTextFacts.{is_read, range-read}
 
@@ -86,6 +86,12 @@ piece-part text ends cs new place then xs rest p k e n =
       ends-longer 0 ends (length cs) (length new) k.0 (omega arith),
       rw same (keeps-part text (pieces 0 ends cs) (drop (last_end 0 ends) cs) (drop (last_end 0 ends) new) place then xs rest p k.1 e more),
     )
+
+piece-ends : (ends more : List ℕ) (cs : List Comparator) → more ≡ ends ++ length cs ∷ [] → pieces 0 more cs ≡ pieces 0 ends cs ++ drop (last_end 0 ends) cs ∷ []
+piece-ends ends more cs m = rw m (pieces-more 0 ends (length cs) cs ∙ ap (λ p. pieces 0 ends cs ++ p ∷ []) (last-piece (last_end 0 ends) cs))
+
+piece-left : (ends more : List ℕ) (cs : List Comparator) → more ≡ ends ++ length cs ∷ [] → drop (last_end 0 more) cs ≡ []
+piece-left ends more cs m = rw (m, last-more 0 ends (length cs)) (drop_all (length cs) cs (omega arith))
 
 pub piece-or : (text ends more : List ℕ) (cs : List Comparator) (place then : Place) (xs rest next : List ℕ)
     → Keeps text ends cs place xs → or rest ≡ step place xs → more ≡ ends ++ length cs ∷ [] → then ≡ Before → next ≡ rest → Keeps text more cs then next

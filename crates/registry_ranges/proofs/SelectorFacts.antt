@@ -1,6 +1,5 @@
 -- What is kept of a selector are the conditions of its value.
-use Rattle.std.proofs.Common.{◌≡◌, ◌+◌, ◌++◌, List, [], ◌∷◌, ℕ, Some, None, Option, Bool, true, false, length, drop, refl, sym, ap, ◌∙◌, append_assoc, append-nil, arith}
-use Rattle.std.proofs.lemmas.List.{drop-append-le, length-append}
+use Rattle.std.proofs.Common.{◌≡◌, ◌++◌, List, [], ◌∷◌, ℕ, Some, None, Option, Bool, true, false, refl, sym, ap, ◌∙◌, append_assoc, append-nil}
 use Rattle.std.specs.Prelude.{IsTrue, ◌↔◌}
 use Rattle.registry_ranges.specs.declared.reader.Place.{Place}
 use Rattle.registry_ranges.specs.declared.reader.Place.TheVariants.{Before}
@@ -11,12 +10,10 @@ use Rattle.registry_ranges.specs.Bounds.{IsPart}
 use Rattle.registry_ranges.specs.Values.{Part, simple, hyphen, nothing, Ranges}
 use Rattle.registry_ranges.specs.Prefixes.{Prefix, any, major, minor, full, IsPrefix}
 use Rattle.registry_ranges.specs.Reading.{◌>>=◌}
-use Rattle.registry_ranges.specs.RangeViews.{AreEnds, last_end, pieces}
 use Rattle.registry_ranges.specs.SelectorViews.{asks_pre}
 use Rattle.registry_ranges.specs.Selectors.{Condition, agreement, comparison, condition_of_simple, condition_of, conditions_of_range, conditions_of_others, conditions_of, HasConditions, IsSelector, SelectsAs}
 use Rattle.registry_ranges.specs.Steps.{part, or, end, wrong, reading, with_part, with_range, step}
 use Rattle.registry_ranges.proofs.PartialFacts.{some-value}
-use Rattle.registry_ranges.proofs.PieceFacts.{ends-longer, ends-more, last-bound, piece-ends, piece-left, pieces-append}
 use Rattle.registry_ranges.proofs.ReadingFacts.{reading-sound, reading-step, reads-value}
 
 -- ---- the conditions read so far, and those of what is left
@@ -70,12 +67,12 @@ kept-or : (done : List (List Condition)) (range : List Condition) (o : Option Ra
 kept-or done range None = refl
 kept-or done range (Some r) = or-more done range (conditions_of_range r.0) (conditions_of_others r.1)
 
-keeps-part : (text : List ℕ) (done : List (List Condition)) (range new : List Condition) (place then : Place) (xs rest : List ℕ) (p : Part) (c : Condition)
+pub keeps-part : (text : List ℕ) (done : List (List Condition)) (range new : List Condition) (place then : Place) (xs rest : List ℕ) (p : Part) (c : Condition)
     → KeepsAll text done range place xs → part p then rest ≡ step place xs → condition_of p ≡ Some c → new ≡ range ++ c ∷ [] → KeepsAll text done new then rest
 keeps-part text done range new place then xs rest p c k e q n =
     k ∙ rw (reading-step place xs, ← e, n) (kept-part done range p c (reading then rest) q)
 
-keeps-or : (text : List ℕ) (done new : List (List Condition)) (range fresh : List Condition) (place then : Place) (xs rest next : List ℕ)
+pub keeps-or : (text : List ℕ) (done new : List (List Condition)) (range fresh : List Condition) (place then : Place) (xs rest next : List ℕ)
     → KeepsAll text done range place xs → or rest ≡ step place xs → new ≡ done ++ range ∷ [] → fresh ≡ [] → then ≡ Before → next ≡ rest → KeepsAll text new fresh then next
 keeps-or text done new range fresh place then xs rest next k e n f p r =
     k ∙ rw (reading-step place xs, ← e, n, f, p, r) (kept-or done range (reading Before rest))
@@ -93,42 +90,11 @@ kept-all : (text : List ℕ) (o : Option Ranges) (ranges : List (List Condition)
 kept-all text None ranges e h = cc h
 kept-all text (Some r) ranges e h = (r, reading-sound text r e, sym (kept-whole r) ∙ h)
 
-keeps-end : (text : List ℕ) (done ranges : List (List Condition)) (range : List Condition) (place : Place) (xs : List ℕ)
+pub keeps-end : (text : List ℕ) (done ranges : List (List Condition)) (range : List Condition) (place : Place) (xs : List ℕ)
     → KeepsAll text done range place xs → end ≡ step place xs → ranges ≡ done ++ range ∷ [] → HasConditions text ranges
 keeps-end text done ranges range place xs k e n =
     let last : kept done range (reading place xs) ≡ Some ranges = rw (reading-step place xs, ← e, n) (simp append-nil) in
     kept-all text (reading Before text) ranges refl (k ∙ last)
-
--- ---- the same of one list of conditions and the ends of the ranges in it
-
-abbrev pub Keeps : List ℕ → List ℕ → List Condition → Place → List ℕ → Type 0
-Keeps text ends cs place rest = AreEnds 0 ends (length cs) × KeepsAll text (pieces 0 ends cs) (drop (last_end 0 ends) cs) place rest
-
-pub piece-part : (text ends : List ℕ) (cs new : List Condition) (place then : Place) (xs rest : List ℕ) (p : Part) (c : Condition)
-    → Keeps text ends cs place xs → part p then rest ≡ step place xs → condition_of p ≡ Some c → new ≡ cs ++ c ∷ [] → Keeps text ends new then rest
-piece-part text ends cs new place then xs rest p c k e q n =
-    let len : length new ≡ length cs + length (c ∷ []) = rw n (length-append cs (c ∷ [])) in
-    let same : pieces 0 ends new ≡ pieces 0 ends cs = rw n (pieces-append 0 ends cs (c ∷ []) k.0) in
-    let more : drop (last_end 0 ends) new ≡ drop (last_end 0 ends) cs ++ c ∷ [] =
-    rw n (drop-append-le (last_end 0 ends) cs (c ∷ []) (last-bound 0 ends (length cs) k.0)) in (
-      ends-longer 0 ends (length cs) (length new) k.0 (omega arith),
-      rw same (keeps-part text (pieces 0 ends cs) (drop (last_end 0 ends) cs) (drop (last_end 0 ends) new) place then xs rest p c k.1 e q more),
-    )
-
-pub piece-or : (text ends more : List ℕ) (cs : List Condition) (place then : Place) (xs rest next : List ℕ)
-    → Keeps text ends cs place xs → or rest ≡ step place xs → more ≡ ends ++ length cs ∷ [] → then ≡ Before → next ≡ rest → Keeps text more cs then next
-piece-or text ends more cs place then xs rest next k e m p r = (
-  rw m (ends-more 0 ends (length cs) k.0),
-  keeps-or text (pieces 0 ends cs) (pieces 0 more cs) (drop (last_end 0 ends) cs) (drop (last_end 0 more) cs) place then xs rest next k.1 e
-      (piece-ends ends more cs m) (piece-left ends more cs m) p r,
-)
-
-pub piece-end : (text ends more : List ℕ) (cs : List Condition) (place : Place) (xs : List ℕ)
-    → Keeps text ends cs place xs → end ≡ step place xs → more ≡ ends ++ length cs ∷ [] → HasConditions text (pieces 0 more cs)
-piece-end text ends more cs place xs k e m = keeps-end text (pieces 0 ends cs) (pieces 0 more cs) (drop (last_end 0 ends) cs) place xs k.1 e (piece-ends ends more cs m)
-
-pub are-ends : (text ends more : List ℕ) (cs : List Condition) (place : Place) (xs : List ℕ) → Keeps text ends cs place xs → more ≡ ends ++ length cs ∷ [] → AreEnds 0 more (length cs)
-are-ends text ends more cs place xs k m = rw m (ends-more 0 ends (length cs) k.0)
 
 -- a selector's conditions are kept
 pub selector-kept : (text : List ℕ) (ranges : List (List Condition)) → HasConditions text ranges → kept [] [] (reading Before text) ≡ Some ranges

@@ -1,5 +1,6 @@
 -- The conditions that a program keeps of a selector, as the definitions see them.
-use Rattle.std.specs.Prelude.{◌≡◌, ℕ, List, [], ◌∷◌, ◌++◌, length, map, Bool, true, Option, Some, None}
+use Rattle.std.specs.Prelude.{◌≡◌, List, [], ◌∷◌, ◌++◌, map, Bool, true, Option, Some, None}
+use Rattle.std.specs.List.{list_all}
 use Rattle.std.specs.declared.vec.Vec.{Vec}
 use Rattle.std.specs.declared.alloc.Global.{Global}
 use Rattle.registry_names.specs.Versions.{VersionParts}
@@ -7,7 +8,6 @@ use Rattle.registry_ranges.specs.declared.condition as Code
 use Rattle.registry_ranges.specs.declared.condition.Question.TheVariants as code_question
 use Rattle.registry_ranges.specs.declared.condition.Condition.TheVariants as code
 use Rattle.registry_ranges.specs.Bounds.{bound_view, comparator_view, has_pre}
-use Rattle.registry_ranges.specs.RangeViews.{pieces}
 use Rattle.registry_ranges.specs.Selectors.{Condition, all, has_major, has_minor, compared, meets_condition}
 
 -- a condition whose prerelease is in the text
@@ -35,27 +35,24 @@ asks_pre (has_major a) = true
 asks_pre (has_minor a b) = true
 asks_pre (compared c) = has_pre c
 
-abbrev pub conditions_view : List Code.Condition.Condition → List Condition
-conditions_view cs = map condition_view cs
+abbrev pub conditions_view : Vec Code.Condition.Condition Global → List Condition
+conditions_view v = map condition_view v.items
 
-abbrev pub condition_count : List Code.Condition.Condition → ℕ
-condition_count cs = length (conditions_view cs)
-
--- the conditions of each range, which end at these places
-abbrev pub conditions_in : List ℕ → List Code.Condition.Condition → List (List Condition)
-conditions_in ends cs = pieces 0 ends (conditions_view cs)
-
-abbrev pub selector_view : Vec ℕ Global → Vec Code.Condition.Condition Global → List (List Condition)
-selector_view ends cs = conditions_in ends.items cs.items
+abbrev pub selector_view : Vec (Vec Code.Condition.Condition Global) Global → List (List Condition)
+selector_view v = map conditions_view v.items
 
 -- a version meets what was kept
+
 abbrev pub meets_kept : VersionParts → Code.Condition.Condition → Bool
 meets_kept v c = meets_condition v (condition_view c)
 
+abbrev pub meets_all_kept : VersionParts → Vec Code.Condition.Condition Global → Bool
+meets_all_kept v range = list_all (meets_condition v) (conditions_view range)
+
 -- a condition is kept after the others
 abbrev pub AddsCondition : Vec Code.Condition.Condition Global → Vec Code.Condition.Condition Global → Condition → Type 0
-AddsCondition old new more = conditions_view new.items ≡ conditions_view old.items ++ more ∷ []
+AddsCondition old new more = conditions_view new ≡ conditions_view old ++ more ∷ []
 
--- a range ends after all conditions
-abbrev pub AddsConditionsEnd : Vec ℕ Global → Vec ℕ Global → Vec Code.Condition.Condition Global → Type 0
-AddsConditionsEnd old new cs = new.items ≡ old.items ++ condition_count cs.items ∷ []
+-- a range is
+abbrev pub AddsRange : Vec (Vec Code.Condition.Condition Global) Global → Vec (Vec Code.Condition.Condition Global) Global → Vec Code.Condition.Condition Global → Type 0
+AddsRange old new more = selector_view new ≡ selector_view old ++ conditions_view more ∷ []

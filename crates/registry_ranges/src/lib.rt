@@ -4,11 +4,9 @@
 //!
 //! A text is a range exactly where the grammar has it, and a range allows exactly the versions that
 //! the tables say. A range is read in one scan, a selector and a tag in two, in time linear in the
-//! text, with no recursion; asking takes no memory. Whether a text binds one version is decided
-//! while it is read.
+//! text, with no recursion; asking takes no memory.
 #![tactic(auto)]
 
-mod binding;
 mod bound;
 mod comparator;
 mod component;
@@ -26,7 +24,6 @@ mod relation;
 mod selector;
 mod simple;
 
-pub use crate::binding::binds;
 pub use crate::dist_tag::tag;
 pub use crate::range::Range;
 pub use crate::range_text::is_range;

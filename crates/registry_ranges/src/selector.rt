@@ -1,11 +1,9 @@
 //! Selectors of versions.
 
-ghost use Rattle.std.specs.Prelude.{◌≡◌, ◌≤◌, ◌↔◌, ◌⊎◌, length, slice_range, Err, IfOk, IfErr, IsTrue, OnOk, true};
-ghost use Rattle.std.specs.List.{list_all};
-ghost use Rattle.registry_ranges.specs.RangeViews.{AreEnds};
-ghost use Rattle.registry_ranges.specs.SelectorViews.{AddsCondition, AddsConditionsEnd, asks_pre};
-ghost use Rattle.registry_ranges.specs.SelectorViews.{conditions_in, conditions_view, condition_count};
-ghost use Rattle.registry_ranges.specs.SelectorViews.{meets_kept, question_view};
+ghost use Rattle.std.specs.Prelude.{◌≡◌, ◌↔◌, ◌⊎◌, Err, IfOk, IfErr, IsTrue, OnOk, true};
+ghost use Rattle.std.specs.List.{list_all, list_any};
+ghost use Rattle.registry_ranges.specs.SelectorViews.{AddsCondition, AddsRange, asks_pre};
+ghost use Rattle.registry_ranges.specs.SelectorViews.{meets_all_kept, meets_kept, question_view};
 ghost use Rattle.registry_ranges.specs.Selectors as spec;
 ghost use Rattle.registry_ranges.specs.Selectors.{HasConditions, IsSelector, SelectsAs};
 
@@ -20,10 +18,7 @@ use std::marker::Model;
 /// see its conditions, one list for each of the ranges that `||` separates.
 #[derive(Debug, Drop)]
 pub struct Selector {
-    // The conditions of each range, one range after another.
-    conditions: Vec<Condition>,
-    // Where each range ends among them.
-    ends: Vec<usize>,
+    ranges: Vec<Vec<Condition>>,
 }
 
 impl Model for Selector {
@@ -32,12 +27,9 @@ impl Model for Selector {
 
     ghost Value = { List (List Condition) };
 
-    ghost use Rattle.registry_ranges.specs.RangeViews.{AreEnds};
-    ghost use Rattle.registry_ranges.specs.SelectorViews.{condition_count, selector_view};
+    ghost use Rattle.registry_ranges.specs.SelectorViews.{selector_view};
 
-    ghost view = { λ s. selector_view s.ends s.conditions };
-
-    ghost invariant = { λ s. AreEnds 0 s.ends.items (condition_count s.conditions.items) };
+    ghost view = { λ s. selector_view s.ranges };
 }
 
 // Whether a text is a selector.
@@ -60,63 +52,41 @@ fn is_selector(text: &str) -> bool
     }
 }
 
-fn push(alloc: Global, conditions: &mut Vec<Condition>, question: Question<'_>) -> Result<(), Fault>
+fn push(alloc: Global, range: &mut Vec<Condition>, question: Question<'_>) -> Result<(), Fault>
     requires { asks_pre (question_view question) ≡ true }
-    ensures ok { OnOk result
-        (AddsCondition conditions.old conditions.new (question_view question.entry)) }
+    ensures ok { OnOk result (AddsCondition range.old range.new (question_view question.entry)) }
     ensures err { IfErr result (λ e. e ≡ Fault.Memory) }
 {
     let condition = Condition::new(alloc, question)?;
-    conditions.push(condition)?;
+    range.push(condition)?;
     Ok(())
 }
 
-// A range ends after all conditions that are kept.
-#[tactic(auto, using(crate::proofs::PieceFacts::view_facts))]
-fn push_end(ends: &mut Vec<usize>, conditions: &Vec<Condition>) -> Result<(), Fault>
-    ensures ok { OnOk result (AddsConditionsEnd ends.old ends.new conditions.now) }
+fn push_range(ranges: &mut Vec<Vec<Condition>>, range: Vec<Condition>) -> Result<(), Fault>
+    ensures ok { OnOk result (AddsRange ranges.old ranges.new range) }
     ensures err { IfErr result (λ e. e ≡ Fault.Memory) }
 {
-    ends.push(conditions.len())?;
+    ranges.push(range)?;
     Ok(())
 }
 
-fn all_met(range: &[Condition], version: &Ver) -> bool
-    ensures { result ≡ list_all (meets_kept version.now) range.now }
+fn all_met(range: &Vec<Condition>, version: &Ver) -> bool
+    ensures { result ≡ list_all (meets_kept version.now) range.now.items }
 {
     range.iter().all(|condition| condition.is_met(version))
 }
 
 #[tactic(auto, using(crate::proofs::RangeFacts::tests_of_views))]
-fn range_selects(range: &[Condition], version: &Ver) -> bool
-    ensures { result ≡ list_all (spec.meets_condition version.now) (conditions_view range.now) }
+fn range_selects(range: &Vec<Condition>, version: &Ver) -> bool
+    ensures { result ≡ meets_all_kept version.now range.now }
 {
     all_met(range, version)
 }
 
-// The range between two places.
-#[tactic(auto, using(crate::proofs::PieceFacts::view_facts))]
-fn range_at(conditions: &[Condition], start: usize, end: usize) -> &[Condition]
-    requires { (start ≤ end) × (end ≤ length conditions.now) }
-    ensures { conditions_view result.now
-        ≡ slice_range (conditions_view conditions.now) start end }
+fn set_selects(ranges: &Vec<Vec<Condition>>, version: &Ver) -> bool
+    ensures { result ≡ list_any (meets_all_kept version.now) ranges.now.items }
 {
-    &conditions[start..end]
-}
-
-fn set_selects(ends: &[usize], conditions: &[Condition], version: &Ver) -> bool
-    requires { AreEnds 0 ends.now (condition_count conditions.now) }
-    ensures { result ≡ spec.set_selects version.now (conditions_in ends.now conditions.now) }
-{
-    let mut start = 0;
-    'places: for i in 0..ends.len() {
-        let end = ends[i];
-        if range_selects(range_at(conditions, start, end), version) {
-            return true;
-        }
-        start = end;
-    }
-    false
+    ranges.iter().any(|range| range_selects(range, version))
 }
 
 impl Selector {
@@ -126,8 +96,8 @@ impl Selector {
         ensures ok { IfOk result (HasConditions text.now) }
         ensures err { IfErr result (λ e. e ≡ Fault.Memory) }
     {
-        let mut conditions = Vec::new(alloc);
-        let mut ends = Vec::new(alloc);
+        let mut ranges = Vec::new(alloc);
+        let mut range = Vec::new(alloc);
         let mut reader = Reader::new(text.as_bytes());
         'steps: loop {
             match reader.step() {
@@ -135,16 +105,17 @@ impl Selector {
                     let Some(question) = question_of(part) else {
                         unreachable!();
                     };
-                    push(alloc, &mut conditions, question)?;
+                    push(alloc, &mut range, question)?;
                     reader = next;
                 }
                 Step::Or(next) => {
-                    push_end(&mut ends, &conditions)?;
+                    push_range(&mut ranges, range)?;
+                    range = Vec::new(alloc);
                     reader = Reader::new(next);
                 }
                 Step::End => {
-                    push_end(&mut ends, &conditions)?;
-                    return Ok(Selector { conditions, ends });
+                    push_range(&mut ranges, range)?;
+                    return Ok(Selector { ranges });
                 }
                 Step::Wrong => unreachable!(),
             }
@@ -171,9 +142,10 @@ impl Selector {
     }
 
     /// Whether a version is selected. Takes no memory.
+    #[tactic(auto, using(crate::proofs::RangeFacts::tests_of_views))]
     pub fn selects(&self, version: &Ver) -> bool
         ensures { result ≡ spec.set_selects version.now self.now }
     {
-        set_selects(&self.ends, &self.conditions, version)
+        set_selects(&self.ranges, version)
     }
 }

@@ -9,4 +9,3 @@ mod TimeFacts
 mod OrderFacts
 mod RestFacts
 mod HeldFacts
-mod RemainderFacts

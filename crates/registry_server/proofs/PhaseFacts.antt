@@ -15,7 +15,7 @@ shares-own Sends = refl
 shares-own Drains = refl
 
 lasting : (p : Phase) (now : ℕ) (b : Bool) → b ≡ true
-    → p ≡ record { stage = p.stage; since = if b then p.since else now; until = if b then p.until else after (limit_of p.stage (left_at p now)) now; spare = if b then p.spare else left_at p now }
+    → p ≡ record { stage = p.stage; until = if b then p.until else after (limit_of p.stage (left_at p now)) now; spare = if b then p.spare else left_at p now }
 lasting p now true is = refl
 lasting p now false is = absurd (false≢true is)
 
@@ -33,7 +33,7 @@ no-more until now = omega arith
 
 -- where nothing was sent no time is given
 pub paid-none : (p : Phase) (now : ℕ) → p ≡ paid p 0 now
-paid-none p now = ap (λ (u : ℕ). record { stage = p.stage; since = p.since; until = u; spare = p.spare }) (no-more p.until now)
+paid-none p now = ap (λ (u : ℕ). record { stage = p.stage; until = u; spare = p.spare }) (no-more p.until now)
 
 -- nothing was sent
 pub sent-none : (now : ℕ) (old new : Phase) → new ≡ entered old new.stage now → SentAt now 0 old new
@@ -58,32 +58,30 @@ heard-sent now old new h = sent-none now old new (stays-or-enters Next now old n
 pub looked-sent : (now : ℕ) (old new : Phase) → LookedAt now old new → SentAt now 0 old new
 looked-sent now old new l = sent-none now old new (stays-or-enters Begun now old new l)
 
-abbrev at : Stage → ℕ → ℕ → ℕ → Phase
-at stage since until spare = record { stage = stage; since = since; until = until; spare = spare }
-
-one-time : (s : Stage) (since until spare now : ℕ) → entered (entered (at s since until spare) Next now) Begun now ≡ entered (at s since until spare) Begun now
-one-time Idle since until spare now = refl
-one-time Begun since until spare now = refl
-one-time Next since until spare now = refl
-one-time Sends since until spare now = refl
-one-time Drains since until spare now = refl
+one-time : (s : Stage) (until spare now : ℕ)
+    → entered (entered (record { stage = s; until = until; spare = spare }) Next now) Begun now ≡ entered (record { stage = s; until = until; spare = spare }) Begun now
+one-time Idle until spare now = refl
+one-time Begun until spare now = refl
+one-time Next until spare now = refl
+one-time Sends until spare now = refl
+one-time Drains until spare now = refl
 
 -- bytes came, and then what is held was looked at
 pub heard-looked : (now : ℕ) (p q r : Phase) → HeardAt now p q → LookedAt now q r → SentAt now 0 p r
 heard-looked now p q r (inl e) l = looked-sent now p r (subst (λ (x : Phase). LookedAt now x r) e l)
 heard-looked now p q r (inr e) (inl f) = heard-sent now p r (inr (f ∙ e))
 heard-looked now p q r (inr e) (inr f) =
-    looked-sent now p r (inr (f ∙ ap (λ (x : Phase). entered x Begun now) e ∙ one-time p.stage p.since p.until p.spare now))
+    looked-sent now p r (inr (f ∙ ap (λ (x : Phase). entered x Begun now) e ∙ one-time p.stage p.until p.spare now))
 
-then-sends : (s : Stage) (since until spare now : ℕ) → takes_turns s ≡ true
-    → entered (entered (at s since until spare) Next now) Sends now ≡ entered (at s since until spare) Sends now
-then-sends Idle since until spare now turns = refl
-then-sends Begun since until spare now turns = refl
-then-sends Next since until spare now turns = refl
-then-sends Sends since until spare now turns = absurd (false≢true turns)
-then-sends Drains since until spare now turns = absurd (false≢true turns)
+then-sends : (s : Stage) (until spare now : ℕ) → takes_turns s ≡ true
+    → entered (entered (record { stage = s; until = until; spare = spare }) Next now) Sends now ≡ entered (record { stage = s; until = until; spare = spare }) Sends now
+then-sends Idle until spare now turns = refl
+then-sends Begun until spare now turns = refl
+then-sends Next until spare now turns = refl
+then-sends Sends until spare now turns = absurd (false≢true turns)
+then-sends Drains until spare now turns = absurd (false≢true turns)
 
 -- bytes came, and then a response was begun
 pub heard-sends : (now : ℕ) (p q : Phase) → takes_turns p.stage ≡ true → HeardAt now p q → entered q Sends now ≡ entered p Sends now
 heard-sends now p q turns (inl e) = ap (λ (x : Phase). entered x Sends now) e
-heard-sends now p q turns (inr e) = ap (λ (x : Phase). entered x Sends now) e ∙ then-sends p.stage p.since p.until p.spare now turns
+heard-sends now p q turns (inr e) = ap (λ (x : Phase). entered x Sends now) e ∙ then-sends p.stage p.until p.spare now turns

@@ -1,17 +1,14 @@
--- The place of the earliest time, looked for from the first place on, and the visits of the places.
-use Rattle.std.proofs.Common.{◌≡◌, ◌≢◌, ◌<◌, ◌≤◌, ◌+◌, ◌-◌, ◌==◌, ◌++◌, ◌∷◌, [], ◌∙◌, ℕ, zero, suc, Bool, true, false, List, Option, None, Some, cond, fold, length, nat_le, get_or, map, nat_lt, set, sum_by, take, drop, refl, ap, sym, subst, arith, below_more, ◌&&◌, not}
-use Rattle.std.specs.List.{list_any}
-use Rattle.std.proofs.lemmas.Bool.{and_parts, false≢true}
+-- The place at which nothing was begun for longest, looked for from the first place on.
+use Rattle.std.proofs.Common.{◌≡◌, ◌≢◌, ◌<◌, ◌≤◌, ◌+◌, ◌-◌, ◌==◌, ◌++◌, ◌∷◌, [], ◌∙◌, ℕ, zero, suc, Bool, true, false, List, Option, None, Some, cond, fold, length, nat_le, get_or, map, set, sum_by, take, drop, refl, ap, sym, subst, arith, below_more, ◌&&◌, not}
 use Rattle.std.proofs.lemmas.Bool.Decides.{nat_tests}
 use Rattle.std.proofs.lemmas.Option.{slice_get_read}
 use Rattle.std.proofs.lemmas.List.{drop-drop, drop-set-lt, get_or-drop, take_more, take_more_set}
 use Rattle.registry_service.specs.Turns.{Answering}
-use Rattle.registry_server.specs.Pools.{ChoosesIf, ChoosesNext, IsEarliestOf, IsFirstOfEarliest, LooksAtBodies, VisitsAll, VisitsAt, VisitsIf, VisitsThere, after_visit, at_place, body_with, chosen, earlier, has_body_at, has_room, held_at, held_limit, idle_at, idle_in, idle_times, is_busy, is_crowd, is_due, is_held_back, read_count, read_together, settled, waiting_at, waiting_times, waits_since, waits_since_at, with_connection}
-use Rattle.registry_server.specs.Connections.{IsLost, LeavesLittle, OpenConnection, Visits, has_body, has_body_in}
+use Rattle.registry_server.specs.Pools.{Chooses, IsFirstInRank, IsIdleLongest, IsLongestOf, VisitsAll, VisitsAt, VisitsIf, VisitsThere, after_visit, at_place, chosen, earlier, held_at, held_limit, idle_at, idle_in, idle_times, is_crowd, is_held_back, rank_at, rank_in, ranks, released, waiting_at, with_connection}
+use Rattle.registry_server.specs.Connections.{IsLost, OpenConnection, Visits}
 use Rattle.registry_server.specs.declared.connection.Visit.{Visit}
 use Rattle.registry_server.specs.declared.connection.Visit.TheVariants.{Rests, Over}
-use Rattle.registry_server.specs.declared.phase.Stage.{Stage}
-use Rattle.registry_server.specs.declared.phase.Stage.TheVariants.{Idle, Begun, Next, Sends, Drains}
+use Rattle.registry_server.specs.declared.phase.Stage.TheVariants.{Next}
 use Rattle.registry_server.specs.declared.pool.Place.{Place}
 
 none-some : {A : Type 0} (o : Option ℕ) (t : ℕ) → o ≡ None → o ≡ Some t → A
@@ -21,63 +18,63 @@ none-some (Some x) t none some = absurd (cc)
 same-some : (o : Option ℕ) (t u : ℕ) → o ≡ Some t → o ≡ Some u → t ≡ u
 same-some o t u first second = cc
 
--- one more place has no time
-earliest-none : (times : ℕ → Option ℕ) (n : ℕ) (r : Option (ℕ × ℕ)) → IsEarliestOf times n r → times n ≡ None → IsEarliestOf times (n + 1) r
-earliest-none times n None h none = below_more (λ j. times j ≡ None) n h none
-earliest-none times n (Some best) h none = (
+-- at one more place something is begun, or no connection is there
+longest-none : (idle : ℕ → Option ℕ) (n : ℕ) (r : Option (ℕ × ℕ)) → IsLongestOf idle n r → idle n ≡ None → IsLongestOf idle (n + 1) r
+longest-none idle n None h none = below_more (λ j. idle j ≡ None) n h none
+longest-none idle n (Some best) h none = (
   omega (arith, h.0),
   h.1,
-  λ j t below is. below_more (λ i. (u : ℕ) → times i ≡ Some u → (best.1 ≤ u) × (i < best.0 → best.1 < u)) n
-      (λ i under u same. h.2 i u under same) (λ u same. none-some (times n) u none same) j below t is,
+  λ j t below is. below_more (λ i. (u : ℕ) → idle i ≡ Some u → (best.1 ≤ u) × (i < best.0 → best.1 < u)) n
+      (λ i under u same. h.2 i u under same) (λ u same. none-some (idle n) u none same) j below t is,
 )
 
--- its time is no earlier
-earliest-stays : (times : ℕ → Option ℕ) (n : ℕ) (best : ℕ × ℕ) (t : ℕ) → IsEarliestOf times n (Some best) → times n ≡ Some t → best.1 ≤ t → IsEarliestOf times (n + 1) (Some best)
-earliest-stays times n best t h is later = (
+-- there nothing was begun for as long at most
+longest-stays : (idle : ℕ → Option ℕ) (n : ℕ) (best : ℕ × ℕ) (t : ℕ) → IsLongestOf idle n (Some best) → idle n ≡ Some t → best.1 ≤ t → IsLongestOf idle (n + 1) (Some best)
+longest-stays idle n best t h is later = (
   omega (arith, h.0),
   h.1,
-  λ j u below same. below_more (λ i. (v : ℕ) → times i ≡ Some v → (best.1 ≤ v) × (i < best.0 → best.1 < v)) n
+  λ j u below same. below_more (λ i. (v : ℕ) → idle i ≡ Some v → (best.1 ≤ v) × (i < best.0 → best.1 < v)) n
       (λ i under v eq. h.2 i v under eq)
-      (λ v eq. let one : t ≡ v = same-some (times n) t v is eq in (omega (arith, later, one), λ before. absurd (omega (arith, before, h.0)))) j below u same,
+      (λ v eq. let one : t ≡ v = same-some (idle n) t v is eq in (omega (arith, later, one), λ before. absurd (omega (arith, before, h.0)))) j below u same,
 )
 
--- it is the first that has a time
-earliest-first : (times : ℕ → Option ℕ) (n t : ℕ) → IsEarliestOf times n None → times n ≡ Some t → IsEarliestOf times (n + 1) (Some (n, t))
-earliest-first times n t h is = (
+-- it is the first at which nothing is begun
+longest-first : (idle : ℕ → Option ℕ) (n t : ℕ) → IsLongestOf idle n None → idle n ≡ Some t → IsLongestOf idle (n + 1) (Some (n, t))
+longest-first idle n t h is = (
   omega arith,
   is,
-  λ j u below same. below_more (λ i. (v : ℕ) → times i ≡ Some v → (t ≤ v) × (i < n → t < v)) n
-      (λ i under v eq. none-some (times i) v (h i under) eq)
-      (λ v eq. let one : t ≡ v = same-some (times n) t v is eq in (omega (arith, one), λ before. absurd (omega (arith, before)))) j below u same,
+  λ j u below same. below_more (λ i. (v : ℕ) → idle i ≡ Some v → (t ≤ v) × (i < n → t < v)) n
+      (λ i under v eq. none-some (idle i) v (h i under) eq)
+      (λ v eq. let one : t ≡ v = same-some (idle n) t v is eq in (omega (arith, one), λ before. absurd (omega (arith, before)))) j below u same,
 )
 
--- its time is earlier
-earliest-moves : (times : ℕ → Option ℕ) (n : ℕ) (best : ℕ × ℕ) (t : ℕ) → IsEarliestOf times n (Some best) → times n ≡ Some t → t < best.1 → IsEarliestOf times (n + 1) (Some (n, t))
-earliest-moves times n best t h is before = (
+-- there nothing was begun for longer
+longest-moves : (idle : ℕ → Option ℕ) (n : ℕ) (best : ℕ × ℕ) (t : ℕ) → IsLongestOf idle n (Some best) → idle n ≡ Some t → t < best.1 → IsLongestOf idle (n + 1) (Some (n, t))
+longest-moves idle n best t h is before = (
   omega arith,
   is,
-  λ j u below same. below_more (λ i. (v : ℕ) → times i ≡ Some v → (t ≤ v) × (i < n → t < v)) n
+  λ j u below same. below_more (λ i. (v : ℕ) → idle i ≡ Some v → (t ≤ v) × (i < n → t < v)) n
       (λ i under v eq. let all : best.1 ≤ v = (h.2 i v under eq).0 in (omega (arith, all, before), λ first. omega (arith, all, before)))
-      (λ v eq. let one : t ≡ v = same-some (times n) t v is eq in (omega (arith, one), λ first. absurd (omega (arith, first)))) j below u same,
+      (λ v eq. let one : t ≡ v = same-some (idle n) t v is eq in (omega (arith, one), λ first. absurd (omega (arith, first)))) j below u same,
 )
 
-earliest-chosen : (times : ℕ → Option ℕ) (n : ℕ) (best : ℕ × ℕ) (t : ℕ) (b : Bool) → nat_le best.1 t ≡ b → IsEarliestOf times n (Some best) → times n ≡ Some t → IsEarliestOf times (n + 1) (cond b (Some best) (Some (n, t)))
-earliest-chosen times n best t true test h is = let later : best.1 ≤ t = grind (arith, nat_tests, test) in earliest-stays times n best t h is later
-earliest-chosen times n best t false test h is = let before : t < best.1 = grind (arith, nat_tests, test) in earliest-moves times n best t h is before
+longest-chosen : (idle : ℕ → Option ℕ) (n : ℕ) (best : ℕ × ℕ) (t : ℕ) (b : Bool) → nat_le best.1 t ≡ b → IsLongestOf idle n (Some best) → idle n ≡ Some t → IsLongestOf idle (n + 1) (cond b (Some best) (Some (n, t)))
+longest-chosen idle n best t true test h is = let later : best.1 ≤ t = grind (arith, nat_tests, test) in longest-stays idle n best t h is later
+longest-chosen idle n best t false test h is = let before : t < best.1 = grind (arith, nat_tests, test) in longest-moves idle n best t h is before
 
 -- one more place is looked at
-pub earliest-step : (times : ℕ → Option ℕ) (n : ℕ) (r : Option (ℕ × ℕ)) (x : Option ℕ) → IsEarliestOf times n r → times n ≡ x → IsEarliestOf times (n + 1) (earlier r n x)
-earliest-step times n r None h is = earliest-none times n r h is
-earliest-step times n None (Some t) h is = earliest-first times n t h is
-earliest-step times n (Some best) (Some t) h is = earliest-chosen times n best t (nat_le best.1 t) refl h is
+pub longest-step : (idle : ℕ → Option ℕ) (n : ℕ) (r : Option (ℕ × ℕ)) (x : Option ℕ) → IsLongestOf idle n r → idle n ≡ x → IsLongestOf idle (n + 1) (earlier r n x)
+longest-step idle n r None h is = longest-none idle n r h is
+longest-step idle n None (Some t) h is = longest-first idle n t h is
+longest-step idle n (Some best) (Some t) h is = longest-chosen idle n best t (nat_le best.1 t) refl h is
 
 -- since when nothing is begun at a place that was read
 pub idle-read : {S : Type 0} (places : List (Place S)) (n : ℕ) (p : Place S) → n < length places → p ≡ get_or places n p → idle_times places n ≡ idle_in p
 idle-read places n p within is = ap idle_at (slice_get_read places (length places) n p refl within is)
 
--- since when the body waits at a place that was read
-pub waits-read : {S : Type 0} (places : List (Place S)) (n : ℕ) (p : Place S) → n < length places → p ≡ get_or places n p → waiting_times places n ≡ waits_since p
-waits-read places n p within is = ap waits_since_at (slice_get_read places (length places) n p refl within is)
+-- the rank at a place that was read
+pub rank-read : {S : Type 0} (now : ℕ) (oldest : Bool) (places : List (Place S)) (n : ℕ) (p : Place S) → n < length places → p ≡ get_or places n p → ranks now oldest places n ≡ rank_in now oldest p
+rank-read now oldest places n p within is = ap (rank_at now oldest) (slice_get_read places (length places) n p refl within is)
 
 -- ---- what is left of the limit
 
@@ -92,21 +89,14 @@ no-room n s = search (arith, nat_tests)
 pub crowd-of : {S : Type 0} (places : List (Place S)) → (fold (λ (room : ℕ) (p : Place S). room - held_at p) held_limit places == 0) ≡ is_crowd places
 crowd-of places = ap (λ (room : ℕ). room == 0) (room-left held_at held_limit 0 places) ∙ no-room held_limit (sum_by held_at places)
 
-some-room : (n s : ℕ) → nat_lt 0 (n - s) ≡ nat_lt s n
-some-room n s = search (arith, nat_tests)
-
--- some is left where fewer are read than may be
-pub room-of : {S : Type 0} (places : List (Place S)) → nat_lt 0 (fold (λ (room : ℕ) (p : Place S). room - read_count p) read_together places) ≡ has_room places
-room-of places = ap (λ (room : ℕ). nat_lt 0 room) (room-left read_count read_together 0 places) ∙ some-room read_together (sum_by read_count places)
-
 -- the place alone
-earliest-place : (idle : ℕ → Option ℕ) (n : ℕ) (best : ℕ × ℕ) → IsEarliestOf idle n (Some best) → IsFirstOfEarliest idle n (Some best.0)
-earliest-place idle n best h = (best.1, h.0, h.1, h.2)
+longest-place : (idle : ℕ → Option ℕ) (n : ℕ) (best : ℕ × ℕ) → IsLongestOf idle n (Some best) → IsIdleLongest idle n (Some best.0)
+longest-place idle n best h = (best.1, h.0, h.1, h.2)
 
 -- the same once all places were looked at
-pub earliest-of : (idle : ℕ → Option ℕ) (n count : ℕ) (r : Option (ℕ × ℕ)) (k t : ℕ) → IsEarliestOf idle n r → n ≡ count → r ≡ Some (k, t) → IsFirstOfEarliest idle count (Some k)
-earliest-of idle n count r k t h all is =
-    earliest-place idle count (k, t) (subst (λ (m : ℕ). IsEarliestOf idle m (Some (k, t))) all (subst (λ (o : Option (ℕ × ℕ)). IsEarliestOf idle n o) is h))
+pub longest-of : (idle : ℕ → Option ℕ) (n count : ℕ) (r : Option (ℕ × ℕ)) (k t : ℕ) → IsLongestOf idle n r → n ≡ count → r ≡ Some (k, t) → IsIdleLongest idle count (Some k)
+longest-of idle n count r k t h all is =
+    longest-place idle count (k, t) (subst (λ (m : ℕ). IsLongestOf idle m (Some (k, t))) all (subst (λ (o : Option (ℕ × ℕ)). IsLongestOf idle n o) is h))
 
 -- ---- one place changed
 
@@ -125,38 +115,18 @@ at-none change [] k beyond = refl
 at-none change (y ∷ xs) zero beyond = absurd (omega (arith, beyond))
 at-none change (y ∷ xs) (suc k) beyond = ap (λ (l : List _). y ∷ l) (at-none change xs k (omega (arith, beyond)))
 
--- ---- which bodies are read
+-- ---- which body is read
 
--- one more is chosen
-pub chooses-next : {S : Type 0} (old : List (Place S)) (k : ℕ) (p : Place S) → IsFirstOfEarliest (waiting_times old) (length old) (Some k) → p ≡ get_or old k p → ChoosesNext old (set old k (chosen p))
-chooses-next old k p first at = record { next = Some k; first = first; places = at-set chosen old k p first.1 at }
-
--- of a crowd one more is chosen where there is room
-pub looks-at : {S : Type 0} (may crowd : Bool) (old middle new : List (Place S)) → crowd ≡ is_crowd old → may ≡ (crowd && has_room old) → middle ≡ map (settled crowd) old → ChoosesIf may middle new → LooksAtBodies old new
-looks-at {S} may crowd old middle new is both settles chooses =
-    subst (λ (c : Bool). ChoosesIf (c && has_room old) (map (settled c) old) new) is
-    (subst (λ (m : Bool). ChoosesIf m (map (settled crowd) old) new) both
-    (subst (λ (l : List (Place S)). ChoosesIf may l new) settles chooses))
-
-pub busy-at : {S : Type 0} (may crowd : Bool) (places : List (Place S)) → crowd ≡ is_crowd places → may ≡ (crowd && has_room places) → list_any (is_due crowd may) places ≡ is_busy places
-busy-at may crowd places is both =
-    ap (λ (m : Bool). list_any (is_due crowd m) places) both ∙ ap (λ (c : Bool). list_any (is_due c (c && has_room places)) places) is
-
--- ---- who is held back
-
--- a body is under way there
-pub held-back-body : {S : Type 0} (crowd : Bool) (p : Place S) → is_held_back crowd p ≡ true → has_body_at p ≡ true
-held-back-body crowd p is = (and_parts (crowd && not p.is_chosen) (has_body_at p) is).1
-
-pub body-begun : (s : Stage) (held : ℕ) → has_body_in s held ≡ true → s ≡ Begun
-body-begun Idle held is = absurd (false≢true is)
-body-begun Begun held is = refl
-body-begun Next held is = absurd (false≢true is)
-body-begun Sends held is = absurd (false≢true is)
-body-begun Drains held is = absurd (false≢true is)
-
-pub body-there : {S : Type 0} (p : Place S) (c : OpenConnection S) → p.connection ≡ Some c → has_body_at p ≡ true → has_body c ≡ true
-body-there p c at is = sym (ap body_with at) ∙ is
+-- the next one
+pub chooses-next : {S : Type 0} (now : ℕ) (old middle : List (Place S)) (oldest oldest1 : Bool) (k : ℕ) (p : Place S) → middle ≡ map released old → oldest1 ≡ oldest
+    → IsFirstInRank (ranks now oldest1 middle) (length middle) (Some k) → p ≡ get_or middle k p → Chooses now old oldest (set middle k (chosen p)) (not oldest1)
+chooses-next now old middle oldest oldest1 k p is same first at = record {
+  next = Some k;
+  first = subst (λ (l : List (Place _)). IsFirstInRank (ranks now oldest l) (length l) (Some k)) is
+      (subst (λ (o : Bool). IsFirstInRank (ranks now o middle) (length middle) (Some k)) same first);
+  places = at-set chosen middle k p first.1 at ∙ ap (λ (l : List (Place _)). at_place chosen l k) is;
+  turn = ap not same;
+}
 
 -- ---- the visits of the places, one after the other
 
@@ -189,10 +159,10 @@ module _ {S : Type 0} (received sent : S → Option (List ℕ)) (must_wait is_en
   -- a connection is there, and was visited
   pub visits-there : (crowd : Bool) (now most : ℕ) (p : Place S) (c d : OpenConnection S) (v : Visit) (M N : D) (r r2 : Option (List ℕ)) → (p.is_ready && not (over M)) ≡ true → is_held_back crowd p ≡ false → p.connection ≡ Some c
       → Visits received sent answers now most c d M N r r2 → (v ≡ Rests → d.phase.stage ≢ Next) → (v ≡ Rests → must_wait d.socket ≡ true)
-      → (v ≡ Over → IsLost is_ended is_broken d) → (v ≢ Over → LeavesLittle most c → LeavesLittle most d)
+      → (v ≡ Over → IsLost is_ended is_broken d)
       → VisitsAt received sent must_wait is_ended is_broken answers over crowd now most p (after_visit v p d) M N r r2
-  visits-there crowd now most p c d v M N r r2 is held at visits rests waits over leaves = there crowd now most p (after_visit v p d) M N r r2 (Some c) is held at
-      (record { connection = d; visits = visits; visit = v; place = refl; rests = rests; waits = waits; over = over; leaves = leaves })
+  visits-there crowd now most p c d v M N r r2 is held at visits rests waits over = there crowd now most p (after_visit v p d) M N r r2 (Some c) is held at
+      (record { connection = d; visits = visits; visit = v; place = refl; rests = rests; waits = waits; over = over })
 
   visits-more : (crowd : Bool) (now most : ℕ) (ps qs : List (Place S)) (p q : Place S) (M m N : D) (r r1 r2 : Option (List ℕ))
       → VisitsAll received sent must_wait is_ended is_broken answers over crowd now most ps qs M m r r1 → VisitsAt received sent must_wait is_ended is_broken answers over crowd now most p q m N r1 r2

@@ -1,6 +1,7 @@
 -- Whom a new connection ends.
 use Rattle.std.proofs.Common.{◌≡◌, ◌∷◌, ◌∙◌, [], ℕ, zero, suc, Bool, true, false, List, Option, None, Some, get_or, is_none, length, refl, ap, subst, sym, if◌then◌else◌, ◌&&◌, not}
 use Rattle.std.specs.Prelude.{All, MatchOption, map, position, slice_get}
+use Rattle.std.specs.List.{list_any}
 use Rattle.std.proofs.lemmas.Bool.{false≢true}
 use Rattle.std.proofs.lemmas.List.Elements.{All-cons, All-head, All-map, All-replicate, All-tail, All-weaker}
 use Rattle.std.proofs.lemmas.List.Quantifiers.{position-Some}
@@ -8,7 +9,7 @@ use Rattle.std.proofs.lemmas.Option.{get_or_from_slice_get, slice_get_within}
 use Rattle.registry_service.specs.Turns.{Answering}
 use Rattle.registry_server.specs.Connections.{OpenConnection, waiting}
 use Rattle.registry_server.specs.Phases.{idle_from, is_late}
-use Rattle.registry_server.specs.Pools.{ChoosesIf, EndsLeaveRest, IsAtRest, IsFirstOfEarliest, NewConnectionsLeaveRest, NewPoolRests, NewcomersEndIdle, VisitsAll, VisitsIf, VisitsLeaveRest, VisitsThere, WakesLeaveRest, after_visit, at_place, chosen, chosen_of, free, has_room, idle_at, idle_times, idle_with, in_time, is_crowd, is_free, is_held_back, kept_at, new_at, place_count, settled, waiting_at, waiting_with, woken}
+use Rattle.registry_server.specs.Pools.{ChoosesIf, EndsLeaveRest, IsAtRest, IsIdleLongest, NewConnectionsLeaveRest, NewPoolRests, NewcomersEndIdle, VisitsAll, VisitsIf, VisitsLeaveRest, VisitsThere, WakesLeaveRest, after_visit, at_place, chosen, chosen_of, free, idle_at, idle_times, idle_with, in_time, is_crowd, is_free, is_held_back, is_read_alone, kept_at, new_at, place_count, released, waiting_at, waiting_with, woken}
 use Rattle.registry_server.specs.declared.connection.Visit.{Visit}
 use Rattle.registry_server.specs.declared.connection.Visit.TheVariants.{Again, Rests, Over}
 use Rattle.registry_server.specs.declared.phase.Stage.{Stage}
@@ -18,12 +19,12 @@ use Rattle.registry_server.specs.declared.pool.Place.{Place}
 none-some : {A B : Type 0} (x : A) → None ≡ Some x → B
 none-some x is = absurd (cc)
 
-idle-stage : (s : Stage) (since t : ℕ) → idle_from s since ≡ Some t → s ≡ Idle
-idle-stage Idle since t is = refl
-idle-stage Begun since t is = none-some t is
-idle-stage Next since t is = none-some t is
-idle-stage Sends since t is = none-some t is
-idle-stage Drains since t is = none-some t is
+idle-stage : (s : Stage) (until t : ℕ) → idle_from s until ≡ Some t → s ≡ Idle
+idle-stage Idle until t is = refl
+idle-stage Begun until t is = none-some t is
+idle-stage Next until t is = none-some t is
+idle-stage Sends until t is = none-some t is
+idle-stage Drains until t is = none-some t is
 
 module _ {S : Type 0} (must_wait : S → Bool) where
   -- no connection is there
@@ -79,10 +80,10 @@ module _ {S : Type 0} (must_wait : S → Bool) where
   pub waiting-at-rest : (now : ℕ) (p : Place S) → IsAtRest must_wait p → IsAtRest must_wait (waiting_at now p)
   waiting-at-rest now p h c ready at = waiting-rest now p p.connection refl h c ready at
 
-  -- bodies are read of a crowd, or none is
-  settled-rest : (crowd : Bool) (places : List (Place S)) → All (IsAtRest must_wait) places → All (IsAtRest must_wait) (map (settled crowd) places)
-  settled-rest crowd places h = All-map (IsAtRest must_wait) (settled crowd) places
-      (All-weaker (IsAtRest must_wait) (λ p. IsAtRest must_wait (settled crowd p)) (λ p rests c ready at. rests c ready at) places h)
+  -- nobody, or another one, is read of a crowd
+  released-rest : (places : List (Place S)) → All (IsAtRest must_wait) places → All (IsAtRest must_wait) (map released places)
+  released-rest places h = All-map (IsAtRest must_wait) released places
+      (All-weaker (IsAtRest must_wait) (λ p. IsAtRest must_wait (released p)) (λ p rests c ready at. rests c ready at) places h)
 
   chosen-at-rest : (places : List (Place S)) (k : ℕ) → All (IsAtRest must_wait) places → All (IsAtRest must_wait) (at_place chosen places k)
   chosen-at-rest [] k h = h
@@ -95,16 +96,16 @@ module _ {S : Type 0} (must_wait : S → Bool) where
   chosen-rest places None h = h
   chosen-rest places (Some k) h = chosen-at-rest places k h
 
-  looked-rest : (b : Bool) (old new : List (Place S)) → ChoosesIf b old new → All (IsAtRest must_wait) old → All (IsAtRest must_wait) new
-  looked-rest true old new chooses h = subst (All (IsAtRest must_wait)) (sym chooses.places) (chosen-rest old chooses.next h)
-  looked-rest false old new same h = subst (All (IsAtRest must_wait)) (sym same) h
+  looked-rest : (b : Bool) (now : ℕ) (old new : List (Place S)) (oldest oldest2 : Bool) → ChoosesIf b now old oldest new oldest2 → All (IsAtRest must_wait) old → All (IsAtRest must_wait) new
+  looked-rest true now old new oldest oldest2 chooses h = subst (All (IsAtRest must_wait)) (sym chooses.places) (chosen-rest (map released old) chooses.next (released-rest old h))
+  looked-rest false now old new oldest oldest2 chooses h = subst (All (IsAtRest must_wait)) (sym chooses.places) h
 
   idle-if : (b : Bool) (o : Option (OpenConnection S)) (c : OpenConnection S) (t : ℕ) → o ≡ Some c → (if b then None else idle_with o) ≡ Some t → (b ≡ false) × (c.phase.stage ≡ Idle)
   idle-if true o c t at is = none-some t is
-  idle-if false o c t at is = (refl, idle-stage c.phase.stage c.phase.since t (sym (ap idle_with at) ∙ is))
+  idle-if false o c t at is = (refl, idle-stage c.phase.stage c.phase.until t (sym (ap idle_with at) ∙ is))
 
   ends-idle : (places : List (Place S)) (k : ℕ) (p : Place S) (c : OpenConnection S) (o : Option ℕ) → slice_get places k ≡ Some p → p.connection ≡ Some c → position is_free places ≡ o
-      → MatchOption o (IsFirstOfEarliest (idle_times places) (length places) (Some k)) (λ j. Some k ≡ Some j) → (p.is_ready ≡ false) × (c.phase.stage ≡ Idle)
+      → MatchOption o (IsIdleLongest (idle_times places) (length places) (Some k)) (λ j. Some k ≡ Some j) → (p.is_ready ≡ false) × (c.phase.stage ≡ Idle)
   ends-idle places k p c None there at first longest = idle-if p.is_ready p.connection c longest.0 at (sym (ap idle_at there) ∙ longest.2)
   ends-idle places k p c (Some j) there at first same =
       let one : j ≡ k = cc in
@@ -141,5 +142,5 @@ module _ {S : Type 0} (received sent : S → Option (List ℕ)) (must_wait is_en
   visited-rest crowd now most (p ∷ ps) [] M N r r2 h v = absurd v
 
   pub visits-leave-rest : VisitsLeaveRest received sent must_wait is_ended is_broken answers over
-  visits-leave-rest now most old new M N r r2 h round = visited-rest (is_crowd old) now most round.looked new M N r r2
-      (looked-rest must_wait (is_crowd old && has_room old) (map (settled (is_crowd old)) old) round.looked round.looks (settled-rest must_wait (is_crowd old) old h)) round.visits
+  visits-leave-rest now most old new oldest oldest2 M N r r2 h round = visited-rest (is_crowd old) now most round.looked new M N r r2
+      (looked-rest must_wait (is_crowd old && not (list_any is_read_alone old)) now old round.looked oldest oldest2 round.looks h) round.visits

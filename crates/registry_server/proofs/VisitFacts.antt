@@ -7,12 +7,10 @@ use Rattle.registry_wire.specs.Spelling.{IsUnfinished}
 use Rattle.registry_service.specs.Turns.{Answering}
 use Rattle.registry_service.specs.declared.turning.End.{End}
 use Rattle.registry_server.specs.ConnectionStates.{IsStarved, MayTakeTurn, Pending, TakesNone, holding, sending}
-use Rattle.registry_server.specs.Connections.{AnswersOnce, Drops, Keeps, MayReceive, OpenConnection, Receives, SendsDue, StarvesOnce, TakesOne, Visits}
-use Rattle.registry_server.specs.Phases.{LookedAt, SentAt, receives, takes_turns}
+use Rattle.registry_server.specs.Connections.{AnswersOnce, Drops, Keeps, OpenConnection, Receives, SendsDue, StarvesOnce, TakesOne, Visits}
+use Rattle.registry_server.specs.Phases.{LookedAt, SentAt, takes_turns}
 use Rattle.registry_server.specs.Sockets.{moved}
 use Rattle.registry_server.specs.declared.phase.Phase.{Phase}
-use Rattle.registry_server.specs.declared.phase.Stage.{Stage}
-use Rattle.registry_server.specs.declared.phase.Stage.TheVariants.{Idle, Begun, Next, Sends, Drains}
 use Rattle.registry_server.specs.declared.socket.Flow.{Flow}
 use Rattle.registry_server.specs.declared.socket.Flow.TheVariants.{Moved, Waits, Ended, Broken}
 use Rattle.registry_server.proofs.PhaseFacts.{heard-looked, heard-sends, heard-sent, looked-sent, sent-still}
@@ -56,21 +54,6 @@ ends-or-not : (e : Option End) → (e ≡ None) ⊎ IsSome e
 ends-or-not None = inl refl
 ends-or-not (Some x) = inr refl
 
--- where more is received no whole request is held, and all was sent
-may-receive : (s : Stage) (p : Pending) → receives s ≡ true → MayTakeTurn p → IsUnfinished p.held → (s ≡ Idle → p.held ≡ []) → MayReceive s p
-may-receive Idle p receiving may waits idle = (may.all_sent, idle refl)
-may-receive Begun p receiving may waits idle = (may.all_sent, waits)
-may-receive Next p receiving may waits idle = absurd (false≢true receiving)
-may-receive Sends p receiving may waits idle = absurd (false≢true receiving)
-may-receive Drains p receiving may waits idle = absurd (false≢true receiving)
-
-may-drop : (s : Stage) (p : Pending) → s ≡ Drains → p.outgoing ≡ [] → IsSome p.ends → MayReceive s p
-may-drop Idle p is all_sent some = absurd (cc)
-may-drop Begun p is all_sent some = absurd (cc)
-may-drop Next p is all_sent some = absurd (cc)
-may-drop Sends p is all_sent some = absurd (cc)
-may-drop Drains p is all_sent some = (all_sent, some)
-
 nothing-kept : (p due : Pending) (over : Bool) → Keeps [] p over p due
 nothing-kept p due over = elim (ends-or-not p.ends) [ inl none ↦ inl (none, none-held p, λ _. refl) | inr some ↦ inr (refl, inl some) ]
 
@@ -93,12 +76,12 @@ module _ {S : Type 0} (received sent : S → Option (List ℕ)) {D : Type 0} (an
 
   -- bytes were received, and no turn may be taken yet
   pub visit-received : (now most : ℕ) (old new : OpenConnection S) (M : D) (r : Option (List ℕ)) → Receives received sent now most old new true → MayTakeTurn old.state
-      → IsUnfinished old.state.held → receives old.phase.stage ≡ true → (old.phase.stage ≡ Idle → old.state.held ≡ []) → Visits received sent answers now most old new M M r r
-  visit-received now most old new M r h may waits receiving idle = record {
+      → IsUnfinished old.state.held → Visits received sent answers now most old new M M r r
+  visit-received now most old new M r h may waits = record {
     got = h.got;
     few = h.few;
     gave = h.gave;
-    lean = inr (may-receive old.phase.stage old.state receiving may waits idle);
+    lean = inr (may.all_sent, inl waits);
     read = new.state;
     due = new.state;
     keeps = inl (may.goes_on, h.state, h.none);
@@ -111,13 +94,12 @@ module _ {S : Type 0} (received sent : S → Option (List ℕ)) {D : Type 0} (an
 
   -- bytes were received, and a turn was taken
   pub visit-answered : (now most : ℕ) (old mid new : OpenConnection S) (M N : D) (r r2 : Option (List ℕ)) → Receives received sent now most old mid true → MayTakeTurn old.state
-      → IsUnfinished old.state.held → receives old.phase.stage ≡ true → (old.phase.stage ≡ Idle → old.state.held ≡ []) → takes_turns old.phase.stage ≡ true
-      → AnswersOnce received sent answers now mid new M N r r2 → Visits received sent answers now most old new M N r r2
-  visit-answered now most old mid new M N r r2 h may waits receiving idle turning a = record {
+      → IsUnfinished old.state.held → takes_turns old.phase.stage ≡ true → AnswersOnce received sent answers now mid new M N r r2 → Visits received sent answers now most old new M N r r2
+  visit-answered now most old mid new M N r r2 h may waits turning a = record {
     got = h.got;
     few = h.few;
     gave = a.unread ∙ h.gave;
-    lean = inr (may-receive old.phase.stage old.state receiving may waits idle);
+    lean = inr (may.all_sent, inl waits);
     read = mid.state;
     due = a.due;
     keeps = inl (may.goes_on, h.state, h.none);
@@ -154,15 +136,14 @@ module _ {S : Type 0} (received sent : S → Option (List ℕ)) {D : Type 0} (an
 
   -- there was no memory for what was received
   pub visit-starved : (now most : ℕ) (old mid new : OpenConnection S) (M : D) (r : Option (List ℕ)) → Receives received sent now most old mid false → MayTakeTurn old.state
-      → IsUnfinished old.state.held → receives old.phase.stage ≡ true → (old.phase.stage ≡ Idle → old.state.held ≡ []) → takes_turns old.phase.stage ≡ true
-      → StarvesOnce received sent now mid new → Visits received sent answers now most old new M M r r
-  visit-starved now most old mid new M r h may waits receiving idle turning s =
+      → IsUnfinished old.state.held → takes_turns old.phase.stage ≡ true → StarvesOnce received sent now mid new → Visits received sent answers now most old new M M r r
+  visit-starved now most old mid new M r h may waits turning s =
       let starved : IsStarved old.state s.due = subst (λ (p : Pending). IsStarved p s.due) h.state s.starved in
       record {
         got = h.got;
         few = h.few;
         gave = s.unread ∙ h.gave;
-        lean = inr (may-receive old.phase.stage old.state receiving may waits idle);
+        lean = inr (may.all_sent, inl waits);
         read = old.state;
         due = s.due;
         keeps = inr (refl, inr starved);
@@ -195,12 +176,12 @@ module _ {S : Type 0} (received sent : S → Option (List ℕ)) {D : Type 0} (an
 
   -- what was received was dropped
   pub visit-dropped : (now most : ℕ) (old new : OpenConnection S) (M : D) (r : Option (List ℕ)) → Drops received sent most old new → old.state.outgoing ≡ [] → IsSome old.state.ends
-      → new.phase.stage ≡ Drains → Visits received sent answers now most old new M M r r
-  visit-dropped now most old new M r d all_sent some draining = record {
+      → Visits received sent answers now most old new M M r r
+  visit-dropped now most old new M r d all_sent some = record {
     got = d.got;
     few = d.few;
     gave = d.gave;
-    lean = inr (may-drop old.phase.stage old.state (sym (ap (λ (p : Phase). p.stage) d.times) ∙ draining) all_sent some);
+    lean = inr (all_sent, inr some);
     read = old.state;
     due = old.state;
     keeps = inr (refl, inl some);

@@ -1,12 +1,10 @@
 -- An open connection with its socket, and what a visit makes of both.
-use Rattle.std.specs.Prelude.{◌≡◌, ◌≢◌, ◌≤◌, ◌==◌, ◌⊎◌, ◌++◌, [], ℕ, Bool, true, false, List, Option, None, Some, IsSome, is_none, is_some, length, nat_lt, if◌then◌else◌}
+use Rattle.std.specs.Prelude.{◌≡◌, ◌≢◌, ◌≤◌, ◌==◌, ◌⊎◌, ◌++◌, [], ℕ, Bool, true, false, List, Option, None, IsSome, is_some, length, nat_lt, if◌then◌else◌}
 use Rattle.std.specs.Io.KnownBytes.{append_known}
-use Rattle.registry_wire.specs.Spelling.{HasRequest, IsUnfinished, head_limit}
-use Rattle.registry_wire.specs.declared.wanted.Wanted.{Wanted}
+use Rattle.registry_wire.specs.Spelling.{IsUnfinished}
 use Rattle.registry_service.specs.Turns.{Answering}
-use Rattle.registry_service.specs.declared.turning.End.{End}
 use Rattle.registry_server.specs.ConnectionStates.{IsStarved, MayTakeTurn, Pending, TakesNone, TakesTurn, holding, sending}
-use Rattle.registry_server.specs.Phases.{HeardAt, LookedAt, SentAt, entered, receives, takes_turns, waited}
+use Rattle.registry_server.specs.Phases.{HeardAt, LookedAt, SentAt, begun_anew, entered, receives, takes_turns}
 use Rattle.registry_server.specs.declared.phase.Phase.{Phase}
 use Rattle.registry_server.specs.declared.phase.Stage.{Stage}
 use Rattle.registry_server.specs.declared.phase.Stage.TheVariants.{Idle, Begun, Next, Sends, Drains}
@@ -38,9 +36,9 @@ pub record IsInOrder (stage : Stage) (p : Pending) : Type 0 where
 abbrev pub stage_after : Pending → Stage
 stage_after p = if is_some p.ends then Drains else (if length p.held == 0 then Idle else Next)
 
--- where more bytes are held of a request that isn't whole than a head may have, a body is under way
+-- where more bytes are held of a request that isn't whole, a body is under way
 abbrev pub body_least : ℕ
-body_least = head_limit
+body_least = 16_384
 
 abbrev pub has_body_in : Stage → ℕ → Bool
 has_body_in Idle held = false
@@ -53,33 +51,9 @@ has_body_in Drains held = false
 abbrev pub has_body : {S : Type 0} → OpenConnection S → Bool
 has_body c = has_body_in c.phase.stage (length c.state.held)
 
--- since when it is, where one is: since its request began
-abbrev pub body_since : {S : Type 0} → OpenConnection S → Option ℕ
-body_since c = if has_body c then Some c.phase.since else None
-
--- a request was answered at these stages, and what follows it wasn't looked at yet
-abbrev pub is_answered_in : Stage → Option End → Bool
-is_answered_in Idle ends = false
-is_answered_in Begun ends = false
-is_answered_in Next ends = is_none ends
-is_answered_in Sends ends = is_none ends
-is_answered_in Drains ends = false
-
--- the request of a connection was answered, and it goes on
-abbrev pub is_answered : {S : Type 0} → OpenConnection S → Bool
-is_answered c = is_answered_in c.phase.stage c.state.ends
-
--- what is held then follows a whole request, which was first of all these bytes
-abbrev pub LeavesRest : {S : Type 0} → List ℕ → OpenConnection S → Type 0
-LeavesRest all c = is_answered c ≡ true → (w : Wanted) × HasRequest all w c.state.held
-
--- no more is held then than one read gives
-abbrev pub LeavesLittle : {S : Type 0} → ℕ → OpenConnection S → Type 0
-LeavesLittle most c = is_answered c ≡ true → length c.state.held ≤ most
-
--- the same connection, which waits for others
+-- the same connection, and the time of what it is at begins anew
 abbrev pub waiting : {S : Type 0} → ℕ → OpenConnection S → OpenConnection S
-waiting now c = connected c.socket c.state (waited c.phase now) c.is_over
+waiting now c = connected c.socket c.state (begun_anew c.phase now) c.is_over
 
 -- The other side sends no more, or the connection is broken.
 abbrev pub IsLost : {S : Type 0} → (S → Bool) → (S → Bool) → OpenConnection S → Type 0
@@ -135,18 +109,10 @@ Keeps got old over read due =
     ((old.ends ≡ None) × (read ≡ holding old (old.held ++ got)) × (over ≡ true → got ≡ []))
     ⊎ ((read ≡ old) × (IsSome old.ends ⊎ IsStarved old due))
 
--- More may be received at a stage where no byte is held, where a request was begun that isn't whole,
--- or where the connection has ended; and all was sent.
-abbrev pub MayReceive : Stage → Pending → Type 0
-MayReceive Idle p = (p.outgoing ≡ []) × (p.held ≡ [])
-MayReceive Begun p = (p.outgoing ≡ []) × IsUnfinished p.held
-MayReceive Next p = ⊥
-MayReceive Sends p = ⊥
-MayReceive Drains p = (p.outgoing ≡ []) × IsSome p.ends
-
--- no more is received than is needed
-abbrev pub ReceivesLean : List ℕ → Stage → Pending → Type 0
-ReceivesLean got stage old = (got ≡ []) ⊎ MayReceive stage old
+-- No more is received than is needed: something only where before the visit all was sent, and no
+-- whole request was held or the connection had ended.
+abbrev pub ReceivesLean : List ℕ → Pending → Type 0
+ReceivesLean got old = (got ≡ []) ⊎ ((old.outgoing ≡ []) × (IsUnfinished old.held ⊎ IsSome old.ends))
 
 module _ {D : Type 0} (answers : Answering D) where
   -- A turn is taken, where all is sent and the connection goes on.
@@ -175,7 +141,7 @@ module _ {S : Type 0} (received sent : S → Option (List ℕ)) {D : Type 0} (an
     pub got : List ℕ
     pub few : length got ≤ most
     pub gave : received new.socket ≡ append_known (received old.socket) got
-    pub lean : ReceivesLean got old.phase.stage old.state
+    pub lean : ReceivesLean got old.state
     pub read : Pending
     pub due : Pending
     pub keeps : Keeps got old.state old.is_over read due

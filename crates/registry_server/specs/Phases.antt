@@ -12,10 +12,6 @@ response_limit = 60_000
 abbrev pub least_rate : ℕ
 least_rate = 16
 
--- a request that waits for others has its time begun anew until it is so many milliseconds old
-abbrev pub wait_limit : ℕ
-wait_limit = 360_000
-
 -- how many milliseconds a stage may last, where the responses have so many left
 abbrev pub limit_of : Stage → ℕ → ℕ
 limit_of Idle spare = 60_000
@@ -42,7 +38,7 @@ share_time _ _ = false
 
 -- a connection on which nothing is begun, from this time on
 abbrev pub first_phase : ℕ → Phase
-first_phase now = record { stage = Idle; since = now; until = after (limit_of Idle response_limit) now; spare = response_limit }
+first_phase now = record { stage = Idle; until = after (limit_of Idle response_limit) now; spare = response_limit }
 
 abbrev pub left_in : Stage → ℕ → ℕ → ℕ → ℕ
 left_in Idle until spare now = spare
@@ -55,31 +51,24 @@ left_in Drains until spare now = spare
 abbrev pub left_at : Phase → ℕ → ℕ
 left_at p now = left_in p.stage p.until p.spare now
 
--- a stage is entered at this time; one that lasts keeps its time, and since when it lasts
+-- a stage is entered at this time; one that lasts keeps its time
 abbrev pub entered : Phase → Stage → ℕ → Phase
 entered old stage now =
     let lasts = share_time old.stage stage in
     record {
       stage = stage;
-      since = if lasts then old.since else now;
       until = if lasts then old.until else after (limit_of stage (left_at old now)) now;
       spare = if lasts then old.spare else left_at old now;
     }
 
--- a request that waits for others has its time begun anew, unless it is too old for that
-abbrev pub waited : Phase → ℕ → Phase
-waited p now = record {
-  stage = p.stage;
-  since = p.since;
-  until = if nat_le (now - p.since) wait_limit then after (limit_of Begun p.spare) now else p.until;
-  spare = p.spare;
-}
+-- the time of its stage begins anew
+abbrev pub begun_anew : Phase → ℕ → Phase
+begun_anew p now = record { stage = p.stage; until = after (limit_of p.stage p.spare) now; spare = p.spare }
 
 -- so many bytes of a response were taken at this time
 abbrev pub paid : Phase → ℕ → ℕ → Phase
 paid old count now = record {
   stage = old.stage;
-  since = old.since;
   until = max old.until (min (after (count / least_rate) old.until) (after response_limit now));
   spare = old.spare;
 }
@@ -101,15 +90,15 @@ abbrev pub is_late : Phase → ℕ → Bool
 is_late p now = nat_le p.until now
 
 abbrev pub idle_from : Stage → ℕ → Option ℕ
-idle_from Idle since = Some since
-idle_from Begun since = None
-idle_from Next since = None
-idle_from Sends since = None
-idle_from Drains since = None
+idle_from Idle until = Some (until - 60_000)
+idle_from Begun until = None
+idle_from Next until = None
+idle_from Sends until = None
+idle_from Drains until = None
 
 -- since when nothing is begun, if nothing is
 abbrev pub idle_since : Phase → Option ℕ
-idle_since p = idle_from p.stage p.since
+idle_since p = idle_from p.stage p.until
 
 -- whether a connection takes turns at a stage: nothing is being sent, and it goes on
 abbrev pub takes_turns : Stage → Bool
@@ -144,37 +133,3 @@ BytesGive = (p : Phase) (count now : ℕ) → left_at (paid p count now) now ≤
 -- and never more than at first
 abbrev pub NeverGiveMore : Type 0
 NeverGiveMore = (p : Phase) (count now : ℕ) → left_at p now ≤ response_limit → left_at (paid p count now) now ≤ response_limit
-
--- and who waits gives them none
-abbrev pub WaitsGiveNone : Type 0
-WaitsGiveNone = (p : Phase) (now later : ℕ) → p.stage ≡ Begun → left_at (waited p now) later ≡ left_at p later
-
--- ---- how long a request may wait
-
--- a request is under way at a stage
-abbrev pub is_under_way : Stage → Bool
-is_under_way Idle = false
-is_under_way Begun = true
-is_under_way Next = true
-is_under_way Sends = false
-is_under_way Drains = false
-
--- A request that is under way has time until it is so old at most, whether or not it waits.
-abbrev pub EndsInTime : Phase → Type 0
-EndsInTime p = is_under_way p.stage ≡ true → p.until ≤ p.since + (wait_limit + limit_of Begun response_limit)
-
--- so it is where nothing is begun
-abbrev pub NewPhasesEndInTime : Type 0
-NewPhasesEndInTime = (now : ℕ) → EndsInTime (first_phase now)
-
--- and still once a stage was entered
-abbrev pub EnteredEndsInTime : Type 0
-EnteredEndsInTime = (p : Phase) (stage : Stage) (now : ℕ) → EndsInTime p → EndsInTime (entered p stage now)
-
--- once it waited
-abbrev pub WaitedEndsInTime : Type 0
-WaitedEndsInTime = (p : Phase) (now : ℕ) → EndsInTime p → EndsInTime (waited p now)
-
--- and once bytes of a response were taken
-abbrev pub PaidEndsInTime : Type 0
-PaidEndsInTime = (p : Phase) (count now : ℕ) → p.stage ≡ Sends → EndsInTime p → EndsInTime (paid p count now)

@@ -1,14 +1,13 @@
 -- Places for connections: which of them a new one takes, who is visited, and who is let go.
-use Rattle.std.specs.Prelude.{◌≡◌, ◌≢◌, ◌<◌, ◌≤◌, ◌+◌, ◌*◌, ◌∷◌, ⊤, [], ℕ, zero, suc, Bool, true, false, List, Option, Some, None, is_none, All, count_by, length, map, max, nat_le, nat_lt, position, replicate, slice_get, sum_by, MatchOption, ◌&&◌, ◌||◌, not, if◌then◌else◌}
+use Rattle.std.specs.Prelude.{◌≡◌, ◌≢◌, ◌<◌, ◌≤◌, ◌⊎◌, ◌+◌, ◌-◌, ◌∷◌, ⊤, [], ℕ, zero, suc, Bool, true, false, List, Option, Some, None, is_none, All, length, map, nat_le, nat_lt, position, replicate, slice_get, sum_by, MatchOption, ◌&&◌, not, if◌then◌else◌}
 use Rattle.std.specs.List.{list_any}
-use Rattle.registry_wire.specs.Spelling.{request_limit}
 use Rattle.registry_service.specs.Turns.{Answering}
 use Rattle.registry_server.specs.ConnectionStates.{fresh}
-use Rattle.registry_server.specs.Connections.{IsLost, LeavesLittle, OpenConnection, Visits, body_least, body_since, connected, has_body, is_answered, waiting}
+use Rattle.registry_server.specs.Connections.{IsLost, OpenConnection, Visits, body_least, connected, has_body, waiting}
 use Rattle.registry_server.specs.Phases.{first_phase, idle_since, is_late}
 use Rattle.registry_server.specs.declared.connection.Visit.{Visit}
 use Rattle.registry_server.specs.declared.connection.Visit.TheVariants.{Again, Rests, Over}
-use Rattle.registry_server.specs.declared.phase.Stage.TheVariants.{Begun, Idle, Next}
+use Rattle.registry_server.specs.declared.phase.Stage.TheVariants.{Idle, Next}
 use Rattle.registry_server.specs.declared.pool.Place.{Place}
 use Rattle.registry_server.specs.declared.server.Ended.{Ended}
 use Rattle.registry_server.specs.declared.server.Ended.TheVariants.{Enough, ServiceOver}
@@ -17,20 +16,20 @@ use Rattle.registry_server.specs.declared.server.Ended.TheVariants.{Enough, Serv
 abbrev pub place_count : ℕ
 place_count = 512
 
-abbrev pub placed : {S : Type 0} → Option (OpenConnection S) → Bool → Bool → Place S
-placed connection is_ready is_chosen = record { connection = connection; is_ready = is_ready; is_chosen = is_chosen }
+abbrev pub placed : {S : Type 0} → Option (OpenConnection S) → Bool → ℕ → Bool → Place S
+placed connection is_ready since is_chosen = record { connection = connection; is_ready = is_ready; since = since; is_chosen = is_chosen }
 
 -- the same place with this connection, if one is there, and whether it is to be visited
 abbrev pub with_connection : {S : Type 0} → Place S → Option (OpenConnection S) → Bool → Place S
-with_connection p connection is_ready = placed connection is_ready p.is_chosen
+with_connection p connection is_ready = placed connection is_ready p.since p.is_chosen
 
 -- no connection is there, and none is to be visited
 abbrev pub free : {S : Type 0} → Place S
-free = placed None false false
+free = placed None false 0 false
 
 -- a new connection, which is to be visited
 abbrev pub new_at : {S : Type 0} → ℕ → S → Place S
-new_at now socket = placed (Some (connected socket fresh (first_phase now) false)) true false
+new_at now socket = placed (Some (connected socket fresh (first_phase now) false)) true now false
 
 -- it is to be visited
 abbrev pub woken : {S : Type 0} → Place S → Place S
@@ -75,19 +74,19 @@ idle_at (Some p) = idle_in p
 abbrev pub idle_times : {S : Type 0} → List (Place S) → ℕ → Option ℕ
 idle_times places k = idle_at (slice_get places k)
 
--- Of so many places this is the one of the earliest time, and the first of such. None is named where
--- no place has a time.
-abbrev pub IsFirstOfEarliest : (ℕ → Option ℕ) → ℕ → Option ℕ → Type 0
-IsFirstOfEarliest times count None = (j : ℕ) → j < count → times j ≡ None
-IsFirstOfEarliest times count (Some k) = (since : ℕ) × (k < count) × (times k ≡ Some since) × ((j t : ℕ) → j < count → times j ≡ Some t → (since ≤ t) × (j < k → since < t))
+-- Of so many places this is the one at which nothing was begun for longest, and the first of such.
+-- None is named where something is begun at each.
+abbrev pub IsIdleLongest : (ℕ → Option ℕ) → ℕ → Option ℕ → Type 0
+IsIdleLongest idle count None = (j : ℕ) → j < count → idle j ≡ None
+IsIdleLongest idle count (Some k) = (since : ℕ) × (k < count) × (idle k ≡ Some since) × ((j t : ℕ) → j < count → idle j ≡ Some t → (since ≤ t) × (j < k → since < t))
 
--- the same, with the time
-abbrev pub IsEarliestOf : (ℕ → Option ℕ) → ℕ → Option (ℕ × ℕ) → Type 0
-IsEarliestOf times count None = (j : ℕ) → j < count → times j ≡ None
-IsEarliestOf times count (Some best) = (best.0 < count) × (times best.0 ≡ Some best.1) × ((j t : ℕ) → j < count → times j ≡ Some t → (best.1 ≤ t) × (j < best.0 → best.1 < t))
+-- the same, with the time since when
+abbrev pub IsLongestOf : (ℕ → Option ℕ) → ℕ → Option (ℕ × ℕ) → Type 0
+IsLongestOf idle count None = (j : ℕ) → j < count → idle j ≡ None
+IsLongestOf idle count (Some best) = (best.0 < count) × (idle best.0 ≡ Some best.1) × ((j t : ℕ) → j < count → idle j ≡ Some t → (best.1 ≤ t) × (j < best.0 → best.1 < t))
 
--- the better of the best place so far and one more: the first, unless the time of the second is
--- earlier
+-- the better of the best place so far and one more: the first, unless nothing was begun for longer
+-- at the second
 abbrev pub earlier : Option (ℕ × ℕ) → ℕ → Option ℕ → Option (ℕ × ℕ)
 earlier best n None = best
 earlier None n (Some t) = Some (n, t)
@@ -96,17 +95,13 @@ earlier (Some best) n (Some t) = if nat_le best.1 t then Some best else Some (n,
 -- the place for a new connection: the first that is free, or else that at which nothing was begun
 -- for longest
 abbrev pub IsPlaceFor : {S : Type 0} → List (Place S) → Option ℕ → Type 0
-IsPlaceFor places r = MatchOption (position is_free places) (IsFirstOfEarliest (idle_times places) (length places) r) (λ k. r ≡ Some k)
+IsPlaceFor places r = MatchOption (position is_free places) (IsIdleLongest (idle_times places) (length places) r) (λ k. r ≡ Some k)
 
--- ---- which bodies are read of a crowd
+-- ---- who is held back
 
 -- where all connections together hold so many bytes they are a crowd
 abbrev pub held_limit : ℕ
 held_limit = 67_108_864
-
--- so many bodies of a crowd are read side by side at most
-abbrev pub read_together : ℕ
-read_together = 16
 
 abbrev pub held_with : {S : Type 0} → Option (OpenConnection S) → ℕ
 held_with None = 0
@@ -128,96 +123,80 @@ has_body_at p = body_with p.connection
 abbrev pub is_crowd : {S : Type 0} → List (Place S) → Bool
 is_crowd places = nat_le held_limit (sum_by held_at places)
 
-abbrev pub answered_with : {S : Type 0} → Option (OpenConnection S) → Bool
-answered_with None = false
-answered_with (Some c) = is_answered c
+-- of a crowd the body there is the one that is read, or what was read of it is still held
+abbrev pub is_read_alone : {S : Type 0} → Place S → Bool
+is_read_alone p = p.is_chosen && nat_lt body_least (held_at p)
 
--- the request there was answered, and the connection goes on
-abbrev pub is_answered_at : {S : Type 0} → Place S → Bool
-is_answered_at p = answered_with p.connection
-
--- the body there was chosen and is held, and its request isn't answered yet, or the connection ends
-abbrev pub is_read : {S : Type 0} → Place S → Bool
-is_read p = p.is_chosen && nat_lt body_least (held_at p) && not (is_answered_at p)
-
--- one where it is so, else nothing
-abbrev pub read_count : {S : Type 0} → Place S → ℕ
-read_count p = if is_read p then 1 else 0
-
--- fewer are read than may be
-abbrev pub has_room : {S : Type 0} → List (Place S) → Bool
-has_room places = nat_lt (count_by is_read places) read_together
-
--- of a crowd one more may be chosen then
-abbrev pub may_choose : {S : Type 0} → List (Place S) → Bool
-may_choose places = is_crowd places && has_room places
-
--- Of a crowd a body that was chosen stays it until its request is answered; where the connection ends
--- with it, as long as it is held. Where there is no crowd none is chosen.
-abbrev pub settled : {S : Type 0} → Bool → Place S → Place S
-settled crowd p = placed p.connection p.is_ready (crowd && is_read p)
-
-abbrev pub body_since_with : {S : Type 0} → Option (OpenConnection S) → Option ℕ
-body_since_with None = None
-body_since_with (Some c) = body_since c
-
--- since when the request there is under way, where its body waits to be chosen: it is to be visited,
--- and isn't chosen
-abbrev pub waits_since : {S : Type 0} → Place S → Option ℕ
-waits_since p = if p.is_ready && not p.is_chosen then body_since_with p.connection else None
-
-abbrev pub waits_since_at : {S : Type 0} → Option (Place S) → Option ℕ
-waits_since_at None = None
-waits_since_at (Some p) = waits_since p
-
--- the same at the place of a number
-abbrev pub waiting_times : {S : Type 0} → List (Place S) → ℕ → Option ℕ
-waiting_times places k = waits_since_at (slice_get places k)
-
--- its body is chosen
-abbrev pub chosen : {S : Type 0} → Place S → Place S
-chosen p = placed p.connection p.is_ready true
-
-abbrev pub chosen_of : {S : Type 0} → List (Place S) → Option ℕ → List (Place S)
-chosen_of places None = places
-chosen_of places (Some k) = at_place chosen places k
-
--- one body more is chosen, if one waits: of those the one whose request began first
-pub record ChoosesNext {S : Type 0} (old new : List (Place S)) : Type 0 where
-  pub next : Option ℕ
-  pub first : IsFirstOfEarliest (waiting_times old) (length old) next
-  pub places : new ≡ chosen_of old next
-
-abbrev pub ChoosesIf : {S : Type 0} → Bool → List (Place S) → List (Place S) → Type 0
-ChoosesIf true old new = ChoosesNext old new
-ChoosesIf false old new = new ≡ old
-
--- The bodies that were chosen stay it as long as they are held, and of a crowd one more is chosen
--- where there is room for it.
-abbrev pub LooksAtBodies : {S : Type 0} → List (Place S) → List (Place S) → Type 0
-LooksAtBodies old new = ChoosesIf (may_choose old) (map (settled (is_crowd old)) old) new
-
--- ---- who is held back
-
--- of a crowd a body that isn't chosen waits until others are done
+-- the body there waits until others are done
 abbrev pub is_held_back : {S : Type 0} → Bool → Place S → Bool
 is_held_back crowd p = crowd && not p.is_chosen && has_body_at p
 
--- the connection there is to be visited, and isn't held back, or one body more may be chosen
-abbrev pub is_due : {S : Type 0} → Bool → Bool → Place S → Bool
-is_due crowd choose p = p.is_ready && (choose || not (is_held_back crowd p))
-
--- a connection is to be visited in the next round
-abbrev pub is_busy : {S : Type 0} → List (Place S) → Bool
-is_busy places = list_any (is_due (is_crowd places) (may_choose places)) places
+-- the connection there is to be visited, and isn't held back
+abbrev pub is_due : {S : Type 0} → Bool → Place S → Bool
+is_due crowd p = p.is_ready && not (is_held_back crowd p)
 
 abbrev pub waiting_with : {S : Type 0} → ℕ → Option (OpenConnection S) → Option (OpenConnection S)
 waiting_with now None = None
 waiting_with now (Some c) = Some (waiting now c)
 
--- the same place, and the connection there waits for others
+-- the same place, and the time of the connection there begins anew
 abbrev pub waiting_at : {S : Type 0} → ℕ → Place S → Place S
 waiting_at now p = with_connection p (waiting_with now p.connection) p.is_ready
+
+-- its body isn't the one that is read
+abbrev pub released : {S : Type 0} → Place S → Place S
+released p = placed p.connection p.is_ready p.since false
+
+-- its body is the one that is read
+abbrev pub chosen : {S : Type 0} → Place S → Place S
+chosen p = placed p.connection p.is_ready p.since true
+
+-- The rank of a body that may be the next to be read, the lowest first: by when its connection came
+-- in, or by how long it is open.
+abbrev pub rank_in : {S : Type 0} → ℕ → Bool → Place S → Option ℕ
+rank_in now oldest p = if p.is_ready && has_body_at p then Some (if oldest then p.since else now - p.since) else None
+
+abbrev pub rank_at : {S : Type 0} → ℕ → Bool → Option (Place S) → Option ℕ
+rank_at now oldest None = None
+rank_at now oldest (Some p) = rank_in now oldest p
+
+-- the same at the place of a number
+abbrev pub ranks : {S : Type 0} → ℕ → Bool → List (Place S) → ℕ → Option ℕ
+ranks now oldest places k = rank_at now oldest (slice_get places k)
+
+-- of so many places this is the one of the lowest rank, and the first of such; none where there is no
+-- rank
+abbrev pub IsFirstInRank : (ℕ → Option ℕ) → ℕ → Option ℕ → Type 0
+IsFirstInRank rank count r = IsIdleLongest rank count r
+
+abbrev pub chosen_of : {S : Type 0} → List (Place S) → Option ℕ → List (Place S)
+chosen_of places None = places
+chosen_of places (Some k) = at_place chosen places k
+
+-- after the oldest comes the youngest, and after this the oldest
+abbrev pub next_after : Bool → Option ℕ → Bool
+next_after oldest None = oldest
+next_after oldest (Some k) = not oldest
+
+-- the next body is the one that is read, and no other is
+pub record Chooses {S : Type 0} (now : ℕ) (old : List (Place S)) (oldest : Bool) (new : List (Place S)) (oldest2 : Bool) : Type 0 where
+  pub next : Option ℕ
+  pub first : IsFirstInRank (ranks now oldest (map released old)) (length (map released old)) next
+  pub places : new ≡ chosen_of (map released old) next
+  pub turn : oldest2 ≡ next_after oldest next
+
+-- nothing is changed
+pub record ChoosesNone {S : Type 0} (old : List (Place S)) (oldest : Bool) (new : List (Place S)) (oldest2 : Bool) : Type 0 where
+  pub places : new ≡ old
+  pub turn : oldest2 ≡ oldest
+
+abbrev pub ChoosesIf : {S : Type 0} → Bool → ℕ → List (Place S) → Bool → List (Place S) → Bool → Type 0
+ChoosesIf true now old oldest new oldest2 = Chooses now old oldest new oldest2
+ChoosesIf false now old oldest new oldest2 = ChoosesNone old oldest new oldest2
+
+-- Of a crowd one body is read: the one that was so far, as long as it is held, and then the next one.
+abbrev pub LooksAtBodies : {S : Type 0} → ℕ → List (Place S) → Bool → List (Place S) → Bool → Type 0
+LooksAtBodies now old oldest new oldest2 = ChoosesIf (is_crowd old && not (list_any is_read_alone old)) now old oldest new oldest2
 
 -- ---- who is visited
 
@@ -230,8 +209,7 @@ after_visit Over p c = with_connection p None false
 module _ {S : Type 0} (received sent : S → Option (List ℕ)) (must_wait is_ended is_broken : S → Bool) {D : Type 0} (answers : Answering D) where
   -- A connection was visited: it goes on at once, rests, or ends. It rests only where its socket has
   -- to wait, and what is held of a next request was looked at. It ends only where the other side
-  -- sends no more, or where it is broken. Where it goes on after an answer little is held, if it was
-  -- so before.
+  -- sends no more, or where it is broken.
   pub record VisitsOne (now most : ℕ) (at : Place S) (old : OpenConnection S) (new : Place S) (M N : D) (readings readings2 : Option (List ℕ)) : Type 0 where
     pub connection : OpenConnection S
     pub visits : Visits received sent answers now most old connection M N readings readings2
@@ -240,7 +218,6 @@ module _ {S : Type 0} (received sent : S → Option (List ℕ)) (must_wait is_en
     pub rests : visit ≡ Rests → connection.phase.stage ≢ Next
     pub waits : visit ≡ Rests → must_wait connection.socket ≡ true
     pub over : visit ≡ Over → IsLost is_ended is_broken connection
-    pub leaves : visit ≢ Over → LeavesLittle most old → LeavesLittle most connection
 
   -- nothing was visited, and the place is as this one
   pub record VisitsNone (old new : Place S) (M N : D) (readings readings2 : Option (List ℕ)) : Type 0 where
@@ -253,7 +230,8 @@ module _ {S : Type 0} (received sent : S → Option (List ℕ)) (must_wait is_en
   VisitsThere now most at None new M N readings readings2 = VisitsNone (with_connection at None false) new M N readings readings2
   VisitsThere now most at (Some c) new M N readings readings2 = VisitsOne now most at c new M N readings readings2
 
-  -- whether it is to be visited, and whether it is held back: then it still is to be, and waits
+  -- whether it is to be visited, and whether it is held back: then it still is to be, and its time
+  -- begins anew
   abbrev pub VisitsIf : Bool → Bool → ℕ → ℕ → Place S → Place S → D → D → Option (List ℕ) → Option (List ℕ) → Type 0
   VisitsIf true true now most old new M N readings readings2 = VisitsNone (waiting_at now old) new M N readings readings2
   VisitsIf true false now most old new M N readings readings2 = VisitsThere now most old old.connection new M N readings readings2
@@ -276,11 +254,11 @@ module _ {S : Type 0} (received sent : S → Option (List ℕ)) (must_wait is_en
   VisitsAll crowd now most [] (q ∷ places2) M N readings readings2 = ⊥
   VisitsAll crowd now most (p ∷ places) [] M N readings readings2 = ⊥
 
-  -- A round: it is looked whether the connections are a crowd, and then which bodies are read, and they
+  -- A round: it is looked whether the connections are a crowd, and then which body is read, and they
   -- are visited.
-  pub record VisitsRound (now most : ℕ) (old new : List (Place S)) (M N : D) (readings readings2 : Option (List ℕ)) : Type 0 where
+  pub record VisitsRound (now most : ℕ) (old : List (Place S)) (oldest : Bool) (new : List (Place S)) (oldest2 : Bool) (M N : D) (readings readings2 : Option (List ℕ)) : Type 0 where
     pub looked : List (Place S)
-    pub looks : LooksAtBodies old looked
+    pub looks : LooksAtBodies now old oldest looked oldest2
     pub visits : VisitsAll (is_crowd old) now most looked new M N readings readings2
 
 -- ---- how much is held after a round
@@ -297,113 +275,43 @@ HoldLittleMore crowd most (p ∷ places) (q ∷ places2) = HoldsLittleMore crowd
 HoldLittleMore crowd most [] (q ∷ places2) = ⊥
 HoldLittleMore crowd most (p ∷ places) [] = ⊥
 
--- no more bodies are chosen than are read side by side
-abbrev pub FewChosen : {S : Type 0} → List (Place S) → Type 0
-FewChosen {S} places = count_by (λ (p : Place S). p.is_chosen) places ≤ read_together
+-- no body is the one that is read
+abbrev pub NoneChosen : {S : Type 0} → List (Place S) → Type 0
+NoneChosen [] = ⊤
+NoneChosen (p ∷ places) = (p.is_chosen ≡ false) × NoneChosen places
+
+-- at most one body is
+abbrev pub OneChosen : {S : Type 0} → List (Place S) → Type 0
+OneChosen [] = ⊤
+OneChosen (p ∷ places) = ((p.is_chosen ≡ false) × OneChosen places) ⊎ NoneChosen places
 
 -- so it is in a new pool
-abbrev pub NewPoolReadsFew : Type 0 → Type 0
-NewPoolReadsFew S = FewChosen {S = S} (replicate place_count free)
+abbrev pub NewPoolReadsOne : Type 0 → Type 0
+NewPoolReadsOne S = OneChosen {S = S} (replicate place_count free)
 
 -- and still once a connection came in
-abbrev pub NewConnectionsLeaveFew : Type 0 → Type 0
-NewConnectionsLeaveFew S = (now : ℕ) (socket : S) (places : List (Place S)) (k : ℕ) → FewChosen places → FewChosen (at_place (λ _. new_at now socket) places k)
+abbrev pub NewConnectionsLeaveOne : Type 0 → Type 0
+NewConnectionsLeaveOne S = (now : ℕ) (socket : S) (places : List (Place S)) (k : ℕ) → OneChosen places → OneChosen (at_place (λ _. new_at now socket) places k)
 
 -- once one is to be visited
-abbrev pub WakesLeaveFew : Type 0 → Type 0
-WakesLeaveFew S = (places : List (Place S)) (k : ℕ) → FewChosen places → FewChosen (at_place woken places k)
+abbrev pub WakesLeaveOne : Type 0 → Type 0
+WakesLeaveOne S = (places : List (Place S)) (k : ℕ) → OneChosen places → OneChosen (at_place woken places k)
 
 -- and once those ended whose time is up
-abbrev pub EndsLeaveFew : Type 0 → Type 0
-EndsLeaveFew S = (now : ℕ) (places : List (Place S)) → FewChosen places → FewChosen (map (kept_at now) places)
-
--- who is held back has begun a request that isn't whole
-abbrev pub WhoWaitsHasBegun : Type 0 → Type 0
-WhoWaitsHasBegun S = (crowd : Bool) (p : Place S) (c : OpenConnection S) → is_held_back crowd p ≡ true → p.connection ≡ Some c → c.phase.stage ≡ Begun
+abbrev pub EndsLeaveOne : Type 0 → Type 0
+EndsLeaveOne S = (now : ℕ) (places : List (Place S)) → OneChosen places → OneChosen (map (kept_at now) places)
 
 module _ {S : Type 0} (received sent : S → Option (List ℕ)) (must_wait is_ended is_broken : S → Bool) {D : Type 0} (answers : Answering D) (over : D → Bool) where
-  -- and in a round, also once it is looked which bodies are read
-  abbrev pub RoundsReadFew : Type 0
-  RoundsReadFew = (now most : ℕ) (old new : List (Place S)) (M N : D) (readings readings2 : Option (List ℕ)) → FewChosen old
-      → (round : VisitsRound received sent must_wait is_ended is_broken answers over now most old new M N readings readings2) → FewChosen round.looked × FewChosen new
+  -- and in a round, also once it is looked which body is read
+  abbrev pub RoundsReadOne : Type 0
+  RoundsReadOne = (now most : ℕ) (old new : List (Place S)) (oldest oldest2 : Bool) (M N : D) (readings readings2 : Option (List ℕ)) → OneChosen old
+      → (round : VisitsRound received sent must_wait is_ended is_broken answers over now most old oldest new oldest2 M N readings readings2) → OneChosen round.looked × OneChosen new
 
   -- A round leaves at each place no more than so many bytes beside those that were held before, and
   -- no more at those of connections that are held back.
   abbrev pub RoundsHoldLittleMore : Type 0
-  RoundsHoldLittleMore = (now most : ℕ) (old new : List (Place S)) (M N : D) (readings readings2 : Option (List ℕ))
-      → (round : VisitsRound received sent must_wait is_ended is_broken answers over now most old new M N readings readings2) → HoldLittleMore (is_crowd old) most round.looked new
-
--- ---- how much is held after any number of rounds
-
--- what a connection may hold before its body is one under way, and one read more
-abbrev pub held_before : ℕ → ℕ
-held_before most = body_least + most
-
--- What counts of a place: that much where its body is chosen, else what is held, and no less than
--- that much.
-abbrev pub counted_at : {S : Type 0} → ℕ → Place S → ℕ
-counted_at most p = if p.is_chosen then held_before most else max (held_at p) (held_before most)
-
--- what a round without a crowd may add at a place
-abbrev pub added_at_most : ℕ → ℕ
-added_at_most most = most + held_before most
-
--- one request is held there, and one read more, at most
-abbrev pub HoldsOneRequest : {S : Type 0} → ℕ → Place S → Type 0
-HoldsOneRequest most p = held_at p ≤ request_limit + most
-
--- no more is held there than one read gives, where a request was answered and the connection goes on
-abbrev pub HoldsLittleRest : {S : Type 0} → ℕ → Place S → Type 0
-HoldsLittleRest most p = is_answered_at p ≡ true → held_at p ≤ most
-
--- There are as many places as at first; few bodies are chosen; no connection holds more than one
--- request and one read, nor more than one read once its request was answered and it goes on; and what
--- counts of all places is the limit at most, and what a round may add.
-pub record HoldLittle {S : Type 0} (most : ℕ) (places : List (Place S)) : Type 0 where
-  pub size : length places ≡ place_count
-  pub few : FewChosen places
-  pub each : All (HoldsOneRequest most) places
-  pub rest : All (HoldsLittleRest most) places
-  pub counted : sum_by (counted_at most) places ≤ held_limit + place_count * added_at_most most
-
--- so it is in a new pool
-abbrev pub NewPoolHoldsLittle : Type 0 → Type 0
-NewPoolHoldsLittle S = (most : ℕ) → HoldLittle {S = S} most (replicate place_count free)
-
--- and still once a connection came in
-abbrev pub NewConnectionsLeaveLittle : Type 0 → Type 0
-NewConnectionsLeaveLittle S = (most now : ℕ) (socket : S) (places : List (Place S)) (k : ℕ) → HoldLittle most places → HoldLittle most (at_place (λ _. new_at now socket) places k)
-
--- once one is to be visited
-abbrev pub WakesLeaveLittle : Type 0 → Type 0
-WakesLeaveLittle S = (most : ℕ) (places : List (Place S)) (k : ℕ) → HoldLittle most places → HoldLittle most (at_place woken places k)
-
--- and once those ended whose time is up
-abbrev pub EndsLeaveLittle : Type 0 → Type 0
-EndsLeaveLittle S = (most now : ℕ) (places : List (Place S)) → HoldLittle most places → HoldLittle most (map (kept_at now) places)
-
-module _ {S : Type 0} (received sent : S → Option (List ℕ)) (must_wait is_ended is_broken : S → Bool) {D : Type 0} (answers : Answering D) (over : D → Bool) where
-  -- and after a round
-  abbrev pub RoundsLeaveLittle : Type 0
-  RoundsLeaveLittle = (now most : ℕ) (old new : List (Place S)) (M N : D) (readings readings2 : Option (List ℕ)) → HoldLittle most old
-      → VisitsRound received sent must_wait is_ended is_broken answers over now most old new M N readings readings2 → HoldLittle most new
-
--- what is held at a place whose body isn't chosen
-abbrev pub unread_at : {S : Type 0} → Place S → ℕ
-unread_at p = if p.is_chosen then 0 else held_at p
-
--- then the connections whose bodies aren't chosen hold no more together
-abbrev pub UnreadHoldLittle : Type 0 → Type 0
-UnreadHoldLittle S = (most : ℕ) (places : List (Place S)) → HoldLittle most places → sum_by unread_at places ≤ held_limit + place_count * added_at_most most
-
--- and all of them no more than that and as many requests, with one read each, as are read side by side
-abbrev pub AllHoldLittle : Type 0 → Type 0
-AllHoldLittle S = (most : ℕ) (places : List (Place S)) → HoldLittle most places
-    → sum_by held_at places ≤ held_limit + place_count * added_at_most most + read_together * (request_limit + most)
-
--- that is 153 MiB where reads have 16,384 bytes at most, as those of a server
-abbrev pub ServersHoldLittle : Type 0 → Type 0
-ServersHoldLittle S = (places : List (Place S)) → HoldLittle 16_384 places → sum_by held_at places ≤ 159_907_840
+  RoundsHoldLittleMore = (now most : ℕ) (old new : List (Place S)) (oldest oldest2 : Bool) (M N : D) (readings readings2 : Option (List ℕ))
+      → (round : VisitsRound received sent must_wait is_ended is_broken answers over now most old oldest new oldest2 M N readings readings2) → HoldLittleMore (is_crowd old) most round.looked new
 
 -- ---- whom a new connection ends
 
@@ -431,8 +339,8 @@ EndsLeaveRest {S} must_wait = (now : ℕ) (places : List (Place S)) → All (IsA
 module _ {S : Type 0} (received sent : S → Option (List ℕ)) (must_wait is_ended is_broken : S → Bool) {D : Type 0} (answers : Answering D) (over : D → Bool) where
   -- and after visits
   abbrev pub VisitsLeaveRest : Type 0
-  VisitsLeaveRest = (now most : ℕ) (old new : List (Place S)) (M N : D) (readings readings2 : Option (List ℕ)) → All (IsAtRest must_wait) old
-      → VisitsRound received sent must_wait is_ended is_broken answers over now most old new M N readings readings2 → All (IsAtRest must_wait) new
+  VisitsLeaveRest = (now most : ℕ) (old new : List (Place S)) (oldest oldest2 : Bool) (M N : D) (readings readings2 : Option (List ℕ)) → All (IsAtRest must_wait) old
+      → VisitsRound received sent must_wait is_ended is_broken answers over now most old oldest new oldest2 M N readings readings2 → All (IsAtRest must_wait) new
 
 -- A new connection ends no other but one that isn't to be visited, whose socket had to wait when it
 -- was asked last, and on which nothing is begun.

@@ -17,9 +17,7 @@ pub struct WallClock<'a, R: time::Clock> {
 
 impl<'a, R: time::Clock> WallClock<'a, R> {
     /// A clock that was read once, and this was its reading.
-    pub fn new(source: &'a R, last: Moment) -> WallClock<'a, R>
-        ensures { result.last ≡ last }
-    {
+    pub fn new(source: &'a R, last: Moment) -> WallClock<'a, R> {
         WallClock { source, last }
     }
 }

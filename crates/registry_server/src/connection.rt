@@ -3,7 +3,7 @@
 ghost use Rattle.std.specs.Prelude.{◌≡◌, ◌≢◌, [], true, false, IfOk, IsSome, OnOk, OnErr, length};
 ghost use Rattle.registry_wire.specs.Spelling.{IsUnfinished};
 ghost use Rattle.registry_server.specs.ConnectionStates.{Does, MayTakeTurn, fresh};
-ghost use Rattle.registry_server.specs.Connections.{AnswersOnce, Drops, IsLost, LeavesLittle, LeavesRest, Receives, SendsDue, StarvesOnce, Visits, body_since, connected, has_body, is_answered, stage_after, waiting};
+ghost use Rattle.registry_server.specs.Connections.{AnswersOnce, Drops, IsLost, Receives, SendsDue, StarvesOnce, Visits, connected, has_body, stage_after, waiting};
 ghost use Rattle.registry_server.specs.Phases as phases;
 ghost use Rattle.registry_server.specs.declared.connection.Visit.TheVariants as visits;
 ghost use Rattle.registry_server.specs.declared.phase.Stage.TheVariants as stages;
@@ -14,12 +14,11 @@ use crate::phase::{Phase, Stage};
 use crate::socket::{Flow, Socket};
 use crate::state::{ConnectionState, Progress};
 use registry_service::{Clock, Service};
-use registry_wire::HEAD_LIMIT;
 use std::alloc::{AllocError, Global};
 use std::marker::Model;
 
-/// Where more bytes are held of a request that isn't whole than a head may have, a body is under way.
-pub const BODY_LEAST: usize = HEAD_LIMIT;
+/// Where more bytes are held of a request that isn't whole, a body is under way: a head has no more.
+pub const BODY_LEAST: usize = 16_384;
 
 /// How a visit ended.
 #[derive(Clone, Copy, Debug, PartialEq, Eq)]
@@ -98,34 +97,11 @@ impl<S: Socket> Connection<S> {
         }
     }
 
-    /// Whether its request was answered and it goes on, and what follows wasn't looked at yet.
-    pub fn is_answered(&self) -> bool
-        ensures { result ≡ is_answered self.now }
-    {
-        match self.phase.stage {
-            Stage::Next | Stage::Sends => self.state.ends().is_none(),
-            _ => false,
-        }
-    }
-
-    /// Since when a body is under way: since its request began. None where none is.
-    pub fn body_since(&self) -> Option<u64>
-        ensures { result ≡ body_since self.now }
-    {
-        if self.has_body() {
-            Some(self.phase.since)
-        } else {
-            None
-        }
-    }
-
-    /// Its body waits until others are done. The time of its request begins anew, unless it is older
-    /// than [`WAIT_LIMIT`](crate::WAIT_LIMIT).
+    /// It waits until others are done. The time of what it is at begins anew.
     pub fn wait(&mut self, now: u64)
-        requires { has_body self.old ≡ true }
         ensures { self.new ≡ waiting now self.old }
     {
-        self.phase.wait(now);
+        self.phase.begin_anew(now);
     }
 
     /// Goes on with the connection: receives once, answers one request at most, and sends once.
@@ -142,8 +118,6 @@ impl<S: Socket> Connection<S> {
         ensures rests { result ≡ visits.Rests → self.new.phase.stage ≢ stages.Next }
         ensures waits { result ≡ visits.Rests → S.must_wait self.new.socket ≡ true }
         ensures over { result ≡ visits.Over → IsLost S.is_ended S.is_broken self.new }
-        ensures leaves { result ≢ visits.Over → LeavesLittle (length buffer.old) self.old
-            → LeavesLittle (length buffer.old) self.new }
     {
         match self.phase.stage {
             Stage::Idle | Stage::Begun => match self.receive(buffer, now) {
@@ -163,10 +137,8 @@ impl<S: Socket> Connection<S> {
         requires turns { phases.takes_turns self.old.phase.stage ≡ true }
         requires receives { phases.receives self.old.phase.stage ≡ true }
         ensures turning { phases.takes_turns self.old.phase.stage ≡ true }
-        ensures receiving { phases.receives self.old.phase.stage ≡ true }
         ensures may { MayTakeTurn self.old.state }
         ensures waits { IsUnfinished self.old.state.held }
-        ensures idle { self.old.phase.stage ≡ stages.Idle → self.old.state.held ≡ [] }
         ensures kept { OnOk result (Receives S.received S.sent now (length buffer.old) self.old self.new true) }
         ensures lost { OnErr result (Receives S.received S.sent now (length buffer.old) self.old self.new false) }
         ensures stage { phases.takes_turns self.new.phase.stage ≡ true }
@@ -204,7 +176,6 @@ impl<S: Socket> Connection<S> {
         ensures rests { result ≡ visits.Rests → self.new.phase.stage ≢ stages.Next }
         ensures waits { result ≡ visits.Rests → S.must_wait self.new.socket ≡ true }
         ensures over { result ≡ visits.Over → IsLost S.is_ended S.is_broken self.new }
-        ensures rest { result ≢ visits.Over → LeavesRest self.old.state.held self.new }
     {
         match self.take_turn(alloc, service, clock, now) {
             Progress::Answered => self.send(now),
@@ -227,7 +198,6 @@ impl<S: Socket> Connection<S> {
             (C.readings clock.old) (C.readings clock.new) self.old.is_over result }
         ensures sends { result ≡ progress.Answered → self.new.phase ≡ phases.entered self.old.phase stages.Sends now }
         ensures looked { result ≢ progress.Answered → phases.LookedAt now self.old.phase self.new.phase }
-        ensures waits { result ≡ progress.Waits → is_answered self.new ≡ false }
         ensures lost { result ≡ progress.Closed → S.is_ended self.new.socket ≡ true }
         ensures socket { self.new.socket ≡ self.old.socket }
         ensures over { self.new.is_over ≡ self.old.is_over }

@@ -1,7 +1,7 @@
 //! Laws of connections. Each is the contract of a function that does nothing.
 
-ghost use Rattle.registry_server.specs.Phases.{BytesGive, EnteredEndsInTime, NeverGiveMore, NewPhasesEndInTime, PaidEndsInTime, ResponseTimePasses, StagesGiveNone, WaitedEndsInTime, WaitsGiveNone};
-ghost use Rattle.registry_server.specs.Pools.{AllHoldLittle, EndsLeaveFew, EndsLeaveLittle, EndsLeaveRest, NewConnectionsLeaveFew, NewConnectionsLeaveLittle, NewConnectionsLeaveRest, NewPoolHoldsLittle, NewPoolReadsFew, NewPoolRests, NewcomersEndIdle, RoundsHoldLittleMore, RoundsLeaveLittle, RoundsReadFew, ServersHoldLittle, UnreadHoldLittle, VisitsLeaveRest, WakesLeaveFew, WakesLeaveLittle, WakesLeaveRest, WhoWaitsHasBegun};
+ghost use Rattle.registry_server.specs.Phases.{BytesGive, NeverGiveMore, ResponseTimePasses, StagesGiveNone};
+ghost use Rattle.registry_server.specs.Pools.{EndsLeaveOne, EndsLeaveRest, NewConnectionsLeaveOne, NewConnectionsLeaveRest, NewPoolReadsOne, NewPoolRests, NewcomersEndIdle, RoundsHoldLittleMore, RoundsReadOne, VisitsLeaveRest, WakesLeaveOne, WakesLeaveRest};
 ghost use Rattle.registry_server.specs.Worlds.{Begins, Comes, Sends, Shuts, Starves, TakesTurns, VisitsLead};
 
 use crate::socket::Socket;
@@ -29,24 +29,13 @@ pub fn visits_make_one_history<S: Socket, D: Service>()
 {}
 
 /// The responses of a connection have one time together. It passes while one is being sent; no other
-/// stage gives more of it, and no waiting; what is taken gives a millisecond for each 16 bytes, and
-/// never more than there was at first.
+/// stage gives more of it; what is taken gives a millisecond for each 16 bytes, and never more than
+/// there was at first.
 pub fn responses_have_one_time()
     ensures passes { ResponseTimePasses }
     ensures stages { StagesGiveNone }
-    ensures waits { WaitsGiveNone }
     ensures bytes { BytesGive }
     ensures most { NeverGiveMore }
-{}
-
-/// A request that is under way has time until it is 370 s old at most, however often it waits: so it
-/// is where nothing is begun, and each call of `Phase` leaves it so. Bytes of a response are taken
-/// only while one is being sent.
-pub fn requests_end_in_time()
-    ensures begins { NewPhasesEndInTime }
-    ensures enters { EnteredEndsInTime }
-    ensures waits { WaitedEndsInTime }
-    ensures pays { PaidEndsInTime }
 {}
 
 /// No new connection ends one that is to be visited. Each connection that isn't rests: its socket
@@ -63,32 +52,14 @@ pub fn newcomers_end_idle_connections<S: Socket, D: Service>()
 {}
 
 /// A crowd holds little more after a round than before it: a connection holds no more bytes than one
-/// read gives beside those that it held, and no more where it is held back, which it is only where it
-/// has begun a request that isn't whole. At most 16 bodies are chosen: so it is in a new pool, and new
-/// connections, wakes, ends and rounds leave it so.
+/// read gives beside those that it held, and no more where it is held back. At most one body is the
+/// one that is read of a crowd: so it is in a new pool, and new connections, wakes, ends and rounds
+/// leave it so. So a round in which some are held back makes one body longer, by one read.
 pub fn a_crowd_holds_little_more<S: Socket, D: Service>()
-    ensures begins { NewPoolReadsFew S }
-    ensures comes { NewConnectionsLeaveFew S }
-    ensures wakes { WakesLeaveFew S }
-    ensures late { EndsLeaveFew S }
-    ensures rounds { RoundsReadFew S.received S.sent S.must_wait S.is_ended S.is_broken D.answers D.over }
+    ensures begins { NewPoolReadsOne S }
+    ensures comes { NewConnectionsLeaveOne S }
+    ensures wakes { WakesLeaveOne S }
+    ensures late { EndsLeaveOne S }
+    ensures one { RoundsReadOne S.received S.sent S.must_wait S.is_ended S.is_broken D.answers D.over }
     ensures few { RoundsHoldLittleMore S.received S.sent S.must_wait S.is_ended S.is_broken D.answers D.over }
-    ensures waits { WhoWaitsHasBegun S }
-{}
-
-/// All connections together hold little, after any number of rounds with one buffer: as many bytes as
-/// make a crowd; two reads and the bytes of a head for each place; and one request and one read for
-/// each of 16 bodies. What is kept (`HoldLittle`) is so in a new pool, and new connections, wakes, ends
-/// and rounds leave it so. From it follows how much the connections hold whose bodies aren't chosen
-/// (`unread`), how much all of them do (`all`), and how much that is with reads of 16,384 bytes, as
-/// those of a server (`servers`): 159,907,840 bytes.
-pub fn connections_hold_little<S: Socket, D: Service>()
-    ensures begins { NewPoolHoldsLittle S }
-    ensures comes { NewConnectionsLeaveLittle S }
-    ensures wakes { WakesLeaveLittle S }
-    ensures late { EndsLeaveLittle S }
-    ensures rounds { RoundsLeaveLittle S.received S.sent S.must_wait S.is_ended S.is_broken D.answers D.over }
-    ensures unread { UnreadHoldLittle S }
-    ensures all { AllHoldLittle S }
-    ensures servers { ServersHoldLittle S }
 {}

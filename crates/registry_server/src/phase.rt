@@ -2,19 +2,13 @@
 
 ghost use Rattle.std.specs.Prelude.{◌≡◌};
 ghost use Rattle.registry_server.specs.Phases as spec;
-ghost use Rattle.registry_server.specs.Phases.{entered, first_phase, left_at, limit_of, paid, waited};
-ghost use Rattle.registry_server.specs.declared.phase.Stage.TheVariants.{Begun};
+ghost use Rattle.registry_server.specs.Phases.{begun_anew, entered, first_phase, left_at, limit_of, paid};
 
 /// A connection with nothing begun ends after so many milliseconds.
 pub const IDLE_LIMIT: u64 = 60_000;
 
 /// A request that was begun is whole after so many milliseconds, or its connection ends.
 pub const REQUEST_TIME_LIMIT: u64 = 10_000;
-
-/// A request whose body waits for others has its time begun anew until it is so many milliseconds
-/// old. At most 511 other bodies began before it, 16 of them are read side by side, and each has
-/// 10 s at most: that makes 320 s.
-pub const WAIT_LIMIT: u64 = 360_000;
 
 /// All responses of a connection together were taken after so many milliseconds, or it ends. More
 /// is given for what is taken of them, and this is also the most that is left.
@@ -66,13 +60,11 @@ impl Stage {
     }
 }
 
-/// What a connection is at, since when and until when, in milliseconds, and how many of them its
-/// responses have left where none is being sent. Where a request is under way it is so since its
-/// first byte was there, or since the response before it was sent.
+/// What a connection is at, and until when, in milliseconds, and how many of them its responses
+/// have left where none is being sent.
 #[derive(Drop)]
 pub struct Phase {
     pub stage: Stage,
-    pub since: u64,
     pub until: u64,
     pub spare: u64,
 }
@@ -84,7 +76,6 @@ impl Phase {
     {
         Phase {
             stage: Stage::Idle,
-            since: now,
             until: now.saturating_add(IDLE_LIMIT),
             spare: RESPONSE_LIMIT,
         }
@@ -108,7 +99,6 @@ impl Phase {
     {
         if !self.stage.shares_time(stage) {
             self.spare = self.left(now);
-            self.since = now;
             self.until = now.saturating_add(stage.limit(self.spare));
         }
         self.stage = stage;
@@ -123,15 +113,11 @@ impl Phase {
         self.until = self.until.max(more.min(most));
     }
 
-    /// The request waits until others are done. Its time begins anew, unless it is older than
-    /// [`WAIT_LIMIT`].
-    pub fn wait(&mut self, now: u64)
-        requires { self.old.stage ≡ Begun }
-        ensures { self.new ≡ waited self.old now }
+    /// The time of the stage begins anew.
+    pub fn begin_anew(&mut self, now: u64)
+        ensures { self.new ≡ begun_anew self.old now }
     {
-        if now.saturating_sub(self.since) <= WAIT_LIMIT {
-            self.until = now.saturating_add(REQUEST_TIME_LIMIT);
-        }
+        self.until = now.saturating_add(self.stage.limit(self.spare));
     }
 
     /// Whether its time is up.
@@ -146,7 +132,7 @@ impl Phase {
         ensures { result ≡ spec.idle_since self.now }
     {
         match self.stage {
-            Stage::Idle => Some(self.since),
+            Stage::Idle => Some(self.until.saturating_sub(IDLE_LIMIT)),
             _ => None,
         }
     }

@@ -1,9 +1,9 @@
 //! The open connections, and who of them can go on.
 
-ghost use Rattle.std.specs.Prelude.{◌≡◌, ◌&&◌, true, IfOk, is_none, length, map, position, replicate};
+ghost use Rattle.std.specs.Prelude.{◌≡◌, IfOk, is_none, length, map, position, replicate};
 ghost use Rattle.std.specs.List.{list_all, list_any};
 ghost use Rattle.registry_server.specs.Pools as spec;
-ghost use Rattle.registry_server.specs.Pools.{ChoosesIf, ChoosesNext, IsFirstOfEarliest, IsPlaceFor, LooksAtBodies, VisitsAll, VisitsAt, VisitsRound, at_place, idle_times, new_at, place_count, waiting_times};
+ghost use Rattle.registry_server.specs.Pools.{Chooses, IsFirstInRank, IsIdleLongest, IsPlaceFor, LooksAtBodies, VisitsAll, VisitsAt, VisitsRound, at_place, idle_times, new_at, place_count, ranks};
 
 use crate::connection::{BODY_LEAST, Connection, Visit};
 use crate::socket::Socket;
@@ -13,18 +13,16 @@ use std::alloc::{AllocError, Global};
 /// The most connections that are open at once.
 pub const CONNECTION_COUNT: usize = 512;
 
-/// Where all connections together hold so many bytes of requests they are a crowd.
+/// Where all connections together hold so many bytes of requests, one body alone is read.
 pub const HELD_LIMIT: usize = 67_108_864;
 
-/// So many bodies of a crowd are read side by side at most.
-pub const READ_TOGETHER: usize = 16;
-
-/// A place for a connection, whether it is to be visited, and whether of a crowd its body is one of
-/// those that are read.
+/// A place for a connection, whether it is to be visited, since when the connection is open, and
+/// whether of a crowd its body is the one that is read.
 #[derive(Drop)]
 struct Place<S: Socket> {
     connection: Option<Connection<S>>,
     is_ready: bool,
+    since: u64,
     is_chosen: bool,
 }
 
@@ -65,42 +63,12 @@ impl<S: Socket> Place<S> {
         }
     }
 
-    // Whether the request there was answered, and the connection goes on.
-    fn is_answered(&self) -> bool
-        ensures { result ≡ spec.is_answered_at self.now }
+    // Whether of a crowd the body there is the one that is read, or what was read of it is still
+    // held.
+    fn is_read_alone(&self) -> bool
+        ensures { result ≡ spec.is_read_alone self.now }
     {
-        match &self.connection {
-            Some(connection) => connection.is_answered(),
-            None => false,
-        }
-    }
-
-    // Whether the body there was chosen and is held, and its request isn't answered yet, or the
-    // connection ends.
-    fn is_read(&self) -> bool
-        ensures { result ≡ spec.is_read self.now }
-    {
-        self.is_chosen && self.held_len() > BODY_LEAST && !self.is_answered()
-    }
-
-    // One where that is so, else nothing.
-    fn read_count(&self) -> usize
-        ensures { result ≡ spec.read_count self.now }
-    {
-        if self.is_read() { 1 } else { 0 }
-    }
-
-    // Since when the request there is under way, where its body waits to be chosen.
-    fn waits_since(&self) -> Option<u64>
-        ensures { result ≡ spec.waits_since self.now }
-    {
-        if !self.is_ready || self.is_chosen {
-            return None;
-        }
-        match &self.connection {
-            Some(connection) => connection.body_since(),
-            None => None,
-        }
+        self.is_chosen && self.held_len() > BODY_LEAST
     }
 
     // Whether the body there waits until others are done.
@@ -110,25 +78,36 @@ impl<S: Socket> Place<S> {
         is_crowd && !self.is_chosen && self.has_body()
     }
 
-    // Whether the connection there is to be visited, and isn't held back, or one body more may be
-    // chosen.
-    fn is_due(&self, is_crowd: bool, may_choose: bool) -> bool
-        ensures { result ≡ spec.is_due is_crowd may_choose self.now }
+    // Whether the connection there is to be visited and isn't held back.
+    fn is_due(&self, is_crowd: bool) -> bool
+        ensures { result ≡ spec.is_due is_crowd self.now }
     {
-        self.is_ready && (may_choose || !self.is_held_back(is_crowd))
+        self.is_ready && !self.is_held_back(is_crowd)
     }
 
-    // Its body stays chosen in a crowd until its request is answered, or as long as it is held where
-    // the connection ends.
-    fn settle(&mut self, is_crowd: bool)
-        ensures { self.new ≡ spec.settled is_crowd self.old }
+    // The rank of a body that may be the next to be read, the lowest first: by when its connection
+    // came in, or by how long it is open.
+    fn rank(&self, now: u64, is_oldest_next: bool) -> Option<u64>
+        ensures { result ≡ spec.rank_in now is_oldest_next self.now }
     {
-        self.is_chosen = is_crowd && self.is_read();
+        if !self.is_ready || !self.has_body() {
+            None
+        } else if is_oldest_next {
+            Some(self.since)
+        } else {
+            Some(now.saturating_sub(self.since))
+        }
     }
 
-    // The body there waits until others are done.
+    // Its body isn't the one that is read.
+    fn release(&mut self)
+        ensures { self.new ≡ spec.released self.old }
+    {
+        self.is_chosen = false;
+    }
+
+    // The time of the connection there begins anew.
     fn wait(&mut self, now: u64)
-        requires { spec.has_body_at self.old ≡ true }
         ensures { self.new ≡ spec.waiting_at now self.old }
     {
         if let Some(connection) = &mut self.connection {
@@ -137,7 +116,7 @@ impl<S: Socket> Place<S> {
     }
 
     // Visits the connection, if one is there and is to be visited, unless the service is over. Where
-    // it is held back it waits instead.
+    // it is held back its time begins anew instead.
     fn visit<D: Service, C: Clock>(
         &mut self,
         alloc: Global,
@@ -183,14 +162,14 @@ impl<S: Socket> Place<S> {
     }
 }
 
-/// Places for connections, which are numbers below [`CONNECTION_COUNT`].
-///
-/// Where all connections hold [`HELD_LIMIT`] bytes or more together they are a crowd, of which
-/// [`READ_TOGETHER`] bodies at most are read side by side: those that were chosen, until their
-/// requests are answered, or as long as they are held where the connection ends. The others wait.
+/// Places for connections, which are numbers below `CONNECTION_COUNT`; whether these were a crowd,
+/// that is, held the limit or more together, when they were visited last; and whether the next body
+/// that is read alone is that of the oldest connection, and not of the youngest.
 #[derive(Drop)]
 pub struct ConnectionPool<S: Socket> {
     places: Vec<Place<S>>,
+    is_crowd: bool,
+    is_oldest_next: bool,
 }
 
 impl<S: Socket> ConnectionPool<S> {
@@ -203,10 +182,15 @@ impl<S: Socket> ConnectionPool<S> {
             places.push(Place {
                 connection: None,
                 is_ready: false,
+                since: 0,
                 is_chosen: false,
             })?;
         }
-        Ok(ConnectionPool { places })
+        Ok(ConnectionPool {
+            places,
+            is_crowd: false,
+            is_oldest_next: true,
+        })
     }
 
     /// Whether every place is free.
@@ -223,14 +207,13 @@ impl<S: Socket> ConnectionPool<S> {
         self.free_place().is_none()
     }
 
-    /// Whether `visit_all` would visit a connection now: one that is to be visited and isn't held
-    /// back, or whose body would be chosen.
+    /// Whether a connection is to be visited that isn't held back. Who is held back is decided
+    /// when they are visited.
     pub fn is_busy(&self) -> bool
-        ensures { result ≡ spec.is_busy self.now.places.items }
+        ensures { result ≡ list_any (spec.is_due self.now.is_crowd) self.now.places.items }
     {
-        let is_crowd = is_crowd(&self.places);
-        let may_choose = may_choose(&self.places, is_crowd);
-        any_due(&self.places, is_crowd, may_choose)
+        let is_crowd = self.is_crowd;
+        self.places.iter().any(|place| place.is_due(is_crowd))
     }
 
     /// Where a new connection can be put: a place that is free, or else that of the connection
@@ -262,6 +245,7 @@ impl<S: Socket> ConnectionPool<S> {
             self.places[number] = Place {
                 connection: Some(Connection::new(alloc, socket, now)),
                 is_ready: true,
+                since: now,
                 is_chosen: false,
             };
         }
@@ -277,14 +261,12 @@ impl<S: Socket> ConnectionPool<S> {
     }
 
     /// Visits each connection that is to be visited, once, in the order of their places, up to the
-    /// visit in which the service is over. Of a crowd, a connection whose body isn't chosen isn't
-    /// visited now and still is to be: it waits, and its time begins anew, unless its request is
-    /// older than [`WAIT_LIMIT`](crate::WAIT_LIMIT).
+    /// visit in which the service is over. Where all of them hold `HELD_LIMIT` bytes or more
+    /// together, one body under way alone is read, and the other connections that have one are held
+    /// back: they aren't visited now and still are to be, and their time begins anew.
     ///
-    /// A body that was chosen stays it until its request is answered; where the connection ends with
-    /// that, as long as it is held. Where fewer are than may be, one more is chosen: of those to be
-    /// visited, that of the request which began first, and of such that at the lowest place. Where
-    /// there is no crowd none is.
+    /// The body that is read stays it as long as it is held. The next one is, of those to be
+    /// visited, that of the oldest connection and that of the youngest, by turns.
     pub fn visit_all<D: Service, C: Clock>(
         &mut self,
         alloc: Global,
@@ -293,12 +275,14 @@ impl<S: Socket> ConnectionPool<S> {
         buffer: &mut [u8],
         now: u64,
     )
-        ensures { VisitsRound S.received S.sent S.must_wait S.is_ended S.is_broken D.answers D.over
-            now (length buffer.old) self.old.places.items self.new.places.items service.old service.new
+        ensures crowd { self.new.is_crowd ≡ spec.is_crowd self.old.places.items }
+        ensures visits { VisitsRound S.received S.sent S.must_wait S.is_ended S.is_broken D.answers D.over
+            now (length buffer.old) self.old.places.items self.old.is_oldest_next
+            self.new.places.items self.new.is_oldest_next service.old service.new
             (C.readings clock.old) (C.readings clock.new) }
     {
-        let is_crowd = self.look_at_bodies();
-        self.visit_each(alloc, service, clock, buffer, now, is_crowd);
+        self.look_at_bodies(now);
+        self.visit_each(alloc, service, clock, buffer, now);
     }
 
     // Visits each connection that is to be visited and isn't held back.
@@ -309,53 +293,59 @@ impl<S: Socket> ConnectionPool<S> {
         clock: &mut C,
         buffer: &mut [u8],
         now: u64,
-        is_crowd: bool,
     )
-        ensures { VisitsAll S.received S.sent S.must_wait S.is_ended S.is_broken D.answers D.over
-            is_crowd now (length buffer.old) self.old.places.items self.new.places.items
+        ensures visits { VisitsAll S.received S.sent S.must_wait S.is_ended S.is_broken D.answers D.over
+            self.old.is_crowd now (length buffer.old) self.old.places.items self.new.places.items
             service.old service.new (C.readings clock.old) (C.readings clock.new) }
+        ensures crowd { self.new.is_crowd ≡ self.old.is_crowd }
+        ensures next { self.new.is_oldest_next ≡ self.old.is_oldest_next }
     {
+        let is_crowd = self.is_crowd;
         for place in self.places.iter_mut() {
             place.visit(alloc, service, clock, buffer, now, is_crowd);
         }
     }
 
-    // Looks whether the connections are a crowd, which it says, and then which bodies are read.
-    fn look_at_bodies(&mut self) -> bool
-        ensures crowd { result ≡ spec.is_crowd self.old.places.items }
-        ensures looks { LooksAtBodies self.old.places.items self.new.places.items }
+    // Looks whether the connections are a crowd, and then which body is read.
+    fn look_at_bodies(&mut self, now: u64)
+        ensures crowd { self.new.is_crowd ≡ spec.is_crowd self.old.places.items }
+        ensures looks { LooksAtBodies now self.old.places.items self.old.is_oldest_next
+            self.new.places.items self.new.is_oldest_next }
     {
-        let is_crowd = is_crowd(&self.places);
-        let may_choose = may_choose(&self.places, is_crowd);
-        self.settle(is_crowd);
-        self.choose_if(may_choose);
-        is_crowd
+        self.is_crowd = is_crowd(&self.places);
+        if self.is_crowd && !self.is_one_read() {
+            self.choose(now);
+        }
     }
 
-    // The bodies that were chosen stay it in a crowd, as long as they are held.
-    fn settle(&mut self, is_crowd: bool)
-        ensures { self.new.places.items ≡ map (spec.settled is_crowd) self.old.places.items }
+    // Whether of a crowd one body is read.
+    fn is_one_read(&self) -> bool
+        ensures { result ≡ list_any spec.is_read_alone self.now.places.items }
+    {
+        self.places.iter().any(|place| place.is_read_alone())
+    }
+
+    // The next body is the one that is read.
+    fn choose(&mut self, now: u64)
+        ensures chooses { Chooses now self.old.places.items self.old.is_oldest_next
+            self.new.places.items self.new.is_oldest_next }
+        ensures crowd { self.new.is_crowd ≡ self.old.is_crowd }
+    {
+        self.release();
+        if let Some(number) = first_in_rank(&self.places, now, self.is_oldest_next) {
+            self.places[number].is_chosen = true;
+            self.is_oldest_next = !self.is_oldest_next;
+        }
+    }
+
+    // No body is the one that is read.
+    fn release(&mut self)
+        ensures places { self.new.places.items ≡ map spec.released self.old.places.items }
+        ensures crowd { self.new.is_crowd ≡ self.old.is_crowd }
+        ensures next { self.new.is_oldest_next ≡ self.old.is_oldest_next }
     {
         for place in self.places.iter_mut() {
-            place.settle(is_crowd);
-        }
-    }
-
-    // One body more is chosen, where one may be.
-    fn choose_if(&mut self, may_choose: bool)
-        ensures { ChoosesIf may_choose self.old.places.items self.new.places.items }
-    {
-        if may_choose {
-            self.choose();
-        }
-    }
-
-    // One body more is chosen, if one waits.
-    fn choose(&mut self)
-        ensures { ChoosesNext self.old.places.items self.new.places.items }
-    {
-        if let Some(number) = first_waiting(&self.places) {
-            self.places[number].is_chosen = true;
+            place.release();
         }
     }
 
@@ -380,40 +370,13 @@ fn is_crowd<S: Socket>(places: &[Place<S>]) -> bool
     room == 0
 }
 
-// Whether fewer bodies are read than may be.
-fn has_room<S: Socket>(places: &[Place<S>]) -> bool
-    ensures { result ≡ spec.has_room places.now }
-{
-    let room = places.iter().fold(
-        READ_TOGETHER,
-        |room, place| room.saturating_sub(place.read_count()),
-    );
-    room > 0
-}
-
-// Whether one body more may be chosen: of a crowd, where there is room.
-fn may_choose<S: Socket>(places: &[Place<S>], is_crowd: bool) -> bool
-    ensures { result ≡ (is_crowd && spec.has_room places.now) }
-{
-    is_crowd && has_room(places)
-}
-
-// Whether the connection at one of the places is due.
-fn any_due<S: Socket>(places: &[Place<S>], is_crowd: bool, may_choose: bool) -> bool
-    ensures { result ≡ list_any (spec.is_due is_crowd may_choose) places.now }
-{
-    places
-        .iter()
-        .any(|place| place.is_due(is_crowd, may_choose))
-}
-
-// The first place of those whose bodies wait and whose requests began first.
-fn first_waiting<S: Socket>(places: &[Place<S>]) -> Option<usize>
-    ensures { IsFirstOfEarliest (waiting_times places.now) (length places.now) result }
+// The place of the body with the lowest rank, and the first of such.
+fn first_in_rank<S: Socket>(places: &[Place<S>], now: u64, is_oldest_next: bool) -> Option<usize>
+    ensures { IsFirstInRank (ranks now is_oldest_next places.now) (length places.now) result }
 {
     let mut first = None;
     for (number, place) in places.iter().enumerate() {
-        first = earlier(first, number, place.waits_since());
+        first = earlier(first, number, place.rank(now, is_oldest_next));
     }
     match first {
         Some((number, _)) => Some(number),
@@ -423,7 +386,7 @@ fn first_waiting<S: Socket>(places: &[Place<S>]) -> Option<usize>
 
 // The first place of those on which nothing was begun for longest.
 fn longest_idle<S: Socket>(places: &[Place<S>]) -> Option<usize>
-    ensures { IsFirstOfEarliest (idle_times places.now) (length places.now) result }
+    ensures { IsIdleLongest (idle_times places.now) (length places.now) result }
 {
     let mut longest = None;
     for (number, place) in places.iter().enumerate() {
@@ -435,7 +398,7 @@ fn longest_idle<S: Socket>(places: &[Place<S>]) -> Option<usize>
     }
 }
 
-// The best place so far, unless the time of one more is earlier.
+// The best place so far, unless nothing was begun for longer at one more.
 fn earlier(best: Option<(usize, u64)>, number: usize, since: Option<u64>) -> Option<(usize, u64)>
     ensures { result ≡ spec.earlier best number since }
 {

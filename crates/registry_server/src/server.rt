@@ -1,6 +1,6 @@
 //! The loop over all connections.
 
-ghost use Rattle.std.specs.Prelude.{◌≡◌, ◌≤◌, IfOk, if◌then◌else◌};
+ghost use Rattle.std.specs.Prelude.{◌≡◌, ◌≤◌, IfOk};
 ghost use Rattle.registry_server.specs.Pools as spec;
 
 use crate::clocks::{Timer, WallClock};
@@ -43,8 +43,6 @@ pub enum Ended {
 #[derive(Drop)]
 pub struct Server {
     poll: Poll,
-    // What was ready at the last wait.
-    events: Events,
     listener: Listener,
     pool: ConnectionPool<TcpStream>,
     // When to look for connections that are late.
@@ -60,7 +58,6 @@ impl Server {
         let listener = Listener::open(rt, poll.registry(), LISTENER, port, count)?;
         Ok(Server {
             poll,
-            events: Events::with_capacity(alloc, EVENT_COUNT)?,
             listener,
             pool: ConnectionPool::new(alloc)?,
             next_look: 0,
@@ -89,10 +86,11 @@ impl Server {
     {
         let mut timer = Timer::new(rt, Instant::now(rt)?);
         let mut clock = WallClock::new(rt, at);
+        let mut events = Events::with_capacity(alloc, EVENT_COUNT)?;
         let mut buffer = [0; BUFFER_LEN];
         for _ in 0..u64::MAX {
             let patience = self.patience();
-            self.look(patience)?;
+            self.look(&mut events, patience)?;
             let now = timer.pass(patience + ROUND_TIME);
             self.pool
                 .visit_all(alloc, service, &mut clock, &mut buffer, now);
@@ -100,7 +98,7 @@ impl Server {
                 break;
             }
             self.end_late(now);
-            self.let_in(alloc, now)?;
+            self.let_in(alloc, &mut events, now)?;
             if self.listener.is_shut() && self.pool.is_empty() {
                 break;
             }
@@ -110,17 +108,16 @@ impl Server {
 
     // How many milliseconds to wait for what is ready: none while a connection may go on.
     fn patience(&self) -> u64
-        ensures few { result ≤ 250 }
-        ensures busy { result ≡ (if spec.is_busy self.now.pool.places.items then 0 else 250) }
+        ensures { result ≤ 250 }
     {
         if self.pool.is_busy() { 0 } else { LOOK_TIME }
     }
 
     // Waits for so many milliseconds until something is ready. What is ready is to be visited.
-    fn look(&mut self, patience: u64) -> io::Result<()> {
+    fn look(&mut self, events: &mut Events, patience: u64) -> io::Result<()> {
         self.poll
-            .poll(&mut self.events, Some(Duration::from_millis(patience)))?;
-        for event in self.events.iter() {
+            .poll(events, Some(Duration::from_millis(patience)))?;
+        for event in events.iter() {
             if event.token() == LISTENER {
                 self.listener.ask();
             } else {
@@ -132,10 +129,10 @@ impl Server {
 
     // Lets in who is there. Where every place is taken it is looked first on which connections
     // something has come, so that none of these ends for a new one.
-    fn let_in(&mut self, alloc: Global, now: u64) -> io::Result<()> {
+    fn let_in(&mut self, alloc: Global, events: &mut Events, now: u64) -> io::Result<()> {
         if self.listener.is_asked() {
             if self.pool.is_full() {
-                self.look(0)?;
+                self.look(events, 0)?;
             }
             self.admit(alloc, now);
         }

@@ -1,9 +1,5 @@
 //! Files in memory that stop, and what they hold after.
 
-ghost use Rattle.std.specs.Prelude.{IfOk};
-ghost use Rattle.sqlite.specs.Files.{file_state};
-ghost use Rattle.registry_desk.specs.Adopted.{CanBeAdopted};
-
 use registry_desk::Registry;
 use sqlite::{Connection, FileStore, Files, Options};
 use sqlite_disk::{Crash, Disk, Fuse, Memory};
@@ -11,7 +7,7 @@ use std::alloc::Global;
 use std::test::Fail;
 
 /// More calls than a run makes.
-pub(crate) const NEVER: u64 = 1 << 60;
+const NEVER: u64 = 1 << 60;
 
 /// How many pages are kept in memory: more than these registries have.
 const CACHE_PAGES: usize = 64;
@@ -20,34 +16,11 @@ const CACHE_PAGES: usize = 64;
 /// the middle of a run, too.
 const CHECKPOINT_FRAMES: usize = 16;
 
-/// A disk in memory that passes so many calls and then fails every one.
-pub(crate) trait StoppingDisk: Crash + Drop + Sized {
-    /// An empty one.
-    fn empty(alloc: Global, calls: u64) -> Self;
+/// A database file and its log, of which each passes so many calls and then fails every one.
+pub(crate) type StoppingFiles = Files<Fuse<Memory>>;
 
-    /// One that holds these bytes, also after a crash, and passes so many calls.
-    fn holding(alloc: Global, bytes: &[u8], calls: u64) -> Result<Self, Fail>;
-
-    /// All that was written.
-    fn written(&self) -> &[u8];
-}
-
-impl StoppingDisk for Fuse<Memory> {
-    fn empty(alloc: Global, calls: u64) -> Fuse<Memory> {
-        Fuse::new(Memory::new(alloc), calls)
-    }
-
-    fn holding(alloc: Global, bytes: &[u8], calls: u64) -> Result<Fuse<Memory>, Fail> {
-        let mut memory = Memory::new(alloc);
-        memory.write_at(0, bytes)?;
-        memory.sync()?;
-        Ok(Fuse::new(memory, calls))
-    }
-
-    fn written(&self) -> &[u8] {
-        self.inner().bytes()
-    }
-}
+/// A registry in them.
+pub(crate) type StoppingRegistry = Registry<FileStore<Fuse<Memory>>>;
 
 /// Which of the two files stops.
 #[derive(Clone, Copy, Debug, PartialEq, Eq)]
@@ -58,17 +31,6 @@ pub(crate) enum Stopping {
     Log,
     /// Each of them, after as many calls.
     Both,
-}
-
-impl Stopping {
-    // How many calls the log passes, and how many the database file, where what stops passes these.
-    fn calls(self, calls: u64) -> (u64, u64) {
-        match self {
-            Stopping::Database => (NEVER, calls),
-            Stopping::Log => (calls, NEVER),
-            Stopping::Both => (calls, calls),
-        }
-    }
 }
 
 /// What a stop leaves.
@@ -82,44 +44,30 @@ pub(crate) enum Leaves {
 
 /// Files that were closed, and whether all of that was done.
 #[derive(Drop)]
-pub(crate) struct Closed<D: Disk> {
+pub(crate) struct Closed {
     pub(crate) is_whole: bool,
-    pub(crate) files: Files<D>,
+    pub(crate) files: StoppingFiles,
 }
 
 /// Empty files, of which one, or each, passes so many calls.
-pub(crate) fn empty_files<D: StoppingDisk>(
-    alloc: Global,
-    stopping: Stopping,
-    calls: u64,
-) -> Files<D> {
-    let (log, db) = stopping.calls(calls);
+pub(crate) fn empty_files(alloc: Global, stopping: Stopping, calls: u64) -> StoppingFiles {
+    let (log, db) = match stopping {
+        Stopping::Database => (NEVER, calls),
+        Stopping::Log => (calls, NEVER),
+        Stopping::Both => (calls, calls),
+    };
     Files {
-        log: D::empty(alloc, log),
-        db: D::empty(alloc, db),
+        log: Fuse::new(Memory::new(alloc), log),
+        db: Fuse::new(Memory::new(alloc), db),
     }
 }
 
-/// Files that hold what these do, of which one, or each, passes so many calls.
-pub(crate) fn copied<D: StoppingDisk>(
-    alloc: Global,
-    files: &Files<D>,
-    stopping: Stopping,
-    calls: u64,
-) -> Result<Files<D>, Fail> {
-    let (log, db) = stopping.calls(calls);
-    Ok(Files {
-        log: D::holding(alloc, files.log.written(), log)?,
-        db: D::holding(alloc, files.db.written(), db)?,
-    })
-}
-
 /// The files that a stop leaves of these. They don't stop any more.
-pub(crate) fn left_of<D: StoppingDisk>(
+pub(crate) fn left_of(
     alloc: Global,
-    files: Files<D>,
+    files: StoppingFiles,
     leaves: Leaves,
-) -> Result<Files<D>, Fail> {
+) -> Result<StoppingFiles, Fail> {
     let Files { mut log, mut db } = files;
     match leaves {
         Leaves::Synced => {
@@ -128,45 +76,41 @@ pub(crate) fn left_of<D: StoppingDisk>(
             Ok(Files { log, db })
         }
         Leaves::Written => Ok(Files {
-            log: D::holding(alloc, log.written(), NEVER)?,
-            db: D::holding(alloc, db.written(), NEVER)?,
+            log: written(alloc, &log)?,
+            db: written(alloc, &db)?,
         }),
     }
 }
 
-/// The registry in the files, or else what is left of them.
-pub(crate) fn opened<D: Disk + Drop>(
-    alloc: Global,
-    files: Files<D>,
-) -> Result<Registry<FileStore<D>>, Files<D>> {
-    let connection = connected(alloc, files)?;
-    match Registry::adopt(alloc, connection) {
-        Ok(registry) => Ok(registry),
-        Err((_, connection)) => {
-            let Closed { files, .. } = close(connection);
-            Err(files)
-        }
-    }
+// A disk with all that was written to another.
+fn written(alloc: Global, disk: &Fuse<Memory>) -> Result<Fuse<Memory>, Fail> {
+    let mut memory = Memory::new(alloc);
+    memory.write_at(0, disk.inner().bytes())?;
+    memory.sync()?;
+    Ok(Fuse::new(memory, NEVER))
 }
 
-/// A connection to the database in the files, or else what is left of them.
-pub(crate) fn connected<D: Disk + Drop>(
+/// The registry in the files, or else what is left of them.
+pub(crate) fn opened(
     alloc: Global,
-    files: Files<D>,
-) -> Result<Connection<FileStore<D>>, Files<D>>
-    ensures rises { IfOk result (λ connection. CanBeAdopted (file_state connection)) }
-{
+    files: StoppingFiles,
+) -> Result<StoppingRegistry, StoppingFiles> {
     if !files.may_be_used() {
         return Err(files);
     }
     match Registry::connect(alloc, files, options()) {
-        Ok(connection) => Ok(connection),
+        Ok(connection) => match Registry::adopt(alloc, connection) {
+            Ok(registry) => Ok(registry),
+            Err((_, connection)) => {
+                let Closed { files, .. } = close(connection);
+                Err(files)
+            }
+        },
         Err((_, left)) => Err(left.into_files()),
     }
 }
 
-/// How the files are read and written.
-pub(crate) fn options() -> Options {
+fn options() -> Options {
     Options {
         cache_pages: CACHE_PAGES,
         checkpoint_frames: CHECKPOINT_FRAMES,
@@ -175,7 +119,7 @@ pub(crate) fn options() -> Options {
 }
 
 /// The files of a registry that ends.
-pub(crate) fn close<D: Disk + Drop>(connection: Connection<FileStore<D>>) -> Closed<D> {
+pub(crate) fn close(connection: Connection<FileStore<Fuse<Memory>>>) -> Closed {
     match connection.close_files() {
         Ok(files) => Closed {
             is_whole: true,

@@ -23,7 +23,7 @@ use Rattle.registry_rows.proofs.CountFacts.{next_is_new}
 use Rattle.registry_rows.proofs.KeyedFacts.{number_key}
 use Rattle.registry_rows.proofs.ListingFacts.{first_risen}
 use Rattle.registry_rows.proofs.OrderFacts.{found_has}
-use Rattle.registry_tables.specs.Archives.{AreArchivesSound, is_archive, number_of, next_archive, archive_number, with_archive, HeldAreStored, HoldsArchives}
+use Rattle.registry_tables.specs.Archives.{is_archive, number_of, next_archive, archive_number, with_archive, HeldAreStored, HoldsArchives}
 use Rattle.registry_tables.specs.Changes.{row_of, version_put}
 use Rattle.registry_tables.specs.Contents.{Archive, Contents, bytes_held, live_of, with_bytes}
 use Rattle.registry_tables.specs.Fresh.{fresh}
@@ -106,12 +106,8 @@ module _ (integrity : Text) (bytes : List ℕ) (c : Contents) where
       go (Some m) f = ap (λ (p : Option ℤ). at more (unwrap_or p (next_archive c))) f ∙ at-more (Some m) f m ∙ found_stands integrity bytes c.archives m f
       go None f = ap (λ (p : Option ℤ). at more (unwrap_or p (next_archive c))) f ∙ at-more None f (next_archive c) ∙ at-put_same number_key c.archives (next_archive c) new_archive
 
-  -- it was there, or is the new one where none was
-  abbrev IsBefore : ℤ → Archive → Type 0
-  IsBefore n a = (at c.archives n ≡ Some a) ⊎ ((number_of integrity bytes c.archives ≡ None) × (n ≡ archive_number integrity bytes c) × (a ≡ new_archive))
-
-  -- so it is with what is there afterwards
-  pub stood_before : (n : ℤ) (a : Archive) → at more n ≡ Some a → IsBefore n a
+  -- what is there afterwards was there, or is the new one where none was
+  pub stood_before : (n : ℤ) (a : Archive) → at more n ≡ Some a → (at c.archives n ≡ Some a) ⊎ ((number_of integrity bytes c.archives ≡ None) × (n ≡ archive_number integrity bytes c) × (a ≡ new_archive))
   stood_before n a e = go (number_of integrity bytes c.archives) refl
     where
       go : (o : Option ℤ) → number_of integrity bytes c.archives ≡ o → (at c.archives n ≡ Some a) ⊎ ((number_of integrity bytes c.archives ≡ None) × (n ≡ archive_number integrity bytes c) × (a ≡ new_archive))
@@ -124,33 +120,6 @@ module _ (integrity : Text) (bytes : List ℕ) (c : Contents) where
             inr (f, sym (ap (λ (p : Option ℤ). unwrap_or p (next_archive c)) f ∙ is), cc)
         | inr other ↦ inl (sym (at-put_other number_key c.archives (next_archive c) new_archive n other) ∙ sym (at-more None f n) ∙ e)
       ]
-
--- ---- with the integrity of its bytes it is stored once
-
-module _ (integrity : Text) (bytes : List ℕ) (c : Contents) (right : integrity ≡ integrity_text bytes) (h : AreArchivesSound c) where
-  whole : (n : ℤ) (a : Archive) → IsBefore integrity bytes c n a → a.integrity ≡ integrity_text a.bytes
-  whole n a (inl e) = h.integrity n a e
-  whole n a (inr it) = subst (λ (b : Archive). b.integrity ≡ integrity_text b.bytes) (sym it.2) right
-
-  -- the bytes of an archive that was there can't be these, where none was found
-  never : (n : ℤ) (a : Archive) → at c.archives n ≡ Some a → number_of integrity bytes c.archives ≡ None → a.bytes ≡ bytes → ⊥
-  never n a e none same =
-      let i : integrity ≡ a.integrity = right ∙ ap integrity_text (sym same) ∙ sym (h.integrity n a e) in
-      let is_it : is_archive integrity bytes a ≡ true =
-      and_from _ _ (ap (is integrity) (sym i) ∙ same_self text_key integrity) (ap (is bytes) same ∙ same_self text_key bytes) in
-      true≢false (sym is_it ∙ none_stands integrity bytes c.archives none n a e)
-
-  once_after : (m n : ℤ) (a b : Archive) → a.bytes ≡ b.bytes → IsBefore integrity bytes c m a → IsBefore integrity bytes c n b → m ≡ n
-  once_after m n a b same (inl e) (inl g) = h.once m n a b e g same
-  once_after m n a b same (inl e) (inr it) = absurd (never m a e it.0 (same ∙ ap (λ (x : Archive). x.bytes) it.2))
-  once_after m n a b same (inr it) (inl g) = absurd (never n b g it.0 (sym same ∙ ap (λ (x : Archive). x.bytes) it.2))
-  once_after m n a b same (inr it) (inr that) = it.1 ∙ sym that.1
-
-  pub archives_stay_sound : AreArchivesSound (with_archive integrity bytes c)
-  archives_stay_sound = record {
-    integrity = λ n a e. whole n a (stood_before integrity bytes c n a e);
-    once = λ m n a b e g same. once_after m n a b same (stood_before integrity bytes c m a e) (stood_before integrity bytes c n b g);
-  }
 
 -- ---- a version is put
 
@@ -244,8 +213,9 @@ others_keep_archives c d versions held archives h = record {
 }
 
 module _ (f : FormParts) (now : ℕ) (c : Contents) (integrity : f.integrity ≡ integrity_text f.archive) (new : is_some (at c.versions (f.name, version_of f)) ≡ false) (h : HoldsArchives c) where
-  sound : AreArchivesSound (with_archive f.integrity f.archive c)
-  sound = archives_stay_sound f.integrity f.archive c integrity (record { integrity = h.integrity; once = h.once })
+  -- what is there afterwards was there before, or is the form's
+  abbrev IsBefore : ℤ → Archive → Type 0
+  IsBefore n a = (at c.archives n ≡ Some a) ⊎ ((number_of f.integrity f.archive c.archives ≡ None) × (n ≡ number f now c) × (a ≡ new_archive f.integrity f.archive c))
 
   both_live : (k : Pair) (b : Bool) → is_some (cond b (Some (number f now c)) (at c.held k)) ≡ is_some (cond b (Some (row_of f now)) (at c.versions k))
   both_live k true = refl
@@ -254,7 +224,7 @@ module _ (f : FormParts) (now : ℕ) (c : Contents) (integrity : f.integrity ≡
   none_held : at c.held (key f now c) ≡ None
   none_held = none_at (at c.held (key f now c)) (h.lives (key f now c) ∙ new)
 
-  owner : (n : ℤ) (a : Archive) → IsBefore f.integrity f.archive c n a → (k : Pair) × (at (after f now c).held k ≡ Some n)
+  owner : (n : ℤ) (a : Archive) → IsBefore n a → (k : Pair) × (at (after f now c).held k ≡ Some n)
   owner n a (inl e) =
       let it = h.had n a e in
       elim (cases_Bool (pair_is (key f now c) it.0)) [
@@ -262,6 +232,24 @@ module _ (f : FormParts) (now : ℕ) (c : Contents) (integrity : f.integrity ≡
         | inr other ↦ (it.0, at-put_other pair_key c.held (key f now c) (number f now c) it.0 other ∙ it.1)
       ]
   owner n a (inr it) = (key f now c, at-put_same pair_key c.held (key f now c) (number f now c) ∙ ap (λ (i : ℤ). Some i) (sym it.1))
+
+  whole : (n : ℤ) (a : Archive) → IsBefore n a → a.integrity ≡ integrity_text a.bytes
+  whole n a (inl e) = h.integrity n a e
+  whole n a (inr it) = subst (λ (b : Archive). b.integrity ≡ integrity_text b.bytes) (sym it.2) integrity
+
+  -- the bytes of an archive that was there can't be the form's, where none was found
+  never : (n : ℤ) (a : Archive) → at c.archives n ≡ Some a → number_of f.integrity f.archive c.archives ≡ None → a.bytes ≡ f.archive → ⊥
+  never n a e none same =
+      let i : f.integrity ≡ a.integrity = integrity ∙ ap integrity_text (sym same) ∙ sym (h.integrity n a e) in
+      let is_it : is_archive f.integrity f.archive a ≡ true =
+      and_from _ _ (ap (is f.integrity) (sym i) ∙ same_self text_key f.integrity) (ap (is f.archive) same ∙ same_self text_key f.archive) in
+      true≢false (sym is_it ∙ none_stands f.integrity f.archive c.archives none n a e)
+
+  once_after : (m n : ℤ) (a b : Archive) → a.bytes ≡ b.bytes → IsBefore m a → IsBefore n b → m ≡ n
+  once_after m n a b same (inl e) (inl g) = h.once m n a b e g same
+  once_after m n a b same (inl e) (inr it) = absurd (never m a e it.0 (same ∙ ap (λ (x : Archive). x.bytes) it.2))
+  once_after m n a b same (inr it) (inl g) = absurd (never n b g it.0 (sym same ∙ ap (λ (x : Archive). x.bytes) it.2))
+  once_after m n a b same (inr it) (inr that) = it.1 ∙ sym that.1
 
   bare_after : (k : Pair) (release : Release) (b : Bool) → cond b (Some (row_of f now)) (at c.versions k) ≡ Some release → release.archive ≡ []
   bare_after k release true e = let same : row_of f now ≡ release = cc in ap (λ (r : Release). r.archive) (sym same)
@@ -272,7 +260,7 @@ module _ (f : FormParts) (now : ℕ) (c : Contents) (integrity : f.integrity ≡
     lives = λ k. ap is_some (held_at f now c k) ∙ both_live k (pair_is (key f now c) k) ∙ sym (ap is_some (at-put pair_key c.versions (key f now c) (row_of f now) k));
     stored = put_held_stored f now c h.stored;
     had = λ n a e. owner n a (stood_before f.integrity f.archive c n a e);
-    integrity = sound.integrity;
-    once = sound.once;
+    integrity = λ n a e. whole n a (stood_before f.integrity f.archive c n a e);
+    once = λ m n a b e g same. once_after m n a b same (stood_before f.integrity f.archive c m a e) (stood_before f.integrity f.archive c n b g);
     bare = λ k release e. bare_after k release (pair_is (key f now c) k) (sym (at-put pair_key c.versions (key f now c) (row_of f now) k) ∙ e);
   }

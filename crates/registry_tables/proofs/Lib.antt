@@ -1,5 +1,6 @@
 pub mod AccessFacts
 pub mod ArchiveFacts
+pub mod BindingFacts
 pub mod CatalogFacts
 pub mod ContentsFacts
 pub mod CounterFacts

@@ -105,12 +105,12 @@ document_found p v old new rows form call clean =
 -- ---- SELECT by package
 
 abbrev list_text : List ℕ
-list_text = codes "SELECT version, manifest, deprecated, published FROM versions WHERE package = ?1 ORDER BY version"
+list_text = codes "SELECT version, manifest, deprecated FROM versions WHERE package = ?1 ORDER BY version"
 
 abbrev list_columns : List Term
-list_columns = col 1 2 ∷ col 1 4 ∷ col 1 5 ∷ col 1 3 ∷ []
+list_columns = col 1 2 ∷ col 1 4 ∷ col 1 5 ∷ []
 
-list_means : MeansQuery schema list_text (Select (record { lets = []; body = scan 18 (by_texts 0 1 0) list_columns (in_order 0 2) }) (codes "version" ∷ codes "manifest" ∷ codes "deprecated" ∷ codes "published" ∷ []))
+list_means : MeansQuery schema list_text (Select (record { lets = []; body = scan 18 (by_texts 0 1 0) list_columns (in_order 0 2) }) (codes "version" ∷ codes "manifest" ∷ codes "deprecated" ∷ []))
 unfolding understood everything
 list_means = ((refl, (refl, refl)), refl)
 
@@ -120,20 +120,13 @@ versions_listed p old new rows form call clean =
     let it = select_lists versions_mapped list_text list_columns _ list_means p row_spelled document (λ id vs. refl) old new rows form call clean in
     (it.0, it.1 ∙ sym (documents_as_rows (stored old) p))
 
--- the same rows show when each of them was published
-pub times_listed : (p : Text) (old new : Shown) (rows : List Row) → Ready schema old → Queried list_text (Stored p ∷ []) old new rows → HasCleanDisk new
-    → Reads schema old new × (map time_spelled rows ≡ map (seen published) (of (live_of (stored old)) p))
-times_listed p old new rows form call clean =
-    let it = select_lists versions_mapped list_text list_columns _ list_means p time_spelled published (λ id vs. refl) old new rows form call clean in
-    (it.0, it.1 ∙ sym (times_as_rows (stored old) p))
-
 abbrev live_text : List ℕ
-live_text = codes "SELECT version FROM versions WHERE package = ?1 ORDER BY version"
+live_text = codes "SELECT version, published FROM versions WHERE package = ?1 ORDER BY version"
 
 abbrev live_columns : List Term
-live_columns = col 1 2 ∷ []
+live_columns = col 1 2 ∷ col 1 3 ∷ []
 
-live_means : MeansQuery schema live_text (Select (record { lets = []; body = scan 18 (by_texts 0 1 0) live_columns (in_order 0 2) }) (codes "version" ∷ []))
+live_means : MeansQuery schema live_text (Select (record { lets = []; body = scan 18 (by_texts 0 1 0) live_columns (in_order 0 2) }) (codes "version" ∷ codes "published" ∷ []))
 unfolding understood everything
 live_means = ((refl, (refl, refl)), refl)
 
@@ -146,6 +139,13 @@ live_listed p old new rows form call clean =
       sym (map-map (λ (e : Text × Unit {0}). e.0) version_spelled rows) ∙ ap keys it.1
           ∙ map-map (λ (e : Text × Unit {0}). e.0) (seen (λ (r : Release). tt)) (of (stored old).versions p) ∙ sym (versions_as_rows (stored old) p),
     )
+
+-- and when each of them was published
+pub times_listed : (p : Text) (old new : Shown) (rows : List Row) → Ready schema old → Queried live_text (Stored p ∷ []) old new rows → HasCleanDisk new
+    → Reads schema old new × (map time_spelled rows ≡ map (seen published) (of (live_of (stored old)) p))
+times_listed p old new rows form call clean =
+    let it = select_lists versions_mapped live_text live_columns _ live_means p time_spelled published (λ id vs. refl) old new rows form call clean in
+    (it.0, it.1 ∙ sym (times_as_rows (stored old) p))
 
 abbrev first_text : List ℕ
 first_text = codes "SELECT version FROM versions WHERE package = ?1 ORDER BY version LIMIT 1"

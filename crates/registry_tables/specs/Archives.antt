@@ -47,11 +47,6 @@ with_archive integrity bytes c = record c {
   last_archive = if is_stored integrity bytes c then c.last_archive else Some (Int (next_archive c));
 }
 
--- each archive has the integrity of its bytes, and the same bytes occur once
-pub record AreArchivesSound (c : Contents) : Type 0 where
-  pub integrity : (n : ℤ) (a : Archive) → at c.archives n ≡ Some a → a.integrity ≡ integrity_text a.bytes
-  pub once : (m n : ℤ) (a b : Archive) → at c.archives m ≡ Some a → at c.archives n ≡ Some b → a.bytes ≡ b.bytes → m ≡ n
-
 -- ---- whose they are
 
 -- a number that a version has is that of an archive

@@ -14,7 +14,7 @@ use Rattle.registry_publish.specs.Needs.{needs_of}
 use Rattle.registry_rules.specs.Actions.{version_of}
 use Rattle.registry_rules.specs.Changes.{Change, PutDeprecation, RetireVersion, all_made, made}
 use Rattle.registry_rules.specs.Kept.{IsSound}
-use Rattle.registry_tables.specs.Archives.{AreArchivesSound, HeldAreStored, HoldsArchives, with_archive}
+use Rattle.registry_tables.specs.Archives.{HeldAreStored, HoldsArchives}
 use Rattle.registry_tables.specs.Changes.{all_stored, stored_by, version_put}
 use Rattle.registry_tables.specs.Contents.{Contents, access_of, registry_of}
 use Rattle.registry_tables.specs.Effects.{InForm, shown, stored_in}
@@ -45,11 +45,6 @@ module _ {S : Type 0} (store : Ghosts S) where
       → IsTrue (shown store tx).is_open → HeldAreStored (stored_in store tx)
 
 -- ---- archives
-
--- bytes that are stored with their integrity, beside others that are, aren't stored twice
-abbrev pub ArchivesStaySound : Type 0
-ArchivesStaySound = (integrity : Text) (bytes : List ℕ) (c : Contents) → integrity ≡ integrity_text bytes
-    → AreArchivesSound c → AreArchivesSound (with_archive integrity bytes c)
 
 abbrev pub OthersKeepArchives : Type 0
 OthersKeepArchives = (c d : Contents) → d.versions ≡ c.versions → d.held ≡ c.held → d.archives ≡ c.archives

@@ -70,9 +70,9 @@ row_entry v = (v.version, (v.manifest, v.message))
 abbrev pub published : Release → ℕ
 published r = r.at
 
--- a version, and when it was published, which comes fourth
+-- a version, and when it was published
 abbrev pub time_spelled : Row → Text × ℕ
-time_spelled r = (text_in (column r 0), number_in (column r 3))
+time_spelled r = (text_in (column r 0), number_in (column r 1))
 
 -- a version, and nothing of it
 abbrev pub version_spelled : Row → Text × Unit {0}

@@ -103,10 +103,6 @@ pub(crate) fn put_archive<S: Alter>(
 
 /// The number of the archive with this integrity and these bytes, which is added where none is
 /// stored.
-///
-/// Bytes that are stored with their own integrity aren't stored twice
-/// ([`laws::archives_are_kept`](crate::laws::archives_are_kept)). With another integrity they may be:
-/// that it is theirs is for the caller to see to, as a form does.
 pub fn store_archive<S: Alter>(
     tx: &mut Transaction<'_, S>,
     integrity: &str,

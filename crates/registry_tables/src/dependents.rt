@@ -11,7 +11,7 @@ ghost use Rattle.registry_tables.specs.Needs.{HoldsNeeds};
 
 use crate::needs::load_dependents;
 use registry_names::{Fault, Name, Text, Ver};
-use registry_ranges::binds;
+use registry_ranges::Range;
 use sqlite::{Alter, Transaction};
 use std::alloc::Global;
 
@@ -43,4 +43,15 @@ fn any_binds(alloc: Global, texts: &[Text], version: &Ver) -> Result<bool, Fault
         }
     }
     Ok(false)
+}
+
+// Whether the text is no range, or one that allows the version.
+#[tactic(auto, using(crate::proofs::BindingFacts::binding))]
+fn binds(alloc: Global, text: &str, version: &Ver) -> Result<bool, Fault>
+    ensures { IfOk result (λ is. is ≡ ranges.binds text.now version.now) }
+{
+    match Range::parse(alloc, text)? {
+        Some(range) => Ok(range.allows(version)),
+        None => Ok(true),
+    }
 }

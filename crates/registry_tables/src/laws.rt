@@ -4,7 +4,7 @@
 ghost use Rattle.registry_tables.specs.Archives.{HoldsArchives};
 ghost use Rattle.registry_tables.specs.Fresh.{fresh};
 ghost use Rattle.registry_tables.specs.Laws.{ChangesKeepCounters, ChangesKeepHeld, ChangesMakeOperations, FormsHaveHeld, ListsMakeOperations};
-ghost use Rattle.registry_tables.specs.Laws.{ArchivesStaySound, DeprecationsKeepArchives, OthersKeepArchives, VersionsKeepArchives, WithdrawalsKeepArchives};
+ghost use Rattle.registry_tables.specs.Laws.{DeprecationsKeepArchives, OthersKeepArchives, VersionsKeepArchives, WithdrawalsKeepArchives};
 ghost use Rattle.registry_tables.specs.Laws.{DeprecationsKeepNeeds, OthersKeepNeeds, VersionsKeepNeeds, WithdrawalsKeepNeeds};
 ghost use Rattle.registry_tables.specs.Laws.{MakingIsUnderstood, NoneTellsOfNothing, NumbersTellOfTables, UsersAloneStopMaking, UsersAloneTellNoNumber};
 ghost use Rattle.registry_tables.specs.Laws.{NoScopeGrantsNothing, ScopesGrantAll, TeamsStaySound};
@@ -27,13 +27,8 @@ pub fn changes_make_operations<S: Alter>()
 /// bytes, and no row of a version has bytes: there are none at first, what leaves the three tables
 /// keeps it so, and so does a form's version, where it didn't live and the form has its archive's
 /// integrity, as each form has. A withdrawal keeps it so, too, and a deprecation.
-///
-/// Of the archives alone: where each has the integrity of its bytes and no bytes occur twice, that
-/// stays so where one is stored with the integrity of its bytes
-/// ([`store_archive`](crate::store_archive)).
 pub fn archives_are_kept()
     ensures fresh { HoldsArchives fresh }
-    ensures stored { ArchivesStaySound }
     ensures others { OthersKeepArchives }
     ensures versions { VersionsKeepArchives }
     ensures withdrawals { WithdrawalsKeepArchives }

@@ -93,7 +93,7 @@ fn load_live_texts<S: Alter>(
 {
     let rows = read(
         tx,
-        "SELECT version FROM versions WHERE package = ?1 ORDER BY version",
+        "SELECT version, published FROM versions WHERE package = ?1 ORDER BY version",
         params![name.text()],
     )?;
     texts_in(alloc, &rows)
@@ -126,49 +126,46 @@ pub fn has_live<S: Alter>(tx: &mut Transaction<'_, S>, name: &Name) -> Result<bo
     Ok(!rows.is_empty())
 }
 
-/// The live versions of a package, in byte order of their texts.
-#[derive(Drop)]
-pub struct LiveVersions {
-    /// Each with its manifest and its message.
-    pub versions: Vec<VersionRow>,
-    /// Each with the moment of its publication.
-    pub times: Vec<VersionTime>,
-}
-
-/// The live versions of a package, with their manifests, their messages and the moments of their
-/// publication. One statement reads them all.
+/// The live versions of a package, with their manifests and messages, in byte order of the
+/// versions.
 pub fn load_versions<S: Alter>(
     alloc: Global,
     tx: &mut Transaction<'_, S>,
     name: &Name,
-) -> Result<LiveVersions, Fault>
+) -> Result<Vec<VersionRow>, Fault>
     requires in_form { InForm S.Store tx.old }
     ensures stays { Stays S.Store tx.old tx.new }
-    ensures versions { Loads S.Store tx.old tx.new result
-        (λ live c. map row_entry live.versions.items
+    ensures loads { Loads S.Store tx.old tx.new result
+        (λ versions c. map row_entry versions.items
         ≡ map (seen document) (of (live_of c) name.now)) }
-    ensures times { Loads S.Store tx.old tx.new result
-        (λ live c. map time_entry live.times.items
+{
+    let rows = read(
+        tx,
+        "SELECT version, manifest, deprecated FROM versions WHERE package = ?1 ORDER BY version",
+        params![name.text()],
+    )?;
+    values_of_rows::<ListedVersion>(alloc, &rows)
+}
+
+/// The live versions of a package, with the moments of their publication, in byte order of the
+/// versions.
+pub fn load_version_times<S: Alter>(
+    alloc: Global,
+    tx: &mut Transaction<'_, S>,
+    name: &Name,
+) -> Result<Vec<VersionTime>, Fault>
+    requires in_form { InForm S.Store tx.old }
+    ensures stays { Stays S.Store tx.old tx.new }
+    ensures loads { Loads S.Store tx.old tx.new result
+        (λ times c. map time_entry times.items
         ≡ map (seen published) (of (live_of c) name.now)) }
 {
     let rows = read(
         tx,
-        "SELECT version, manifest, deprecated, published FROM versions WHERE package = ?1 ORDER BY version",
+        "SELECT version, published FROM versions WHERE package = ?1 ORDER BY version",
         params![name.text()],
     )?;
-    live_in(alloc, &rows)
-}
-
-// The versions that the rows spell.
-fn live_in(alloc: Global, rows: &[Row]) -> Result<LiveVersions, Fault>
-    ensures versions { IfOk result (λ live.
-        map row_entry live.versions.items ≡ map row_spelled rows.now) }
-    ensures times { IfOk result (λ live.
-        map time_entry live.times.items ≡ map time_spelled rows.now) }
-{
-    let versions = values_of_rows::<ListedVersion>(alloc, rows)?;
-    let times = values_of_rows::<ListedTime>(alloc, rows)?;
-    Ok(LiveVersions { versions, times })
+    values_of_rows::<ListedTime>(alloc, &rows)
 }
 
 /// What the document of a live version is made of.
@@ -302,7 +299,7 @@ impl RowKind for ListedVersion {
     }
 }
 
-// A version, and the moment of its publication, which comes fourth.
+// A version, and the moment of its publication.
 struct ListedTime;
 
 impl RowKind for ListedTime {
@@ -316,12 +313,12 @@ impl RowKind for ListedTime {
 
     fn read(row: &Row) -> Result<VersionTime, Error> {
         let version: String = row.get(0)?;
-        match Moment::new(row.get(3)?) {
+        match Moment::new(row.get(1)?) {
             Some(published) => Ok(VersionTime {
                 version: Text::from(version),
                 published,
             }),
-            None => Err(Error::IntegralValueOutOfRange(3)),
+            None => Err(Error::IntegralValueOutOfRange(1)),
         }
     }
 }

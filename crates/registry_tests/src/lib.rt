@@ -10,8 +10,6 @@ mod access;
 #[cfg(test)]
 mod arguments;
 #[cfg(test)]
-mod crowd;
-#[cfg(test)]
 mod ends;
 #[cfg(test)]
 mod names;

@@ -5,14 +5,13 @@ ghost use Rattle.std.specs.Prelude.{nat_lt};
 use crate::outcome::same;
 use crate::parts::as_text;
 use crate::talk::connections::{CONNECTIONS, CUT_OUT, Case, FixedTags, Steps, TAGS, TAGS_OUT};
-use registry_names::{Fault, FromRead, Moment, ToWrite};
+use registry_names::{Fault, Moment};
 use registry_rules::{Reply, Request};
 use registry_server::{ConnectionState, Ended, Progress, Server};
-use registry_service::{End, Served, Service, serve};
-use registry_wire::Inbox;
+use registry_service::{End, Service};
 use std::alloc::Global;
 use std::io::{Read, Write};
-use std::net::{Ipv4Addr, Net, OpenListener, OpenStream, Shutdown, SocketAddr, TcpStream};
+use std::net::{Ipv4Addr, Net, OpenStream, Shutdown, SocketAddr};
 use std::process::Abort;
 
 // Puts what isn't sent of a line after the rest, a few bytes at a time.
@@ -96,38 +95,6 @@ fn hears(rt: &impl Abort, alloc: Global, shows: &str, stream: &mut impl Read, wa
     let mut answer = Vec::new(alloc);
     stream.read_to_end(&mut answer).expect(rt, "a read");
     same(rt, shows, as_text(&answer), wanted);
-}
-
-// Serves a connection until it ends.
-fn serve_stream(alloc: Global, stream: &TcpStream) -> Served {
-    let mut service = FixedTags {
-        asked: Vec::new(alloc),
-    };
-    let mut clock = Steps { next: 0 };
-    let mut inbox = Inbox::new(alloc, FromRead::new(stream));
-    let mut writer = ToWrite::new(stream);
-    serve(alloc, &mut service, &mut inbox, &mut writer, &mut clock)
-}
-
-#[test]
-fn a_connection_is_served_over_loopback(rt: HostRuntime) {
-    let address = SocketAddr::from((Ipv4Addr::LOCALHOST, 0));
-    let listener = rt.bind(address).expect(&rt, "a listener");
-    let port = listener.local_addr().expect(&rt, "an address").port();
-    let mut caller = client(&rt, port, TAGS);
-    let (stream, _) = listener.accept().expect(&rt, "a connection");
-    let wanted = Served {
-        requests: 1,
-        end: End::Closed,
-    };
-    same(
-        &rt,
-        "one request",
-        &serve_stream(rt.alloc(), &stream),
-        &wanted,
-    );
-    stream.shutdown(Shutdown::Write).expect(&rt, "an end");
-    hears(&rt, rt.alloc(), "served", &mut caller, TAGS_OUT);
 }
 
 #[test]

@@ -2,5 +2,3 @@
 
 mod answers;
 pub mod connections;
-mod ends;
-mod source;

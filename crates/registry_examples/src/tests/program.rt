@@ -1,13 +1,12 @@
-//! The program over streams that fail. Its modules have a check that finds something, clients over
-//! loopback, and the moments of what is asked.
+//! The program over streams that fail. Its modules have files from which no registry opens, a
+//! client over loopback, and the moments of what is asked.
 
-mod checks;
+mod faults;
 mod moments;
 mod serving;
 
 use registry_names::{FromRead, Text, ToWrite};
-use registry_program::{Ending, Failure, program, report};
-use registry_test_support::same;
+use registry_program::program;
 use std::alloc::Global;
 use std::io::{ErrorKind, Read, Write};
 use std::test::Fail;
@@ -16,11 +15,9 @@ use std::{env, fs, io, process, str};
 const BODY: &str =
     r#"{"name":"kit","versions":{"1.0.0":{"name":"kit","version":"1.0.0"}},"_attachments":{"kit-1.0.0.tgz":{"data":"YWJj"}}}"#;
 
-const FAILED: &str = "fault: Database\nthe disk failed while the registry was served\n";
-
 /// Which stream fails.
 #[derive(Clone, Copy)]
-pub(crate) enum Failing {
+enum Failing {
     None,
     /// The input, where its text ends.
     Input,
@@ -30,15 +27,15 @@ pub(crate) enum Failing {
 
 /// How the program is called, and what it leaves.
 #[derive(Clone, Copy)]
-pub(crate) struct Case {
-    pub(crate) shows: &'static str,
-    pub(crate) arguments: &'static [&'static str],
+struct Case {
+    shows: &'static str,
+    arguments: &'static [&'static str],
     /// The text of the input.
-    pub(crate) text: &'static str,
-    pub(crate) failing: Failing,
-    pub(crate) status: u8,
-    pub(crate) output: &'static str,
-    pub(crate) errors: &'static str,
+    text: &'static str,
+    failing: Failing,
+    status: u8,
+    output: &'static str,
+    errors: &'static str,
 }
 
 static CASES: [Case; 4] = [
@@ -94,15 +91,6 @@ fn ends_that_fail_are_faults(rt: HostRuntime) -> Result<(), Fail> {
     forget(&rt, db.as_str())
 }
 
-#[test]
-fn a_disk_that_failed_under_a_server_is_reported(rt: HostRuntime) -> Result<(), Fail> {
-    let mut errors = Vec::new(rt.alloc());
-    let ending = Ending::Fault(Failure::Shut);
-    let status = report(&mut ToWrite::new(&mut errors), &ending);
-    same("the status", status, 3)?;
-    same("the errors", str::from_utf8(&errors).unwrap_or("?"), FAILED)
-}
-
 // The path of a file that no other process has.
 fn path(rt: &HostRuntime, end: &str) -> Result<String, Fail> {
     let folder = env::temp_dir(rt)?;
@@ -117,8 +105,8 @@ fn forget(rt: &HostRuntime, db: &str) -> Result<(), Fail> {
     Ok(fs::remove_file(rt, log.as_str())?)
 }
 
-/// The arguments, after those that name the registry's file.
-pub(crate) fn with_db(alloc: Global, db: &str, given: &[&str]) -> Result<Vec<Text>, Fail> {
+// The arguments, after those that name the registry's file.
+fn with_db(alloc: Global, db: &str, given: &[&str]) -> Result<Vec<Text>, Fail> {
     let mut arguments = Vec::new(alloc);
     for argument in ["--db", db] {
         arguments.push(Text::from_str(alloc, argument)?)?;
@@ -129,13 +117,8 @@ pub(crate) fn with_db(alloc: Global, db: &str, given: &[&str]) -> Result<Vec<Tex
     Ok(arguments)
 }
 
-/// Whether the program leaves what the case says, with these arguments.
-pub(crate) fn leaves_it(
-    rt: &HostRuntime,
-    alloc: Global,
-    arguments: &[Text],
-    case: &Case,
-) -> Result<(), Fail> {
+// Whether the program leaves what the case says, with these arguments.
+fn leaves_it(rt: &HostRuntime, alloc: Global, arguments: &[Text], case: &Case) -> Result<(), Fail> {
     let input = Input::new(case.text.as_bytes(), case.failing);
     let mut output = Output::new(alloc, case.failing);
     let mut errors = Output::new(alloc, Failing::None);

@@ -1,16 +1,14 @@
 //! A disk that gives back another byte than it was given: the file is refused, and its page is never
 //! read as data.
 
-use crate::disks::{Closed, NEVER, Stopping, StoppingDisk, close, empty_files, opened, options};
-use crate::requests::{ADD_ANN, COMMANDS, QUERIES, TAGS_OF_NONE};
+use super::{Outcome, outcomes_of};
+use crate::requests::{COMMANDS, QUERIES, requests_of};
 use registry_desk::Registry;
-use registry_names::{Fault, Refusal};
-use registry_rules::{Reply, Request};
-use registry_test_requests::{Outcome, outcome_of, outcomes_of, request_of, requests_of};
+use registry_names::Fault;
+use registry_rules::Request;
 use registry_test_support::same;
-use sqlite::{Alter, FileStore, Files};
-use sqlite_disk::{Disk, Fuse, Memory, Wary};
-use std::alloc::{AllocError, Global};
+use sqlite_disk::Wary;
+use std::alloc::Global;
 use std::fs;
 use std::test::Fail;
 
@@ -21,200 +19,57 @@ const PATH: &str = "spoiled_files/registry.db";
 /// How many bytes a page has.
 const PAGE_LEN: usize = 4096;
 
-/// A place in each field of a database's head: the name of the format, the size of pages, both
-/// versions, the bytes of sums, the three fractions, the counter of changes, the number of pages,
-/// the first free page and the number of free ones, the schema's cookie and format, the size of
-/// the cache, the largest root, the encoding, the number that users give, the mark of vacuums, the
-/// number of the program, what is kept empty, the counter again, and the version of the library.
-static HEAD: [usize; 23] = [
-    0, 16, 18, 19, 20, 21, 22, 23, 24, 28, 32, 36, 40, 44, 48, 52, 56, 60, 64, 68, 72, 92, 96,
-];
-
-/// A request, and why it is refused. It is done where it isn't.
-type Told = (&'static str, Option<Refusal>);
-
-const ANN_IS_ADDED: Told = (ADD_ANN, None);
-
-const ANN_IS_THERE: Told = (ADD_ANN, Some(Refusal::Exists));
-
-const NONE_IS_FOUND: Told = (TAGS_OF_NONE, Some(Refusal::NotFound));
-
-#[test]
-fn a_registry_in_files_in_memory_lasts(rt: HostRuntime) -> Result<(), Fail> {
-    lasts::<Fuse<Memory>>(rt.alloc())
-}
-
-#[test]
-fn a_byte_changed_in_the_head_is_refused(rt: HostRuntime) -> Result<(), Fail> {
-    no_changed_head_opens::<Fuse<Memory>>(rt.alloc())
-}
-
 #[test]
 fn a_byte_changed_in_any_page_is_never_read(rt: HostRuntime) -> Result<(), Fail> {
+    let alloc = rt.alloc();
     let _ = fs::remove_dir_all(&rt, FOLDER);
     fs::create_dir(&rt, FOLDER)?;
-    no_changed_byte_is_read(&rt)?;
+    let queries = requests_of(alloc, &QUERIES)?;
+    let shown = made(&rt, &queries)?;
+    let whole = fs::read(&rt, PATH)?;
+    shows_the_same(&rt, &queries, &shown)?;
+    for place in (PAGE_LEN / 2..whole.len()).step_by(PAGE_LEN) {
+        spoil(&rt, &whole, place)?;
+        is_refused(&rt, place)?;
+    }
     Ok(fs::remove_dir_all(&rt, FOLDER)?)
 }
 
-// A registry holds in the second run what was answered in the first.
-fn lasts<D: StoppingDisk>(alloc: Global) -> Result<(), Fail> {
-    let files = empty_files::<D>(alloc, Stopping::Both, NEVER);
-    let files = told_in(alloc, files, ANN_IS_ADDED)?;
-    let files = told_in(alloc, files, ANN_IS_THERE)?;
-    let _files = told_in(alloc, files, NONE_IS_FOUND)?;
-    Ok(())
-}
-
-// No registry opens from files with one byte of the head changed. The first page ends in a sum of
-// its bytes, which no change of one byte leaves right, and no log replaces it; and what comes of a
-// change in the size of pages or of sums is no size.
-fn no_changed_head_opens<D: StoppingDisk>(alloc: Global) -> Result<(), Fail> {
-    let files = empty_files::<D>(alloc, Stopping::Both, NEVER);
-    let files = told_in(alloc, files, ANN_IS_ADDED)?;
-    let whole = files.db.written();
-    let _files = told_in(alloc, files_of::<D>(alloc, whole)?, ANN_IS_THERE)?;
-    for place in &HEAD {
-        opens_none(alloc, *place, changed_at::<D>(alloc, whole, *place)?)?;
+// Makes the file, and answers what the queries show.
+fn made(rt: &HostRuntime, queries: &[Request]) -> Result<Vec<Outcome>, Fail> {
+    let alloc = rt.alloc();
+    let mut registry = Registry::open_from(rt, PATH, Wary)?;
+    let commands = requests_of(alloc, &COMMANDS)?;
+    for outcome in outcomes_of(alloc, &mut registry, &commands)? {
+        let _reply = outcome?;
     }
-    Ok(())
+    let shown = outcomes_of(alloc, &mut registry, queries)?;
+    registry.release().close()?;
+    Ok(shown)
 }
 
-// A database of these bytes, with an empty log.
-fn files_of<D: StoppingDisk>(alloc: Global, bytes: &[u8]) -> Result<Files<D>, Fail> {
-    Ok(Files {
-        log: D::empty(alloc, NEVER),
-        db: D::holding(alloc, bytes, NEVER)?,
-    })
-}
-
-// The same with the byte at this place changed.
-fn changed_at<D: StoppingDisk>(
-    alloc: Global,
-    whole: &[u8],
-    place: usize,
-) -> Result<Files<D>, Fail> {
-    let bytes = spoiled(alloc, whole, place)?;
-    files_of(alloc, &bytes)
-}
-
-fn spoiled(alloc: Global, whole: &[u8], place: usize) -> Result<Vec<u8>, AllocError> {
-    let mut bytes = Vec::new(alloc);
+// Writes the file with the byte at this place changed.
+fn spoil(rt: &HostRuntime, whole: &[u8], place: usize) -> Result<(), Fail> {
+    let mut bytes = Vec::new(rt.alloc());
     bytes.extend_from_slice(whole)?;
     if let Some(byte) = bytes.get_mut(place) {
         *byte ^= 0x5a;
     }
-    Ok(bytes)
+    Ok(fs::write(rt, PATH, bytes.as_slice())?)
 }
 
-// No registry opens from these files, where the byte at this place was changed.
-fn opens_none<D: Disk + Drop>(alloc: Global, place: usize, files: Files<D>) -> Result<(), Fail> {
-    if !files.may_be_used() {
-        return Err(Fail::new(format_args!("the files can't be used")));
-    }
-    match Registry::open_files(alloc, files, options()) {
-        Ok(_registry) => Err(Fail::new(format_args!(
-            "a registry opens, with byte {place} changed"
-        ))),
-        Err((fault, _left)) => same(place, fault, Fault::Database),
-    }
+// With no byte changed the registry opens, and shows what it showed.
+fn shows_the_same(rt: &HostRuntime, queries: &[Request], shown: &[Outcome]) -> Result<(), Fail> {
+    let mut registry = Registry::open_from(rt, PATH, Wary)?;
+    let found = outcomes_of(rt.alloc(), &mut registry, queries)?;
+    registry.release().close()?;
+    same("what is shown", found.as_slice() == shown, true)
 }
 
-// The files, once a registry in them answered as it should.
-fn told_in<D: Disk + Drop>(alloc: Global, files: Files<D>, told: Told) -> Result<Files<D>, Fail> {
-    match opened(alloc, files) {
-        Ok(registry) => told_closed(alloc, registry, told),
-        Err(_files) => Err(Fail::new(format_args!("no registry opens from the files"))),
-    }
-}
-
-fn told_closed<D: Disk + Drop>(
-    alloc: Global,
-    registry: Registry<FileStore<D>>,
-    told: Told,
-) -> Result<Files<D>, Fail> {
-    let mut registry = registry;
-    let comes_out = is_told(alloc, &mut registry, told);
-    let Closed { is_whole, files } = close(registry.release());
-    same("the reply", comes_out?, true)?;
-    same("the close", is_whole, true)?;
-    Ok(files)
-}
-
-// Whether a registry answers as it should.
-fn is_told<S: Alter>(alloc: Global, registry: &mut Registry<S>, told: Told) -> Result<bool, Fail> {
-    let (words, refusal) = told;
-    let request = request_of(alloc, words)?;
-    Ok(match outcome_of(alloc, registry, &request) {
-        Ok(Reply::Done) => refusal.is_none(),
-        Ok(Reply::Refused(given)) => refusal == Some(given),
-        _ => false,
-    })
-}
-
-// Makes the file, of which the queries show the same until a byte is changed.
-fn no_changed_byte_is_read(rt: &HostRuntime) -> Result<(), Fail> {
-    let queries = requests_of(rt.alloc(), QUERIES)?;
-    let outcomes = made(rt)?;
-    are_replies(&outcomes)?;
-    let first = outcomes.len().saturating_sub(queries.len());
-    no_changed_page_opens(rt, &queries, outcomes.get(first..).unwrap_or(&[]))
-}
-
-// Makes the file. What comes of the commands, and then of the queries.
-fn made(rt: &HostRuntime) -> Result<Vec<Outcome>, Fail> {
-    let text = format!(in rt.alloc(); "{COMMANDS}{QUERIES}")?;
-    let requests = requests_of(rt.alloc(), &text)?;
-    Ok(outcomes_at(rt, &requests)?)
-}
-
-fn are_replies(outcomes: &[Outcome]) -> Result<(), Fail> {
-    for (place, outcome) in outcomes.iter().enumerate() {
-        same(("a fault", place), outcome.is_err(), false)?;
-    }
-    Ok(())
-}
-
-// With no byte changed the registry opens and shows what it showed before, and with one none opens.
-fn no_changed_page_opens(
-    rt: &HostRuntime,
-    queries: &[Request],
-    shown: &[Outcome],
-) -> Result<(), Fail> {
-    let found = outcomes_at(rt, queries)?;
-    same("what is shown", found.as_slice() == shown, true)?;
-    let whole = fs::read(rt, PATH)?;
-    for place in (PAGE_LEN / 2..whole.len()).step_by(PAGE_LEN) {
-        let bytes = spoiled(rt.alloc(), &whole, place)?;
-        fs::write(rt, PATH, bytes.as_slice())?;
-        same(place, outcomes_at(rt, queries).err(), Some(Fault::Database))?;
-    }
-    Ok(())
-}
-
-// The outcomes of these requests at a registry from the file, which is closed. A fault comes where
-// none opens.
-fn outcomes_at(rt: &HostRuntime, requests: &[Request]) -> Result<Vec<Outcome>, Fault> {
+// No registry opens from the file, where the byte at this place was changed.
+fn is_refused(rt: &HostRuntime, place: usize) -> Result<(), Fail> {
     match Registry::open_from(rt, PATH, Wary) {
-        Ok(registry) => outcomes_closed(rt.alloc(), registry, requests),
-        Err(fault) => Err(fault),
-    }
-}
-
-fn outcomes_closed<D: Disk + Drop>(
-    alloc: Global,
-    registry: Registry<FileStore<D>>,
-    requests: &[Request],
-) -> Result<Vec<Outcome>, Fault> {
-    let mut registry = registry;
-    let outcomes = outcomes_of(alloc, &mut registry, requests);
-    let Closed {
-        is_whole,
-        files: _files,
-    } = close(registry.release());
-    if is_whole {
-        Ok(outcomes?)
-    } else {
-        Err(Fault::Database)
+        Ok(_) => Err(Fail::new(format_args!("a registry opens, with byte {place} changed"))),
+        Err(fault) => same(place, fault, Fault::Database),
     }
 }

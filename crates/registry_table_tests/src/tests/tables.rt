@@ -63,11 +63,10 @@ static VERSIONS: [Case; 6] = [
             ("kit", Call::Add(Body::Plain("1.9.0"), 1), "done"),
             ("kit", Call::Publish(Body::Plain("2.0.0-beta"), 2), "done"),
             ("kit", Call::Add(Body::Plain("1.10.0"), 3), "done"),
-            ("kit", Call::Withdrawn("1.0.0"), "done"),
             (
                 "kit",
                 Call::Versions,
-                r#" 1.10.0 {"name":"kit","version":"1.10.0"} [] 1.9.0 {"name":"kit","version":"1.9.0"} [] 2.0.0-beta {"name":"kit","version":"2.0.0-beta"} [] 1.10.0=3 1.9.0=1 2.0.0-beta=2"#,
+                r#" 1.10.0 {"name":"kit","version":"1.10.0"} [] 1.9.0 {"name":"kit","version":"1.9.0"} [] 2.0.0-beta {"name":"kit","version":"2.0.0-beta"} []"#,
             ),
             ("kid", Call::Versions, ""),
             ("kit", Call::HasLive, "true"),

@@ -1,5 +1,5 @@
 use Rattle.sqlite.specs.Held.{state}
-use Rattle.registry_desk.proofs.StopFacts.{adoptions_are_opens, releases_are_adopted, stops_are_adopted}
+use Rattle.registry_desk.proofs.StopFacts.{releases_are_adopted, stops_are_adopted}
 use Rattle.registry_desk.proofs.laws.adoptions_lose_nothing.Goals as goal
 
 pub returns-clause-stopped : goal.returns-clause-stopped
@@ -7,6 +7,3 @@ returns-clause-stopped g c = stops_are_adopted (state g.S.Store) (state g.T.Stor
 
 pub returns-clause-released : goal.returns-clause-released
 returns-clause-released g c = releases_are_adopted (state g.S.Store) (state g.T.Store)
-
-pub returns-clause-opened : goal.returns-clause-opened
-returns-clause-opened g c = adoptions_are_opens (state g.T.Store)

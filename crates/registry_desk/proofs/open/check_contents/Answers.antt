@@ -1,4 +1,4 @@
-use Rattle.std.proofs.Common.{◌≡◌, ◌∙◌, ap, arith, rules, refl, subst, sym, true, IsTrue, OnOk}
+use Rattle.std.proofs.Common.{◌≡◌, ◌∙◌, ap, arith, rules, refl, subst, sym, true, OnOk}
 use Rattle.sqlite.proofs.Callers.{survives_begin}
 use Rattle.sqlite.proofs.StateLemmas.{survives_then}
 use Rattle.sqlite.specs.Effect.{Database}
@@ -71,7 +71,7 @@ returns-clause-survives g c =
     let opened = state g.S.Store c.opened.new.tx.conn.now in
     let mid = state g.S.Store c.counts_archives_alone.new.tx.conn.now in
     let new = state g.S.Store c.commit.new.tx.0 in
-    let P = λ (db : Trees). IsTrue old.is_open × (db ≡ old.now.trees) in
+    let P = λ (db : Trees). db ≡ old.now.trees in
     let begun : InForm g.S.Store c.transaction-tx.result = rw c.transaction-tx.ensures.begun (begun_in_form g.S.Store c.args.conn.now c.requires.ready) in
     let seen : (state g.S.Store c.transaction-tx.result.conn.now).now ≡ old.now = rw c.transaction-tx.ensures.begun refl in
     let first = survives_begin g.S.Store c.args.conn.now opened _ (rw c.transaction-tx.ensures.begun at c.opened.ensures.survives) in
@@ -80,20 +80,7 @@ returns-clause-survives g c =
     (λ clean db is.
     let after : HasCleanDisk mid = omega (arith, c.commit.ensures.survives.clean, clean) in
     let opens = (c.in_ok-opened.ensures.ours begun (omega (arith, c.counts_archives_alone.ensures.stays.survives.clean, after))).0 in
-    let was_open : IsTrue old.is_open = rw c.transaction-tx.ensures.begun at opens.was_open in
-    (was_open, is ∙ ap (λ (d : Database). d.trees) ((c.in_ok-counts_archives_alone.ensures.loads after).0.same ∙ opens.same ∙ seen)))
+    is ∙ ap (λ (d : Database). d.trees) ((c.in_ok-counts_archives_alone.ensures.loads after).0.same ∙ opens.same ∙ seen))
     both c.commit.ensures.survives in
     let same : c.commit.new.tx.0 ≡ c.conn-2-1.given.0 = search rules in
     subst (λ h. Survives old (state g.S.Store h) P) same whole
-
-pub returns-clause-opened : goal.returns-clause-opened
-returns-clause-opened g c clean =
-    let mid = state g.S.Store c.counts_archives_alone.new.tx.conn.now in
-    let new = state g.S.Store c.commit.new.tx.0 in
-    let begun : InForm g.S.Store c.transaction-tx.result = rw c.transaction-tx.ensures.begun (begun_in_form g.S.Store c.args.conn.now c.requires.ready) in
-    let same : c.commit.new.tx.0 ≡ c.conn-2-1.given.0 = search rules in
-    let last : HasCleanDisk new = subst (λ h. HasCleanDisk (state g.S.Store h)) (sym same) clean in
-    let after : HasCleanDisk mid = omega (arith, c.commit.ensures.survives.clean, last) in
-    let opens = (c.in_ok-opened.ensures.ours begun (omega (arith, c.counts_archives_alone.ensures.stays.survives.clean, after))).0 in
-    let was_open : IsTrue (state g.S.Store c.args.conn.now).is_open = rw c.transaction-tx.ensures.begun at opens.was_open in
-    on_any c.commit.result was_open

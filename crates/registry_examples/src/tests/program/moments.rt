@@ -2,37 +2,20 @@
 
 use super::serving::answers_client;
 use super::{BODY, Case, Failing, leaves_it, path, with_db};
-use crate::tests::at_path::number_at;
-use crate::tests::lists::{LAB, LAB_KIT};
+use crate::beginnings::{BOBS_TOKEN, LAB};
+use crate::tests::all_have_their_reply;
 use registry_desk::Registry;
 use registry_http::RegistryService;
 use registry_names::{FromRead, Moment, ToWrite, read_whole, write_whole};
-use registry_rules::Request;
 use registry_server::Server;
-use registry_service::Service;
-use registry_test_requests::{outcomes_of, requests_of};
 use registry_test_support::same;
-use sqlite::Alter;
+use sqlite::{Alter, Connection, Error, MemStore};
 use std::alloc::{AllocError, Global};
 use std::cell::Cell;
 use std::net::{Ipv4Addr, Net, OpenStream, Shutdown, SocketAddr, TcpStream};
 use std::test::Fail;
 use std::time::{Clock, Duration};
-use std::{fs, io};
-
-/// A token of `bob`.
-const BOBS_TOKEN: &str = "npm_bob_000000001";
-
-/// When the clock of the tests begins, in seconds.
-const BEGINS: u64 = 1_700_000_000;
-
-/// A request for the tags of `@lab/kit` by `bob`.
-const TAGS: &str =
-    "GET /-/package/@lab%2fkit/dist-tags HTTP/1.1\r\nauthorization: Bearer npm_bob_000000001\r\n\r\n";
-
-/// What it is answered.
-const TAGS_OUT: &str =
-    "HTTP/1.1 200 OK\r\ncontent-type: application/json\r\ncontent-length: 18\r\n\r\n{\"latest\":\"1.0.0\"}";
+use std::{fs, io, str};
 
 const CREATED: &str =
     "HTTP/1.1 201 Created\r\ncontent-type: application/json\r\ncontent-length: 11\r\n\r\n{\"ok\":true}";
@@ -104,7 +87,15 @@ fn is_published_since(rt: &HostRuntime, db: &str, before: u64) -> Result<(), Fai
 
 // When the one version in the file was published.
 fn published_in(rt: &HostRuntime, db: &str) -> Result<u64, Fail> {
-    Ok(number_at(rt, db, "", "SELECT published FROM versions")?)
+    let mut conn = Registry::open(rt, db)?.release();
+    let published = only_number(&mut conn, "SELECT published FROM versions");
+    conn.close()?;
+    Ok(published?)
+}
+
+fn only_number<S: Alter>(conn: &mut Connection<S>, text: &str) -> Result<u64, Error> {
+    let row = conn.query_row(text, &[])?;
+    row.get(0)
 }
 
 // The publish of `kit` 1.0.0 by bob.
@@ -156,90 +147,42 @@ static JUMPS: [(u64, &str); 2] = [
 
 #[test]
 fn a_withdrawal_over_http_is_refused_after_72_hours(rt: HostRuntime) -> Result<(), Fail> {
-    let mut asks = publish_text(rt.alloc())?;
-    asks.push_str(withdraw_text(rt.alloc())?.as_str())?;
     for (jump, answer) in &JUMPS {
+        let clock = Jumping {
+            rt: &rt,
+            seconds: Cell::new(1_700_000_000),
+            jump: *jump,
+        };
         let wanted = format!(in rt.alloc(); "{CREATED}{answer}")?;
-        let answers = answers_to(&rt, *jump, LAB, &[asks.as_str()])?;
-        same(*jump, answers.as_str(), wanted.as_str())?;
+        same(*jump, answers_of(&rt, &clock)?.as_str(), wanted.as_str())?;
     }
     Ok(())
 }
 
-#[test]
-fn a_server_answers_two_clients_at_a_registry(rt: HostRuntime) -> Result<(), Fail> {
-    let wanted = format!(in rt.alloc(); "{TAGS_OUT}{TAGS_OUT}")?;
-    let answers = answers_to(&rt, 0, LAB_KIT, &[TAGS, TAGS])?;
-    same("two clients", answers.as_str(), wanted.as_str())
+// What a server with this clock answers to a publish and the withdrawal after it.
+fn answers_of(rt: &HostRuntime, clock: &Jumping<'_>) -> Result<String, Fail> {
+    let alloc = rt.alloc();
+    let server = Server::bind(rt, alloc, 0, 1)?;
+    let client = client(rt, server.port()?)?;
+    let mut service = lab(alloc)?;
+    server.run(clock, alloc, Moment::clamped(1_700_000_000), &mut service)?;
+    let answers = read_whole(alloc, &mut FromRead::new(&client), 100_000)?;
+    Ok(String::from_str(alloc, str::from_utf8(&answers).unwrap_or("?"))?)
 }
 
-// What a server answers to clients, one after the other, at a registry in memory that has been asked
-// the requests of a text. Its clock jumps by so many seconds whenever it is read.
-fn answers_to(rt: &HostRuntime, jump: u64, text: &str, asks: &[&str]) -> Result<String, Fail> {
-    let requests = requests_of(rt.alloc(), text)?;
-    let registry = Registry::in_memory(rt.alloc())?;
-    answers_over(rt, jump, registry, &requests, asks)
+// A registry in memory that knows bob.
+fn lab(alloc: Global) -> Result<RegistryService<MemStore>, Fail> {
+    let mut registry = Registry::in_memory(alloc)?;
+    all_have_their_reply(alloc, &mut registry, LAB)?;
+    Ok(RegistryService::new(registry))
 }
 
-// The same at any registry, which ends.
-fn answers_over<S: Alter + Drop>(
-    rt: &HostRuntime,
-    jump: u64,
-    registry: Registry<S>,
-    requests: &[Request],
-    asks: &[&str],
-) -> Result<String, Fail> {
-    let mut registry = registry;
-    let outcomes = outcomes_of(rt.alloc(), &mut registry, requests)?;
-    same(
-        "a fault",
-        outcomes.iter().any(|outcome| outcome.is_err()),
-        false,
-    )?;
-    let mut service = RegistryService::new(registry);
-    answers_of(rt, jump, &mut service, asks)
-}
-
-fn answers_of<S: Service>(
-    rt: &HostRuntime,
-    jump: u64,
-    service: &mut S,
-    asks: &[&str],
-) -> Result<String, Fail> {
-    let count = asks.len() as u64;
-    let server = Server::bind(rt, rt.alloc(), 0, count)?;
-    let clients = clients(rt, server.port()?, asks)?;
-    let clock = Jumping {
-        rt,
-        seconds: Cell::new(BEGINS),
-        jump,
-    };
-    server.run(&clock, rt.alloc(), Moment::clamped(1_700_000_000), service)?;
-    heard(rt.alloc(), &clients)
-}
-
-// Clients that have asked, each its text, and send no more.
-fn clients(rt: &HostRuntime, port: u16, asks: &[&str]) -> Result<Vec<TcpStream>, Fail> {
-    let mut clients = Vec::new(rt.alloc());
-    for text in asks {
-        clients.push(client(rt, port, text)?)?;
-    }
-    Ok(clients)
-}
-
-fn client(rt: &HostRuntime, port: u16, text: &str) -> Result<TcpStream, Fail> {
+// A client that has asked for both, and sends no more.
+fn client(rt: &HostRuntime, port: u16) -> Result<TcpStream, Fail> {
     let stream = rt.connect(SocketAddr::from((Ipv4Addr::LOCALHOST, port)))?;
+    let mut text = publish_text(rt.alloc())?;
+    text.push_str(withdraw_text(rt.alloc())?.as_str())?;
     write_whole(&mut ToWrite::new(&stream), text.as_bytes())?;
     stream.shutdown(Shutdown::Write)?;
     Ok(stream)
-}
-
-// All that clients are sent, one after the other.
-fn heard(alloc: Global, clients: &[TcpStream]) -> Result<String, Fail> {
-    let mut all = String::new(alloc);
-    for client in clients {
-        let answer = read_whole(alloc, &mut FromRead::new(client), 100_000)?;
-        all.push_str(String::from_utf8_lossy(alloc, &answer)?.as_str())?;
-    }
-    Ok(all)
 }

@@ -1,4 +1,4 @@
-use Rattle.registry_server.proofs.TimeFacts.{bytes-give, never-give-more, stages-give-none, time-passes, waits-give-none}
+use Rattle.registry_server.proofs.TimeFacts.{bytes-give, never-give-more, stages-give-none, time-passes}
 use Rattle.registry_server.proofs.laws.responses_have_one_time.Goals as goal
 
 pub returns-clause-passes : goal.returns-clause-passes
@@ -6,9 +6,6 @@ returns-clause-passes c = time-passes
 
 pub returns-clause-stages : goal.returns-clause-stages
 returns-clause-stages c = stages-give-none
-
-pub returns-clause-waits : goal.returns-clause-waits
-returns-clause-waits c = waits-give-none
 
 pub returns-clause-bytes : goal.returns-clause-bytes
 returns-clause-bytes c = bytes-give

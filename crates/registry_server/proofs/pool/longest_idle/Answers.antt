@@ -1,6 +1,6 @@
 use Rattle.std.proofs.Common.{rules, ◌≡◌, ◌<◌, ◌+◌, ◌∙◌, ℕ, Option, Some, length, subst, sym, arith}
-use Rattle.registry_server.specs.Pools.{IsEarliestOf, idle_times}
-use Rattle.registry_server.proofs.PoolFacts.{earliest-of, earliest-step, idle-read}
+use Rattle.registry_server.specs.Pools.{IsLongestOf, idle_times}
+use Rattle.registry_server.proofs.PoolFacts.{idle-read, longest-of, longest-step}
 use Rattle.registry_server.proofs.pool.longest_idle.Goals as goal
 
 pub loop-number-preserved : goal.loop-number-preserved
@@ -9,12 +9,12 @@ loop-number-preserved g c =
     let n = c.loop-number.number in
     let within : n < length places = omega (arith, c.loop-number-test.true) in
     let read : idle_times places n ≡ c.idle_since.result = idle-read places n c.index-places-number.result within c.index-places-number.is ∙ sym c.idle_since.ensures in
-    subst (λ (r : Option (ℕ × ℕ)). IsEarliestOf (idle_times places) (n + 1) r) (sym c.earlier-longest.ensures)
-    (earliest-step (idle_times places) n c.loop-number.longest c.idle_since.result c.loop-number.invariant read)
+    subst (λ (r : Option (ℕ × ℕ)). IsLongestOf (idle_times places) (n + 1) r) (sym c.earlier-longest.ensures)
+    (longest-step (idle_times places) n c.loop-number.longest c.idle_since.result c.loop-number.invariant read)
 
 pub returns-in-Some : goal.returns-in-Some
 returns-in-Some g c =
     let places = c.args.places.now in
     let all : c.loop-number.number ≡ length places = omega (arith, c.loop-number-test.false, c.loop-number.auto.number-end) in
     let is : c.loop-number.longest ≡ Some (c.in-Some.number, c.in-Some.field-0-1) = search rules in
-    earliest-of (idle_times places) c.loop-number.number (length places) c.loop-number.longest c.in-Some.number c.in-Some.field-0-1 c.loop-number.invariant all is
+    longest-of (idle_times places) c.loop-number.number (length places) c.loop-number.longest c.in-Some.number c.in-Some.field-0-1 c.loop-number.invariant all is

@@ -1,5 +1,5 @@
-use Rattle.registry_server.specs.Pools.{IsEarliestOf, idle_times}
+use Rattle.registry_server.specs.Pools.{IsLongestOf, idle_times}
 use Rattle.registry_server.proofs.pool.longest_idle.Given as goal
 
 abbrev pub invariant-loop-number : goal.invariant-loop-number
-invariant-loop-number g l = IsEarliestOf (idle_times l.places) l.number l.longest
+invariant-loop-number g l = IsLongestOf (idle_times l.places) l.number l.longest

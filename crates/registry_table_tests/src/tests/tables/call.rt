@@ -71,8 +71,7 @@ pub enum Call {
     HasTag(&'static str),
     /// Its tags, each with its version.
     Tags,
-    /// Its versions, each with its manifest and its message, and then each with the second of its
-    /// publication.
+    /// Its versions, each with its manifest and its message.
     Versions,
     /// The length of the version's archive, and its last bytes.
     Archive(&'static str),

@@ -39,7 +39,7 @@ const BROKEN_KEY: Error = Error::SqliteFailure(ErrorCode::ConstraintViolation(
 ));
 
 /// What steps on an empty database show, and the steps, one after another.
-static CASES: [(&str, &[Step]); 20] = [
+static CASES: [(&str, &[Step]); 19] = [
     (
         "a new database says which schema it has",
         &[
@@ -83,13 +83,6 @@ static CASES: [(&str, &[Step]); 20] = [
         "a table of another is a fault",
         &[
             Step::Run("CREATE TABLE notes (text TEXT)"),
-            Step::Schema(Err(Fault::Database)),
-        ],
-    ),
-    (
-        "a view alone is a fault",
-        &[
-            Step::Run("CREATE VIEW notes AS SELECT 1"),
             Step::Schema(Err(Fault::Database)),
         ],
     ),

@@ -2,9 +2,8 @@
 
 use registry_access::{Grant, Role, Standing};
 use registry_names::{Blob, DistTag, Status, Stop, Text};
-use registry_packument::{Granted, VersionRow, VersionTime};
+use registry_packument::{Granted, VersionRow};
 use registry_publish::PublishForm;
-use registry_tables::LiveVersions;
 use registry_test_support::{ABC, body_of};
 use std::alloc::{AllocError, Global};
 
@@ -88,32 +87,13 @@ pub fn push_word(text: &mut String, word: &str) -> Result<(), AllocError> {
     text.push_str(word)
 }
 
-/// Each version with its manifest and its message in brackets, and then each with the second of its
-/// publication, after a space.
-pub fn versions_text(alloc: Global, live: &LiveVersions) -> Result<String, Stop> {
+/// Each version with its manifest and its message in brackets, after a space.
+pub fn versions_text(alloc: Global, rows: &[VersionRow]) -> Result<String, Stop> {
     let mut text = String::new(alloc);
-    push_versions(&mut text, &live.versions)?;
-    push_times(alloc, &mut text, &live.times)?;
-    Ok(text)
-}
-
-fn push_versions(text: &mut String, rows: &[VersionRow]) -> Result<(), AllocError> {
     for row in rows {
-        push_version(text, row)?;
+        push_version(&mut text, row)?;
     }
-    Ok(())
-}
-
-fn push_times(alloc: Global, text: &mut String, times: &[VersionTime]) -> Result<(), AllocError> {
-    for time in times {
-        let second = time.published.seconds();
-        push_named(
-            text,
-            time.version.as_str(),
-            format!(in alloc; "{second}")?.as_str(),
-        )?;
-    }
-    Ok(())
+    Ok(text)
 }
 
 fn push_version(text: &mut String, row: &VersionRow) -> Result<(), AllocError> {

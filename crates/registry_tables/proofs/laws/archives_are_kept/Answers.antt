@@ -1,12 +1,9 @@
-use Rattle.registry_tables.proofs.KeptArchiveFacts.{archives_stay_sound, fresh_archives, others_keep_archives, version_keeps_archives}
+use Rattle.registry_tables.proofs.KeptArchiveFacts.{fresh_archives, others_keep_archives, version_keeps_archives}
 use Rattle.registry_tables.proofs.RetiredFacts.{messaged_keeps_archives, retired_keeps_archives}
 use Rattle.registry_tables.proofs.laws.archives_are_kept.Goals as goal
 
 pub returns-clause-fresh : goal.returns-clause-fresh
 returns-clause-fresh c = fresh_archives
-
-pub returns-clause-stored : goal.returns-clause-stored
-returns-clause-stored c = archives_stay_sound
 
 pub returns-clause-others : goal.returns-clause-others
 returns-clause-others c = others_keep_archives

@@ -11,15 +11,10 @@ returns-in-Ok-settle-clause-stays g c clean =
     rests_sure g.S.Store c.settle.new.conn (λ db. g.met.S.Store.settled c.settle.new.conn.store db on) c.in-Ok-settle.ensures.rests clean on
 
 pub returns-in-Err-settle-clause-again : goal.returns-in-Err-settle-clause-again
-returns-in-Err-settle-clause-again g c idle =
+returns-in-Err-settle-clause-again g c =
     let old = state g.S.Store c.args.conn in
     let new = state g.S.Store c.settle.new.conn in
     let were : HasCleanDisk new → HasCleanDisk old = λ clean. omega (arith, c.settle.ensures.survives.clean, clean) in
     let was : c.args.conn.in_transaction ≡ false = search rules in
     let settled : IsSettled old = search rules in
-    rises_again old new (c.requires.rises was) were (handed_back old new was c.settle.ensures.idle settled c.in-Err-settle.ensures.undone)
-
-pub returns-in-Ok-settle-clause-made : goal.returns-in-Ok-settle-clause-made
-returns-in-Ok-settle-clause-made g c clean =
-    let were : HasCleanDisk (state g.S.Store c.args.conn) = omega (arith, c.settle.ensures.survives.clean, clean) in
-    (were, c.in-Ok-settle.ensures.opened clean, c.in-Ok-settle.ensures.made clean)
+    rises_again old new c.requires.rises were (handed_back old new was c.settle.ensures.idle settled c.in-Err-settle.ensures.undone)

@@ -1,21 +1,20 @@
 use Rattle.std.proofs.Common.{◌∙◌, ap, rules, sym}
 use Rattle.std.proofs.lemmas.Bool.{false≢true}
 use Rattle.registry_server.specs.Phases.{receives}
-use Rattle.registry_server.proofs.RemainderFacts.{little-answered, little-drained, little-received, little-sent, little-starved, little-turned}
 use Rattle.registry_server.proofs.VisitFacts.{visit-answered, visit-dropped, visit-received, visit-sent, visit-starved, visit-turned}
 use Rattle.registry_server.proofs.connection.Connection.visit.Goals as goal
 
 pub returns-in-Ok-Waits-clause-visits : goal.returns-in-Ok-Waits-clause-visits
 returns-in-Ok-Waits-clause-visits g c =
-    visit-received g.S.Socket.received g.S.Socket.sent g.D.Service.answers _ _ _ _ _ _ c.in-Ok-Waits.ensures.kept c.in-Ok-Waits.ensures.may c.in-Ok-Waits.ensures.waits c.in-Ok-Waits.ensures.receiving c.in-Ok-Waits.ensures.idle
+    visit-received g.S.Socket.received g.S.Socket.sent g.D.Service.answers _ _ _ _ _ _ c.in-Ok-Waits.ensures.kept c.in-Ok-Waits.ensures.may c.in-Ok-Waits.ensures.waits
 
 pub returns-in-Ok-Broken-clause-visits : goal.returns-in-Ok-Broken-clause-visits
 returns-in-Ok-Broken-clause-visits g c =
-    visit-received g.S.Socket.received g.S.Socket.sent g.D.Service.answers _ _ _ _ _ _ c.in-Ok-Broken.ensures.kept c.in-Ok-Broken.ensures.may c.in-Ok-Broken.ensures.waits c.in-Ok-Broken.ensures.receiving c.in-Ok-Broken.ensures.idle
+    visit-received g.S.Socket.received g.S.Socket.sent g.D.Service.answers _ _ _ _ _ _ c.in-Ok-Broken.ensures.kept c.in-Ok-Broken.ensures.may c.in-Ok-Broken.ensures.waits
 
 pub returns-in-Err-clause-visits : goal.returns-in-Err-clause-visits
 returns-in-Err-clause-visits g c =
-    visit-starved g.S.Socket.received g.S.Socket.sent g.D.Service.answers _ _ _ _ _ _ _ c.in-Err.ensures.lost c.in-Err.ensures.may c.in-Err.ensures.waits c.in-Err.ensures.receiving c.in-Err.ensures.idle c.in-Err.ensures.turning c.starve.ensures.starves
+    visit-starved g.S.Socket.received g.S.Socket.sent g.D.Service.answers _ _ _ _ _ _ _ c.in-Err.ensures.lost c.in-Err.ensures.may c.in-Err.ensures.waits c.in-Err.ensures.turning c.starve.ensures.starves
 
 pub returns-in-Next-clause-visits : goal.returns-in-Next-clause-visits
 returns-in-Next-clause-visits g c =
@@ -27,31 +26,11 @@ returns-in-Sends-clause-visits g c =
 
 pub returns-in-Drains-clause-visits : goal.returns-in-Drains-clause-visits
 returns-in-Drains-clause-visits g c =
-    visit-dropped g.S.Socket.received g.S.Socket.sent g.D.Service.answers _ _ _ _ _ _ c.drain.ensures.drops c.drain.ensures.all_sent c.drain.ensures.ended c.drain.ensures.stage
+    visit-dropped g.S.Socket.received g.S.Socket.sent g.D.Service.answers _ _ _ _ _ _ c.drain.ensures.drops c.drain.ensures.all_sent c.drain.ensures.ended
 
 pub returns-in-Ok-Moved-clause-visits : goal.returns-in-Ok-Moved-clause-visits
 returns-in-Ok-Moved-clause-visits g c =
-    visit-answered g.S.Socket.received g.S.Socket.sent g.D.Service.answers _ _ _ _ _ _ _ _ _ c.in-Ok-Moved.ensures.kept c.in-Ok-Moved.ensures.may c.in-Ok-Moved.ensures.waits c.in-Ok-Moved.ensures.receiving c.in-Ok-Moved.ensures.idle c.in-Ok-Moved.ensures.turning c.answer.ensures.answers
+    visit-answered g.S.Socket.received g.S.Socket.sent g.D.Service.answers _ _ _ _ _ _ _ _ _ c.in-Ok-Moved.ensures.kept c.in-Ok-Moved.ensures.may c.in-Ok-Moved.ensures.waits c.in-Ok-Moved.ensures.turning c.answer.ensures.answers
 
 pub returns-in-Ok-Waits-clause-rests : goal.returns-in-Ok-Waits-clause-rests
 returns-in-Ok-Waits-clause-rests g c rests next = absurd (false≢true (ap receives (sym next) ∙ c.in-Ok-Waits.ensures.quiet (search rules)))
-
-pub returns-in-Ok-Waits-clause-leaves : goal.returns-in-Ok-Waits-clause-leaves
-returns-in-Ok-Waits-clause-leaves g c = λ goes before. little-received _ c.receive.new.self (c.in-Ok-Waits.ensures.quiet (search rules))
-
-pub returns-in-Ok-Moved-clause-leaves : goal.returns-in-Ok-Moved-clause-leaves
-returns-in-Ok-Moved-clause-leaves g c = λ goes before.
-    little-answered g.S.Socket.received g.S.Socket.sent _ _ _ _ c.answer.new.self c.in-Ok-Moved.ensures.kept c.in-Ok-Moved.ensures.waits (c.answer.ensures.rest goes)
-
-pub returns-in-Err-clause-leaves : goal.returns-in-Err-clause-leaves
-returns-in-Err-clause-leaves g c = λ goes before. little-starved g.S.Socket.received g.S.Socket.sent _ _ _ c.starve.new.self c.starve.ensures.starves
-
-pub returns-in-Next-clause-leaves : goal.returns-in-Next-clause-leaves
-returns-in-Next-clause-leaves g c = λ goes before.
-    little-turned _ c.args.self.now c.answer-in-Next.new.self (search rules) c.answer-in-Next.ensures.may (c.answer-in-Next.ensures.rest goes) before
-
-pub returns-in-Sends-clause-leaves : goal.returns-in-Sends-clause-leaves
-returns-in-Sends-clause-leaves g c = λ goes before. little-sent g.S.Socket.received g.S.Socket.sent _ _ c.args.self.now c.send.new.self c.send.ensures.sends (search rules) before
-
-pub returns-in-Drains-clause-leaves : goal.returns-in-Drains-clause-leaves
-returns-in-Drains-clause-leaves g c = λ goes before. little-drained _ c.drain.new.self c.drain.ensures.stage

@@ -8,7 +8,7 @@ pub returns-then-number-len : goal.returns-then-number-len
 returns-then-number-len g c =
     let places = c.args.self.now.places.items in
     let within : c.args.number < length places = omega (arith, c.if-number-len.true, c.len.ensures) in
-    ap (λ (x : OpenConnection g.row.S.Denot). slice_set places c.args.number (placed (Some x) true false)) c.new.ensures
+    ap (λ (x : OpenConnection g.row.S.Denot). slice_set places c.args.number (placed (Some x) true c.args.now false)) c.new.ensures
     ∙ at-put places c.args.number (new_at c.args.now c.args.socket) within
 
 pub returns-else-number-len : goal.returns-else-number-len

@@ -1,3 +1,0 @@
-pub mod Older
-pub mod Migration
-pub mod Steps

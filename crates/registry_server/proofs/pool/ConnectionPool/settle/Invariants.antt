@@ -1,8 +1,0 @@
-use Rattle.std.proofs.Common.{◌≡◌, ◌++◌, take, drop, map}
-use Rattle.registry_server.specs.Pools.{settled}
-use Rattle.registry_server.proofs.pool.ConnectionPool.settle.Given as goal
-
-abbrev pub invariant-loop-place : goal.invariant-loop-place
-invariant-loop-place g l =
-    let old = l.fn.self.places.items in
-    l.place-items ≡ map (settled l.is_crowd) (take l.place-index old) ++ drop l.place-index old
