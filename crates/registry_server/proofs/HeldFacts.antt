@@ -129,28 +129,23 @@ none-chosen S (suc n) = omega (arith, sum_by-cons (chosen_count {S = S}) free (r
 few-of-none : (S : Type 0) (n : ℕ) → FewChosen {S = S} (replicate n free)
 few-of-none S n = omega (arith, none-chosen S n)
 
-settled-count : (crowd was large still : Bool) → cond (crowd && (was && large && still)) 1 0 ≤ cond was 1 0
-settled-count false was large still = omega arith
-settled-count true true true true = omega arith
-settled-count true true true false = omega arith
-settled-count true true false still = omega arith
-settled-count true false large still = omega arith
-
-and-count : (a b : Bool) → cond (a && b) 1 0 ≤ cond b 1 0
-and-count true b = omega arith
-and-count false b = omega arith
+settled-count : (was large still : Bool) → cond (was && large && still) 1 0 ≤ cond was 1 0
+settled-count true true true = omega arith
+settled-count true true false = omega arith
+settled-count true false still = omega arith
+settled-count false large still = omega arith
 
 next-few : {S : Type 0} (places : List (Place S)) (next : Option ℕ) → sum_by chosen_count places < read_together → FewChosen (chosen_of places next)
 next-few {S} places None few = omega (arith, few)
 next-few {S} places (Some k) few = omega (arith, few, at-sum-more (chosen_count {S = S}) chosen (λ (p : Place S). omega arith) places k)
 
-looked-few : {S : Type 0} (b crowd : Bool) (old new : List (Place S)) → (crowd && has_room old) ≡ b → ChoosesIf b (map (settled crowd) old) new → FewChosen old → FewChosen new
+looked-few : {S : Type 0} (b crowd : Bool) (old new : List (Place S)) → (crowd && has_room old) ≡ b → ChoosesIf b (map settled old) new → FewChosen old → FewChosen new
 looked-few {S} true crowd old new may chooses few =
     let room = ltb-true (sum_by read_count old) read_together (and_parts crowd (has_room old) may).1 in
-    let held = map-sum (chosen_count {S = S}) read_count (settled crowd) (λ (p : Place S). and-count crowd (is_read p)) old in
-    subst FewChosen (sym chooses.places) (next-few (map (settled crowd) old) chooses.next (omega (arith, room, held)))
+    let held = map-sum (chosen_count {S = S}) read_count settled (λ (p : Place S). omega arith) old in
+    subst FewChosen (sym chooses.places) (next-few (map settled old) chooses.next (omega (arith, room, held)))
 looked-few {S} false crowd old new may same few =
-    let less = map-sum (chosen_count {S = S}) chosen_count (settled crowd) (λ (p : Place S). settled-count crowd p.is_chosen (nat_lt body_least (held_at p)) (not (is_answered_at p))) old in
+    let less = map-sum (chosen_count {S = S}) chosen_count settled (λ (p : Place S). settled-count p.is_chosen (nat_lt body_least (held_at p)) (not (is_answered_at p))) old in
     subst FewChosen (sym same) (omega (arith, few, less))
 
 module _ (S : Type 0) where
@@ -388,18 +383,9 @@ looked-length : {S : Type 0} (b : Bool) (old new : List (Place S)) → ChoosesIf
 looked-length true old new chooses = ap length chooses.places ∙ chosen-of-length old chooses.next
 looked-length false old new same = ap length same
 
-module _ {S : Type 0} (P : Place S → Type 0) (crowd : Bool) (same : (p : Place S) → P p → P (settled crowd p)) where
-  settled-each : (places : List (Place S)) → All P places → All P (map (settled crowd) places)
-  settled-each places each = All-map P (settled crowd) places (All-weaker P (λ (p : Place S). P (settled crowd p)) same places each)
-
--- no body is chosen
-abbrev NoneChosen : {S : Type 0} → List (Place S) → Type 0
-NoneChosen [] = Unit {0}
-NoneChosen (p ∷ places) = (p.is_chosen ≡ false) × NoneChosen places
-
-settled-none : {S : Type 0} (places : List (Place S)) → NoneChosen (map (settled false) places)
-settled-none [] = tt
-settled-none (p ∷ places) = (refl, settled-none places)
+module _ {S : Type 0} (P : Place S → Type 0) (same : (p : Place S) → P p → P (settled p)) where
+  settled-each : (places : List (Place S)) → All P places → All P (map settled places)
+  settled-each places each = All-map P settled places (All-weaker P (λ (p : Place S). P (settled p)) same places each)
 
 unchosen-body : (was body : Bool) → (true && not was && body) ≡ false → was ≡ false → body ≡ false
 unchosen-body true body is none = absurd (cc)
@@ -409,9 +395,9 @@ unchosen-body false body is none = is
 unchosen-none : {S : Type 0} (p : Place S) (c : OpenConnection S) → is_held_back true p ≡ false → p.connection ≡ Some c → p.is_chosen ≡ false → has_body c ≡ false
 unchosen-none p c is at none = sym (ap body_with at) ∙ unchosen-body p.is_chosen (has_body_at p) is none
 
-few-counted : (was : Bool) (after before most least : ℕ) → was ≡ false → after ≤ before + most → (if was then least else max after least) ≤ before + (most + least)
-few-counted true after before most least none few = absurd (cc)
-few-counted false after before most least none few = omega (arith, few)
+few-counted : (was : Bool) (after before most least : ℕ) → after ≤ before + most → (if was then least else max after least) ≤ before + (most + least)
+few-counted true after before most least few = omega arith
+few-counted false after before most least few = omega (arith, few)
 
 bounded : (a b limit n m : ℕ) → a ≤ b + n * m → b < limit → a ≤ limit + n * m
 bounded a b limit n m few low = omega (arith, few, low)
@@ -460,21 +446,20 @@ module _ {S : Type 0} (received sent : S → Option (List ℕ)) (must_wait is_en
   all-length crowd now most [] (q ∷ qs) M N r r2 v = absurd v
   all-length crowd now most (p ∷ ps) [] M N r r2 v = absurd v
 
-  -- without a crowd no body is chosen, and each place counts little more than what was held there
-  all-added : (crowd : Bool) (now most : ℕ) (ps qs : List (Place S)) (M N : D) (r r2 : Option (List ℕ)) → NoneChosen ps
+  -- each place counts little more than what was held there
+  all-added : (crowd : Bool) (now most : ℕ) (ps qs : List (Place S)) (M N : D) (r r2 : Option (List ℕ))
       → VisitsAll received sent must_wait is_ended is_broken answers over crowd now most ps qs M N r r2
       → sum_by (counted_at most) qs ≤ sum_by held_at ps + length ps * added_at_most most
-  all-added crowd now most [] [] M N r r2 none v = omega arith
-  all-added crowd now most (p ∷ ps) (q ∷ qs) M N r r2 none v =
-      let same = visited-same received sent must_wait is_ended is_broken answers over (p.is_ready && not (over M)) (is_held_back crowd p) now most p q M v.0 r v.1 v.2 in
+  all-added crowd now most [] [] M N r r2 v = omega arith
+  all-added crowd now most (p ∷ ps) (q ∷ qs) M N r r2 v =
       let few = visited-few received sent must_wait is_ended is_broken answers over (p.is_ready && not (over M)) (is_held_back crowd p) crowd now most p q M v.0 r v.1 refl v.2 in
-      let one : counted_at most q ≤ held_at p + added_at_most most = few-counted q.is_chosen (held_at q) (held_at p) most (held_before most) (same ∙ none.0) few.few in
-      let rest = all-added crowd now most ps qs v.0 N v.1 r2 none.1 v.3 in
+      let one : counted_at most q ≤ held_at p + added_at_most most = few-counted q.is_chosen (held_at q) (held_at p) most (held_before most) few.few in
+      let rest = all-added crowd now most ps qs v.0 N v.1 r2 v.3 in
       let step = many-step (counted_at most q) (sum_by (counted_at most) qs) (held_at p) (sum_by held_at ps) (length ps) (added_at_most most) one rest in
       subst (λ (n : ℕ). n ≤ sum_by held_at (p ∷ ps) + suc (length ps) * added_at_most most) (sym (sum_by-cons (counted_at most) q qs))
       (subst (λ (n : ℕ). counted_at most q + sum_by (counted_at most) qs ≤ n + suc (length ps) * added_at_most most) (sym (sum_by-cons held_at p ps)) step)
-  all-added crowd now most [] (q ∷ qs) M N r r2 none v = absurd v
-  all-added crowd now most (p ∷ ps) [] M N r r2 none v = absurd v
+  all-added crowd now most [] (q ∷ qs) M N r r2 v = absurd v
+  all-added crowd now most (p ∷ ps) [] M N r r2 v = absurd v
 
   there-request : (now most : ℕ) (p : Place S) (o : Option (OpenConnection S)) (q : Place S) (M N : D) (r r2 : Option (List ℕ)) → p.connection ≡ o
       → VisitsThere received sent must_wait is_ended is_broken answers now most p o q M N r r2 → HoldsOneRequest most p → HoldsOneRequest most q
@@ -529,35 +514,34 @@ module _ {S : Type 0} (received sent : S → Option (List ℕ)) (must_wait is_en
   all-little crowd now most (p ∷ ps) [] M N r r2 h v = absurd v
 
   round-counts : (b : Bool) (now most : ℕ) (old looked new : List (Place S)) (M N : D) (r r2 : Option (List ℕ)) → is_crowd old ≡ b
-      → ChoosesIf (b && has_room old) (map (settled b) old) looked
+      → ChoosesIf (b && has_room old) (map settled old) looked
       → VisitsAll received sent must_wait is_ended is_broken answers over b now most looked new M N r r2
       → length old ≡ place_count → All (HoldsLittleRest most) old → sum_by (counted_at most) old ≤ held_limit + place_count * added_at_most most → sum_by (counted_at most) new ≤ held_limit + place_count * added_at_most most
   round-counts true now most old looked new M N r r2 is looks v count little h =
-      let each = All-weaker (HoldsLittleRest {S = S} most) (λ (p : Place S). counted_at most (settled true p) ≤ counted_at most p)
+      let each = All-weaker (HoldsLittleRest {S = S} most) (λ (p : Place S). counted_at most (settled p) ≤ counted_at most p)
       (λ (p : Place S) rest. settled-counts p.is_chosen (nat_lt body_least (held_at p)) (is_answered_at p) (held_at p) (held_before most) most refl rest (omega arith) (omega arith)) old little in
-      let first = map-sum-all (counted_at {S = S} most) (counted_at most) (settled true) old each in
-      let second = looked-counts (has_room old) most (map (settled true) old) looked looks in
+      let first = map-sum-all (counted_at {S = S} most) (counted_at most) settled old each in
+      let second = looked-counts (has_room old) most (map settled old) looked looks in
       let third = all-counts now most looked new M N r r2 v in
       le_trans third (le_trans second (le_trans first h))
   round-counts false now most old looked new M N r r2 is looks v count little h =
-      let none : NoneChosen looked = subst NoneChosen (sym looks) (settled-none old) in
-      let added = all-added false now most looked new M N r r2 none v in
+      let added = all-added false now most looked new M N r r2 v in
       let held : sum_by held_at looked ≤ sum_by held_at old =
-      subst (λ (l : List (Place S)). sum_by held_at l ≤ sum_by held_at old) (sym looks) (map-sum (held_at {S = S}) held_at (settled false) (λ (p : Place S). omega arith) old) in
+      subst (λ (l : List (Place S)). sum_by held_at l ≤ sum_by held_at old) (sym looks) (map-sum (held_at {S = S}) held_at settled (λ (p : Place S). omega arith) old) in
       let low : sum_by held_at old < held_limit = leb-false held_limit (sum_by held_at old) is in
-      let size : length looked ≡ place_count = ap length looks ∙ map-length (settled false) old ∙ count in
+      let size : length looked ≡ place_count = ap length looks ∙ map-length settled old ∙ count in
       subst (λ (n : ℕ). sum_by (counted_at most) new ≤ held_limit + n * added_at_most most) size
       (bounded (sum_by (counted_at most) new) (sum_by held_at looked) held_limit (length looked) (added_at_most most) added (omega (arith, held, low)))
 
   pub rounds-leave-little : RoundsLeaveLittle received sent must_wait is_ended is_broken answers over
   rounds-leave-little now most old new M N r r2 h round =
       let size : length new ≡ length old = all-length (is_crowd old) now most round.looked new M N r r2 round.visits
-      ∙ looked-length (is_crowd old && has_room old) (map (settled (is_crowd old)) old) round.looked round.looks ∙ map-length (settled (is_crowd old)) old in
+      ∙ looked-length (is_crowd old && has_room old) (map settled old) round.looked round.looks ∙ map-length settled old in
       let crowd = is_crowd old in
-      let each = looked-each (HoldsOneRequest {S = S} most) (λ (p : Place S) one. one) (crowd && has_room old) (map (settled crowd) old) round.looked round.looks
-      (settled-each (HoldsOneRequest {S = S} most) crowd (λ (p : Place S) one. one) old h.each) in
-      let rest = looked-each (HoldsLittleRest {S = S} most) (λ (p : Place S) few. few) (crowd && has_room old) (map (settled crowd) old) round.looked round.looks
-      (settled-each (HoldsLittleRest {S = S} most) crowd (λ (p : Place S) few. few) old h.rest) in
+      let each = looked-each (HoldsOneRequest {S = S} most) (λ (p : Place S) one. one) (crowd && has_room old) (map settled old) round.looked round.looks
+      (settled-each (HoldsOneRequest {S = S} most) (λ (p : Place S) one. one) old h.each) in
+      let rest = looked-each (HoldsLittleRest {S = S} most) (λ (p : Place S) few. few) (crowd && has_room old) (map settled old) round.looked round.looks
+      (settled-each (HoldsLittleRest {S = S} most) (λ (p : Place S) few. few) old h.rest) in
       record {
         size = size ∙ h.size;
         few = (rounds-read-few received sent must_wait is_ended is_broken answers over now most old new M N r r2 h.few round).1;

@@ -132,10 +132,10 @@ pub chooses-next : {S : Type 0} (old : List (Place S)) (k : ℕ) (p : Place S) �
 chooses-next old k p first at = record { next = Some k; first = first; places = at-set chosen old k p first.1 at }
 
 -- of a crowd one more is chosen where there is room
-pub looks-at : {S : Type 0} (may crowd : Bool) (old middle new : List (Place S)) → crowd ≡ is_crowd old → may ≡ (crowd && has_room old) → middle ≡ map (settled crowd) old → ChoosesIf may middle new → LooksAtBodies old new
+pub looks-at : {S : Type 0} (may crowd : Bool) (old middle new : List (Place S)) → crowd ≡ is_crowd old → may ≡ (crowd && has_room old) → middle ≡ map settled old → ChoosesIf may middle new → LooksAtBodies old new
 looks-at {S} may crowd old middle new is both settles chooses =
-    subst (λ (c : Bool). ChoosesIf (c && has_room old) (map (settled c) old) new) is
-    (subst (λ (m : Bool). ChoosesIf m (map (settled crowd) old) new) both
+    subst (λ (c : Bool). ChoosesIf (c && has_room old) (map settled old) new) is
+    (subst (λ (m : Bool). ChoosesIf m (map settled old) new) both
     (subst (λ (l : List (Place S)). ChoosesIf may l new) settles chooses))
 
 pub busy-at : {S : Type 0} (may crowd : Bool) (places : List (Place S)) → crowd ≡ is_crowd places → may ≡ (crowd && has_room places) → list_any (is_due crowd may) places ≡ is_busy places

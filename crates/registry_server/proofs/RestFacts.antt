@@ -79,10 +79,10 @@ module _ {S : Type 0} (must_wait : S → Bool) where
   pub waiting-at-rest : (now : ℕ) (p : Place S) → IsAtRest must_wait p → IsAtRest must_wait (waiting_at now p)
   waiting-at-rest now p h c ready at = waiting-rest now p p.connection refl h c ready at
 
-  -- bodies are read of a crowd, or none is
-  settled-rest : (crowd : Bool) (places : List (Place S)) → All (IsAtRest must_wait) places → All (IsAtRest must_wait) (map (settled crowd) places)
-  settled-rest crowd places h = All-map (IsAtRest must_wait) (settled crowd) places
-      (All-weaker (IsAtRest must_wait) (λ p. IsAtRest must_wait (settled crowd p)) (λ p rests c ready at. rests c ready at) places h)
+  -- bodies stay chosen, or they don't
+  settled-rest : (places : List (Place S)) → All (IsAtRest must_wait) places → All (IsAtRest must_wait) (map settled places)
+  settled-rest places h = All-map (IsAtRest must_wait) settled places
+      (All-weaker (IsAtRest must_wait) (λ p. IsAtRest must_wait (settled p)) (λ p rests c ready at. rests c ready at) places h)
 
   chosen-at-rest : (places : List (Place S)) (k : ℕ) → All (IsAtRest must_wait) places → All (IsAtRest must_wait) (at_place chosen places k)
   chosen-at-rest [] k h = h
@@ -142,4 +142,4 @@ module _ {S : Type 0} (received sent : S → Option (List ℕ)) (must_wait is_en
 
   pub visits-leave-rest : VisitsLeaveRest received sent must_wait is_ended is_broken answers over
   visits-leave-rest now most old new M N r r2 h round = visited-rest (is_crowd old) now most round.looked new M N r r2
-      (looked-rest must_wait (is_crowd old && has_room old) (map (settled (is_crowd old)) old) round.looked round.looks (settled-rest must_wait (is_crowd old) old h)) round.visits
+      (looked-rest must_wait (is_crowd old && has_room old) (map settled old) round.looked round.looks (settled-rest must_wait old h)) round.visits

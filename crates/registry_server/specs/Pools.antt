@@ -152,10 +152,10 @@ has_room places = nat_lt (count_by is_read places) read_together
 abbrev pub may_choose : {S : Type 0} → List (Place S) → Bool
 may_choose places = is_crowd places && has_room places
 
--- Of a crowd a body that was chosen stays it until its request is answered; where the connection ends
--- with it, as long as it is held. Where there is no crowd none is chosen.
-abbrev pub settled : {S : Type 0} → Bool → Place S → Place S
-settled crowd p = placed p.connection p.is_ready (crowd && is_read p)
+-- A body that was chosen stays it until its request is answered, whether or not there is a crowd; where
+-- the connection ends with it, as long as it is held.
+abbrev pub settled : {S : Type 0} → Place S → Place S
+settled p = placed p.connection p.is_ready (is_read p)
 
 abbrev pub body_since_with : {S : Type 0} → Option (OpenConnection S) → Option ℕ
 body_since_with None = None
@@ -192,10 +192,10 @@ abbrev pub ChoosesIf : {S : Type 0} → Bool → List (Place S) → List (Place 
 ChoosesIf true old new = ChoosesNext old new
 ChoosesIf false old new = new ≡ old
 
--- The bodies that were chosen stay it as long as they are held, and of a crowd one more is chosen
--- where there is room for it.
+-- The bodies that were chosen stay it until their requests are answered, or as long as they are held,
+-- and of a crowd one more is chosen where there is room for it.
 abbrev pub LooksAtBodies : {S : Type 0} → List (Place S) → List (Place S) → Type 0
-LooksAtBodies old new = ChoosesIf (may_choose old) (map (settled (is_crowd old)) old) new
+LooksAtBodies old new = ChoosesIf (may_choose old) (map settled old) new
 
 -- ---- who is held back
 

@@ -19,8 +19,8 @@ pub const HELD_LIMIT: usize = 67_108_864;
 /// So many bodies of a crowd are read side by side at most.
 pub const READ_TOGETHER: usize = 16;
 
-/// A place for a connection, whether it is to be visited, and whether of a crowd its body is one of
-/// those that are read.
+/// A place for a connection, whether it is to be visited, and whether its body was chosen: then it is
+/// one of those that are read of a crowd.
 #[derive(Drop)]
 struct Place<S: Socket> {
     connection: Option<Connection<S>>,
@@ -118,12 +118,12 @@ impl<S: Socket> Place<S> {
         self.is_ready && (may_choose || !self.is_held_back(is_crowd))
     }
 
-    // Its body stays chosen in a crowd until its request is answered, or as long as it is held where
-    // the connection ends.
-    fn settle(&mut self, is_crowd: bool)
-        ensures { self.new ≡ spec.settled is_crowd self.old }
+    // Its body stays chosen until its request is answered, or as long as it is held where the
+    // connection ends. So it does while there is no crowd.
+    fn settle(&mut self)
+        ensures { self.new ≡ spec.settled self.old }
     {
-        self.is_chosen = is_crowd && self.is_read();
+        self.is_chosen = self.is_read();
     }
 
     // The body there waits until others are done.
@@ -187,7 +187,9 @@ impl<S: Socket> Place<S> {
 ///
 /// Where all connections hold [`HELD_LIMIT`] bytes or more together they are a crowd, of which
 /// [`READ_TOGETHER`] bodies at most are read side by side: those that were chosen, until their
-/// requests are answered, or as long as they are held where the connection ends. The others wait.
+/// requests are answered, or as long as they are held where the connection ends. The others wait. A
+/// choice lasts while there is no crowd, too: so nobody is chosen twice for one request by clients
+/// that end a crowd and bring it back.
 #[derive(Drop)]
 pub struct ConnectionPool<S: Socket> {
     places: Vec<Place<S>>,
@@ -223,8 +225,9 @@ impl<S: Socket> ConnectionPool<S> {
         self.free_place().is_none()
     }
 
-    /// Whether `visit_all` would visit a connection now: one that is to be visited and isn't held
-    /// back, or whose body would be chosen.
+    /// Whether a connection is to be visited in the next round, where the service isn't over: it
+    /// isn't held back, or its body would be chosen. The place of one that was to be visited and
+    /// has ended counts, too, until that round.
     pub fn is_busy(&self) -> bool
         ensures { result ≡ spec.is_busy self.now.places.items }
     {
@@ -281,10 +284,10 @@ impl<S: Socket> ConnectionPool<S> {
     /// visited now and still is to be: it waits, and its time begins anew, unless its request is
     /// older than [`WAIT_LIMIT`](crate::WAIT_LIMIT).
     ///
-    /// A body that was chosen stays it until its request is answered; where the connection ends with
-    /// that, as long as it is held. Where fewer are than may be, one more is chosen: of those to be
-    /// visited, that of the request which began first, and of such that at the lowest place. Where
-    /// there is no crowd none is.
+    /// A body that was chosen stays it until its request is answered, whether or not there is a crowd;
+    /// where the connection ends with that, as long as it is held. Of a crowd one more is chosen where
+    /// fewer are than may be: of those to be visited, that of the request which began first, and of
+    /// such that at the lowest place.
     pub fn visit_all<D: Service, C: Clock>(
         &mut self,
         alloc: Global,
@@ -327,17 +330,18 @@ impl<S: Socket> ConnectionPool<S> {
     {
         let is_crowd = is_crowd(&self.places);
         let may_choose = may_choose(&self.places, is_crowd);
-        self.settle(is_crowd);
+        self.settle();
         self.choose_if(may_choose);
         is_crowd
     }
 
-    // The bodies that were chosen stay it in a crowd, as long as they are held.
-    fn settle(&mut self, is_crowd: bool)
-        ensures { self.new.places.items ≡ map (spec.settled is_crowd) self.old.places.items }
+    // The bodies that were chosen stay it until their requests are answered, or as long as they are
+    // held.
+    fn settle(&mut self)
+        ensures { self.new.places.items ≡ map spec.settled self.old.places.items }
     {
         for place in self.places.iter_mut() {
-            place.settle(is_crowd);
+            place.settle();
         }
     }
 

@@ -11,5 +11,5 @@ loop-place-preserved g c =
     let i = c.loop-place.place-index in
     let here = get_or items i c.place-item.result in
     let within : i < length old = grind (arith, c.loop-place-test.true, c.loop-place.auto.place-items, c.deref_mut-place-items.ensures.value, c.deref_mut-place-items.ensures.len) in
-    subst (λ (q : Place g.row.S.Denot). slice_set items i q ≡ map (settled c.args.is_crowd) (take (i + 1) old) ++ drop (i + 1) old) (sym c.settle.ensures)
-    (map_over_more (settled c.args.is_crowd) old items i here within c.loop-place.invariant (ap (λ (d : Place g.row.S.Denot). get_or items i d) c.place-item.is))
+    subst (λ (q : Place g.row.S.Denot). slice_set items i q ≡ map settled (take (i + 1) old) ++ drop (i + 1) old) (sym c.settle.ensures)
+    (map_over_more settled old items i here within c.loop-place.invariant (ap (λ (d : Place g.row.S.Denot). get_or items i d) c.place-item.is))

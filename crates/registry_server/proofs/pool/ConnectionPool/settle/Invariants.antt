@@ -5,4 +5,4 @@ use Rattle.registry_server.proofs.pool.ConnectionPool.settle.Given as goal
 abbrev pub invariant-loop-place : goal.invariant-loop-place
 invariant-loop-place g l =
     let old = l.fn.self.places.items in
-    l.place-items ≡ map (settled l.is_crowd) (take l.place-index old) ++ drop l.place-index old
+    l.place-items ≡ map settled (take l.place-index old) ++ drop l.place-index old
