@@ -8,7 +8,7 @@ use Rattle.std.proofs.lemmas.Option.{get_or_from_slice_get, slice_get_within}
 use Rattle.registry_service.specs.Turns.{Answering}
 use Rattle.registry_server.specs.Connections.{OpenConnection, waiting}
 use Rattle.registry_server.specs.Phases.{idle_from, is_late}
-use Rattle.registry_server.specs.Pools.{ChoosesIf, EndsLeaveRest, IsAtRest, IsFirstOfEarliest, NewConnectionsLeaveRest, NewPoolRests, NewcomersEndIdle, VisitsAll, VisitsIf, VisitsLeaveRest, VisitsThere, WakesLeaveRest, after_visit, at_place, chosen, chosen_of, free, has_room, idle_at, idle_times, idle_with, in_time, is_crowd, is_free, is_held_back, kept_at, new_at, place_count, settled, waiting_at, waiting_with, woken}
+use Rattle.registry_server.specs.Pools.{ChoosesIf, EndsLeaveRest, IdleEndsLeaveRest, IsAtRest, IsFirstOfEarliest, NewConnectionsLeaveRest, NewPoolRests, NewcomersEndIdle, VisitsAll, VisitsIf, VisitsLeaveRest, VisitsThere, WakesLeaveRest, WantOfRoomEndsIdle, after_visit, at_place, chosen, chosen_of, emptied, emptied_of, free, has_room, idle_at, idle_times, idle_with, in_time, is_crowd, is_free, is_held_back, kept_at, new_at, place_count, settled, waiting_at, waiting_with, woken}
 use Rattle.registry_server.specs.declared.connection.Visit.{Visit}
 use Rattle.registry_server.specs.declared.connection.Visit.TheVariants.{Again, Rests, Over}
 use Rattle.registry_server.specs.declared.phase.Stage.{Stage}
@@ -60,6 +60,16 @@ module _ {S : Type 0} (must_wait : S → Bool) where
 
   pub wakes-leave-rest : WakesLeaveRest must_wait
   wakes-leave-rest places k h = at-rest woken places k (λ p. rest-ready (woken p) refl) h
+
+  emptied-rest : (p : Place S) → IsAtRest must_wait (emptied p)
+  emptied-rest p c ready at = none-some c at
+
+  emptied-at-rest : (old : List (Place S)) (which : Option ℕ) → All (IsAtRest must_wait) old → All (IsAtRest must_wait) (emptied_of old which)
+  emptied-at-rest old None h = h
+  emptied-at-rest old (Some k) h = at-rest emptied old k emptied-rest h
+
+  pub idle-ends-leave-rest : IdleEndsLeaveRest must_wait
+  idle-ends-leave-rest old new found h ends = subst (All (IsAtRest must_wait)) (sym ends.places) (emptied-at-rest old ends.which h)
 
   pub ends-leave-rest : EndsLeaveRest must_wait
   ends-leave-rest now places h = All-map (IsAtRest must_wait) (kept_at now) places
@@ -119,20 +129,33 @@ module _ {S : Type 0} (must_wait : S → Bool) where
       let rest : IsAtRest must_wait p = subst (IsAtRest must_wait) (get_or_from_slice_get places k p p there) (rests k p (slice_get_within places k p there)) in
       (idle.0, rest c idle.0 at, idle.1)
 
-module _ {S : Type 0} (received sent : S → Option (List ℕ)) (must_wait is_ended is_broken : S → Bool) {D : Type 0} (answers : Answering D) (over : D → Bool) where
+  idle-first : (places : List (Place S)) (which : Option ℕ) (k : ℕ) (p : Place S) (c : OpenConnection S) → IsFirstOfEarliest (idle_times places) (length places) which → which ≡ Some k
+      → slice_get places k ≡ Some p → p.connection ≡ Some c → (p.is_ready ≡ false) × (c.phase.stage ≡ Idle)
+  idle-first places None k p c first is there at = none-some k is
+  idle-first places (Some j) k p c first is there at =
+      let one : j ≡ k = cc in
+      idle-if p.is_ready p.connection c first.0 at (sym (ap idle_at there) ∙ ap (idle_times places) (sym one) ∙ first.2)
+
+  pub want-of-room-ends-idle : WantOfRoomEndsIdle must_wait
+  want-of-room-ends-idle old new found ends k p c rests is there at =
+      let idle = idle-first old ends.which k p c ends.first is there at in
+      let rest : IsAtRest must_wait p = subst (IsAtRest must_wait) (get_or_from_slice_get old k p p there) (rests k p (slice_get_within old k p there)) in
+      (idle.0, rest c idle.0 at, idle.1)
+
+module _ {S : Type 0} (received sent : S → Option (List ℕ)) (must_wait has_more is_ended is_broken : S → Bool) {D : Type 0} (answers : Answering D) (over : D → Bool) where
   there-rests : (now most : ℕ) (p : Place S) (o : Option (OpenConnection S)) (q : Place S) (M N : D) (r r2 : Option (List ℕ))
-      → VisitsThere received sent must_wait is_ended is_broken answers now most p o q M N r r2 → IsAtRest must_wait q
+      → VisitsThere received sent must_wait has_more is_ended is_broken answers now most p o q M N r r2 → IsAtRest must_wait q
   there-rests now most p None q M N r r2 v = subst (IsAtRest must_wait) (sym v.place) (λ c ready at. none-some c at)
   there-rests now most p (Some c) q M N r r2 v = subst (IsAtRest must_wait) (sym v.place) (after-rest must_wait v.visit p v.connection v.waits)
 
   visited-rests : (b held : Bool) (now most : ℕ) (p q : Place S) (M N : D) (r r2 : Option (List ℕ)) → IsAtRest must_wait p
-      → VisitsIf received sent must_wait is_ended is_broken answers b held now most p q M N r r2 → IsAtRest must_wait q
+      → VisitsIf received sent must_wait has_more is_ended is_broken answers b held now most p q M N r r2 → IsAtRest must_wait q
   visited-rests true true now most p q M N r r2 h v = subst (IsAtRest must_wait) (sym v.place) (waiting-at-rest must_wait now p h)
   visited-rests true false now most p q M N r r2 h v = there-rests now most p p.connection q M N r r2 v
   visited-rests false held now most p q M N r r2 h v = subst (IsAtRest must_wait) (sym v.place) h
 
   visited-rest : (crowd : Bool) (now most : ℕ) (ps qs : List (Place S)) (M N : D) (r r2 : Option (List ℕ)) → All (IsAtRest must_wait) ps
-      → VisitsAll received sent must_wait is_ended is_broken answers over crowd now most ps qs M N r r2 → All (IsAtRest must_wait) qs
+      → VisitsAll received sent must_wait has_more is_ended is_broken answers over crowd now most ps qs M N r r2 → All (IsAtRest must_wait) qs
   visited-rest crowd now most [] [] M N r r2 h v = h
   visited-rest crowd now most (p ∷ ps) (q ∷ qs) M N r r2 h v = All-cons (IsAtRest must_wait) q qs
       (visited-rests (p.is_ready && not (over M)) (is_held_back crowd p) now most p q M v.0 r v.1 (All-head (IsAtRest must_wait) p ps h) v.2)
@@ -140,6 +163,6 @@ module _ {S : Type 0} (received sent : S → Option (List ℕ)) (must_wait is_en
   visited-rest crowd now most [] (q ∷ qs) M N r r2 h v = absurd v
   visited-rest crowd now most (p ∷ ps) [] M N r r2 h v = absurd v
 
-  pub visits-leave-rest : VisitsLeaveRest received sent must_wait is_ended is_broken answers over
+  pub visits-leave-rest : VisitsLeaveRest received sent must_wait has_more is_ended is_broken answers over
   visits-leave-rest now most old new M N r r2 h round = visited-rest (is_crowd old) now most round.looked new M N r r2
       (looked-rest must_wait (is_crowd old && has_room old) (map settled old) round.looked round.looks (settled-rest must_wait old h)) round.visits

@@ -80,16 +80,25 @@ module _ {S : Type 0} (received sent : S → Option (List ℕ)) {D : Type 0} (an
 
   -- no turn was taken, and nothing was sent
   pub answered-none : (now : ℕ) (old new : OpenConnection S) (M N : D) (r r2 : Option (List ℕ)) → TakesNone answers old.state new.state M N r r2
-      → LookedAt now old.phase new.phase → new.socket ≡ old.socket → new.is_over ≡ old.is_over → AnswersOnce received sent answers now old new M N r r2
-  answered-none now old new M N r r2 none looked socket over = record {
+      → LookedAt now old.phase new.phase → sent new.socket ≡ sent old.socket → received new.socket ≡ received old.socket → new.is_over ≡ old.is_over → AnswersOnce received sent answers now old new M N r r2
+  answered-none now old new M N r r2 none looked unsent unread over = record {
     due = new.state;
     turns = inr (none, refl, looked);
     put = [];
-    took = ap sent socket ∙ none-added (sent old.socket);
-    unread = ap received socket;
+    took = unsent ∙ none-added (sent old.socket);
+    unread = unread;
     sends = refl;
     over = over;
   }
+
+  -- no turn was taken, and it was looked whether more has come
+  pub answered-looked : (now : ℕ) (old mid new : OpenConnection S) (M N : D) (r r2 : Option (List ℕ)) → TakesNone answers old.state mid.state M N r r2
+      → LookedAt now old.phase mid.phase → mid.socket ≡ old.socket → mid.is_over ≡ old.is_over → new.state ≡ mid.state → new.phase ≡ mid.phase
+      → sent new.socket ≡ sent mid.socket → received new.socket ≡ received mid.socket → new.is_over ≡ mid.is_over → AnswersOnce received sent answers now old new M N r r2
+  answered-looked now old mid new M N r r2 none looked socket over state phase unsent unread still = answered-none now old new M N r r2
+      (record { state = state ∙ none.state; service = none.service; unasked = none.unasked })
+      (subst (λ (p : Phase). LookedAt now old.phase p) (sym phase) looked)
+      (unsent ∙ ap sent socket) (unread ∙ ap received socket) (still ∙ over)
 
   -- bytes were received, and no turn may be taken yet
   pub visit-received : (now most : ℕ) (old new : OpenConnection S) (M : D) (r : Option (List ℕ)) → Receives received sent now most old new true → MayTakeTurn old.state
@@ -208,5 +217,5 @@ module _ {S : Type 0} (received sent : S → Option (List ℕ)) {D : Type 0} (an
     put = [];
     took = d.unsent ∙ none-added (sent old.socket);
     sends = sym d.state;
-    over = λ was. d.over ∙ was;
+    over = d.over;
   }

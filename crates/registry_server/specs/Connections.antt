@@ -81,9 +81,14 @@ LeavesLittle most c = is_answered c ≡ true → length c.state.held ≤ most
 abbrev pub waiting : {S : Type 0} → ℕ → OpenConnection S → OpenConnection S
 waiting now c = connected c.socket c.state (waited c.phase now) c.is_over
 
--- The other side sends no more, or the connection is broken.
+-- All is sent, and nothing is left to answer: no byte is held, or the connection has ended.
+pub record IsDone (p : Pending) : Type 0 where
+  pub all_sent : p.outgoing ≡ []
+  pub none_left : (p.held ≡ []) ⊎ IsSome p.ends
+
+-- The connection is broken; or the other side sends no more, and all is answered and sent.
 abbrev pub IsLost : {S : Type 0} → (S → Bool) → (S → Bool) → OpenConnection S → Type 0
-IsLost is_ended is_broken c = (is_broken c.socket ≡ true) ⊎ (is_ended c.socket ≡ true)
+IsLost is_ended is_broken c = (is_broken c.socket ≡ true) ⊎ ((is_ended c.socket ≡ true) × (c.is_over ≡ true) × IsDone c.state)
 
 module _ {S : Type 0} (received sent : S → Option (List ℕ)) where
   -- So many bytes at most were received, and are held after those that were held before. Where there
@@ -125,7 +130,7 @@ module _ {S : Type 0} (received sent : S → Option (List ℕ)) where
     pub gave : received new.socket ≡ append_known (received old.socket) got
     pub unsent : sent new.socket ≡ sent old.socket
     pub state : new.state ≡ old.state
-    pub over : new.is_over ≡ old.is_over
+    pub over : old.is_over ≡ true → new.is_over ≡ true
     pub times : new.phase ≡ old.phase
 
 -- What was received is held after what was held before, while the connection goes on. It is dropped

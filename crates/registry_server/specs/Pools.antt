@@ -1,10 +1,10 @@
 -- Places for connections: which of them a new one takes, who is visited, and who is let go.
-use Rattle.std.specs.Prelude.{◌≡◌, ◌≢◌, ◌<◌, ◌≤◌, ◌+◌, ◌*◌, ◌∷◌, ⊤, [], ℕ, zero, suc, Bool, true, false, List, Option, Some, None, is_none, All, count_by, length, map, max, nat_le, nat_lt, position, replicate, slice_get, sum_by, MatchOption, ◌&&◌, ◌||◌, not, if◌then◌else◌}
+use Rattle.std.specs.Prelude.{◌≡◌, ◌≢◌, ◌<◌, ◌≤◌, ◌+◌, ◌*◌, ◌∷◌, ⊤, [], ℕ, zero, suc, Bool, true, false, List, Option, Some, None, is_none, is_some, All, count_by, length, map, max, nat_le, nat_lt, position, replicate, slice_get, sum_by, MatchOption, ◌&&◌, ◌||◌, not, if◌then◌else◌}
 use Rattle.std.specs.List.{list_any}
 use Rattle.registry_wire.specs.Spelling.{request_limit}
 use Rattle.registry_service.specs.Turns.{Answering}
 use Rattle.registry_server.specs.ConnectionStates.{fresh}
-use Rattle.registry_server.specs.Connections.{IsLost, LeavesLittle, OpenConnection, Visits, body_least, body_since, connected, has_body, is_answered, waiting}
+use Rattle.registry_server.specs.Connections.{IsDone, IsLost, LeavesLittle, OpenConnection, Visits, body_least, body_since, connected, has_body, is_answered, waiting}
 use Rattle.registry_server.specs.Phases.{first_phase, idle_since, is_late}
 use Rattle.registry_server.specs.declared.connection.Visit.{Visit}
 use Rattle.registry_server.specs.declared.connection.Visit.TheVariants.{Again, Rests, Over}
@@ -97,6 +97,24 @@ earlier (Some best) n (Some t) = if nat_le best.1 t then Some best else Some (n,
 -- for longest
 abbrev pub IsPlaceFor : {S : Type 0} → List (Place S) → Option ℕ → Type 0
 IsPlaceFor places r = MatchOption (position is_free places) (IsFirstOfEarliest (idle_times places) (length places) r) (λ k. r ≡ Some k)
+
+-- ---- where the system has no room for one more
+
+-- the connection there ends
+abbrev pub emptied : {S : Type 0} → Place S → Place S
+emptied p = with_connection p None p.is_ready
+
+abbrev pub emptied_of : {S : Type 0} → List (Place S) → Option ℕ → List (Place S)
+emptied_of places None = places
+emptied_of places (Some k) = at_place emptied places k
+
+-- The connection ends at which nothing was begun for longest, and no other. It is said whether there is
+-- one.
+pub record EndsIdle {S : Type 0} (old new : List (Place S)) (was : Bool) : Type 0 where
+  pub which : Option ℕ
+  pub first : IsFirstOfEarliest (idle_times old) (length old) which
+  pub places : new ≡ emptied_of old which
+  pub found : was ≡ is_some which
 
 -- ---- which bodies are read of a crowd
 
@@ -227,11 +245,12 @@ after_visit Again p c = with_connection p (Some c) true
 after_visit Rests p c = with_connection p (Some c) false
 after_visit Over p c = with_connection p None false
 
-module _ {S : Type 0} (received sent : S → Option (List ℕ)) (must_wait is_ended is_broken : S → Bool) {D : Type 0} (answers : Answering D) where
+module _ {S : Type 0} (received sent : S → Option (List ℕ)) (must_wait has_more is_ended is_broken : S → Bool) {D : Type 0} (answers : Answering D) where
   -- A connection was visited: it goes on at once, rests, or ends. It rests only where its socket has
-  -- to wait, and what is held of a next request was looked at. It ends only where the other side
-  -- sends no more, or where it is broken. Where it goes on after an answer little is held, if it was
-  -- so before.
+  -- to wait, and what is held of a next request was looked at. Within a request it goes on only where
+  -- its socket may have more. It ends where the other side sends no more and all was answered and sent
+  -- before, and else only where it is broken. Where it goes on after an answer little is held, if it
+  -- was so before.
   pub record VisitsOne (now most : ℕ) (at : Place S) (old : OpenConnection S) (new : Place S) (M N : D) (readings readings2 : Option (List ℕ)) : Type 0 where
     pub connection : OpenConnection S
     pub visits : Visits received sent answers now most old connection M N readings readings2
@@ -239,7 +258,9 @@ module _ {S : Type 0} (received sent : S → Option (List ℕ)) (must_wait is_en
     pub place : new ≡ after_visit visit at connection
     pub rests : visit ≡ Rests → connection.phase.stage ≢ Next
     pub waits : visit ≡ Rests → must_wait connection.socket ≡ true
+    pub more : visit ≡ Again → connection.phase.stage ≡ Begun → has_more connection.socket ≡ true
     pub over : visit ≡ Over → IsLost is_ended is_broken connection
+    pub ends : IsDone old.state → connection.is_over ≡ true → visit ≡ Over
     pub leaves : visit ≢ Over → LeavesLittle most old → LeavesLittle most connection
 
   -- nothing was visited, and the place is as this one
@@ -259,11 +280,11 @@ module _ {S : Type 0} (received sent : S → Option (List ℕ)) (must_wait is_en
   VisitsIf true false now most old new M N readings readings2 = VisitsThere now most old old.connection new M N readings readings2
   VisitsIf false held now most old new M N readings readings2 = VisitsNone old new M N readings readings2
 
-module _ {S : Type 0} (received sent : S → Option (List ℕ)) (must_wait is_ended is_broken : S → Bool) {D : Type 0} (answers : Answering D) (over : D → Bool) where
+module _ {S : Type 0} (received sent : S → Option (List ℕ)) (must_wait has_more is_ended is_broken : S → Bool) {D : Type 0} (answers : Answering D) (over : D → Bool) where
   -- a place is visited where it is to be and isn't held back, unless the service is over
   abbrev pub VisitsAt : Bool → ℕ → ℕ → Place S → Place S → D → D → Option (List ℕ) → Option (List ℕ) → Type 0
   VisitsAt crowd now most old new M N readings readings2 =
-      VisitsIf received sent must_wait is_ended is_broken answers (old.is_ready && not (over M)) (is_held_back crowd old) now most old new M N readings readings2
+      VisitsIf received sent must_wait has_more is_ended is_broken answers (old.is_ready && not (over M)) (is_held_back crowd old) now most old new M N readings readings2
 
   -- Each connection that is to be visited and isn't held back is visited, once, in the order of their
   -- places, and no other is. After the visit in which the service is over none is. Of each so many
@@ -313,25 +334,29 @@ NewConnectionsLeaveFew S = (now : ℕ) (socket : S) (places : List (Place S)) (k
 abbrev pub WakesLeaveFew : Type 0 → Type 0
 WakesLeaveFew S = (places : List (Place S)) (k : ℕ) → FewChosen places → FewChosen (at_place woken places k)
 
--- and once those ended whose time is up
+-- once those ended whose time is up
 abbrev pub EndsLeaveFew : Type 0 → Type 0
 EndsLeaveFew S = (now : ℕ) (places : List (Place S)) → FewChosen places → FewChosen (map (kept_at now) places)
+
+-- and once one ended for want of room
+abbrev pub IdleEndsLeaveFew : Type 0 → Type 0
+IdleEndsLeaveFew S = (old new : List (Place S)) (found : Bool) → FewChosen old → EndsIdle old new found → FewChosen new
 
 -- who is held back has begun a request that isn't whole
 abbrev pub WhoWaitsHasBegun : Type 0 → Type 0
 WhoWaitsHasBegun S = (crowd : Bool) (p : Place S) (c : OpenConnection S) → is_held_back crowd p ≡ true → p.connection ≡ Some c → c.phase.stage ≡ Begun
 
-module _ {S : Type 0} (received sent : S → Option (List ℕ)) (must_wait is_ended is_broken : S → Bool) {D : Type 0} (answers : Answering D) (over : D → Bool) where
+module _ {S : Type 0} (received sent : S → Option (List ℕ)) (must_wait has_more is_ended is_broken : S → Bool) {D : Type 0} (answers : Answering D) (over : D → Bool) where
   -- and in a round, also once it is looked which bodies are read
   abbrev pub RoundsReadFew : Type 0
   RoundsReadFew = (now most : ℕ) (old new : List (Place S)) (M N : D) (readings readings2 : Option (List ℕ)) → FewChosen old
-      → (round : VisitsRound received sent must_wait is_ended is_broken answers over now most old new M N readings readings2) → FewChosen round.looked × FewChosen new
+      → (round : VisitsRound received sent must_wait has_more is_ended is_broken answers over now most old new M N readings readings2) → FewChosen round.looked × FewChosen new
 
   -- A round leaves at each place no more than so many bytes beside those that were held before, and
   -- no more at those of connections that are held back.
   abbrev pub RoundsHoldLittleMore : Type 0
   RoundsHoldLittleMore = (now most : ℕ) (old new : List (Place S)) (M N : D) (readings readings2 : Option (List ℕ))
-      → (round : VisitsRound received sent must_wait is_ended is_broken answers over now most old new M N readings readings2) → HoldLittleMore (is_crowd old) most round.looked new
+      → (round : VisitsRound received sent must_wait has_more is_ended is_broken answers over now most old new M N readings readings2) → HoldLittleMore (is_crowd old) most round.looked new
 
 -- ---- how much is held after any number of rounds
 
@@ -378,15 +403,19 @@ NewConnectionsLeaveLittle S = (most now : ℕ) (socket : S) (places : List (Plac
 abbrev pub WakesLeaveLittle : Type 0 → Type 0
 WakesLeaveLittle S = (most : ℕ) (places : List (Place S)) (k : ℕ) → HoldLittle most places → HoldLittle most (at_place woken places k)
 
--- and once those ended whose time is up
+-- once those ended whose time is up
 abbrev pub EndsLeaveLittle : Type 0 → Type 0
 EndsLeaveLittle S = (most now : ℕ) (places : List (Place S)) → HoldLittle most places → HoldLittle most (map (kept_at now) places)
 
-module _ {S : Type 0} (received sent : S → Option (List ℕ)) (must_wait is_ended is_broken : S → Bool) {D : Type 0} (answers : Answering D) (over : D → Bool) where
+-- once one ended for want of room
+abbrev pub IdleEndsLeaveLittle : Type 0 → Type 0
+IdleEndsLeaveLittle S = (most : ℕ) (old new : List (Place S)) (found : Bool) → HoldLittle most old → EndsIdle old new found → HoldLittle most new
+
+module _ {S : Type 0} (received sent : S → Option (List ℕ)) (must_wait has_more is_ended is_broken : S → Bool) {D : Type 0} (answers : Answering D) (over : D → Bool) where
   -- and after a round
   abbrev pub RoundsLeaveLittle : Type 0
   RoundsLeaveLittle = (now most : ℕ) (old new : List (Place S)) (M N : D) (readings readings2 : Option (List ℕ)) → HoldLittle most old
-      → VisitsRound received sent must_wait is_ended is_broken answers over now most old new M N readings readings2 → HoldLittle most new
+      → VisitsRound received sent must_wait has_more is_ended is_broken answers over now most old new M N readings readings2 → HoldLittle most new
 
 -- what is held at a place whose body isn't chosen
 abbrev pub unread_at : {S : Type 0} → Place S → ℕ
@@ -424,21 +453,31 @@ NewConnectionsLeaveRest {S} must_wait = (now : ℕ) (socket : S) (places : List 
 abbrev pub WakesLeaveRest : {S : Type 0} → (S → Bool) → Type 0
 WakesLeaveRest {S} must_wait = (places : List (Place S)) (k : ℕ) → All (IsAtRest must_wait) places → All (IsAtRest must_wait) (at_place woken places k)
 
--- and once those ended whose time is up
+-- once those ended whose time is up
 abbrev pub EndsLeaveRest : {S : Type 0} → (S → Bool) → Type 0
 EndsLeaveRest {S} must_wait = (now : ℕ) (places : List (Place S)) → All (IsAtRest must_wait) places → All (IsAtRest must_wait) (map (kept_at now) places)
 
-module _ {S : Type 0} (received sent : S → Option (List ℕ)) (must_wait is_ended is_broken : S → Bool) {D : Type 0} (answers : Answering D) (over : D → Bool) where
+-- once one ended for want of room
+abbrev pub IdleEndsLeaveRest : {S : Type 0} → (S → Bool) → Type 0
+IdleEndsLeaveRest {S} must_wait = (old new : List (Place S)) (found : Bool) → All (IsAtRest must_wait) old → EndsIdle old new found → All (IsAtRest must_wait) new
+
+module _ {S : Type 0} (received sent : S → Option (List ℕ)) (must_wait has_more is_ended is_broken : S → Bool) {D : Type 0} (answers : Answering D) (over : D → Bool) where
   -- and after visits
   abbrev pub VisitsLeaveRest : Type 0
   VisitsLeaveRest = (now most : ℕ) (old new : List (Place S)) (M N : D) (readings readings2 : Option (List ℕ)) → All (IsAtRest must_wait) old
-      → VisitsRound received sent must_wait is_ended is_broken answers over now most old new M N readings readings2 → All (IsAtRest must_wait) new
+      → VisitsRound received sent must_wait has_more is_ended is_broken answers over now most old new M N readings readings2 → All (IsAtRest must_wait) new
 
 -- A new connection ends no other but one that isn't to be visited, whose socket had to wait when it
 -- was asked last, and on which nothing is begun.
 abbrev pub NewcomersEndIdle : {S : Type 0} → (S → Bool) → Type 0
 NewcomersEndIdle {S} must_wait = (places : List (Place S)) (k : ℕ) (p : Place S) (c : OpenConnection S)
     → All (IsAtRest must_wait) places → IsPlaceFor places (Some k) → slice_get places k ≡ Some p → p.connection ≡ Some c
+    → (p.is_ready ≡ false) × (must_wait c.socket ≡ true) × (c.phase.stage ≡ Idle)
+
+-- And no more does one that ends for want of room.
+abbrev pub WantOfRoomEndsIdle : {S : Type 0} → (S → Bool) → Type 0
+WantOfRoomEndsIdle {S} must_wait = (old new : List (Place S)) (found : Bool) (ends : EndsIdle old new found) (k : ℕ) (p : Place S) (c : OpenConnection S)
+    → All (IsAtRest must_wait) old → ends.which ≡ Some k → slice_get old k ≡ Some p → p.connection ≡ Some c
     → (p.is_ready ≡ false) × (must_wait c.socket ≡ true) × (c.phase.stage ≡ Idle)
 
 -- ---- why a server ends

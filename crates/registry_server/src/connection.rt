@@ -3,7 +3,7 @@
 ghost use Rattle.std.specs.Prelude.{◌≡◌, ◌≢◌, [], true, false, IfOk, IsSome, OnOk, OnErr, length};
 ghost use Rattle.registry_wire.specs.Spelling.{IsUnfinished};
 ghost use Rattle.registry_server.specs.ConnectionStates.{Does, MayTakeTurn, fresh};
-ghost use Rattle.registry_server.specs.Connections.{AnswersOnce, Drops, IsLost, LeavesLittle, LeavesRest, Receives, SendsDue, StarvesOnce, Visits, body_since, connected, has_body, is_answered, stage_after, waiting};
+ghost use Rattle.registry_server.specs.Connections.{AnswersOnce, Drops, IsDone, IsLost, LeavesLittle, LeavesRest, Receives, SendsDue, StarvesOnce, Visits, body_since, connected, has_body, is_answered, stage_after, waiting};
 ghost use Rattle.registry_server.specs.Phases as phases;
 ghost use Rattle.registry_server.specs.declared.connection.Visit.TheVariants as visits;
 ghost use Rattle.registry_server.specs.declared.phase.Stage.TheVariants as stages;
@@ -128,7 +128,8 @@ impl<S: Socket> Connection<S> {
         self.phase.wait(now);
     }
 
-    /// Goes on with the connection: receives once, answers one request at most, and sends once.
+    /// Goes on with the connection: receives once, answers one request at most, and sends once. Where
+    /// a request isn't whole it is looked whether more has come.
     pub fn visit<D: Service, C: Clock>(
         &mut self,
         alloc: Global,
@@ -141,7 +142,9 @@ impl<S: Socket> Connection<S> {
             service.old service.new (C.readings clock.old) (C.readings clock.new) }
         ensures rests { result ≡ visits.Rests → self.new.phase.stage ≢ stages.Next }
         ensures waits { result ≡ visits.Rests → S.must_wait self.new.socket ≡ true }
+        ensures more { result ≡ visits.Again → self.new.phase.stage ≡ stages.Begun → S.has_more self.new.socket ≡ true }
         ensures over { result ≡ visits.Over → IsLost S.is_ended S.is_broken self.new }
+        ensures ends { IsDone self.old.state → self.new.is_over ≡ true → result ≡ visits.Over }
         ensures leaves { result ≢ visits.Over → LeavesLittle (length buffer.old) self.old
             → LeavesLittle (length buffer.old) self.new }
     {
@@ -172,6 +175,9 @@ impl<S: Socket> Connection<S> {
         ensures stage { phases.takes_turns self.new.phase.stage ≡ true }
         ensures quiet { IfOk result (λ flow. flow ≡ flows.Waits → phases.receives self.new.phase.stage ≡ true) }
         ensures must_wait { IfOk result (λ flow. flow ≡ flows.Waits → S.must_wait self.new.socket ≡ true) }
+        ensures goes_on { IfOk result (λ flow. flow ≡ flows.Waits → self.new.is_over ≡ false) }
+        ensures ended { OnOk result (self.new.is_over ≡ true → self.new.state ≡ self.old.state) }
+        ensures not_ended { OnErr result (self.new.is_over ≡ false) }
         ensures broken { IfOk result (λ flow. flow ≡ flows.Broken → S.is_broken self.new.socket ≡ true) }
     {
         if self.is_over {
@@ -203,13 +209,33 @@ impl<S: Socket> Connection<S> {
             service.old service.new (C.readings clock.old) (C.readings clock.new) }
         ensures rests { result ≡ visits.Rests → self.new.phase.stage ≢ stages.Next }
         ensures waits { result ≡ visits.Rests → S.must_wait self.new.socket ≡ true }
+        ensures more { result ≡ visits.Again → self.new.phase.stage ≡ stages.Begun → S.has_more self.new.socket ≡ true }
         ensures over { result ≡ visits.Over → IsLost S.is_ended S.is_broken self.new }
+        ensures ends { self.old.is_over ≡ true → self.old.state.held ≡ [] → result ≡ visits.Over }
         ensures rest { result ≢ visits.Over → LeavesRest self.old.state.held self.new }
     {
         match self.take_turn(alloc, service, clock, now) {
             Progress::Answered => self.send(now),
-            Progress::Waits => Visit::Again,
+            Progress::Waits => self.look(),
             Progress::Closed => Visit::Over,
+        }
+    }
+
+    // Rests where nothing more has come.
+    fn look(&mut self) -> Visit
+        ensures state { self.new.state ≡ self.old.state }
+        ensures sent { S.sent self.new.socket ≡ S.sent self.old.socket }
+        ensures received { S.received self.new.socket ≡ S.received self.old.socket }
+        ensures over { self.new.is_over ≡ self.old.is_over }
+        ensures phase { self.new.phase ≡ self.old.phase }
+        ensures waits { result ≡ visits.Rests → S.must_wait self.new.socket ≡ true }
+        ensures more { result ≡ visits.Again → S.has_more self.new.socket ≡ true }
+        ensures lost { result ≡ visits.Over → S.is_broken self.new.socket ≡ true }
+    {
+        match self.socket.look() {
+            Flow::Waits => Visit::Rests,
+            Flow::Moved(_) | Flow::Ended => Visit::Again,
+            Flow::Broken => Visit::Over,
         }
     }
 
@@ -228,6 +254,8 @@ impl<S: Socket> Connection<S> {
         ensures sends { result ≡ progress.Answered → self.new.phase ≡ phases.entered self.old.phase stages.Sends now }
         ensures looked { result ≢ progress.Answered → phases.LookedAt now self.old.phase self.new.phase }
         ensures waits { result ≡ progress.Waits → is_answered self.new ≡ false }
+        ensures rests { result ≡ progress.Waits → self.new.phase.stage ≢ stages.Next }
+        ensures closes { self.old.is_over ≡ true → self.old.state.held ≡ [] → result ≡ progress.Closed }
         ensures lost { result ≡ progress.Closed → S.is_ended self.new.socket ≡ true }
         ensures socket { self.new.socket ≡ self.old.socket }
         ensures over { self.new.is_over ≡ self.old.is_over }
@@ -246,6 +274,7 @@ impl<S: Socket> Connection<S> {
         ensures starves { StarvesOnce S.received S.sent now self.old self.new }
         ensures rests { result ≡ visits.Rests → self.new.phase.stage ≢ stages.Next }
         ensures waits { result ≡ visits.Rests → S.must_wait self.new.socket ≡ true }
+        ensures more { self.new.phase.stage ≢ stages.Begun }
         ensures over { result ≡ visits.Over → IsLost S.is_ended S.is_broken self.new }
     {
         self.phase.enter(Stage::Sends, now);
@@ -256,6 +285,8 @@ impl<S: Socket> Connection<S> {
     // Sends once.
     fn send(&mut self, now: u64) -> Visit
         requires { self.old.phase.stage ≡ stages.Sends }
+        ensures due { self.old.state.outgoing ≢ [] }
+        ensures more { self.new.phase.stage ≢ stages.Begun }
         ensures sends { SendsDue S.received S.sent now self.old self.new }
         ensures rests { result ≡ visits.Rests → self.new.phase.stage ≢ stages.Next }
         ensures waits { result ≡ visits.Rests → S.must_wait self.new.socket ≡ true }
@@ -304,18 +335,27 @@ impl<S: Socket> Connection<S> {
         ensures stage { self.new.phase.stage ≡ stages.Drains }
         ensures waits { result ≡ visits.Rests → S.must_wait self.new.socket ≡ true }
         ensures over { result ≡ visits.Over → IsLost S.is_ended S.is_broken self.new }
+        ensures over_ends { self.new.is_over ≡ true → result ≡ visits.Over }
     {
+        if self.is_over {
+            return Visit::Over;
+        }
         match self.socket.receive(buffer) {
             Flow::Moved(_) => Visit::Again,
             Flow::Waits => Visit::Rests,
-            Flow::Ended | Flow::Broken => Visit::Over,
+            Flow::Ended => {
+                self.is_over = true;
+                Visit::Over
+            }
+            Flow::Broken => Visit::Over,
         }
     }
 }
 
 // What a connection is at once all of a response is sent.
 fn next_stage(state: &ConnectionState) -> Stage
-    ensures { result ≡ stage_after state.now }
+    ensures after { result ≡ stage_after state.now }
+    ensures not_begun { result ≢ stages.Begun }
 {
     if state.ends().is_some() {
         Stage::Drains

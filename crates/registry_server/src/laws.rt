@@ -1,7 +1,7 @@
 //! Laws of connections. Each is the contract of a function that does nothing.
 
 ghost use Rattle.registry_server.specs.Phases.{BytesGive, EnteredEndsInTime, NeverGiveMore, NewPhasesEndInTime, PaidEndsInTime, ResponseTimePasses, StagesGiveNone, WaitedEndsInTime, WaitsGiveNone};
-ghost use Rattle.registry_server.specs.Pools.{AllHoldLittle, EndsLeaveFew, EndsLeaveLittle, EndsLeaveRest, NewConnectionsLeaveFew, NewConnectionsLeaveLittle, NewConnectionsLeaveRest, NewPoolHoldsLittle, NewPoolReadsFew, NewPoolRests, NewcomersEndIdle, RoundsHoldLittleMore, RoundsLeaveLittle, RoundsReadFew, ServersHoldLittle, UnreadHoldLittle, VisitsLeaveRest, WakesLeaveFew, WakesLeaveLittle, WakesLeaveRest, WhoWaitsHasBegun};
+ghost use Rattle.registry_server.specs.Pools.{AllHoldLittle, EndsLeaveFew, EndsLeaveLittle, EndsLeaveRest, IdleEndsLeaveFew, IdleEndsLeaveLittle, IdleEndsLeaveRest, NewConnectionsLeaveFew, NewConnectionsLeaveLittle, NewConnectionsLeaveRest, NewPoolHoldsLittle, NewPoolReadsFew, NewPoolRests, NewcomersEndIdle, RoundsHoldLittleMore, RoundsLeaveLittle, RoundsReadFew, ServersHoldLittle, UnreadHoldLittle, VisitsLeaveRest, WakesLeaveFew, WakesLeaveLittle, WakesLeaveRest, WantOfRoomEndsIdle, WhoWaitsHasBegun};
 ghost use Rattle.registry_server.specs.Worlds.{Begins, Comes, Sends, Shuts, Starves, TakesTurns, VisitsLead};
 
 use crate::socket::Socket;
@@ -52,14 +52,17 @@ pub fn requests_end_in_time()
 /// No new connection ends one that is to be visited. Each connection that isn't rests: its socket
 /// had to wait when it was asked last. So it is in a new pool, and new connections, wakes, ends and
 /// visits leave it so. And a new connection takes the place of another one only where that rests
-/// and nothing is begun on it.
+/// and nothing is begun on it (`ended`), and so it is where one ends as the system has no descriptor
+/// left (`lacks`).
 pub fn newcomers_end_idle_connections<S: Socket, D: Service>()
     ensures begins { NewPoolRests S.must_wait }
     ensures comes { NewConnectionsLeaveRest S.must_wait }
     ensures wakes { WakesLeaveRest S.must_wait }
     ensures late { EndsLeaveRest S.must_wait }
-    ensures visits { VisitsLeaveRest S.received S.sent S.must_wait S.is_ended S.is_broken D.answers D.over }
+    ensures room { IdleEndsLeaveRest S.must_wait }
+    ensures visits { VisitsLeaveRest S.received S.sent S.must_wait S.has_more S.is_ended S.is_broken D.answers D.over }
     ensures ended { NewcomersEndIdle S.must_wait }
+    ensures lacks { WantOfRoomEndsIdle S.must_wait }
 {}
 
 /// A crowd holds little more after a round than before it: a connection holds no more bytes than one
@@ -71,8 +74,9 @@ pub fn a_crowd_holds_little_more<S: Socket, D: Service>()
     ensures comes { NewConnectionsLeaveFew S }
     ensures wakes { WakesLeaveFew S }
     ensures late { EndsLeaveFew S }
-    ensures rounds { RoundsReadFew S.received S.sent S.must_wait S.is_ended S.is_broken D.answers D.over }
-    ensures few { RoundsHoldLittleMore S.received S.sent S.must_wait S.is_ended S.is_broken D.answers D.over }
+    ensures room { IdleEndsLeaveFew S }
+    ensures rounds { RoundsReadFew S.received S.sent S.must_wait S.has_more S.is_ended S.is_broken D.answers D.over }
+    ensures few { RoundsHoldLittleMore S.received S.sent S.must_wait S.has_more S.is_ended S.is_broken D.answers D.over }
     ensures waits { WhoWaitsHasBegun S }
 {}
 
@@ -87,7 +91,8 @@ pub fn connections_hold_little<S: Socket, D: Service>()
     ensures comes { NewConnectionsLeaveLittle S }
     ensures wakes { WakesLeaveLittle S }
     ensures late { EndsLeaveLittle S }
-    ensures rounds { RoundsLeaveLittle S.received S.sent S.must_wait S.is_ended S.is_broken D.answers D.over }
+    ensures room { IdleEndsLeaveLittle S }
+    ensures rounds { RoundsLeaveLittle S.received S.sent S.must_wait S.has_more S.is_ended S.is_broken D.answers D.over }
     ensures unread { UnreadHoldLittle S }
     ensures all { AllHoldLittle S }
     ensures servers { ServersHoldLittle S }

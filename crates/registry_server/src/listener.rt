@@ -1,6 +1,6 @@
 //! Where connections come in.
 
-ghost use Rattle.std.specs.Prelude.{◌≡◌, ◌&&◌, true, not, IfOk, IfSome, IfNone};
+ghost use Rattle.std.specs.Prelude.{◌≡◌, ◌&&◌, true, not, IfOk, IfSome, IfNone, OnErr};
 ghost use Rattle.registry_server.specs.Listening as spec;
 ghost use Rattle.registry_server.specs.Listening.{counted, expecting, lets_in, one_less};
 
@@ -13,6 +13,15 @@ use std::net::{Ipv4Addr, Net, SocketAddr};
 
 /// From this number on connections aren't counted.
 pub const UNCOUNTED: u64 = 1_000_000;
+
+// What the system says where a process may open no more descriptors, and where nobody may.
+const NONE_IN_PROCESS: i32 = 24;
+
+const NONE_IN_SYSTEM: i32 = 23;
+
+/// The system has no descriptor left.
+#[derive(Clone, Copy, Debug, PartialEq, Eq)]
+pub struct NoDescriptor;
 
 /// A port of 127.0.0.1, and how many more connections are to come in, where they are counted. It is
 /// closed once the last was taken.
@@ -85,27 +94,48 @@ impl Listener {
         self.listener.is_none()
     }
 
-    /// Lets one connection in, if one is there. The last one closes the listener.
-    pub fn admit(&mut self) -> Option<TcpStream>
-        ensures some { IfSome result (λ _. self.new ≡ expecting (one_less self.old.left) self.old.is_asked) }
-        ensures lets_in { IfSome result (λ _. lets_in self.old.left ≡ true) }
-        ensures none { IfNone result (self.new.left ≡ self.old.left) }
+    /// Lets one connection in, if one is there. The last one closes the listener. The error is that
+    /// the system has no descriptor left for one: then somebody may still be there.
+    pub fn admit(&mut self) -> Result<Option<TcpStream>, NoDescriptor>
+        ensures some { IfOk result (λ came. IfSome came (λ _. self.new ≡ expecting (one_less self.old.left) self.old.is_asked)) }
+        ensures lets_in { IfOk result (λ came. IfSome came (λ _. lets_in self.old.left ≡ true)) }
+        ensures none { IfOk result (λ came. IfNone came (self.new.left ≡ self.old.left)) }
+        ensures err { OnErr result (self.new ≡ self.old) }
     {
-        match self.listener.as_ref()?.accept() {
+        let Some(listener) = &self.listener else {
+            return Ok(None);
+        };
+        match listener.accept() {
             Ok((stream, _)) => {
-                self.left = one_less(self.left);
-                if !may_come(self.left) {
-                    self.listener = None;
-                }
-                Some(stream)
+                self.came_in();
+                Ok(Some(stream))
             }
+            Err(error) if lacks_descriptor(&error) => Err(NoDescriptor),
             Err(error) => {
                 if error.kind() == ErrorKind::WouldBlock {
                     self.is_asked = false;
                 }
-                None
+                Ok(None)
             }
         }
+    }
+
+    // One came in. The last one closes the listener.
+    fn came_in(&mut self)
+        ensures { self.new ≡ expecting (one_less self.old.left) self.old.is_asked }
+    {
+        self.left = one_less(self.left);
+        if !may_come(self.left) {
+            self.listener = None;
+        }
+    }
+}
+
+// Whether a call of the system failed as no descriptor is left.
+fn lacks_descriptor(error: &io::Error) -> bool {
+    match error.raw_os_error() {
+        Some(code) => code == NONE_IN_PROCESS || code == NONE_IN_SYSTEM,
+        None => false,
     }
 }
 

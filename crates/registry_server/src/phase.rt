@@ -12,8 +12,9 @@ pub const IDLE_LIMIT: u64 = 60_000;
 pub const REQUEST_TIME_LIMIT: u64 = 10_000;
 
 /// A request whose body waits for others has its time begun anew until it is so many milliseconds
-/// old. At most 511 other bodies began before it, 16 of them are read side by side, and each has
-/// 10 s at most: that makes 320 s.
+/// old. At most 511 other bodies began before it. Each of them is chosen once at most, 16 are read
+/// side by side, and each has 10 s at most once it was chosen: that makes 320 s, whether or not the
+/// crowd lasts. How long a body is held that was answered unfinished isn't counted in it.
 pub const WAIT_LIMIT: u64 = 360_000;
 
 /// All responses of a connection together were taken after so many milliseconds, or it ends. More

@@ -3,7 +3,7 @@
 ghost use Rattle.std.specs.Prelude.{◌≡◌, ◌&&◌, true, IfOk, is_none, length, map, position, replicate};
 ghost use Rattle.std.specs.List.{list_all, list_any};
 ghost use Rattle.registry_server.specs.Pools as spec;
-ghost use Rattle.registry_server.specs.Pools.{ChoosesIf, ChoosesNext, IsFirstOfEarliest, IsPlaceFor, LooksAtBodies, VisitsAll, VisitsAt, VisitsRound, at_place, idle_times, new_at, place_count, waiting_times};
+ghost use Rattle.registry_server.specs.Pools.{ChoosesIf, ChoosesNext, EndsIdle, IsFirstOfEarliest, IsPlaceFor, LooksAtBodies, VisitsAll, VisitsAt, VisitsRound, at_place, idle_times, new_at, place_count, waiting_times};
 
 use crate::connection::{BODY_LEAST, Connection, Visit};
 use crate::socket::Socket;
@@ -147,7 +147,7 @@ impl<S: Socket> Place<S> {
         now: u64,
         is_crowd: bool,
     )
-        ensures { VisitsAt S.received S.sent S.must_wait S.is_ended S.is_broken D.answers D.over
+        ensures { VisitsAt S.received S.sent S.must_wait S.has_more S.is_ended S.is_broken D.answers D.over
             is_crowd now (length buffer.old) self.old self.new
             service.old service.new (C.readings clock.old) (C.readings clock.new) }
     {
@@ -248,6 +248,20 @@ impl<S: Socket> ConnectionPool<S> {
         }
     }
 
+    /// The connection ends on which nothing was begun for longest, of those that aren't to be
+    /// visited, and no other. False where there is no such, and then none does.
+    pub fn end_idle(&mut self) -> bool
+        ensures { EndsIdle self.old.places.items self.new.places.items result }
+    {
+        match longest_idle(&self.places) {
+            Some(number) => {
+                self.places[number].connection = None;
+                true
+            }
+            None => false,
+        }
+    }
+
     // The first free place.
     fn free_place(&self) -> Option<usize>
         ensures { result ≡ position spec.is_free self.now.places.items }
@@ -296,7 +310,7 @@ impl<S: Socket> ConnectionPool<S> {
         buffer: &mut [u8],
         now: u64,
     )
-        ensures { VisitsRound S.received S.sent S.must_wait S.is_ended S.is_broken D.answers D.over
+        ensures { VisitsRound S.received S.sent S.must_wait S.has_more S.is_ended S.is_broken D.answers D.over
             now (length buffer.old) self.old.places.items self.new.places.items service.old service.new
             (C.readings clock.old) (C.readings clock.new) }
     {
@@ -314,7 +328,7 @@ impl<S: Socket> ConnectionPool<S> {
         now: u64,
         is_crowd: bool,
     )
-        ensures { VisitsAll S.received S.sent S.must_wait S.is_ended S.is_broken D.answers D.over
+        ensures { VisitsAll S.received S.sent S.must_wait S.has_more S.is_ended S.is_broken D.answers D.over
             is_crowd now (length buffer.old) self.old.places.items self.new.places.items
             service.old service.new (C.readings clock.old) (C.readings clock.new) }
     {

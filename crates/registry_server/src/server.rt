@@ -4,7 +4,7 @@ ghost use Rattle.std.specs.Prelude.{◌≡◌, ◌≤◌, IfOk, if◌then◌else
 ghost use Rattle.registry_server.specs.Pools as spec;
 
 use crate::clocks::{Timer, WallClock};
-use crate::listener::Listener;
+use crate::listener::{Listener, NoDescriptor};
 use crate::pool::{CONNECTION_COUNT, ConnectionPool};
 use mio::net::TcpStream;
 use mio::{Events, Interest, Poll, Token};
@@ -137,25 +137,45 @@ impl Server {
             if self.pool.is_full() {
                 self.look(0)?;
             }
-            self.admit(alloc, now);
+            self.admit(alloc, now)?;
         }
         Ok(())
     }
 
-    // Lets in who is there, as long as there are places.
-    fn admit(&mut self, alloc: Global, now: u64) {
-        for _ in 0..CONNECTION_COUNT {
+    // Lets in who is there, as long as there are places. Where the system has no descriptor left for
+    // one, the connection ends on which nothing was begun for longest. If that gives none for it
+    // either, it is tried again in the next round.
+    fn admit(&mut self, alloc: Global, now: u64) -> io::Result<()> {
+        let mut may_end = true;
+        for _ in 0..2 * CONNECTION_COUNT {
             if !self.listener.is_asked() {
-                return;
+                return Ok(());
             }
             let Some(place) = self.pool.place() else {
-                return;
+                return Ok(());
             };
             match self.listener.admit() {
-                Some(stream) => self.add_connection(alloc, place, stream, now),
-                None => return,
+                Ok(Some(stream)) => {
+                    self.add_connection(alloc, place, stream, now);
+                    may_end = true;
+                }
+                Ok(None) => return Ok(()),
+                Err(NoDescriptor) => {
+                    if !may_end || !self.end_idle()? {
+                        return Ok(());
+                    }
+                    may_end = false;
+                }
             }
         }
+        Ok(())
+    }
+
+    // Ends the connection on which nothing was begun for longest, and says whether there is one. It is
+    // looked first on which connections something has come, so that none of these ends.
+    fn end_idle(&mut self) -> io::Result<bool> {
+        self.look(0)?;
+        Ok(self.pool.end_idle())
     }
 
     // A connection takes a place. One that the system can't report on ends.

@@ -1,6 +1,6 @@
 //! Sockets whose calls never wait.
 
-ghost use Rattle.std.specs.Prelude.{◌≡◌, ◌++◌, ℕ, List, Option, Bool, true, false, length};
+ghost use Rattle.std.specs.Prelude.{◌≡◌, ◌≢◌, ◌++◌, ℕ, List, Option, Bool, true, false, length};
 ghost use Rattle.std.specs.Io.KnownBytes.{append_known};
 ghost use Rattle.registry_server.specs.Sockets.{MovesAtMost, moved};
 ghost use Rattle.registry_server.specs.declared.socket.Flow.TheVariants.{Waits, Ended, Broken};
@@ -38,6 +38,9 @@ pub trait Socket: Drop {
     // Whether it may have nothing to give or take now.
     ghost must_wait: { Self → Bool };
 
+    // Whether it may have something to give now.
+    ghost has_more: { Self → Bool };
+
     // Whether the other side may have said that it sends no more.
     ghost is_ended: { Self → Bool };
 
@@ -55,6 +58,15 @@ pub trait Socket: Drop {
         ensures still_ended { is_ended self.old ≡ true → is_ended self.new ≡ true }
         ensures broken { result ≡ Broken → is_broken self.new ≡ true };
 
+    /// Looks once whether something has come, and receives nothing of it.
+    fn look(&mut self) -> Flow
+        ensures received { received self.new ≡ received self.old }
+        ensures sent { sent self.new ≡ sent self.old }
+        ensures waits { result ≡ Waits → must_wait self.new ≡ true }
+        ensures more { result ≢ Waits → has_more self.new ≡ true }
+        ensures still_ended { is_ended self.old ≡ true → is_ended self.new ≡ true }
+        ensures broken { result ≡ Broken → is_broken self.new ≡ true };
+
     /// Takes some of the first bytes of these two to send, once.
     fn send(&mut self, head: &[u8], body: &[u8]) -> Flow
         ensures bound { MovesAtMost (length (head.now ++ body.now)) result }
@@ -62,7 +74,7 @@ pub trait Socket: Drop {
             ≡ append_known (sent self.old) (moved result (head.now ++ body.now)) }
         ensures received { received self.new ≡ received self.old }
         ensures waits { result ≡ Waits → must_wait self.new ≡ true }
-        ensures ended { result ≡ Ended → is_ended self.new ≡ true }
+        ensures goes_on { result ≢ Ended }
         ensures still_ended { is_ended self.old ≡ true → is_ended self.new ≡ true }
         ensures broken { result ≡ Broken → is_broken self.new ≡ true };
 
@@ -83,12 +95,23 @@ impl Socket for TcpStream {
 
     ghost must_wait = { λ _. true };
 
+    ghost has_more = { λ _. true };
+
     ghost is_ended = { λ _. true };
 
     ghost is_broken = { λ _. true };
 
     fn receive(&mut self, buffer: &mut [u8]) -> Flow {
         match self.read(buffer) {
+            Ok(0) => Flow::Ended,
+            Ok(count) => Flow::Moved(count),
+            Err(error) => failed(&error),
+        }
+    }
+
+    fn look(&mut self) -> Flow {
+        let mut first = [0; 1];
+        match self.peek(&mut first) {
             Ok(0) => Flow::Ended,
             Ok(count) => Flow::Moved(count),
             Err(error) => failed(&error),
@@ -110,7 +133,8 @@ impl Socket for TcpStream {
 }
 
 fn failed(error: &io::Error) -> Flow
-    ensures { MovesAtMost 0 result }
+    ensures none { MovesAtMost 0 result }
+    ensures goes_on { result ≢ Ended }
 {
     match error.kind() {
         ErrorKind::WouldBlock => Flow::Waits,

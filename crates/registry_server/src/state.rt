@@ -1,11 +1,11 @@
 //! One connection, apart from its socket.
 
-ghost use Rattle.std.specs.Prelude.{◌≡◌, ◌≤◌, ◌-◌, ◌==◌, ◌++◌, ◌∷◌, ◌↔◌, [], ℕ, length, drop, IfOk, IsTrue, OnOk, OnErr};
+ghost use Rattle.std.specs.Prelude.{◌≡◌, ◌≤◌, ◌-◌, ◌==◌, ◌++◌, ◌∷◌, ◌↔◌, [], ℕ, length, drop, true, IfOk, IsTrue, OnOk, OnErr};
 ghost use Rattle.registry_wire.specs.Spelling.{EndsWith, IsUnfinished, Says};
 ghost use Rattle.registry_service.specs.Courses.{Gave};
 ghost use Rattle.registry_service.specs.Servings.{bytes_of};
 ghost use Rattle.registry_service.specs.Turns.{Turns, request};
-ghost use Rattle.registry_server.specs.declared.state.Progress.TheVariants.{Answered};
+ghost use Rattle.registry_server.specs.declared.state.Progress.TheVariants.{Answered, Closed};
 ghost use Rattle.registry_server.specs.ConnectionStates.{Does, IsStarved, MayTakeTurn, fresh, holding, pending, sending};
 
 use crate::outgoing::Outgoing;
@@ -124,9 +124,13 @@ impl ConnectionState {
         is_over: bool,
     ) -> Progress
         requires { MayTakeTurn self.old }
-        ensures { Does D.answers self.old self.new service.old service.new
+        ensures does { Does D.answers self.old self.new service.old service.new
             (C.readings clock.old) (C.readings clock.new) is_over result }
+        ensures closes { is_over ≡ true → self.old.held ≡ [] → result ≡ Closed }
     {
+        if is_over && self.is_empty() {
+            return Progress::Closed;
+        }
         match self.first(alloc) {
             Ok(First::Whole(wanted, used)) => {
                 self.drop_first(alloc, used);

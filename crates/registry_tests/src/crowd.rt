@@ -24,22 +24,48 @@ const WHOLE: usize = 256;
 /// Seventeen bodies are a crowd once so many reads of each came.
 const FRONT: usize = 241;
 
-/// The socket of a client that sends so many reads of a body, and nothing more. Once it is answered it
-/// sends no more.
+/// The socket of a client that sends so many reads of a body, and after a pause so many more, and then
+/// nothing. Once it is answered it sends no more.
 #[derive(Drop)]
 struct Client {
     is_begun: bool,
     left: usize,
+    later: usize,
     is_answered: bool,
 }
 
 impl Client {
     fn new(left: usize) -> Client {
+        Client::with_pause(left, 0)
+    }
+
+    fn with_pause(left: usize, later: usize) -> Client {
         Client {
             is_begun: false,
             left,
+            later,
             is_answered: false,
         }
+    }
+
+    // A client that sends nothing.
+    fn silent() -> Client {
+        Client {
+            is_begun: true,
+            left: 0,
+            later: 0,
+            is_answered: false,
+        }
+    }
+
+    // Whether nothing has come now. After it the next part comes.
+    fn pauses(&mut self) -> bool {
+        if self.left > 0 {
+            return false;
+        }
+        self.left = self.later;
+        self.later = 0;
+        true
     }
 }
 
@@ -52,6 +78,8 @@ impl Socket for Client {
 
     ghost must_wait = { λ _. true };
 
+    ghost has_more = { λ _. true };
+
     ghost is_ended = { λ _. true };
 
     ghost is_broken = { λ _. true };
@@ -63,11 +91,21 @@ impl Socket for Client {
         } else if !self.is_begun {
             self.is_begun = true;
             begin(buffer)
-        } else if self.left == 0 {
+        } else if self.pauses() {
             Flow::Waits
         } else {
-            self.left -= 1;
+            self.left = self.left.saturating_sub(1);
             Flow::Moved(buffer.len())
+        }
+    }
+
+    fn look(&mut self) -> Flow {
+        if self.is_answered {
+            Flow::Ended
+        } else if self.is_begun && self.pauses() {
+            Flow::Waits
+        } else {
+            Flow::Moved(1)
         }
     }
 
@@ -92,7 +130,7 @@ fn begin(buffer: &mut [u8]) -> Flow
     }
 }
 
-/// Seventeen clients, of which the last one alone sends its whole body, and what serves them.
+/// Clients, and what serves them.
 #[derive(Drop)]
 struct Crowd {
     pool: ConnectionPool<Client>,
@@ -101,22 +139,41 @@ struct Crowd {
 }
 
 impl Crowd {
-    // All begin at 0, and so much of their bodies came that they are a crowd.
     fn new(rt: &impl Abort, alloc: Global) -> Crowd {
-        let mut pool: ConnectionPool<Client> = ConnectionPool::new(alloc).expect(rt, "memory");
-        for number in 0..READ_TOGETHER {
-            pool.add(alloc, number, Client::new(FRONT), 0);
-        }
-        pool.add(alloc, READ_TOGETHER, Client::new(WHOLE), 0);
-        let mut crowd = Crowd {
-            pool,
+        Crowd {
+            pool: ConnectionPool::new(alloc).expect(rt, "memory"),
             service: FixedTags {
                 asked: Vec::new(alloc),
             },
             clock: Steps { next: 0 },
-        };
+        }
+    }
+
+    // Seventeen clients, of which the last one alone sends its whole body. All begin at 0, and so
+    // much of their bodies came that they are a crowd.
+    fn of_seventeen(rt: &impl Abort, alloc: Global) -> Crowd {
+        let mut crowd = Crowd::new(rt, alloc);
+        for number in 0..READ_TOGETHER {
+            crowd.pool.add(alloc, number, Client::new(FRONT), 0);
+        }
+        crowd.pool.add(alloc, READ_TOGETHER, Client::new(WHOLE), 0);
         crowd.visit(alloc, 0, 1 + FRONT);
         crowd
+    }
+
+    // The first so many have sent more.
+    fn wake(&mut self, count: usize) {
+        for number in 0..count {
+            self.pool.wake(number);
+        }
+    }
+
+    // So many places come free, and connections take them on which nothing comes.
+    fn take_places(&mut self, rt: &impl Abort, alloc: Global, count: usize, now: u64) {
+        for number in 0..count {
+            same(rt, "a place", &self.pool.place(), &Some(number));
+            self.pool.add(alloc, number, Client::silent(), now);
+        }
     }
 
     // So many rounds at this time.
@@ -133,20 +190,30 @@ impl Crowd {
 #[test]
 fn sixteen_bodies_of_a_crowd_are_read(rt: HostRuntime) {
     let alloc = rt.alloc();
-    let mut crowd = Crowd::new(&rt, alloc);
+    let mut crowd = Crowd::of_seventeen(&rt, alloc);
+    crowd.wake(READ_TOGETHER);
     crowd.visit(alloc, 0, READ_TOGETHER - 1);
     same(&rt, "fifteen are read", crowd.pool.is_busy(), true);
     crowd.visit(alloc, 0, 1);
     same(&rt, "sixteen are read", crowd.pool.is_busy(), false);
     crowd.visit(alloc, 9_000, 1);
     crowd.pool.end_late(10_000);
-    for number in 0..READ_TOGETHER {
-        same(&rt, "one of sixteen", &crowd.pool.place(), &Some(number));
-        crowd.pool.add(alloc, number, Client::new(0), 10_000);
-    }
+    crowd.take_places(&rt, alloc, READ_TOGETHER, 10_000);
     let next = READ_TOGETHER + 1;
     same(&rt, "the last waits", &crowd.pool.place(), &Some(next));
     crowd.visit(alloc, 10_000, WHOLE - FRONT + 5);
+    let last = READ_TOGETHER;
+    same(&rt, "the last is read", &crowd.pool.place(), &Some(last));
+}
+
+// Sixteen that have sent nothing more since the crowd began aren't chosen before one that has.
+#[test]
+fn who_has_sent_nothing_more_is_not_chosen(rt: HostRuntime) {
+    let alloc = rt.alloc();
+    let mut crowd = Crowd::of_seventeen(&rt, alloc);
+    crowd.visit(alloc, 0, 1);
+    crowd.wake(READ_TOGETHER);
+    crowd.visit(alloc, 0, WHOLE - FRONT + 5);
     let last = READ_TOGETHER;
     same(&rt, "the last is read", &crowd.pool.place(), &Some(last));
 }
@@ -155,7 +222,8 @@ fn sixteen_bodies_of_a_crowd_are_read(rt: HostRuntime) {
 #[test]
 fn a_body_waits_for_six_minutes(rt: HostRuntime) {
     let alloc = rt.alloc();
-    let mut crowd = Crowd::new(&rt, alloc);
+    let mut crowd = Crowd::of_seventeen(&rt, alloc);
+    crowd.wake(READ_TOGETHER);
     crowd.visit(alloc, 0, READ_TOGETHER);
     crowd.visit(alloc, WAIT_LIMIT, 1);
     crowd.visit(alloc, WAIT_LIMIT + 1, 1);
@@ -164,4 +232,61 @@ fn a_body_waits_for_six_minutes(rt: HostRuntime) {
     same(&rt, "before its end", crowd.pool.is_empty(), false);
     crowd.pool.end_late(end);
     same(&rt, "at its end", crowd.pool.is_empty(), true);
+}
+
+// Eighteen clients begin at 6 s, beside one that began at 0: they are a crowd, and sixteen of them are
+// chosen. At 10 s that one ends, for a moment there is no crowd, and another body begins. Then the
+// sixteen send more. They were chosen before, so their time doesn't begin anew: it ends at 16 s, and
+// the later body is read.
+#[test]
+fn a_choice_outlasts_a_moment_without_a_crowd(rt: HostRuntime) {
+    let alloc = rt.alloc();
+    let mut crowd = Crowd::new(&rt, alloc);
+    crowd.pool.add(alloc, 19, Client::new(228), 0);
+    crowd.visit(alloc, 0, 1 + 228);
+    for number in 0..18 {
+        crowd
+            .pool
+            .add(alloc, number, Client::with_pause(228, 27), 6_000);
+    }
+    crowd.visit(alloc, 6_000, 1 + 215 + 40);
+    same(&rt, "sixteen are read", crowd.pool.is_busy(), false);
+    crowd.pool.end_late(10_000);
+    same(&rt, "without a crowd", crowd.pool.is_busy(), true);
+    crowd.visit(alloc, 10_000, 1);
+    same(&rt, "still", crowd.pool.is_busy(), true);
+    crowd.visit(alloc, 10_000, 20);
+    same(&rt, "a crowd again", crowd.pool.is_busy(), false);
+    crowd.pool.add(alloc, 18, Client::new(WHOLE), 10_000);
+    crowd.wake(READ_TOGETHER);
+    crowd.visit(alloc, 10_000, 40);
+    crowd.pool.end_late(16_000);
+    crowd.visit(alloc, 16_000, WHOLE + 5);
+    crowd.take_places(&rt, alloc, READ_TOGETHER, 16_000);
+    same(
+        &rt,
+        "the later body is read",
+        &crowd.pool.place(),
+        &Some(18),
+    );
+}
+
+// Where the system has no descriptor left the connection ends that is idle for longest, and none that
+// is to be visited.
+#[test]
+fn one_ends_for_want_of_room(rt: HostRuntime) {
+    let alloc = rt.alloc();
+    let mut crowd = Crowd::new(&rt, alloc);
+    for (number, since) in [(0, 5), (1, 3), (2, 7)] {
+        crowd.pool.add(alloc, number, Client::silent(), since);
+    }
+    same(&rt, "before a visit", crowd.pool.end_idle(), false);
+    crowd.visit(alloc, 8, 1);
+    crowd.pool.wake(1);
+    same(&rt, "the first", crowd.pool.end_idle(), true);
+    same(&rt, "its place", &crowd.pool.place(), &Some(0));
+    crowd.pool.add(alloc, 0, Client::silent(), 9);
+    same(&rt, "the next", crowd.pool.end_idle(), true);
+    same(&rt, "its place", &crowd.pool.place(), &Some(2));
+    same(&rt, "no other", crowd.pool.end_idle(), false);
 }

@@ -1,4 +1,4 @@
-use Rattle.registry_server.proofs.RestFacts.{ends-leave-rest, new-connections-leave-rest, new-pool-rests, newcomers-end-idle, visits-leave-rest, wakes-leave-rest}
+use Rattle.registry_server.proofs.RestFacts.{ends-leave-rest, idle-ends-leave-rest, new-connections-leave-rest, new-pool-rests, newcomers-end-idle, visits-leave-rest, wakes-leave-rest, want-of-room-ends-idle}
 use Rattle.registry_server.proofs.laws.newcomers_end_idle_connections.Goals as goal
 
 pub returns-clause-begins : goal.returns-clause-begins
@@ -13,8 +13,14 @@ returns-clause-wakes g c = wakes-leave-rest g.S.Socket.must_wait
 pub returns-clause-late : goal.returns-clause-late
 returns-clause-late g c = ends-leave-rest g.S.Socket.must_wait
 
+pub returns-clause-room : goal.returns-clause-room
+returns-clause-room g c = idle-ends-leave-rest g.S.Socket.must_wait
+
+pub returns-clause-lacks : goal.returns-clause-lacks
+returns-clause-lacks g c = want-of-room-ends-idle g.S.Socket.must_wait
+
 pub returns-clause-visits : goal.returns-clause-visits
-returns-clause-visits g c = visits-leave-rest g.S.Socket.received g.S.Socket.sent g.S.Socket.must_wait g.S.Socket.is_ended g.S.Socket.is_broken g.D.Service.answers g.D.Service.over
+returns-clause-visits g c = visits-leave-rest g.S.Socket.received g.S.Socket.sent g.S.Socket.must_wait g.S.Socket.has_more g.S.Socket.is_ended g.S.Socket.is_broken g.D.Service.answers g.D.Service.over
 
 pub returns-clause-ended : goal.returns-clause-ended
 returns-clause-ended g c = newcomers-end-idle g.S.Socket.must_wait

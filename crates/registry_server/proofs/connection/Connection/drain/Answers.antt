@@ -4,8 +4,8 @@ use Rattle.registry_server.specs.Sockets.{moved}
 use Rattle.registry_server.proofs.VisitFacts.{few-moved}
 use Rattle.registry_server.proofs.connection.Connection.drain.Goals as goal
 
-pub returns-clause-drops : goal.returns-clause-drops
-returns-clause-drops g c =
+pub returns-in-Moved-clause-drops : goal.returns-in-Moved-clause-drops
+returns-in-Moved-clause-drops g c =
     subst (λ (old : OpenConnection g.row.S.Denot). Drops g.S.Socket.received g.S.Socket.sent (length c.args.buffer.now) old (connected c.receive.new.self c.self.inside.state c.self.inside.phase c.self.inside.is_over)) c.self.view_is
     (record {
       got = moved c.receive.result c.receive.new.buffer;
@@ -13,6 +13,6 @@ returns-clause-drops g c =
       gave = c.receive.ensures.received;
       unsent = c.receive.ensures.sent;
       state = refl;
-      over = refl;
+      over = λ was. was;
       times = refl;
     })

@@ -13,7 +13,7 @@ use Rattle.registry_server.proofs.connection.Connection.send.Goals as goal
 pub invariant_of-self : goal.invariant_of-self
 invariant_of-self g c =
     let none : c.sent.new.self.outgoing ≡ [] = sym c.outgoing-in-Moved.ensures ∙ held-none c.outgoing-in-Moved.result.now (sym c.is_empty.ensures ∙ c.if-is_empty.true) in
-    (sent-in-order c.enter.new.self.stage c.sent.new.self (c.enter.ensures.stage ∙ c.next_stage.ensures) none, λ over. c.in-Moved.ensures.still_ended (c.self.invariant.1 over))
+    (sent-in-order c.enter.new.self.stage c.sent.new.self (c.enter.ensures.stage ∙ c.next_stage.ensures.after) none, λ over. c.in-Moved.ensures.still_ended (c.self.invariant.1 over))
 
 pub returns-then-is_empty-clause-sends : goal.returns-then-is_empty-clause-sends
 returns-then-is_empty-clause-sends g c =
