@@ -2,7 +2,7 @@
 
 from tries import *
 
-MILLION, AT_ONCE = 1_000_000, 50
+MILLION = 1_000_000
 
 
 def run(ground, tries, slack):
@@ -27,19 +27,19 @@ def uncounted(registry):
 
 
 def million(registry):
-    return serves_on(registry, MILLION + AT_ONCE)
+    return serves_on(registry, MILLION + 50)
 
 
 def serves_on(registry, count):
     """So many connections come and go, each with an answer, and the server is still there."""
     with registry.serve() as server:
-        for number in range(0, count, AT_ONCE):
-            come_and_go(server, AT_ONCE)
-            if number % 100_000 == 0 < number:
-                say(f'{number:,} connections')
+        began = time.monotonic()
+        run = subprocess.run([built('connect'), str(server.port), str(count)], stdout=subprocess.PIPE)
+        took = time.monotonic() - began
         want(server.process.poll() is None, f'it ended with status {server.process.returncode}')
+        want(run.returncode == 0, run.stdout.decode().strip())
         must_answer(connect(server.port), NOBODY)
-    return f'it serves on after {count:,}'
+    return f'it serves on after {count:,}, in {took:.0f} s'
 
 
 def come_and_go(server, count):

@@ -1,14 +1,15 @@
-"""Tries of a full server, of one that is halted for a while, and of the number of connections. They
-run one after the other."""
+"""Tries of a full server, of one that is halted for a while, and of one for which the system has no
+descriptor left. They run one after the other."""
 
-import contextlib
 import itertools
 import resource
-import signal
 
 from tries import *
 
 CONNECTIONS, REQUEST = 512, 10
+
+# So many publishes are under way, which lack so many bytes.
+PUBLISHES, LAST = 8, 1000
 NUMBERS = itertools.count()
 
 
@@ -69,55 +70,85 @@ def full_and_busy(server, slack):
     return 'so it is'
 
 
-def few_files(server, slack):
-    """A server that may have 40 files open: more connections than that wait until others have
-    ended, and the server goes on."""
+# ---- the system has no descriptor left
+
+FILES = 40
+
+
+def let_open_few(server):
     time.sleep(1)
-    resource.prlimit(server.process.pid, resource.RLIMIT_NOFILE, (40, 40))
-    waiting = [connect(server.port) for _ in range(60)]
-    for one in waiting:
-        one.sendall(NOBODY)
-    rounds = 0
-    while waiting:
-        select.select(waiting, [], [], 2 + slack)
-        time.sleep(1)
-        answered = [one for one in waiting if is_answered(one, 0)]
-        want(0 < len(answered) < 40, f'{len(answered)} of {len(waiting)} are answered')
-        for one in answered:
-            read_response(one)
-            one.close()
-        waiting, rounds = [one for one in waiting if one not in answered], rounds + 1
-    want(rounds > 1, 'all 60 were answered at once')
-    return f'in {rounds} turns'
+    resource.prlimit(server.process.pid, resource.RLIMIT_NOFILE, (FILES, FILES))
 
 
-# ---- a halt of the server, as a copy of its file makes one
+def few_files(server, slack):
+    """A server that may open 40 files, and 60 connections, one after the other, each with a request
+    that is answered: the next one takes the place of the one that had nothing begun for longest."""
+    let_open_few(server)
+    connections = []
+    for _ in range(60):
+        connections.append(connect(server.port))
+        connections[-1].settimeout(2 + slack)
+        must_answer(connections[-1], NOBODY)
+        time.sleep(0.02)
+    time.sleep(0.5)
+    still = [number for number, one in enumerate(connections) if is_open(one)]
+    for number in still:
+        must_answer(connections[number], NOBODY)
+    for one in connections:
+        one.close()
+    want(0 < len(still) < FILES and still == list(range(60 - len(still), 60)), f'open are those of the numbers {still}')
+    return f'the last {len(still)} stay open'
 
-@contextlib.contextmanager
-def halted(server):
-    """The server does nothing meanwhile."""
-    server.process.send_signal(signal.SIGSTOP)
-    try:
-        yield
-    finally:
-        server.process.send_signal(signal.SIGCONT)
+
+def few_files_and_busy(server, slack):
+    """The same server, and 60 connections with half a request each: those that are in stay, and the
+    others wait until these have been answered."""
+    let_open_few(server)
+    halves = [begun(server, NOBODY[:10]) for _ in range(60)]
+    time.sleep(2)
+    inside = [one for one in halves if is_held(server, one.getsockname()[1])]
+    want(0 < len(inside) < FILES, f'{len(inside)} of 60 are let in')
+    want(all(is_open(one) for one in halves), 'one of 60 has ended')
+    for one in inside:
+        must_answer(one, NOBODY[10:])
+    for one in halves:
+        if one not in inside:
+            must_answer(one, NOBODY[10:])
+    for one in halves:
+        one.close()
+    return f'{len(inside)} first'
 
 
 def full_and_asking(server, slack):
-    """512 connections with nothing begun, of which the oldest 20 ask, and 20 that are new and ask.
-    The server is halted meanwhile, so that it finds all 40 at once."""
+    """512 connections, of which eight have a publish under way, and 20 that are new. The server finds
+    these and the last bytes of the publishes at once. While it stores them the oldest 20 of the others
+    ask, on which nothing was begun."""
     time.sleep(1)
-    idle_ones = [connect(server.port) for _ in range(CONNECTIONS)]
-    time.sleep(0.5)
+    idle_ones = [connect(server.port) for _ in range(CONNECTIONS - PUBLISHES)]
+    requests = [publish_of(Publication(f'asking-{next(NUMBERS)}', '1.0.0', 3_000_000)) for _ in range(PUBLISHES)]
+    publishers = [begun(server, request[:-LAST]) for request in requests]
+    time.sleep(1)
     with halted(server):
         new_ones = [connect(server.port) for _ in range(20)]
-        asking = idle_ones[:20] + new_ones
-        for one in asking:
-            one.sendall(NOBODY)
-    answered = [is_answer_to_come(one) for one in asking]
-    for one in idle_ones + new_ones:
+        for one, request in zip(publishers, requests):
+            one.sendall(request[-LAST:])
+        before = server.processor()
+    until(lambda: server.processor() > before + 0.01, 'the server does nothing')
+    for one in idle_ones[:20] + new_ones:
+        send_if_open(one, NOBODY)
+    is_in_time = not all(is_answered(one, 0) for one in publishers)
+    answered = [is_answer_to_come(one) for one in idle_ones[:20] + new_ones]
+    for one in idle_ones + publishers + new_ones:
         one.close()
+    want(is_in_time, 'the publishes were answered before the 40 had asked')
     return want(all(answered), f'{sum(answered[:20])} of those 20 and {sum(answered[20:])} of the new 20 are answered')
+
+
+def send_if_open(connection, some):
+    try:
+        connection.sendall(some)
+    except OSError:
+        pass
 
 
 def is_answer_to_come(connection):
@@ -127,6 +158,8 @@ def is_answer_to_come(connection):
     except ConnectionResetError:
         return False
 
+
+# ---- a halt of the server, as a copy of its file makes one
 
 def half_in_a_halt(server, slack):
     """Half a request, and a halt for longer than a request may take."""
@@ -146,7 +179,7 @@ def publish_in_a_halt(server, slack):
     """Two publishes of which half has come when the server is halted. The other half of one comes
     while it is, and of the other one afterwards."""
     requests = [publish_of(Publication(f'halted-{next(NUMBERS)}', '1.0.0', 200_000)) for _ in range(2)]
-    meanwhile, afterwards = (begun(server, request) for request in requests)
+    meanwhile, afterwards = (begun(server, first_half(request)) for request in requests)
     time.sleep(0.5)
     with halted(server):
         meanwhile.sendall(second_half(requests[0]))
@@ -156,10 +189,14 @@ def publish_in_a_halt(server, slack):
     return want(came == ['answered by 201'] * 2, f'the one is {came[0]}, the other {came[1]}')
 
 
-def begun(server, request):
+def begun(server, front):
     connection = connect(server.port)
-    connection.sendall(request[:len(request) // 2])
+    connection.sendall(front)
     return connection
+
+
+def first_half(request):
+    return request[:len(request) // 2]
 
 
 def second_half(request):
@@ -183,11 +220,14 @@ TRIES = [
     Try('publish-in-halt', 'two publishes under way while the server is halted for 11 s, as a copy does',
         'both are answered by 201', publish_in_a_halt),
     Try('half-in-halt', 'half a request, and a halt of 11 s', 'it is answered once its other half has come', half_in_a_halt),
-    Try('full-and-asking', '512 idle connections, of which the oldest 20 ask, and 20 new ones that ask',
+    Try('full-and-asking', '512 connections, of which the oldest 20 idle ones ask while 20 new ones wait and the server is busy',
         'all 40 are answered', full_and_asking),
     Try('full', 'a 513th connection beside 512',
         'it is answered, and the one that had nothing begun for longest has ended', full),
     Try('full-and-busy', 'a 513th connection beside 512 with a request begun each',
         'it is answered once one of them has ended', full_and_busy),
-    Try('few-files', '60 connections to a server that may open 40 files', 'all are answered, by turns', few_files),
+    Try('few-files', '60 connections with a request each, one after the other, to a server that may open 40 files',
+        'each is answered, and those have ended that had nothing begun for longest', few_files),
+    Try('few-files-and-busy', '60 connections with half a request each to such a server',
+        'none ends for another, and all are answered', few_files_and_busy),
 ]

@@ -1,6 +1,7 @@
 """What `measure_limits` and `soak` share: tries that pass or fail, registries to try them on, and
 what a client sees of its connection."""
 
+import contextlib
 import os
 import re
 import select
@@ -63,6 +64,26 @@ def report(tries):
 
 def load_average(when):
     return f'{when}: load average {", ".join(f"{value:.1f}" for value in os.getloadavg())}.'
+
+
+# ---- the server meanwhile
+
+@contextlib.contextmanager
+def halted(server):
+    """The server does nothing meanwhile."""
+    server.process.send_signal(signal.SIGSTOP)
+    try:
+        yield
+    finally:
+        server.process.send_signal(signal.SIGCONT)
+
+
+def until(is_so, otherwise):
+    """Waits until something is so, for ten seconds at most."""
+    end = time.monotonic() + 10
+    while not is_so():
+        want(time.monotonic() < end, otherwise)
+        time.sleep(0.001)
 
 
 # ---- registries to try on
