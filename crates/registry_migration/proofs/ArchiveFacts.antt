@@ -1,7 +1,11 @@
 -- Archives that are moved from the rows of their versions, one after another.
-use Rattle.std.proofs.Common.{◌≡◌, ◌⊎◌, inl, inr, ◌∙◌, ℕ, ℤ, Bool, true, false, cond, ◌&&◌, ◌||◌, List, [], ◌∷◌, ◌++◌, Option, Some, None, is_some, option_map, refl, sym, ap, ap₂, subst, true≢false}
+use Rattle.std.proofs.Common.{◌≡◌, ◌⊎◌, inl, inr, ◌∙◌, ◌+ℤ◌, ◌<◌, ◌≤ℤ◌, arith, nat_lt, pos, suc, zero, ℕ, ℤ, Bool, true, false, cond, ◌&&◌, ◌||◌, List, [], ◌∷◌, ◌++◌, Option, Some, None, is_some, option_map, refl, sym, ap, ap₂, subst, true≢false}
 use Rattle.std.specs.Prelude.{option_and_then, unwrap_or}
-use Rattle.std.proofs.lemmas.Bool.{and_from, cases_Bool}
+use Rattle.std.proofs.lemmas.Bool.{and_from, cases_Bool, ltb-false, ltb-true}
+use Rattle.std.proofs.lemmas.Int.{ints}
+use Rattle.std.specs.Ordering.{int_eq}
+use Rattle.sqlite.specs.declared.types.Value.TheVariants.{Int}
+use Rattle.sqlite_sql.specs.Ops.{unary}
 use Rattle.std.proofs.lemmas.Iterator.Adapters.{option_map_id}
 use Rattle.registry_names.specs.Keys.{Pair, pair_is}
 use Rattle.registry_names.specs.Texts.{Text, is}
@@ -10,12 +14,102 @@ use Rattle.registry_names.proofs.KeyFacts.{pair_key, same_self, same_true, text_
 use Rattle.registry_names.proofs.MapFacts.{at-empty, at-put, at-put_other, at-put_same, at-revise, same_map}
 use Rattle.registry_publish.specs.Integrity.{integrity_text}
 use Rattle.registry_rules.specs.State.{Release}
+use Rattle.registry_rows.specs.Counting.{counted}
+use Rattle.registry_rows.specs.KeyKinds.{NumberMap}
+use Rattle.registry_rows.proofs.CountFacts.{next_is_after}
 use Rattle.registry_rows.proofs.KeyedFacts.{number_key}
-use Rattle.registry_tables.specs.Archives.{HeldAreStored, HoldsArchives, archive_number, is_archive, number_of, with_archive}
+use Rattle.registry_tables.specs.Archives.{HeldAreStored, HoldsArchives, archive_number, is_archive, is_stored, next_archive, number_of, with_archive}
 use Rattle.registry_tables.specs.Contents.{Archive, Contents, bytes_held, live_of, with_bytes}
 use Rattle.registry_tables.proofs.KeptArchiveFacts.{none_stands, stands_after, stood_before, stored_after}
+use Rattle.registry_migration.specs.Migration.{AreNumberedInARow, counted_to}
 use Rattle.registry_migration.specs.Steps.{HasMoved, HasNoArchives, MovesArchive, MovesArchives, StoresArchives, archive_moved, bare, bare_among, without_bytes}
 use Rattle.registry_migration.proofs.KeyFacts.{among_all, among_more, none_at, some_at}
+
+-- ---- their numbers
+
+counted_is : (n : ℕ) → counted (counted_to n) ≡ pos n
+unfolding unary
+counted_is zero = refl
+counted_is (suc n) = refl
+
+-- where no archive is stored, none is counted
+none_numbered : (c : Contents) → HasNoArchives c → AreNumberedInARow c
+none_numbered c none = record {
+  count = 0;
+  numbers = λ n there. absurd (true≢false (sym there ∙ ap (λ (m : NumberMap Archive). is_some (at m n)) none.1 ∙ ap is_some (at-empty number_key n)));
+  each = λ k below. absurd (omega (arith, below));
+  last = none.2;
+}
+
+pub numbers_stay : (c d : Contents) → d.archives ≡ c.archives → d.last_archive ≡ c.last_archive → AreNumberedInARow c → AreNumberedInARow d
+numbers_stay c d same last h = record {
+  count = h.count;
+  numbers = λ n there. h.numbers n (ap (λ (m : NumberMap Archive). is_some (at m n)) (sym same) ∙ there);
+  each = λ k below. ap (λ (m : NumberMap Archive). is_some (at m (pos (suc k)))) same ∙ h.each k below;
+  last = last ∙ h.last;
+}
+
+module _ (c : Contents) (h : AreNumberedInARow c) where
+  count_is : counted c.last_archive ≡ pos h.count
+  count_is = ap counted h.last ∙ counted_is h.count
+
+  -- no number is above the count
+  within : (n : ℤ) (a : Archive) → at c.archives n ≡ Some a → n ≤ℤ counted c.last_archive
+  within n a e =
+      let it = h.numbers n (ap is_some e) in
+      subst (λ (m : ℤ). n ≤ℤ m) (sym count_is) (subst (λ (m : ℤ). m ≤ℤ pos h.count) (sym it.2) (below it.0 it.1))
+    where
+      below : (k : ℕ) → k < h.count → pos (suc k) ≤ℤ pos h.count
+      below k less = omega (arith, ints, less)
+
+  not_negative : pos 0 ≤ℤ counted c.last_archive
+  not_negative = subst (λ (m : ℤ). pos 0 ≤ℤ m) (sym count_is) (omega (arith, ints))
+
+  -- the next one is the one after it
+  next_is : next_archive c ≡ pos (suc h.count)
+  next_is = next_is_after (counted c.last_archive) c.archives within not_negative ∙ ap (λ (m : ℤ). m +ℤ pos 1) count_is ∙ ap pos (omega arith)
+
+  numbers_more : (d : Contents) (a : Archive) → d.archives ≡ put c.archives (next_archive c) a → d.last_archive ≡ Some (Int (next_archive c)) → AreNumberedInARow d
+  numbers_more d a puts last = record {
+    count = suc h.count;
+    numbers = λ n there. either n (int_eq (next_archive c) n) refl (sym (seen n) ∙ there);
+    each = λ k below. elim (cases_Bool (nat_lt k h.count)) [
+      | inl less ↦ seen (pos (suc k)) ∙ still (int_eq (next_archive c) (pos (suc k))) (at c.archives (pos (suc k))) (h.each k (omega (arith, ltb-true k h.count less)))
+      | inr above ↦
+          let same : h.count ≡ k = omega (arith, below, ltb-false k h.count above) in
+          let number : next_archive c ≡ pos (suc k) = next_is ∙ ap (λ (i : ℕ). pos (suc i)) same in
+          ap (λ (m : NumberMap Archive). is_some (at m (pos (suc k)))) puts ∙ ap (λ (n : ℤ). is_some (at (put c.archives n a) (pos (suc k)))) number ∙ ap is_some (at-put_same number_key c.archives (pos (suc k)) a)
+    ];
+    last = last ∙ ap (λ (n : ℤ). Some (Int n)) next_is;
+  }
+    where
+      seen : (n : ℤ) → is_some (at d.archives n) ≡ is_some (cond (int_eq (next_archive c) n) (Some a) (at c.archives n))
+      seen n = ap (λ (m : NumberMap Archive). is_some (at m n)) puts ∙ ap is_some (at-put number_key c.archives (next_archive c) a n)
+
+      still : (b : Bool) (o : Option Archive) → is_some o ≡ true → is_some (cond b (Some a) o) ≡ true
+      still true o there = refl
+      still false o there = there
+
+      either : (n : ℤ) (b : Bool) → int_eq (next_archive c) n ≡ b → is_some (cond b (Some a) (at c.archives n)) ≡ true → (k : ℕ) × (k < suc h.count) × (n ≡ pos (suc k))
+      either n true e there = (h.count, omega arith, sym (same_true number_key (next_archive c) n e) ∙ next_is)
+      either n false e there = let it = h.numbers n there in (it.0, omega (arith, it.1), it.2)
+
+-- an archive that is stored already keeps the count, and another is counted
+numbers_with : (integrity : Text) (bytes : List ℕ) (c d : Contents) → d.archives ≡ (with_archive integrity bytes c).archives → d.last_archive ≡ (with_archive integrity bytes c).last_archive → AreNumberedInARow c → AreNumberedInARow d
+numbers_with integrity bytes c d archives last h = each (is_stored integrity bytes c) refl
+  where
+    a : Archive
+    a = record { integrity = integrity; bytes = bytes }
+
+    stored_if : (b : Bool) → is_stored integrity bytes c ≡ b → d.archives ≡ cond b c.archives (put c.archives (next_archive c) a)
+    stored_if b e = archives ∙ ap (λ (s : Bool). cond s c.archives (put c.archives (next_archive c) a)) e
+
+    counted_if : (b : Bool) → is_stored integrity bytes c ≡ b → d.last_archive ≡ cond b c.last_archive (Some (Int (next_archive c)))
+    counted_if b e = last ∙ ap (λ (s : Bool). cond s c.last_archive (Some (Int (next_archive c)))) e
+
+    each : (b : Bool) → is_stored integrity bytes c ≡ b → AreNumberedInARow d
+    each true e = numbers_stay c d (stored_if true e) (counted_if true e) h
+    each false e = numbers_more c h d a (stored_if false e) (counted_if false e)
 
 -- ---- one archive
 
@@ -106,6 +200,7 @@ module _ (k : Pair) (bytes : List ℕ) (c : Contents) where
       had = λ n a e. owner n a (stood_before integrity bytes c n a e);
       integrity = λ n a e. whole n a (stood_before integrity bytes c n a e);
       once = λ m n a b e g same. once_after m n a b same (stood_before integrity bytes c m a e) (stood_before integrity bytes c n b g);
+      numbered = numbers_with integrity bytes c after refl refl h.numbered;
     }
 
 -- ---- none yet
@@ -121,6 +216,7 @@ none_moved c none = record {
     had = λ n a e. absurd (let never = sym (none_stored n) ∙ e in cc);
     integrity = λ n a e. absurd (let never = sym (none_stored n) ∙ e in cc);
     once = λ m n a b e g same. absurd (let never = sym (none_stored m) ∙ e in cc);
+    numbered = none_numbered c none;
   };
 }
   where
@@ -254,6 +350,7 @@ module _ (before after : Contents) (all : HasMoved (keys (entries before.version
       once = all.stores.once;
       bare = λ k release e. bare_row k (at before.versions k) release refl (sym (all.rows k) ∙ e);
     };
+    numbered = all.stores.numbered;
   }
 
 -- ---- a version's archive, call by call

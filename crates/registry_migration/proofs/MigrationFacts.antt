@@ -18,6 +18,7 @@ use Rattle.registry_migration.specs.Older.{contents_of, number_of}
 use Rattle.registry_migration.specs.Steps.{HasNoRanges, HasNoneMoved, Moves, MovesArchives, PutsNeeds}
 use Rattle.registry_migration.specs.declared.older.Older.{Older}
 use Rattle.registry_migration.specs.declared.older.Older.TheVariants.{First, Second}
+use Rattle.registry_migration.proofs.ArchiveFacts.{numbers_stay}
 
 -- from the needs on, whatever was before
 module _ (a b c d : Contents) (puts : PutsNeeds a b) (drops : c ≡ record b { needs = empty }) (numbers : d ≡ with_number c schema_number) where
@@ -51,7 +52,10 @@ module _ (a b c d : Contents) (puts : PutsNeeds a b) (drops : c ≡ record b { n
       same = ap registry_of (changed_is ∙ ap changed moves.others) ∙ ap (λ (live : PairMap Release). record (registry_of before) { live = live }) moves.live;
       needs = needs_last;
       targets = ap (λ (x : Contents). x.needs) changed_is;
-      archives = others_keep_archives a d (ap (λ (x : Contents). x.versions) changed_is) (ap (λ (x : Contents). x.held) changed_is) (ap (λ (x : Contents). x.archives) changed_is) moves.archives;
+      archives = (
+        others_keep_archives a d (ap (λ (x : Contents). x.versions) changed_is) (ap (λ (x : Contents). x.held) changed_is) (ap (λ (x : Contents). x.archives) changed_is) moves.archives,
+        numbers_stay a d (ap (λ (x : Contents). x.archives) changed_is) (ap (λ (x : Contents). x.last_archive) changed_is) moves.numbered,
+      );
       numbered = ap (λ (x : Contents). x.meta) (changed_is ∙ ap changed moves.others);
       counted = ap (λ (x : Contents). x.counters) (changed_is ∙ ap changed moves.others) ∙ counted;
     }
@@ -70,7 +74,7 @@ readable_before before a moves readable k release e = each (at a.versions k) ref
 
 -- what a migration begins with has none of what it makes
 pub none_moved_yet : (older : Older) (db : Trees) → HasNoneMoved older (contents_of older db)
-none_moved_yet First db = (refl, refl)
+none_moved_yet First db = (refl, refl, refl)
 none_moved_yet Second db = tt
 
 no_ranges_yet : (older : Older) (db : Trees) → HasNoRanges (contents_of older db)

@@ -1,5 +1,7 @@
 -- What a migration asks of what is stored, and what it makes of it.
-use Rattle.std.specs.Prelude.{◌≡◌, Some, IsSome}
+use Rattle.std.specs.Prelude.{◌≡◌, ◌<◌, ℕ, zero, suc, ℤ, pos, Option, Some, None, IsSome, is_some, true}
+use Rattle.sqlite.specs.declared.types.Value.{Value}
+use Rattle.sqlite.specs.declared.types.Value.TheVariants.{Int}
 use Rattle.registry_names.specs.Keys.{Pair}
 use Rattle.registry_names.specs.Maps.{at, empty, put}
 use Rattle.registry_publish.specs.Needs.{needs_of}
@@ -23,9 +25,22 @@ pub record MayMigrate (older : Older) (c : Contents) : Type 0 where
   pub readable : NeedsAreReadable c
   pub counted : CountsArchivesAlone c
 
--- archives of the rows are stored each once now, and those that were stored so are as they were
+-- what SQLite keeps as the count of so many archives
+abbrev pub counted_to : ℕ → Option Value
+counted_to zero = None
+counted_to (suc n) = Some (Int (pos (suc n)))
+
+-- the archives have the numbers from 1 on, in a row, and the last of them is counted
+pub record AreNumberedInARow (c : Contents) : Type 0 where
+  pub count : ℕ
+  pub numbers : (n : ℤ) → is_some (at c.archives n) ≡ true → (k : ℕ) × (k < count) × (n ≡ pos (suc k))
+  pub each : (k : ℕ) → k < count → is_some (at c.archives (pos (suc k))) ≡ true
+  pub last : c.last_archive ≡ counted_to count
+
+-- archives of the rows are stored each once now, and are numbered in a row; those that were stored so
+-- are as they were
 abbrev pub KeepsArchives : Older → Contents → Contents → Type 0
-KeepsArchives First before after = HoldsArchives after
+KeepsArchives First before after = HoldsArchives after × AreNumberedInARow after
 KeepsArchives Second before after = (after.versions ≡ before.versions) × (after.held ≡ before.held) × (after.archives ≡ before.archives) × (after.last_archive ≡ before.last_archive)
 
 pub record Migrates (older : Older) (before after : Contents) : Type 0 where

@@ -20,7 +20,7 @@ use Rattle.registry_tables.specs.Contents.{Archive, Contents, bytes_held, conten
 use Rattle.registry_tables.specs.Effects.{shown, stored_in}
 use Rattle.registry_tables.specs.Needs.{HoldsNeeds, is_needed, with_needs}
 use Rattle.registry_tables.specs.Schema.{schema}
-use Rattle.registry_migration.specs.Migration.{NeedsAreReadable}
+use Rattle.registry_migration.specs.Migration.{AreNumberedInARow, NeedsAreReadable}
 use Rattle.registry_migration.specs.declared.older.Older.{Older}
 use Rattle.registry_migration.specs.declared.older.Older.TheVariants.{First, Second}
 use Rattle.registry_migration.specs.declared.needs.TargetKey.{TargetKey}
@@ -47,9 +47,9 @@ target_spelled r = texts_from 2 0 r
 
 -- ---- archives
 
--- none is stored
+-- none is stored, and none was
 abbrev pub HasNoArchives : Contents → Type 0
-HasNoArchives c = (c.held ≡ empty) × (c.archives ≡ empty)
+HasNoArchives c = (c.held ≡ empty) × (c.archives ≡ empty) × (c.last_archive ≡ None)
 
 abbrev pub bare : Release → Release
 bare release = record release { archive = [] }
@@ -72,12 +72,14 @@ pub record MovesArchive (k : Pair) (before after : Contents) : Type 0 where
   pub free : at before.held k ≡ None
   pub moved : after ≡ archive_moved k release.archive before
 
--- each archive that is stored is a version's, and has its integrity; no two have the same bytes
+-- each archive that is stored is a version's, and has its integrity; no two have the same bytes, and
+-- they are numbered in a row
 pub record StoresArchives (c : Contents) : Type 0 where
   pub stored : HeldAreStored c
   pub had : (n : ℤ) (a : Archive) → at c.archives n ≡ Some a → (k : Pair) × (at c.held k ≡ Some n)
   pub integrity : (n : ℤ) (a : Archive) → at c.archives n ≡ Some a → a.integrity ≡ integrity_text a.bytes
   pub once : (m n : ℤ) (a b : Archive) → at c.archives m ≡ Some a → at c.archives n ≡ Some b → a.bytes ≡ b.bytes → m ≡ n
+  pub numbered : AreNumberedInARow c
 
 -- a row of one of these versions has no bytes
 abbrev pub bare_among : List Pair → Pair → Release → Release
@@ -96,6 +98,7 @@ pub record MovesArchives (before after : Contents) : Type 0 where
   pub others : after ≡ record before { versions = after.versions; held = after.held; archives = after.archives; last_archive = after.last_archive }
   pub live : live_of after ≡ before.versions
   pub archives : HoldsArchives after
+  pub numbered : AreNumberedInARow after
 
 -- the same of a schema that has them in the rows. Of another they are as they were
 abbrev pub HasNoneMoved : Older → Contents → Type 0
