@@ -4,5 +4,6 @@ pub mod KeyFacts
 pub mod MigrationFacts
 pub mod NeedFacts
 pub mod OlderFacts
+pub mod PlainFacts
 pub mod StatementFacts
 pub mod StayFacts

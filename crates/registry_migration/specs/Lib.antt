@@ -1,3 +1,4 @@
 pub mod Older
 pub mod Migration
+pub mod Plain
 pub mod Steps

@@ -1,6 +1,6 @@
 //! The older schemas.
 
-ghost use Rattle.std.specs.Prelude.{◌≡◌, ◌<◌, ◌≤◌, false, length, map, IfOk, IfSome, IsTrue, OnOk};
+ghost use Rattle.std.specs.Prelude.{◌≡◌, ◌<◌, ◌≤◌, ◌↔◌, false, length, map, IfOk, IsTrue, OnOk};
 ghost use Rattle.sqlite.specs.Held.{state};
 ghost use Rattle.sqlite.specs.State.{HasCleanDisk};
 ghost use Rattle.sqlite.specs.Steps.{IsEmpty};
@@ -39,10 +39,11 @@ impl Older {
     }
 }
 
-/// Which of the older schemas this one is, if it is one of them: it is compared with one that is
-/// made in memory.
+/// Which of the older schemas this one is, and `None` where it is none of them: it is compared with
+/// each, as it is made in memory.
 pub fn older_schema(alloc: Global, schema: &Schema) -> Result<Option<Older>, Fault>
-    ensures { IfOk result (λ found. IfSome found (λ older. schema.now ≡ schema_of older)) }
+    ensures { IfOk result (λ found. (older : Older)
+        → (found ≡ Some older) ↔ (schema.now ≡ schema_of older)) }
 {
     if is_schema_of(alloc, Older::First, schema)? {
         return Ok(Some(Older::First));
@@ -54,7 +55,7 @@ pub fn older_schema(alloc: Global, schema: &Schema) -> Result<Option<Older>, Fau
 }
 
 fn is_schema_of(alloc: Global, older: Older, schema: &Schema) -> Result<bool, Fault>
-    ensures { IfOk result (λ is. IsTrue is → schema.now ≡ schema_of older) }
+    ensures { IfOk result (λ is. IsTrue is ↔ (schema.now ≡ schema_of older)) }
 {
     let Ok(mut conn) = Connection::open_in_memory(alloc) else {
         return Err(Fault::Memory);
