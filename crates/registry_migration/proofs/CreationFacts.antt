@@ -1,5 +1,5 @@
 -- The tables that an older schema lacks, made one after another beside those that have rows.
-use Rattle.std.proofs.Common.{◌≡◌, ◌∙◌, ℕ, List, [], ◌∷◌, None, Ok, get_or, arith, refl, ap, subst}
+use Rattle.std.proofs.Common.{◌≡◌, ◌∙◌, [], None, Ok, get_or, arith, refl, ap, subst}
 use Rattle.sqlite.specs.Listing.{understood}
 use Rattle.sqlite.specs.State.{State as Shown, HasCleanDisk}
 use Rattle.sqlite_catalog.specs.Change.{created}
@@ -14,7 +14,7 @@ use Rattle.registry_rows.specs.Ready.{DependsOn, Leaves, Ready}
 use Rattle.registry_rows.specs.Rows.{map_of}
 use Rattle.registry_rows.specs.Statements.{MeansTable}
 use Rattle.registry_rows.proofs.CreateFacts.{create_keeps, create_keeps_counter, index_keeps, map_of-none}
-use Rattle.registry_tables.specs.Contents.{Archive, Contents, contents, archive_in, held_in, nothing_in, user_in, role_in, grant_in, status_in, release_in, withdrawal_in, named_in, number_named_in}
+use Rattle.registry_tables.specs.Contents.{Contents, contents, archive_in, held_in, nothing_in, user_in, role_in, grant_in, status_in, release_in, withdrawal_in, named_in, number_named_in}
 use Rattle.registry_tables.specs.Creation.{creation}
 use Rattle.registry_tables.specs.Fresh.{first_tables, schema_after}
 use Rattle.registry_tables.specs.Schema as table

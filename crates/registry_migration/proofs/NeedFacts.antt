@@ -1,9 +1,10 @@
 -- Needs that are stored with their ranges, one version after another, and dropped without.
-use Rattle.std.proofs.Common.{◌≡◌, ◌∙◌, Bool, true, false, cond, ◌&&◌, ◌||◌, List, [], ◌∷◌, ◌++◌, Option, Some, None, is_some, option_map, refl, sym, ap, subst, true≢false}
+use Rattle.std.proofs.Common.{◌≡◌, ◌∙◌, ◌+◌, ◌<◌, ℕ, Bool, true, false, cond, ◌&&◌, ◌||◌, List, [], ◌∷◌, ◌++◌, Option, Some, None, get_or, is_some, length, option_map, take, refl, sym, ap, ap₂, subst, true≢false}
+use Rattle.std.proofs.lemmas.List.{take_more}
 use Rattle.std.specs.Prelude.{IsSome, option_and_then}
 use Rattle.registry_names.specs.Keys.{Pair, pair_is}
 use Rattle.registry_names.specs.Texts.{Text}
-use Rattle.registry_names.specs.Maps.{PairMap, among, at, empty, entries, erase, keys}
+use Rattle.registry_names.specs.Maps.{among, at, empty, entries, erase, keys}
 use Rattle.registry_names.proofs.KeyFacts.{pair_key, same_true}
 use Rattle.registry_names.proofs.MapFacts.{at-empty, at-erase, same_map}
 use Rattle.registry_publish.specs.Needs.{needs_of}
@@ -14,7 +15,7 @@ use Rattle.registry_rows.proofs.TextKeyFacts.{texts_key}
 use Rattle.registry_tables.specs.Contents.{Contents}
 use Rattle.registry_tables.specs.Needs.{is_needed, names_if_any, names_range, with_needs}
 use Rattle.registry_tables.proofs.HeldNeedFacts.{at-with_needs}
-use Rattle.registry_migration.specs.Steps.{HasDropped, HasNoRanges, HasPut, PutsNeeds, PutsNeedsOf}
+use Rattle.registry_migration.specs.Steps.{HasDropped, HasNoRanges, HasPut, PutsNeeds, PutsNeedsOf, without_target, without_targets}
 use Rattle.registry_migration.proofs.KeyFacts.{among_all, among_more}
 
 -- ---- needs with their ranges
@@ -82,8 +83,8 @@ module _ (ks : List Pair) (k : Pair) (before mid new : Contents) (so_far : HasPu
 
   pub one_put : HasPut more before new
   one_put = record {
-    others = one.put ∙ ap (λ (c : Contents). record c { need_ranges = with_needs mid.need_ranges k.0 k.1 one.needs }) so_far.others
-        ∙ ap (λ m. record before { need_ranges = m }) (sym (ap (λ (c : Contents). c.need_ranges) one.put));
+    others = one.put ∙ ap (λ (c : Contents). record c { need_ranges = with_needs mid.need_ranges k.0 k.1 one.needs; needs = without_targets mid.needs k one.needs }) so_far.others
+        ∙ ap₂ (λ (m : TextsMap 3 (Unit {0})) (n : TextsMap 2 (Unit {0})). record before { need_ranges = m; needs = n }) (sym (ap (λ (c : Contents). c.need_ranges) one.put)) (sym (ap (λ (c : Contents). c.needs) one.put));
     stored = stored_next;
     readable = readable_next;
   }
@@ -111,20 +112,32 @@ in_row : (o : Option Release) (manifest : Text) → option_map (λ (r : Release)
 in_row None manifest found = absurd cc
 in_row (Some r) manifest found = (r, refl, let same : Some r.manifest ≡ Some manifest = found in cc)
 
-pub puts_one : (k : Pair) (manifest : Text) (needs : List Need) (a b c : Contents) → b ≡ a → option_map (λ (r : Release). r.manifest) (at a.versions k) ≡ Some manifest → needs_of manifest ≡ Some needs
-    → c ≡ record b { need_ranges = with_needs b.need_ranges k.0 k.1 needs } → PutsNeedsOf k a c
-puts_one k manifest needs a b c same found is c_is = record {
+pub puts_one : (k : Pair) (manifest : Text) (needs : List Need) (a b c d : Contents) → b ≡ a → option_map (λ (r : Release). r.manifest) (at a.versions k) ≡ Some manifest → needs_of manifest ≡ Some needs
+    → c ≡ record b { need_ranges = with_needs b.need_ranges k.0 k.1 needs } → d ≡ record c { needs = without_targets c.needs k needs } → PutsNeedsOf k a d
+puts_one k manifest needs a b c d same found is c_is d_is = record {
   release = release.0;
   lives = release.1;
   needs = needs;
   read = ap needs_of release.2 ∙ is;
-  put = c_is ∙ ap (λ (x : Contents). record x { need_ranges = with_needs x.need_ranges k.0 k.1 needs }) same;
+  put = d_is ∙ ap (λ (x : Contents). record x { needs = without_targets x.needs k needs }) (c_is ∙ ap (λ (x : Contents). record x { need_ranges = with_needs x.need_ranges k.0 k.1 needs }) same);
 }
   where
     release : (r : Release) × (at a.versions k ≡ Some r) × (r.manifest ≡ manifest)
     release = in_row (at a.versions k) manifest found
 
 -- ---- needs without
+
+without_targets-more : (k : Pair) (needs : List Need) (need : Need) (m : TextsMap 2 (Unit {0})) → without_targets m k (needs ++ need ∷ []) ≡ without_target (without_targets m k needs) k.0 k.1 need.target
+without_targets-more k [] need m = refl
+without_targets-more k (first ∷ needs) need m = without_targets-more k needs need (without_target m k.0 k.1 first.target)
+
+-- one more target of the list
+pub targets_next : (k : Pair) (needs : List Need) (i : ℕ) (need : Need) (first mid new : Contents) → i < length needs → need ≡ get_or needs i need → mid ≡ record first { needs = without_targets first.needs k (take i needs) }
+    → new ≡ record mid { needs = without_target mid.needs k.0 k.1 need.target } → new ≡ record first { needs = without_targets first.needs k (take (i + 1) needs) }
+targets_next k needs i need first mid new within is_next so_far once =
+    let more : take (i + 1) needs ≡ take i needs ++ need ∷ [] = take_more needs i need within ∙ ap (λ n. take i needs ++ n ∷ []) (sym is_next) in
+    once ∙ ap (λ (c : Contents). record c { needs = without_target c.needs k.0 k.1 need.target }) so_far
+    ∙ ap (λ m. record first { needs = m }) (sym (ap (without_targets first.needs k) more ∙ without_targets-more k (take i needs) need first.needs))
 
 pub none_dropped : (c : Contents) → HasDropped [] c c
 none_dropped c = record { others = refl; left = λ k. refl }

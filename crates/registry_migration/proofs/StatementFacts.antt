@@ -6,7 +6,7 @@ use Rattle.sqlite.specs.Listing.{understood}
 use Rattle.sqlite.specs.State.{State as Shown, HasCleanDisk}
 use Rattle.sqlite_tied.specs.Compute.{everything}
 use Rattle.sqlite_value.specs.Order.{Row}
-use Rattle.sqlite_sql.specs.Term.{Term, col}
+use Rattle.sqlite_sql.specs.Term.{col}
 use Rattle.registry_names.specs.Keys.{Pair}
 use Rattle.registry_names.specs.Texts.{Text}
 use Rattle.registry_names.specs.Maps.{at, entries, erase, keys, seen}

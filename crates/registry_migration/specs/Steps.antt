@@ -1,20 +1,20 @@
 -- What the steps of a migration make of what is stored, one version after another. For private
 -- clauses.
-use Rattle.std.specs.Prelude.{◌≡◌, ℕ, ℤ, Bool, cond, ◌&&◌, List, [], Result, OnOk, Option, Some, None, IsSome, is_some, true, option_map, if◌then◌else◌}
+use Rattle.std.specs.Prelude.{◌≡◌, ℕ, ℤ, Bool, cond, ◌&&◌, List, [], ◌∷◌, Result, OnOk, Option, Some, None, IsSome, is_some, true, option_map, if◌then◌else◌}
 use Rattle.sqlite_value.specs.Order.{Row, column}
 use Rattle.sqlite.specs.State.{HasCleanDisk}
 use Rattle.sqlite.specs.declared.transaction.Transaction.{Transaction}
 use Rattle.sqlite_trees.specs.declared.store.Store.{Ghosts}
 use Rattle.registry_names.specs.Keys.{Pair, pair_is}
 use Rattle.registry_names.specs.Texts.{Text}
-use Rattle.registry_names.specs.Maps.{PairMap, among, at, empty, put, revise}
+use Rattle.registry_names.specs.Maps.{PairMap, among, at, empty, erase, put, revise}
 use Rattle.registry_publish.specs.Integrity.{integrity_text}
 use Rattle.registry_publish.specs.Needs.{needs_of}
 use Rattle.registry_publish.specs.declared.need.Need.{Need}
 use Rattle.registry_rules.specs.State.{Release}
 use Rattle.registry_rows.specs.Columns.{text_in}
 use Rattle.registry_rows.specs.Ready.{Leaves}
-use Rattle.registry_rows.specs.TextKeys.{Texts, texts_are, texts_from}
+use Rattle.registry_rows.specs.TextKeys.{Texts, TextsMap, texts_are, texts_from}
 use Rattle.registry_tables.specs.Archives.{HeldAreStored, HoldsArchives, archive_number, with_archive}
 use Rattle.registry_tables.specs.Contents.{Archive, Contents, bytes_held, contents, live_of}
 use Rattle.registry_tables.specs.Effects.{shown, stored_in}
@@ -114,23 +114,32 @@ Moves Second before after = after ≡ before
 abbrev pub HasNoRanges : Contents → Type 0
 HasNoRanges c = c.need_ranges ≡ empty
 
--- the needs of the version's manifest are stored
+-- the version's need of this target, which has no range, is gone
+abbrev pub without_target : TextsMap 2 (Unit {0}) → Text → Text → Text → TextsMap 2 (Unit {0})
+without_target m p v target = erase m (p, (v, target))
+
+-- and those of the targets of these needs
+abbrev pub without_targets : TextsMap 2 (Unit {0}) → Pair → List Need → TextsMap 2 (Unit {0})
+without_targets m k [] = m
+without_targets m k (need ∷ needs) = without_targets (without_target m k.0 k.1 need.target) k needs
+
+-- the needs of the version's manifest are stored, and what was stored of them without ranges is gone
 pub record PutsNeedsOf (k : Pair) (before after : Contents) : Type 0 where
   pub release : Release
   pub lives : at before.versions k ≡ Some release
   pub needs : List Need
   pub read : needs_of release.manifest ≡ Some needs
-  pub put : after ≡ record before { need_ranges = with_needs before.need_ranges k.0 k.1 needs }
+  pub put : after ≡ record before { need_ranges = with_needs before.need_ranges k.0 k.1 needs; needs = without_targets before.needs k needs }
 
--- the needs of these versions are stored, and no other
+-- the needs of these versions are stored, and no other. Of those without ranges some are gone
 pub record HasPut (ks : List Pair) (before after : Contents) : Type 0 where
-  pub others : after ≡ record before { need_ranges = after.need_ranges }
+  pub others : after ≡ record before { need_ranges = after.need_ranges; needs = after.needs }
   pub stored : (p v target range : Text) → is_some (at after.need_ranges (p, (v, (target, range)))) ≡ (among pair_is ks (p, v) && is_needed before.versions p v target range)
   pub readable : (k : Pair) (release : Release) → among pair_is ks k ≡ true → at before.versions k ≡ Some release → IsSome (needs_of release.manifest)
 
--- the needs of all live versions are stored
+-- the needs of all live versions are stored. Of those without ranges some are gone
 pub record PutsNeeds (before after : Contents) : Type 0 where
-  pub others : after ≡ record before { need_ranges = after.need_ranges }
+  pub others : after ≡ record before { need_ranges = after.need_ranges; needs = after.needs }
   pub needs : HoldsNeeds after
   pub readable : NeedsAreReadable before
 

@@ -2,13 +2,13 @@
 
 ghost use Rattle.std.specs.Prelude.{◌≡◌, ℕ, List, IfOk, Some, map, option_map, slice_get};
 ghost use Rattle.sqlite.specs.State.{HasCleanDisk};
-ghost use Rattle.registry_names.specs.Maps.{at, empty, entries, erase, keys};
+ghost use Rattle.registry_names.specs.Maps.{at, empty, entries, keys};
 ghost use Rattle.registry_publish.specs.Needs as spec;
 ghost use Rattle.registry_rows.specs.Frames.{Stays};
 ghost use Rattle.registry_rows.specs.TextKeys.{Texts};
 ghost use Rattle.registry_tables.specs.Effects.{InForm, IsUnderWay, Loads, Makes, shown, stored_in};
 ghost use Rattle.registry_tables.specs.Teams.{text_spelled};
-ghost use Rattle.registry_migration.specs.Steps.{HasNoRanges, PutsNeeds, PutsNeedsOf, Turns, target_key, target_spelled, version_key};
+ghost use Rattle.registry_migration.specs.Steps.{HasNoRanges, PutsNeeds, PutsNeedsOf, Turns, target_key, target_spelled, version_key, without_target, without_targets};
 
 use crate::versions::{VersionKey, load_versions};
 use registry_names::{Fault, Stop, Text};
@@ -18,8 +18,8 @@ use registry_tables::put_needs;
 use sqlite::{Alter, Error, Row, Transaction, params};
 use std::alloc::Global;
 
-/// Stores what all live versions depend on. A manifest whose needs can't be read is answered by
-/// `Database`.
+/// Stores what all live versions depend on, and deletes what was stored of that without ranges. A
+/// manifest whose needs can't be read is answered by `Database`.
 pub(crate) fn put_ranges<S: Alter>(alloc: Global, tx: &mut Transaction<'_, S>) -> Result<(), Fault>
     requires under_way { IsUnderWay S.Store tx.old }
     requires none { HasCleanDisk (shown S.Store tx.old)
@@ -51,6 +51,7 @@ fn put_each<S: Alter>(
     Ok(())
 }
 
+// Stores the needs of a version, and deletes their targets that were stored without ranges.
 fn put_ranges_of<S: Alter>(
     alloc: Global,
     tx: &mut Transaction<'_, S>,
@@ -67,7 +68,8 @@ fn put_ranges_of<S: Alter>(
         version.package.as_str(),
         version.version.as_str(),
         &needs,
-    )
+    )?;
+    drop_targets_of(tx, version, &needs)
 }
 
 // The manifest of a version. Where it has no row that is a fault.
@@ -106,7 +108,30 @@ fn needs_in(alloc: Global, manifest: &str) -> Result<Vec<Need>, Fault>
     }
 }
 
-/// Deletes the needs that were stored without their ranges.
+// Deletes the targets of these needs of a version, where they are stored without ranges.
+fn drop_targets_of<S: Alter>(
+    tx: &mut Transaction<'_, S>,
+    version: &VersionKey,
+    needs: &[Need],
+) -> Result<(), Fault>
+    requires under_way { IsUnderWay S.Store tx.old }
+    ensures stays { Stays S.Store tx.old tx.new }
+    ensures makes { Makes S.Store tx.old tx.new result
+        (λ c. record c { needs = without_targets c.needs (version_key version.now) needs.now }) }
+{
+    for need in needs {
+        drop_target(
+            tx,
+            version.package.as_str(),
+            version.version.as_str(),
+            need.target.as_str(),
+        )?;
+    }
+    Ok(())
+}
+
+/// Deletes what needs without ranges there are. Where a registry wrote them, they went with those of
+/// their versions, so that the list of them takes no memory.
 pub(crate) fn drop_targets<S: Alter>(
     alloc: Global,
     tx: &mut Transaction<'_, S>,
@@ -145,25 +170,31 @@ fn drop_each<S: Alter>(tx: &mut Transaction<'_, S>, targets: &[TargetKey]) -> Re
     ensures makes { Makes S.Store tx.old tx.new result (λ c. record c { needs = empty }) }
 {
     for target in targets {
-        drop_target(tx, target)?;
+        drop_target(
+            tx,
+            target.package.as_str(),
+            target.version.as_str(),
+            target.target.as_str(),
+        )?;
     }
     Ok(())
 }
 
-fn drop_target<S: Alter>(tx: &mut Transaction<'_, S>, target: &TargetKey) -> Result<(), Fault>
+fn drop_target<S: Alter>(
+    tx: &mut Transaction<'_, S>,
+    name: &str,
+    version: &str,
+    target: &str,
+) -> Result<(), Fault>
     requires in_form { InForm S.Store tx.old }
     ensures stays { Stays S.Store tx.old tx.new }
     ensures makes { Makes S.Store tx.old tx.new result
-        (λ c. record c { needs = erase c.needs (target_key target.now) }) }
+        (λ c. record c { needs = without_target c.needs name.now version.now target.now }) }
 {
     write(
         tx,
         "DELETE FROM needs WHERE package = ?1 AND version = ?2 AND target = ?3",
-        params![
-            target.package.as_str(),
-            target.version.as_str(),
-            target.target.as_str()
-        ],
+        params![name, version, target],
     )
 }
 

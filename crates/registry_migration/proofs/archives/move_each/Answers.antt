@@ -1,4 +1,4 @@
-use Rattle.std.proofs.Common.{◌∙◌, ap, arith, map, refl, subst, sym, take_all}
+use Rattle.std.proofs.Common.{◌∙◌, ap, arith, map, subst, sym, take_all}
 use Rattle.sqlite.specs.State.{HasCleanDisk}
 use Rattle.registry_rows.proofs.QuietFacts.{stays_then}
 use Rattle.registry_tables.specs.Effects.{shown, stored_in}

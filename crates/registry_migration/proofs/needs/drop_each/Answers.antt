@@ -25,10 +25,10 @@ loop-target-preserved g c = record {
   dropped = λ clean.
       let before : HasCleanDisk (shown g.S.Store c.loop-target.tx) = omega (arith, c.drop_target.ensures.stays.survives.clean, clean) in
       let so_far = c.loop-target.invariant.dropped before in
-      let one = (c.in_ok-drop_target.ensures.makes clean).holds in
+      let made = rw (c.as_str.ensures.text, c.as_str-in-loop-target.ensures.text, c.as_str-in-loop-target-2.ensures.text) at c.in_ok-drop_target.ensures.makes clean in
       subst (λ ks. HasDropped ks (stored_in g.S.Store c.args.tx.now) (stored_in g.S.Store c.drop_target.new.tx))
       (sym (next_taken target_key c.args.targets.now c.loop-target.target-index c.target-item.result c.loop-target-test.true c.target-item.is))
-      (one_dropped _ _ (stored_in g.S.Store c.args.tx.now) (stored_in g.S.Store c.loop-target.tx) (stored_in g.S.Store c.drop_target.new.tx) so_far one);
+      (one_dropped _ _ (stored_in g.S.Store c.args.tx.now) (stored_in g.S.Store c.loop-target.tx) (stored_in g.S.Store c.drop_target.new.tx) so_far made.holds);
 }
 
 pub returns-clause-makes : goal.returns-clause-makes

@@ -5,5 +5,5 @@ use Rattle.registry_migration.proofs.needs.drop_target.Goals as goal
 
 pub returns-clause-makes : goal.returns-clause-makes
 returns-clause-makes g c clean = on_answer c.write.result
-    (λ wrote. target_dropped c.args.target.now.package c.args.target.now.version c.args.target.now.target (shown g.S.Store c.args.tx.now) (shown g.S.Store c.write.new.tx) c.requires.in_form wrote clean)
-    (rw (c.params-to_sql.ensures, c.params-to_sql-2.ensures, c.params-to_sql-3.ensures, c.as_str.ensures.text, c.as_str-2.ensures.text, c.as_str-3.ensures.text) at c.write.ensures.wrote)
+    (λ wrote. target_dropped c.args.name.now c.args.version.now c.args.target.now (shown g.S.Store c.args.tx.now) (shown g.S.Store c.write.new.tx) c.requires.in_form wrote clean)
+    (rw (c.params-to_sql.ensures, c.params-to_sql-2.ensures, c.params-to_sql-3.ensures) at c.write.ensures.wrote)

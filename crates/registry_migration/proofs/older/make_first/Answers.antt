@@ -1,4 +1,4 @@
-use Rattle.std.proofs.Common.{◌≡◌, ◌<◌, arith, get_or, length, subst, [], List, ℕ}
+use Rattle.std.proofs.Common.{◌≡◌, ◌<◌, arith, get_or, length, subst, []}
 use Rattle.registry_rows.specs.Frames.{Wrote}
 use Rattle.registry_rows.proofs.QuietFacts.{stays_then}
 use Rattle.registry_tables.specs.Creation.{creation}

@@ -1,10 +1,9 @@
-use Rattle.std.proofs.Common.{◌≡◌, ◌∙◌, ◌<◌, ap, arith, length, refl, rules, subst, sym, OnOk}
+use Rattle.std.proofs.Common.{◌≡◌, ◌∙◌, ap, arith, refl, rules, subst, sym, OnOk}
 use Rattle.sqlite.specs.Effect.{Database}
 use Rattle.sqlite.specs.Held.{state}
 use Rattle.sqlite.specs.State.{HasCleanDisk}
 use Rattle.registry_rows.proofs.QuietFacts.{on_answer}
 use Rattle.registry_tables.specs.Creation.{creation}
-use Rattle.registry_tables.specs.Effects.{HasNoTables}
 use Rattle.registry_tables.specs.Fresh.{schema_after}
 use Rattle.registry_migration.specs.Older.{schema_of}
 use Rattle.registry_migration.proofs.OlderFacts.{count_within, empty_begun, made_by}
