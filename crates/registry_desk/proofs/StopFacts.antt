@@ -74,7 +74,7 @@ found_again db c d held (inr (inr (older, sound, is))) = absurd (not_older db ol
 -- ---- of an older schema
 
 migrated_alike : (older : Older) (db : Trees) (c : Contents) → IsMigrated older db c → HoldsMigrated older db c
-migrated_alike older db c is = (is.made.same, is.made.needs)
+migrated_alike older db c is = is.made
 
 found_migrated : (older : Older) (db : Trees) (c : Contents) → IsSound (schema_of older) db → GivesFound db c → HoldsMigrated older db c
 found_migrated older db c was (inl (sound, number, is)) = absurd (not_older db older sound was)

@@ -8,10 +8,10 @@ use Rattle.sqlite_trees.specs.Tree.{Trees}
 use Rattle.sqlite_wal.specs.Recovery.{Image}
 use Rattle.registry_rules.specs.Kept.{IsKept}
 use Rattle.registry_tables.specs.Archives.{HoldsArchives}
-use Rattle.registry_tables.specs.Contents.{Contents, registry_of}
+use Rattle.registry_tables.specs.Contents.{Contents}
 use Rattle.registry_tables.specs.Effects.{registry_in, stored}
-use Rattle.registry_tables.specs.Needs.{HoldsNeeds}
-use Rattle.registry_migration.specs.Older.{contents_of, registry_of_older, schema_of}
+use Rattle.registry_migration.specs.Migration.{Migrates}
+use Rattle.registry_migration.specs.Older.{contents_of, schema_of}
 use Rattle.registry_migration.specs.declared.older.Older.{Older}
 use Rattle.registry_history.specs.History.{Entry, after}
 use Rattle.registry_desk.specs.Adopted.{IsMade}
@@ -54,9 +54,10 @@ module _ {C D : Type 0} (show : C → Shown) (show_next : D → Shown) where
 
 -- ---- of an older schema
 
--- c holds the registry that the database of the older schema held, and the needs of its live versions
+-- c holds what a migration makes of what the database of the older schema held: the same registry,
+-- with the needs and the archives of its live versions
 abbrev pub HoldsMigrated : Older → Trees → Contents → Type 0
-HoldsMigrated older db c = (registry_of c ≡ registry_of_older older (contents_of older db)) × HoldsNeeds c
+HoldsMigrated older db c = Migrates older (contents_of older db) c
 
 -- whatever a stop in an open leaves of such a database, the next open makes that registry of it
 abbrev pub MigrationsLoseNothing : Type 0

@@ -6,4 +6,4 @@ pub returns : goal.returns
 returns c same =
     let clean = memory_is_clean c.create_tables.new.conn in
     let form = c.in_ok-create_tables.ensures.rests.in_form clean (c.in_ok-create_tables.ensures.served clean) in
-    sym (c.is_same_schema.ensures same) ∙ c.schema.ensures.value ∙ form.schema_is
+    sym (c.is_same_schema.ensures.0 same).0 ∙ c.schema.ensures.value ∙ form.schema_is
