@@ -45,6 +45,10 @@ pub const SCHEMA: u32 = 3;
 /// 4 MB, since a page has 4 kB.
 const CACHE_PAGES: usize = 1_000;
 
+/// How many pages that a transaction has written are kept in memory before they go to the log: 4 MB.
+/// The room that they had is kept for the pages of the next ones, so a long transaction takes 8 MB.
+const SPILL_PAGES: usize = 1_000;
+
 /// The mode of a new file: its owner reads and writes it, and nobody else.
 const MODE: u32 = 0o600;
 
@@ -291,6 +295,7 @@ fn options(rt: &HostRuntime) -> Result<Options, Fault>
     let random = RandomState::new(rt).map_err(|_| Fault::Database)?;
     Ok(Options {
         cache_pages: CACHE_PAGES,
+        spill_pages: SPILL_PAGES,
         ..Options::new(random.hash_one(&0u8))
     })
 }
