@@ -14,8 +14,8 @@ pub fn shown() -> &'static [Shown] {
 }
 
 /// The rows, in an order in which each refers to rows that are there. The archive of number 2 went
-/// with the version that had it.
-static ROWS: [&str; 32] = [
+/// with the version that had it. Of one need the manifest doesn't know.
+static ROWS: [&str; 33] = [
     "INSERT INTO meta VALUES ('schema', 2)",
     "INSERT INTO users VALUES ('ann')",
     "INSERT INTO users VALUES ('bob')",
@@ -37,6 +37,7 @@ static ROWS: [&str; 32] = [
     "INSERT INTO tags VALUES ('tool', 'latest', '1.0.0')",
     "INSERT INTO needs VALUES ('@lab/kit', '1.0.0', 'tool')",
     "INSERT INTO needs VALUES ('tool', '1.1.0', '@lab/kit')",
+    "INSERT INTO needs VALUES ('tool', '1.1.0', 'gone')",
     "INSERT INTO archives (integrity, bytes) VALUES ('sha512-3a81oZNherrMQXNJriBBMRLm+k6JqX6iCp7u5ktV05ohkpkqJ0/BqDa6PCOj/uu9RU1EI2Q86A4qmslPpUyknw==', x'616263')",
     "INSERT INTO archives (integrity, bytes) VALUES ('none', x'00')",
     "INSERT INTO archives (integrity, bytes) VALUES ('sha512-z4PhNX7vuL3xVChQ1m2AB9Yg5AULVxXcg/SpIdNs6c5H0NE8XYXysP+DGNKHfuwvY7kxvUdBeoGlODJ6+SfaPg==', x'')",

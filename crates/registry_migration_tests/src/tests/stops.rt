@@ -1,7 +1,7 @@
-//! A registry of schema 1 whose files stop at each call while it is migrated. Whatever the stop
-//! leaves, the registry opens afterwards with all that it held.
+//! Registries of older schemas whose files stop at each call while they are migrated. Whatever the
+//! stop leaves, the registry opens afterwards with all that it held.
 
-use super::{first, made, migrated, options, showing};
+use super::{Shown, first, made, migrated, options, second, showing};
 use registry_desk::Registry;
 use registry_migration::Older;
 use sqlite::Files;
@@ -54,14 +54,27 @@ fn a_kill_at_the_log_loses_nothing(rt: HostRuntime) -> Result<(), Fail> {
     no_stop_loses_anything(rt.alloc(), Stopping::Log, Leaves::Written)
 }
 
-// Lets a file stop at its first call, at its second, and so on, until an open meets no stop.
 fn no_stop_loses_anything(alloc: Global, stopping: Stopping, leaves: Leaves) -> Result<(), Fail> {
     let older = made(alloc, Older::First, first::rows())?;
+    outlives_stops(alloc, &older, first::shown(), stopping, leaves)?;
+    let older = made(alloc, Older::Second, second::rows())?;
+    outlives_stops(alloc, &older, second::shown(), stopping, leaves)
+}
+
+// Lets a file of the older registry stop at its first call, at its second, and so on, until an open
+// meets no stop.
+fn outlives_stops(
+    alloc: Global,
+    older: &Files<Memory>,
+    shows: &[Shown],
+    stopping: Stopping,
+    leaves: Leaves,
+) -> Result<(), Fail> {
     for calls in 0..MOST_CALLS {
-        let files = stopping_files(alloc, &older, stopping, calls)?;
+        let files = stopping_files(alloc, older, stopping, calls)?;
         let (is_stopped, files) = opened_once(alloc, files);
         let files = migrated(alloc, left_of(alloc, files, leaves)?)?;
-        let _files = showing(alloc, files, first::shown())?;
+        let _files = showing(alloc, files, shows)?;
         if !is_stopped {
             return Ok(());
         }
