@@ -18,7 +18,7 @@ use Rattle.registry_tables.specs.Contents.{Contents, contents}
 use Rattle.registry_rows.specs.Tables.{no_tables}
 use Rattle.registry_tables.specs.Effects.{stored}
 use Rattle.registry_tables.specs.Schema.{schema}
-use Rattle.registry_desk.specs.Adopted.{CanBeAdopted, IsHandedBack, IsSettled, IsUndone}
+use Rattle.registry_desk.specs.Adopted.{CanBeAdopted, IsHandedBack, IsSettled, IsUndone, LeavesCommitted}
 use Rattle.registry_desk.specs.Promises.{IsSure}
 use Rattle.registry_desk.specs.Resting.{IsRegistryOf, Rests}
 
@@ -82,8 +82,8 @@ module _ (old mid new : Shown) where
   undone_open keeps back on = (undone keeps back on).0
 
   -- what was committed is seen again
-  pub undone_is : KeepsCommit old mid → (HasCleanDisk new → IsRolledBack mid new) → HasCleanDisk new → IsTrue new.is_open → IsTrue old.is_open × (new.now ≡ old.committed)
-  undone_is keeps back clean on = let left = undone keeps (back clean) on in (left.0, left.1)
+  pub undone_is : KeepsCommit old mid → (HasCleanDisk new → IsRolledBack mid new) → IsUndone old new
+  undone_is keeps back clean on = undone keeps (back clean) on
 
   undone_now : Rests old → HasCleanDisk old → KeepsCommit old mid → IsRolledBack mid new → IsTrue new.is_open → new.now ≡ old.now
   undone_now rests clean keeps back on = let left = undone keeps back on in left.1 ∙ sym (rests.settled clean left.0)
@@ -129,6 +129,11 @@ module _ (old new : Shown) where
   rises_again rises were back clean on =
       let it = back.1 clean on in
       subst (λ (d : Database). AllByRecursion (λ t. HasRowids (d.trees t.tree)) d.schema.tables) (sym it.1) (rises (were clean) it.0)
+
+-- what was committed is all that a crash leaves
+pub committed_left : {S : Type 0} (store : Ghosts S) (old : Shown) (h : Held S) → ((db : Trees) → IsTrue (state store h).is_open → (state store h).may_leave db → db ≡ (state store h).committed.trees)
+    → (IsTrue (state store h).is_open → (state store h).committed ≡ old.committed) → LeavesCommitted old (state store h)
+committed_left store old h settled same clean on db left = settled db on left ∙ ap (λ (d : Database). d.trees) (same on)
 
 -- ---- a store without faults
 

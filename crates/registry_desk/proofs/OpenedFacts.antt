@@ -46,7 +46,7 @@ use Rattle.registry_tables.specs.Schema as ours
 use Rattle.registry_migration.specs.Older.{schema_of}
 use Rattle.registry_migration.specs.declared.older.Older.{Older}
 use Rattle.registry_migration.specs.declared.older.Older.TheVariants.{First, Second}
-use Rattle.registry_desk.specs.Adopted.{CanBeAdopted, IsMade, SurvivesAdoption}
+use Rattle.registry_desk.specs.Adopted.{CanBeAdopted, IsMade, LeavesCommitted, SurvivesAdoption}
 use Rattle.registry_desk.specs.Opened.{GivesFound, HoldsEach, HoldsFound, IsFreshIfEmpty, IsLeftOf, IsMadeOf, LeavesFound, LeavesMigrated}
 
 -- ---- rowids
@@ -174,10 +174,11 @@ module _ (image : Image) (seen later : Shown) (opened : HasCleanDisk seen → Op
     pub fresh_if_empty : IsFreshIfEmpty image later
     fresh_if_empty clean none = empty_gives_fresh image seen.committed.trees (stored later) none (finds (made clean).0).reads (given clean)
 
-  -- a crash could leave what was found alone, since the connection was open
-  pub leaves_at_most : ((db : Trees) → IsTrue seen.is_open → seen.may_leave db → db ≡ seen.committed.trees) → SurvivesAdoption seen later
+  -- a crash could leave what was found alone, since the connection was open, and still does where it is
+  pub leaves_at_most : ((db : Trees) → IsTrue seen.is_open → seen.may_leave db → db ≡ seen.committed.trees) → SurvivesAdoption seen later → LeavesCommitted seen later
       → HasCleanDisk later → (db : Trees) × AreFoundIn image db × ((held : Trees) → HoldsDatabase image held → db ≡ held) × ((left : Trees) → later.may_leave left → LeavesFound db left)
-  leaves_at_most settled survives clean =
+      × (IsTrue later.is_open → (left : Trees) → later.may_leave left → left ≡ db)
+  leaves_at_most settled survives alone clean =
       let before : HasCleanDisk seen = omega (arith, survives.clean, clean) in
       let now = opened before in (
         seen.committed.trees,
@@ -187,6 +188,7 @@ module _ (image : Image) (seen later : Shown) (opened : HasCleanDisk seen → Op
           | inl earlier ↦ inl (settled left now.0.is_open earlier)
           | inr made ↦ subst (λ d. LeavesFound d left) (ap (λ (d : Database). d.trees) now.0.clean) (leaves_found seen.now left (now.1 now.0.is_open).0 made.1)
         ],
+        alone clean,
       )
 
 -- ---- why an open fails

@@ -8,6 +8,7 @@ use Rattle.sqlite_disk.specs.declared.Disk as disk
 use Rattle.sqlite_disk.specs.declared.Files.{Files}
 use Rattle.sqlite_store.specs.FileStore.{files}
 use Rattle.sqlite_store.specs.declared.store.FileStore.{FileStore}
+use Rattle.sqlite_trees.specs.Tree.{Trees}
 use Rattle.registry_rows.specs.Rows.{HasRowids}
 use Rattle.registry_tables.specs.Effects.{stored}
 use Rattle.registry_desk.specs.Opened.{IsLeftOf, IsMadeOf}
@@ -34,9 +35,13 @@ module _ (old new : Shown) where
   abbrev pub SurvivesAdoption : Type 0
   SurvivesAdoption = Survives old new (λ db. IsTrue old.is_open × IsLeftOf old.now db)
 
-  -- where it is open, it was, and it sees what was committed then
+  -- where it is open, it was, and it sees what was committed then, which still is
   abbrev pub IsUndone : Type 0
-  IsUndone = HasCleanDisk new → IsTrue new.is_open → IsTrue old.is_open × (new.now ≡ old.committed)
+  IsUndone = HasCleanDisk new → IsTrue new.is_open → IsTrue old.is_open × (new.now ≡ old.committed) × (new.committed ≡ old.committed)
+
+  -- where it is open, a crash leaves what was committed before, and nothing else
+  abbrev pub LeavesCommitted : Type 0
+  LeavesCommitted = HasCleanDisk new → IsTrue new.is_open → (db : Trees) → new.may_leave db → db ≡ old.committed.trees
 
   -- where it is open, it was, and it sees what it saw, inside a transaction or not as before
   abbrev pub IsHandedBack : Type 0

@@ -1,5 +1,5 @@
 -- What an open gives of the database that it finds, and what a crash leaves of that.
-use Rattle.std.specs.Prelude.{◌≡◌, ◌⊎◌, ◌++◌, [], None, Some, codes}
+use Rattle.std.specs.Prelude.{◌≡◌, ◌⊎◌, ◌++◌, [], None, Some, IsTrue, codes}
 use Rattle.sqlite.specs.Effect.{Database}
 use Rattle.sqlite.specs.Files.{AreFoundIn, HoldsDatabase, IsCleanLeft, IsFullLeft, IsNothing, LeavesFiles, faults_left, faults_of, file_state, image_of}
 use Rattle.sqlite.specs.State.{State as Shown, HasCleanDisk}
@@ -79,15 +79,17 @@ module _ (image : Image) where
     abbrev pub IsFreshIfEmpty : Type 0
     IsFreshIfEmpty = HasCleanDisk s → image.db ≡ [] → stored s ≡ fresh
 
--- After an open of these files that failed, a crash leaves what it could have left before; or, where
--- no table was found, none or those of a fresh registry, and, where tables of an older schema were,
--- what is made of them. Where a database was opened, it was each one that the files hold
+-- After an open of these files that failed, a crash leaves what it could have left before. Where a
+-- database was opened, it was each one that the files hold. As long as the connection is open, a
+-- crash leaves that and nothing else. Where a fault of the disk has shut it, a crash leaves that or,
+-- where no table was found, those of a fresh registry, and, where tables of an older schema were,
+-- what is made of them
 module _ {D : Type 0} {g : disk.Ghosts D} (files : Files D) where
   abbrev pub LeavesAtMost : Unopened D g → Type 0
   LeavesAtMost (unopened.Files rest) = IsCleanLeft rest → LeavesFiles files rest
   LeavesAtMost (unopened.Database conn) =
       HasCleanDisk (file_state conn) → (db : Trees) × AreFoundIn (image_of g files) db × ((held : Trees) → HoldsDatabase (image_of g files) held → db ≡ held)
-      × ((later : Trees) → (file_state conn).may_leave later → LeavesFound db later)
+      × ((later : Trees) → (file_state conn).may_leave later → LeavesFound db later) × (IsTrue (file_state conn).is_open → (later : Trees) → (file_state conn).may_leave later → later ≡ db)
 
 -- what is read later is tested against a digest of what was written
 abbrev pub IsGuarded : Shown → Type 0

@@ -14,7 +14,7 @@ ghost use Rattle.registry_tables.specs.Effects.{stored};
 ghost use Rattle.registry_tables.specs.Fresh.{CountsArchivesAlone};
 ghost use Rattle.registry_tables.specs.Schema as tables;
 ghost use Rattle.registry_migration.specs.Older.{schema_of};
-ghost use Rattle.registry_desk.specs.Adopted.{AreFilesOf, CanBeAdopted, IsHandedBack, IsMade, IsSettled, IsUndone, SurvivesAdoption};
+ghost use Rattle.registry_desk.specs.Adopted.{AreFilesOf, CanBeAdopted, IsHandedBack, IsMade, IsSettled, IsUndone, LeavesCommitted, SurvivesAdoption};
 ghost use Rattle.registry_desk.specs.Opened.{FailsToConnect, FailsToOpen, HoldsEach, HoldsFound, IsFreshIfEmpty, IsGuarded, IsMadeOf, IsMigrated, IsNumbered, IsUnlimited, IsUri, LeavesAtMost, LeavesMigrated};
 ghost use Rattle.registry_desk.specs.Promises.{IsSure};
 ghost use Rattle.registry_desk.specs.Resting.{Rests};
@@ -146,7 +146,10 @@ impl<S: Start> Registry<FileStore<FileFrom<S>>> {
 
 impl<D: Disk + Drop> Registry<FileStore<D>> {
     /// The registry in these files, which need not be the machine's, as
-    /// [`open`](Registry::open) opens it. A fault hands back what is left of them.
+    /// [`open`](Registry::open) opens it. A fault hands back what is left of them. As long as a
+    /// database that was opened is still open, a crash then leaves it as it was found. Where a fault
+    /// of the disk has shut it, a crash leaves that or all that was made of it: a fresh registry, or
+    /// the migrated one.
     pub fn open_files(
         alloc: Global,
         files: Files<D>,
@@ -217,8 +220,9 @@ impl<S: Alter> Registry<S> {
     /// the tables of another schema or another number of ours, counts in `sqlite_sequence` for more
     /// than the archives, or fails; `Memory` where there is no room to read it. A connection that a
     /// fault of the disk has shut gives no registry, but one of the two. A fault hands the connection
-    /// back. It shows what it showed, so that it can be adopted again, unless a fault of the disk has
-    /// shut it.
+    /// back. It shows what it showed, so that it can be adopted again, and a crash leaves what was
+    /// committed before and nothing else, unless a fault of the disk has shut it. Then a crash leaves
+    /// that or all that was made of it: a fresh registry, or the migrated one.
     ///
     /// A step limit of the connection stays: what would take more steps is answered by a fault, here
     /// and in each request to the registry.
@@ -234,6 +238,8 @@ impl<S: Alter> Registry<S> {
             → CanBeAdopted (state S.Store e.1)) }
         ensures left { IfErr result (λ e.
             SurvivesAdoption (state S.Store conn) (state S.Store e.1)) }
+        ensures alone { IfErr result (λ e.
+            LeavesCommitted (state S.Store conn) (state S.Store e.1)) }
         ensures carried { IfOk result (λ r.
             SurvivesAdoption (state S.Store conn) (state S.Store r)) }
     {

@@ -16,7 +16,7 @@ returns-in-Ok-adopt-clause-empty g c = fresh_if_empty (image_of g.D.Disk c.args.
 
 pub returns-in-Err-adopt-clause-left : goal.returns-in-Err-adopt-clause-left
 returns-in-Err-adopt-clause-left g c = leaves_at_most (image_of g.D.Disk c.args.files) (file_state c.in-Ok.conn) (file_state c.in-Err-adopt.conn) c.in-Ok.ensures.opened (finds_in c.args.files c.in-Ok.conn c.in-Ok.ensures.found)
-    (settled_at c.in-Ok.conn.store g.met.D.Disk.seen_may_stay) c.in-Err-adopt.ensures.left
+    (settled_at c.in-Ok.conn.store g.met.D.Disk.seen_may_stay) c.in-Err-adopt.ensures.left c.in-Err-adopt.ensures.alone
 
 pub returns-in-Ok-adopt-clause-guarded : goal.returns-in-Ok-adopt-clause-guarded
 returns-in-Ok-adopt-clause-guarded g c clean =

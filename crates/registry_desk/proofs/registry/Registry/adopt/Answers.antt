@@ -1,8 +1,8 @@
-use Rattle.std.proofs.Common.{◌≡◌, arith, false, rules}
+use Rattle.std.proofs.Common.{◌≡◌, arith, false, refl, rules}
 use Rattle.sqlite.specs.Held.{state}
 use Rattle.sqlite.specs.State.{HasCleanDisk}
 use Rattle.registry_desk.specs.Adopted.{IsSettled}
-use Rattle.registry_desk.proofs.CommitFacts.{handed_back, rests_sure, rises_again}
+use Rattle.registry_desk.proofs.CommitFacts.{committed_left, handed_back, rests_sure, rises_again}
 use Rattle.registry_desk.proofs.registry.Registry.adopt.Goals as goal
 
 pub returns-in-Ok-settle-clause-stays : goal.returns-in-Ok-settle-clause-stays
@@ -23,3 +23,16 @@ pub returns-in-Ok-settle-clause-made : goal.returns-in-Ok-settle-clause-made
 returns-in-Ok-settle-clause-made g c clean =
     let were : HasCleanDisk (state g.S.Store c.args.conn) = omega (arith, c.settle.ensures.survives.clean, clean) in
     (were, c.in-Ok-settle.ensures.opened clean, c.in-Ok-settle.ensures.made clean)
+
+-- as long as it is open, a crash leaves what was committed
+pub returns-then-not-is_autocommit-clause-alone : goal.returns-then-not-is_autocommit-clause-alone
+returns-then-not-is_autocommit-clause-alone g c =
+    committed_left g.S.Store (state g.S.Store c.args.conn) c.args.conn (λ db on. g.met.S.Store.settled c.args.conn.store db on) (λ on. refl)
+
+pub returns-in-Err-clause-alone : goal.returns-in-Err-clause-alone
+returns-in-Err-clause-alone g c =
+    committed_left g.S.Store (state g.S.Store c.args.conn) c.args.conn (λ db on. g.met.S.Store.settled c.args.conn.store db on) (λ on. refl)
+
+pub returns-in-Err-settle-clause-alone : goal.returns-in-Err-settle-clause-alone
+returns-in-Err-settle-clause-alone g c clean on =
+    committed_left g.S.Store (state g.S.Store c.args.conn) c.settle.new.conn (λ db on. g.met.S.Store.settled c.settle.new.conn.store db on) (λ on. (c.in-Err-settle.ensures.undone clean on).2) clean on
