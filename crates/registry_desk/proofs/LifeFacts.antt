@@ -1,5 +1,6 @@
 -- What lives of a registry come to.
 use Rattle.std.proofs.Common.{◌≡◌, ◌⊎◌, ◌∙◌, ◌++◌, ◌&&◌, cond, inl, inr, Bool, true, false, List, [], ◌∷◌, Ok, Err, IsTrue, refl, sym, ap, subst, append-nil, append_assoc}
+use Rattle.std.proofs.lemmas.Bool.{cases_Bool}
 use Rattle.std.specs.List.{AllByRecursion}
 use Rattle.sqlite.specs.State.{State as Shown, HasCleanDisk}
 use Rattle.sqlite_trees.specs.Tree.{Trees}
@@ -15,7 +16,7 @@ use Rattle.registry_rules.specs.declared.request.Request.{Request}
 use Rattle.registry_tables.specs.Archives.{HeldAreStored, HoldsArchives}
 use Rattle.registry_tables.specs.Changes.{all_stored, stored_by}
 use Rattle.registry_tables.specs.Contents.{Contents, registry_of}
-use Rattle.registry_tables.specs.Effects.{registry_in, stored}
+use Rattle.registry_tables.specs.Effects.{stored}
 use Rattle.registry_tables.specs.Fresh.{fresh}
 use Rattle.registry_tables.specs.Needs.{HoldsNeeds}
 use Rattle.registry_tables.specs.Teams.{GrantsInScope}
@@ -30,11 +31,11 @@ use Rattle.registry_history.specs.Runs.{Outcome, HaveOutcomes, IsAnswer, Ran, en
 use Rattle.registry_history.proofs.RunFacts.{headline_from, run_says}
 use Rattle.registry_desk.specs.Promises.{HoldsSound}
 use Rattle.registry_desk.specs.Resting.{IsRegistryOf, end_stored, left_by, next_stored, settled_by, stepped}
-use Rattle.registry_desk.specs.Lives.{AreFaults, AreInForm, AreLives, AskedInTurn, Did, DidAll, HasLived, HasRun, IsHandedOn, IsOpenedAgain, Life, LivesAreOneRun, LivesHaveHeadline, StopsLeaveAllOrNothing, TurnsAreRuns}
+use Rattle.registry_desk.specs.Lives.{AreFaults, AreInForm, AreLives, AskedInTurn, ComesTo, Did, DidAll, Follows, HasLived, HasRun, IsInOrder, IsOpenedAgain, Life, LivesAreOneRun, LivesComeToRuns, LivesHaveHeadline, StopsKeepOutcomes, StopsLeaveAllOrNothing, TurnsAreRuns}
 use Rattle.registry_desk.proofs.GrantFacts.{grants_next}
 use Rattle.registry_desk.proofs.KeepingFacts.{archives_kept, holds_next, needs_kept, registry_next}
 use Rattle.registry_desk.proofs.SettlingFacts.{faulted_next, settled_next}
-use Rattle.registry_desk.proofs.StopFacts.{found_again, releases_are_adopted}
+use Rattle.registry_desk.proofs.StopFacts.{found_again, still_stored, stops_in_a_row_lose_nothing}
 use Rattle.registry_desk.proofs.StoredFacts.{has_run_more, has_run_none, sound_for_each}
 
 -- ---- one request
@@ -145,16 +146,16 @@ module _ (Opened : Type 0) where
   either_left P Q S (r ∷ rs) [] c db answers left = absurd answers
 
 -- what was done of these requests, from what was stored before
-record DidFrom (c : Contents) (rs : List Request) (os : List Outcome) : Type 0 where
+record DidFrom (c : Contents) (is_open : Bool) (rs : List Request) (os : List Outcome) : Type 0 where
   requests : List Request
   replies : List Outcome
-  did : Did rs os requests replies
+  did : Did is_open rs os requests replies
   answers : HaveOutcomes (registry_of c) requests replies
 
 -- one more that was answered
-did_more : (c : Contents) (r : Request) (reply : Reply) (rs : List Request) (os : List Outcome) → HeldAreStored c → IsAnswer (registry_of c) r (Ok reply) → DidFrom (next_stored r (Ok reply) c) rs os
-    → DidFrom c (r ∷ rs) (Ok reply ∷ os)
-did_more c r reply rs os held answered rest = record {
+did_more : (c : Contents) (is_open : Bool) (r : Request) (reply : Reply) (rs : List Request) (os : List Outcome) → HeldAreStored c → IsAnswer (registry_of c) r (Ok reply) → DidFrom (next_stored r (Ok reply) c) is_open rs os
+    → DidFrom c is_open (r ∷ rs) (Ok reply ∷ os)
+did_more c is_open r reply rs os held answered rest = record {
   requests = r ∷ rest.requests;
   replies = Ok reply ∷ rest.replies;
   did = (rest.requests, rest.replies, rest.did, refl, refl);
@@ -162,63 +163,110 @@ did_more c r reply rs os held answered rest = record {
 }
 
 -- a fault, and nothing was done
-did_nothing : (c : Contents) (r : Request) (fault : Fault) (rs : List Request) (os : List Outcome) → DidFrom c rs os → DidFrom c (r ∷ rs) (Err fault ∷ os)
-did_nothing c r fault rs os rest = record {
+did_nothing : (c : Contents) (is_open : Bool) (r : Request) (fault : Fault) (rs : List Request) (os : List Outcome) → DidFrom c is_open rs os → DidFrom c is_open (r ∷ rs) (Err fault ∷ os)
+did_nothing c is_open r fault rs os rest = record {
   requests = rest.requests;
   replies = rest.replies;
   did = inl rest.did;
   answers = rest.answers;
 }
 
--- a fault, and all was done
-did_all : (c : Contents) (r : Request) (fault : Fault) (rs : List Request) (os : List Outcome) → AreFaults os → DidFrom c (r ∷ rs) (Err fault ∷ os)
-did_all c r fault rs os faults = record {
+-- a fault that shut the registry, and all was done
+did_all : (c : Contents) (is_open : Bool) (r : Request) (fault : Fault) (rs : List Request) (os : List Outcome) → is_open ≡ false → AreFaults os → DidFrom c is_open (r ∷ rs) (Err fault ∷ os)
+did_all c is_open r fault rs os shut faults = record {
   requests = r ∷ [];
   replies = Ok (answer (registry_of c) r) ∷ [];
-  did = inr (faults, answer (registry_of c) r, refl, refl);
+  did = inr (shut, faults, answer (registry_of c) r, refl, refl);
   answers = (refl, tt);
 }
 
--- what a crash leaves holds what was done
-left_after : (Opened : Type 0) (may : Trees → Type 0) (rs : List Request) (os : List Outcome) (c : Contents) (db : Trees) → ((d : Trees) → may d → IsRegistryOf d c) → HeldAreStored c → HaveOutcomes (registry_of c) rs os
-    → left_by Opened may rs os c db → (it : DidFrom c rs os) × IsRegistryOf db (end_stored it.requests it.replies c)
+-- what a crash leaves of a registry that was shut holds what was done
+left_after : (Opened : Type 0) (may : Trees → Type 0) (is_open : Bool) (rs : List Request) (os : List Outcome) (c : Contents) (db : Trees) → is_open ≡ false → ((d : Trees) → may d → IsRegistryOf d c) → HeldAreStored c
+    → HaveOutcomes (registry_of c) rs os → left_by Opened may rs os c db → (it : DidFrom c is_open rs os) × IsRegistryOf db (end_stored it.requests it.replies c)
 unfolding did_more did_nothing did_all
-left_after Opened may [] [] c db sure held answers left = (record { requests = []; replies = []; did = (refl, refl); answers = tt }, sure db left)
-left_after Opened may (r ∷ rs) (Ok reply ∷ os) c db sure held answers left =
+left_after Opened may is_open [] [] c db shut sure held answers left = (record { requests = []; replies = []; did = (refl, refl); answers = tt }, sure db left)
+left_after Opened may is_open (r ∷ rs) (Ok reply ∷ os) c db shut sure held answers left =
     let later = next_stored r (Ok reply) c in
-    let rest = left_after Opened (λ d. IsRegistryOf d later) rs os later db (λ d is. is) (held_next c r (Ok reply) held) (rest_of c r (Ok reply) rs os held answers.1) left in
-    (did_more c r reply rs os held answers.0 rest.0, rest.1)
-left_after Opened may (r ∷ rs) (Err fault ∷ os) c db sure held answers left =
+    let rest = left_after Opened (λ d. IsRegistryOf d later) is_open rs os later db shut (λ d is. is) (held_next c r (Ok reply) held) (rest_of c r (Ok reply) rs os held answers.1) left in
+    (did_more c is_open r reply rs os held answers.0 rest.0, rest.1)
+left_after Opened may is_open (r ∷ rs) (Err fault ∷ os) c db shut sure held answers left =
     elim (either_left Opened may (λ d. Opened × IsRegistryOf d (settled_by r c)) (next (registry_of c) r (Err fault)) rs os c db answers.1 left) [
       | inl before ↦
-          let rest = left_after Opened may rs os c db sure held (after_fault (registry_of c) r fault rs os answers.1) before in
-          (did_nothing c r fault rs os rest.0, rest.1)
-      | inr made ↦ (did_all c r fault rs os made.0, subst (IsRegistryOf db) (settled_next c r (answer (registry_of c) r) refl) made.1.1)
+          let rest = left_after Opened may is_open rs os c db shut sure held (after_fault (registry_of c) r fault rs os answers.1) before in
+          (did_nothing c is_open r fault rs os rest.0, rest.1)
+      | inr made ↦ (did_all c is_open r fault rs os shut made.0, subst (IsRegistryOf db) (settled_next c r (answer (registry_of c) r) refl) made.1.1)
     ]
-left_after Opened may [] (o ∷ os) c db sure held answers left = absurd answers
-left_after Opened may (r ∷ rs) [] c db sure held answers left = absurd answers
+left_after Opened may is_open [] (o ∷ os) c db shut sure held answers left = absurd answers
+left_after Opened may is_open (r ∷ rs) [] c db shut sure held answers left = absurd answers
 
 -- an open registry has done what it answered, and nothing else
-kept_after : (rs : List Request) (os : List Outcome) (c : Contents) → HeldAreStored c → HaveOutcomes (registry_of c) rs os
-    → (it : DidFrom c rs os) × (end_stored rs os c ≡ end_stored it.requests it.replies c)
+kept_after : (is_open : Bool) (rs : List Request) (os : List Outcome) (c : Contents) → HeldAreStored c → HaveOutcomes (registry_of c) rs os
+    → (it : DidFrom c is_open rs os) × (end_stored rs os c ≡ end_stored it.requests it.replies c)
 unfolding did_more did_nothing
-kept_after [] [] c held answers = (record { requests = []; replies = []; did = (refl, refl); answers = tt }, refl)
-kept_after (r ∷ rs) (Ok reply ∷ os) c held answers =
-    let rest = kept_after rs os (next_stored r (Ok reply) c) (held_next c r (Ok reply) held) (rest_of c r (Ok reply) rs os held answers.1) in
-    (did_more c r reply rs os held answers.0 rest.0, rest.1)
-kept_after (r ∷ rs) (Err fault ∷ os) c held answers =
-    let rest = kept_after rs os c held (after_fault (registry_of c) r fault rs os answers.1) in
-    (did_nothing c r fault rs os rest.0, ap (end_stored rs os) (sym (faulted_next c r fault)) ∙ rest.1)
-kept_after [] (o ∷ os) c held answers = absurd answers
-kept_after (r ∷ rs) [] c held answers = absurd answers
+kept_after is_open [] [] c held answers = (record { requests = []; replies = []; did = (refl, refl); answers = tt }, refl)
+kept_after is_open (r ∷ rs) (Ok reply ∷ os) c held answers =
+    let rest = kept_after is_open rs os (next_stored r (Ok reply) c) (held_next c r (Ok reply) held) (rest_of c r (Ok reply) rs os held answers.1) in
+    (did_more c is_open r reply rs os held answers.0 rest.0, rest.1)
+kept_after is_open (r ∷ rs) (Err fault ∷ os) c held answers =
+    let rest = kept_after is_open rs os c held (after_fault (registry_of c) r fault rs os answers.1) in
+    (did_nothing c is_open r fault rs os rest.0, ap (end_stored rs os) (sym (faulted_next c r fault)) ∙ rest.1)
+kept_after is_open [] (o ∷ os) c held answers = absurd answers
+kept_after is_open (r ∷ rs) [] c held answers = absurd answers
 
 -- what was done was asked
-did_form : (rs : List Request) (os : List Outcome) (ds : List Request) (ps : List Outcome) → AllByRecursion IsInForm rs → Did rs os ds ps → AllByRecursion IsInForm ds
-did_form [] os ds ps forms did = subst (AllByRecursion IsInForm) (sym did.0) tt
-did_form (r ∷ rs) [] ds ps forms did = subst (AllByRecursion IsInForm) (sym did.0) tt
-did_form (r ∷ rs) (Ok reply ∷ os) ds ps forms did = subst (AllByRecursion IsInForm) (sym did.3) (forms.0, did_form rs os did.0 did.1 forms.1 did.2)
-did_form (r ∷ rs) (Err fault ∷ os) ds ps forms (inl did) = did_form rs os ds ps forms.1 did
-did_form (r ∷ rs) (Err fault ∷ os) ds ps forms (inr did) = subst (AllByRecursion IsInForm) (sym did.2) (forms.0, tt)
+did_form : (is_open : Bool) (rs : List Request) (os : List Outcome) (ds : List Request) (ps : List Outcome) → AllByRecursion IsInForm rs → Did is_open rs os ds ps → AllByRecursion IsInForm ds
+did_form is_open [] os ds ps forms did = subst (AllByRecursion IsInForm) (sym did.0) tt
+did_form is_open (r ∷ rs) [] ds ps forms did = subst (AllByRecursion IsInForm) (sym did.0) tt
+did_form is_open (r ∷ rs) (Ok reply ∷ os) ds ps forms did = subst (AllByRecursion IsInForm) (sym did.3) (forms.0, did_form is_open rs os did.0 did.1 forms.1 did.2)
+did_form is_open (r ∷ rs) (Err fault ∷ os) ds ps forms (inl did) = did_form is_open rs os ds ps forms.1 did
+did_form is_open (r ∷ rs) (Err fault ∷ os) ds ps forms (inr did) = subst (AllByRecursion IsInForm) (sym did.3) (forms.0, tt)
+
+-- ---- one life
+
+-- what was done, and what was stored then, is what the life comes to
+comes_to : (life : Life) (c d : Contents) → HeldAreStored c → (it : DidFrom c life.is_open life.requests life.outcomes) → d ≡ end_stored it.requests it.replies c → ComesTo life c d
+comes_to life c d held it same = record {
+  requests = it.requests;
+  replies = it.replies;
+  did = it.did;
+  ran = record { answers = it.answers; left = λ _. ap registry_of same ∙ ends_as it.requests it.replies c held it.answers };
+  same = same;
+}
+
+sound_of : (s : Shown) → IsInOrder (stored s) → HoldsSound s
+sound_of s order = record { grants = order.grants; needs = order.needs }
+
+-- what is found again of what a registry left: no open that was stopped has changed that
+found_after : (last next : Shown) (c : Contents) (again : IsOpenedAgain last next) → HasCleanDisk next → IsRegistryOf again.db c → stored next ≡ c
+found_after last next c again clean is =
+    found_again again.db c (stored next) is (stops_in_a_row_lose_nothing again.db again.found again.stops (stored next) again.stopped (again.each clean again.found again.holds))
+
+module _ (first last next : Shown) (life : Life) (lived : HasLived first last life) (order : IsInOrder (stored first)) (clean : HasCleanDisk next) where
+  abbrev before : Contents
+  before = stored first
+
+  -- a registry that is open at the end
+  left_open : HasCleanDisk last → IsTrue last.is_open → stored next ≡ stored last → ComesTo life before (stored next)
+  left_open was_clean on same =
+      let sound = sound_for_each life.requests first (sound_of first order) in
+      let it = kept_after life.is_open life.requests life.outcomes before order.archives.stored (lived.ran sound was_clean).answers in
+      comes_to life before (stored next) order.archives.stored it.0 (same ∙ lived.stored sound was_clean on ∙ it.1)
+
+  -- one that a fault has shut
+  left_shut : (again : IsOpenedAgain last next) → last.is_open ≡ false → ComesTo life before (stored next)
+  left_shut again shut =
+      let sound = sound_for_each life.requests first (sound_of first order) in
+      let it = left_after (IsTrue first.is_open) first.may_leave life.is_open life.requests life.outcomes before again.db (lived.ends ∙ shut) lived.sure order.archives.stored
+      (lived.ran sound again.was_clean).answers (lived.survives sound again.was_clean again.db again.left) in
+      comes_to life before (stored next) order.archives.stored it.0 (found_after last next _ again clean it.1)
+
+  comes : Follows last next → ComesTo life before (stored next)
+  comes (inl again) = elim (cases_Bool last.is_open) [
+    | inl on ↦ left_open again.was_clean on (found_after last next (stored last) again clean (lived.stays again.was_clean on again.db again.left))
+    | inr shut ↦ left_shut again shut
+  ]
+  comes (inr (inl on)) = let seen = on.made clean in left_open seen.0 seen.1 (still_stored last next on.rests on.made clean)
+  comes (inr (inr on)) = left_open on.was_clean on.was_open on.same
 
 -- ---- lives
 
@@ -230,103 +278,77 @@ record Come (c d : Contents) (lives : List Life) : Type 0 where
   answers : HaveOutcomes (registry_of c) requests replies
   same : d ≡ end_stored requests replies c
 
--- what holds of what is stored before each life
-record Holds (c : Contents) : Type 0 where
-  grants : GrantsInScope c
-  needs : HoldsNeeds c
-  archives : HoldsArchives c
-
-still_holds : (rs : List Request) (os : List Outcome) (c : Contents) → AllByRecursion IsInForm rs → HaveOutcomes (registry_of c) rs os → Holds c → Holds (end_stored rs os c)
-still_holds rs os c forms answers holds = record {
-  grants = all_keep GrantsInScope (λ c r o form answered. grants_next c (next_stored r o c) r o answered refl) rs os c forms holds.archives.stored answers holds.grants;
-  needs = all_keep HoldsNeeds (λ c r o form answered. holds_next HoldsNeeds needs_kept c (next_stored r o c) r o form answered refl) rs os c forms holds.archives.stored answers holds.needs;
-  archives = all_keep HoldsArchives (λ c r o form answered. holds_next HoldsArchives archives_kept c (next_stored r o c) r o form answered refl) rs os c forms holds.archives.stored answers holds.archives;
+still_in_order : (rs : List Request) (os : List Outcome) (c : Contents) → AllByRecursion IsInForm rs → HaveOutcomes (registry_of c) rs os → IsInOrder c → IsInOrder (end_stored rs os c)
+still_in_order rs os c forms answers order = record {
+  grants = all_keep GrantsInScope (λ c r o form answered. grants_next c (next_stored r o c) r o answered refl) rs os c forms order.archives.stored answers order.grants;
+  needs = all_keep HoldsNeeds (λ c r o form answered. holds_next HoldsNeeds needs_kept c (next_stored r o c) r o form answered refl) rs os c forms order.archives.stored answers order.needs;
+  archives = all_keep HoldsArchives (λ c r o form answered. holds_next HoldsArchives archives_kept c (next_stored r o c) r o form answered refl) rs os c forms order.archives.stored answers order.archives;
 }
 
-sound_of : (s : Shown) → Holds (stored s) → HoldsSound s
-sound_of s holds = record { grants = holds.grants; needs = holds.needs }
-
-module _ {C : Type 0} (show : C → Shown) where
-  -- one life
-  lived : (first last next : C) (life : Life) → Holds (stored (show first)) → HasLived show first last life → IsOpenedAgain show last next ⊎ IsHandedOn show last next → HasCleanDisk (show next)
-      → (it : DidFrom (stored (show first)) life.requests life.outcomes) × (stored (show next) ≡ end_stored it.requests it.replies (stored (show first)))
-  lived first last next life holds has (inl again) clean =
-      let sound = sound_for_each life.requests (show first) (sound_of (show first) holds) in
-      let c = stored (show first) in
-      let it = left_after (IsTrue (show first).is_open) (show first).may_leave life.requests life.outcomes c again.db has.sure holds.archives.stored
-      (has.ran sound again.was_clean).answers (has.survives sound again.was_clean again.db again.left) in
-      (it.0, found_again again.db (end_stored it.0.requests it.0.replies c) (stored (show next)) it.1 (again.each clean again.db again.holds))
-  lived first last next life holds has (inr on) clean =
-      let sound = sound_for_each life.requests (show first) (sound_of (show first) holds) in
-      let c = stored (show first) in
-      let seen = on.made clean in
-      let it = kept_after life.requests life.outcomes c holds.archives.stored (has.ran sound seen.0).answers in
-      (it.0, (releases_are_adopted show show last next on.rests on.made clean).same ∙ has.stored sound seen.0 seen.1 ∙ it.1)
-
-  all_lived : (first last : C) (lives : List Life) → Holds (stored (show first)) → AreInForm lives → AreLives show lives first last
-      → Come (stored (show first)) (stored (show last)) lives × Holds (stored (show last))
-  all_lived first last [] holds forms same = (
-    record { requests = []; replies = []; did = (refl, refl); answers = tt; same = ap (λ (c : C). stored (show c)) same },
-    subst (λ (c : C). Holds (stored (show c))) (sym same) holds,
-  )
-  all_lived first last (life ∷ lives) holds forms are =
-      let c = stored (show first) in
-      let next = are.1 in
-      let d = stored (show next) in
-      let one = lived first are.0 next life holds are.2 are.3 are.4 in
-      let done : Holds d = subst Holds (sym one.1) (still_holds one.0.requests one.0.replies c (did_form life.requests life.outcomes one.0.requests one.0.replies forms.0 one.0.did) one.0.answers holds) in
-      let rest = all_lived next last lives done forms.1 are.5 in
-      let both = joined one.0.requests one.0.replies rest.0.requests rest.0.replies c holds.archives.stored one.0.answers
-      (subst (λ (e : Contents). HaveOutcomes (registry_of e) rest.0.requests rest.0.replies) one.1 rest.0.answers) in (
-        record {
-          requests = one.0.requests ++ rest.0.requests;
-          replies = one.0.replies ++ rest.0.replies;
-          did = (one.0.requests, one.0.replies, rest.0.requests, rest.0.replies, one.0.did, rest.0.did, refl, refl);
-          answers = both.0;
-          same = rest.0.same ∙ ap (end_stored rest.0.requests rest.0.replies) one.1 ∙ sym both.1;
-        },
-        rest.1,
-      )
-
-  pub lives_are_one_run : LivesAreOneRun show
-  lives_are_one_run first last lives sound archives forms are =
-      let holds : Holds (stored (show first)) = record { grants = sound.grants; needs = sound.needs; archives = archives } in
-      let all = all_lived first last lives holds forms are in
-      let it = all.0 in
-      let ran : Ran (registry_in (show first)) it.requests it.replies true (registry_in (show last)) = record {
-        answers = it.answers;
-        left = λ _. ap registry_of it.same ∙ ends_as it.requests it.replies (stored (show first)) archives.stored it.answers;
-      } in
+all_lived : (lives : List Life) (c d : Contents) → IsInOrder c → AreInForm lives → AreLives lives c d → Come c d lives × IsInOrder d
+all_lived [] c d order forms same = (record { requests = []; replies = []; did = (refl, refl); answers = tt; same = same }, subst IsInOrder (sym same) order)
+all_lived (life ∷ lives) c d order forms are =
+    let next = are.0 in
+    let one = are.1 order in
+    let done : IsInOrder next = subst IsInOrder (sym one.same) (still_in_order one.requests one.replies c (did_form life.is_open life.requests life.outcomes one.requests one.replies forms.0 one.did) one.ran.answers order) in
+    let rest = all_lived lives next d done forms.1 are.2 in
+    let both = joined one.requests one.replies rest.0.requests rest.0.replies c order.archives.stored one.ran.answers
+    (subst (λ (e : Contents). HaveOutcomes (registry_of e) rest.0.requests rest.0.replies) one.same rest.0.answers) in (
       record {
-        requests = it.requests;
-        replies = it.replies;
-        did = it.did;
-        ran = ran;
-        same = it.same;
-        sound = sound_of (show last) all.1;
-        archives = all.1.archives;
-        headline = λ empty. headline_from (registry_in (show first)) it.requests it.replies true (registry_in (show last)) empty ran refl;
-        says = λ h legal is. run_says h (registry_in (show first)) it.requests it.replies true (registry_in (show last)) ran refl legal is;
-      }
+        requests = one.requests ++ rest.0.requests;
+        replies = one.replies ++ rest.0.replies;
+        did = (one.requests, one.replies, rest.0.requests, rest.0.replies, one.did, rest.0.did, refl, refl);
+        answers = both.0;
+        same = rest.0.same ∙ ap (end_stored rest.0.requests rest.0.replies) one.same ∙ sym both.1;
+      },
+      rest.1,
+    )
 
-  pub lives_have_headline : LivesHaveHeadline show
-  lives_have_headline first last lives is forms are =
-      let empty = subst (λ (S : State). IsSound S.access) (sym fresh_is_nothing) nothing_sound in
-      let sound : HoldsSound (show first) = record {
-        grants = subst GrantsInScope (sym is) (sound_teams fresh empty).grants;
-        needs = subst HoldsNeeds (sym is) fresh_holds;
-      } in
-      let run = lives_are_one_run first last lives sound (subst HoldsArchives (sym is) fresh_archives) forms are in
-      (run, run.headline (ap registry_of is ∙ fresh_is_nothing))
+pub lives_are_one_run : LivesAreOneRun
+lives_are_one_run lives c d order forms are =
+    let all = all_lived lives c d order forms are in
+    let it = all.0 in
+    let ran : Ran (registry_of c) it.requests it.replies true (registry_of d) = record {
+      answers = it.answers;
+      left = λ _. ap registry_of it.same ∙ ends_as it.requests it.replies c order.archives.stored it.answers;
+    } in
+    record {
+      requests = it.requests;
+      replies = it.replies;
+      did = it.did;
+      ran = ran;
+      same = it.same;
+      in_order = all.1;
+      headline = λ empty. headline_from (registry_of c) it.requests it.replies true (registry_of d) empty ran refl;
+      says = λ h legal is. run_says h (registry_of c) it.requests it.replies true (registry_of d) ran refl legal is;
+    }
 
-  pub stops_leave_all_or_nothing : StopsLeaveAllOrNothing show
+fresh_in_order : IsInOrder fresh
+fresh_in_order =
+    let empty = subst (λ (S : State). IsSound S.access) (sym fresh_is_nothing) nothing_sound in
+    record { grants = (sound_teams fresh empty).grants; needs = fresh_holds; archives = fresh_archives }
+
+pub lives_have_headline : LivesHaveHeadline
+lives_have_headline lives last forms are =
+    let run = lives_are_one_run lives fresh last fresh_in_order forms are in
+    (run, run.headline fresh_is_nothing)
+
+module _ {C D : Type 0} (show : C → Shown) (show_next : D → Shown) where
+  pub lives_come_to_runs : LivesComeToRuns show show_next
+  lives_come_to_runs first last next life lived follows clean order = comes (show first) (show last) (show_next next) life lived order clean follows
+
+  pub stops_leave_all_or_nothing : StopsLeaveAllOrNothing show show_next
   stops_leave_all_or_nothing first last next r sound sure survives again clean =
-      let gives = again.each clean again.db again.holds in
       elim (survives.crash again.was_clean again.db again.left) [
-        | inl before ↦ inl (found_again again.db (stored (show first)) (stored (show next)) (sure again.db before) gives)
-        | inr made ↦ inr (found_again again.db (settled_by r (stored (show first))) (stored (show next)) (made.1 sound) gives)
+        | inl before ↦ inl (found_after (show last) (show_next next) (stored (show first)) again clean (sure again.db before))
+        | inr made ↦ inr (found_after (show last) (show_next next) (settled_by r (stored (show first))) again clean (made.1 sound))
       ]
 
+  pub stops_keep_outcomes : StopsKeepOutcomes show show_next
+  stops_keep_outcomes first last next r o sound step stays on again clean =
+      found_after (show last) (show_next next) (stored (show last)) again clean (stays again.was_clean on again.db again.left) ∙ step sound again.was_clean on
+
+module _ {C : Type 0} (show : C → Shown) where
   -- requests that are asked after a run make it longer
   run_goes_on : (first mid last : C) (qs : List Request) (ps : List Outcome) (rs : List Request) (os : List Outcome) → HasRun (show first) (show mid) qs ps → AskedInTurn show rs os mid last
       → HasRun (show first) (show last) (qs ++ rs) (ps ++ os)

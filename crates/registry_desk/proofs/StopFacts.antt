@@ -1,7 +1,7 @@
 -- What is found again after a stop.
 use Rattle.std.proofs.Common.{◌≡◌, ◌∙◌, ℕ, suc, List, [], ◌∷◌, length, filter, arith, inl, inr, ap, refl, sym, subst}
 use Rattle.std.specs.List.{AllZip}
-use Rattle.sqlite.specs.State.{State as Shown}
+use Rattle.sqlite.specs.State.{State as Shown, HasCleanDisk}
 use Rattle.sqlite_catalog.specs.Listing.{IsSound, IsTableRow, is_table_row}
 use Rattle.sqlite_catalog.proofs.LayoutLemmas.{zipped_left, zipped_right}
 use Rattle.sqlite_trees.specs.Objects.{catalog_tree}
@@ -11,6 +11,7 @@ use Rattle.registry_rules.specs.Kept.{IsKept}
 use Rattle.registry_tables.specs.Archives.{HoldsArchives}
 use Rattle.registry_tables.specs.Contents.{Contents, registry_of}
 use Rattle.registry_tables.specs.Effects.{stored}
+use Rattle.registry_tables.specs.Fresh.{fresh}
 use Rattle.registry_tables.specs.Needs.{HoldsNeeds}
 use Rattle.registry_tables.specs.Schema as ours
 use Rattle.registry_tables.specs.Teams.{GrantsInScope}
@@ -20,9 +21,10 @@ use Rattle.registry_migration.specs.declared.older.Older.TheVariants.{First, Sec
 use Rattle.registry_desk.proofs.CommitFacts.{registry_left}
 use Rattle.registry_desk.proofs.OpenedFacts.{gives_found, has_users, holds_each}
 use Rattle.registry_desk.specs.Opened.{GivesFound, IsMigrated}
+use Rattle.registry_desk.specs.Adopted.{IsMade}
 use Rattle.registry_desk.specs.Promises.{HoldsReferences}
-use Rattle.registry_desk.specs.Resting.{IsRegistryOf}
-use Rattle.registry_desk.specs.Stops.{AdoptionsAreOpens, GoesOn, HoldsMigrated, MigrationsLoseNothing, ReleasesAreAdopted, StopsAreAdopted, StopsLoseNothing}
+use Rattle.registry_desk.specs.Resting.{IsRegistryOf, Rests}
+use Rattle.registry_desk.specs.Stops.{AdoptionsAreOpens, GoesOn, HoldsMigrated, MigrationsLoseNothing, ReleasesAreAdopted, StoppedOpensLoseNothing, StopsAreAdopted, StopsInARowLoseNothing, StopsLoseNothing}
 
 -- a database with a registry's tables isn't one without tables
 not_empty : (db : Trees) → IsSound ours.schema db → IsSound no_tables db → ⊥
@@ -71,6 +73,18 @@ found_again db c d held (inl (sound, number, is)) = is ∙ held.1
 found_again db c d held (inr (inl (none, is))) = absurd (not_empty db held.0 none)
 found_again db c d held (inr (inr (older, sound, is))) = absurd (not_older db older held.0 sound)
 
+-- ---- of an open that is stopped
+
+pub stopped_opens_lose_nothing : StoppedOpensLoseNothing
+stopped_opens_lose_nothing db left c (inl same) gives = subst (λ (d : Trees). GivesFound d c) same gives
+stopped_opens_lose_nothing db left c (inr (inl (none, is))) gives = inr (inl (none, found_again left fresh c is gives))
+stopped_opens_lose_nothing db left c (inr (inr (older, was, leaves))) gives =
+    inr (inr (older, was, subst (IsMigrated older db) (sym (found_again left leaves.held c leaves.is gives)) leaves.migrated))
+
+pub stops_in_a_row_lose_nothing : StopsInARowLoseNothing
+stops_in_a_row_lose_nothing db last [] c same gives = subst (λ (d : Trees). GivesFound d c) same gives
+stops_in_a_row_lose_nothing db last (left ∷ more) c stopped gives = stopped_opens_lose_nothing db left c stopped.0 (stops_in_a_row_lose_nothing left last more c stopped.1 gives)
+
 -- ---- of an older schema
 
 migrated_alike : (older : Older) (db : Trees) (c : Contents) → IsMigrated older db c → HoldsMigrated older db c
@@ -82,11 +96,7 @@ found_migrated older db c was (inr (inl (none, is))) = absurd (older_not_empty d
 found_migrated older db c was (inr (inr (other, sound, is))) = subst (λ (o : Older). HoldsMigrated o db c) (one_older db other older sound was) (migrated_alike other db c is)
 
 pub migrations_lose_nothing : MigrationsLoseNothing
-migrations_lose_nothing older db left c was (inl same) gives = found_migrated older db c was (subst (λ (d : Trees). GivesFound d c) same gives)
-migrations_lose_nothing older db left c was (inr (inl (none, is))) gives = absurd (older_not_empty db older was none)
-migrations_lose_nothing older db left c was (inr (inr (other, sound, leaves))) gives =
-    let is : c ≡ leaves.held = found_again left leaves.held c leaves.is gives in
-    subst (λ (o : Older). HoldsMigrated o db c) (one_older db other older sound was) (subst (HoldsMigrated other db) (sym is) (migrated_alike other db leaves.held leaves.migrated))
+migrations_lose_nothing older db left c was leaves gives = found_migrated older db c was (stopped_opens_lose_nothing db left c leaves gives)
 
 -- ---- lives that go on
 
@@ -114,9 +124,11 @@ pub stops_are_adopted : {C D : Type 0} (show : C → Shown) (show_next : D → S
 stops_are_adopted show show_next last seen next image db sure left holds opened finds made =
     stops_lose_nothing show show_next last next image db sure left holds (holds_each image (show_next seen) (show_next next) opened finds made)
 
-pub releases_are_adopted : {C D : Type 0} (show : C → Shown) (show_next : D → Shown) → ReleasesAreAdopted show show_next
-releases_are_adopted show show_next last next rests made clean =
+pub still_stored : (last next : Shown) → Rests last → IsMade last next → HasCleanDisk next → stored next ≡ stored last
+still_stored last next rests made clean =
     let it = made clean in
     let ready = rests.in_form it.0 it.1 in
-    let here = (show last).now in
-    goes_on (show last) (show_next next) (found_again here.trees (stored (show last)) (stored (show_next next)) (registry_left (show last) here.trees _ ready refl refl) (gives_found here (stored (show_next next)) it.2 ready.sound))
+    found_again last.now.trees (stored last) (stored next) (registry_left last last.now.trees _ ready refl refl) (gives_found last.now (stored next) it.2 ready.sound)
+
+pub releases_are_adopted : {C D : Type 0} (show : C → Shown) (show_next : D → Shown) → ReleasesAreAdopted show show_next
+releases_are_adopted show show_next last next rests made clean = goes_on (show last) (show_next next) (still_stored (show last) (show_next next) rests made clean)

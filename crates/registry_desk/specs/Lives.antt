@@ -1,5 +1,5 @@
 -- Lives of a registry: what is asked of it from one open to the next, and what is found at last.
-use Rattle.std.specs.Prelude.{◌≡◌, ◌⊎◌, ◌++◌, List, [], ◌∷◌, true, Ok, Err}
+use Rattle.std.specs.Prelude.{◌≡◌, ◌⊎◌, ◌++◌, Bool, false, List, [], ◌∷◌, true, Ok, Err, IsTrue}
 use Rattle.std.specs.List.{AllByRecursion}
 use Rattle.sqlite.specs.Files.{HoldsDatabase}
 use Rattle.sqlite.specs.State.{State as Shown, HasCleanDisk}
@@ -10,7 +10,8 @@ use Rattle.registry_rules.specs.State.{nothing}
 use Rattle.registry_rules.specs.declared.reply.Reply.{Reply}
 use Rattle.registry_rules.specs.declared.request.Request.{Request}
 use Rattle.registry_tables.specs.Archives.{HoldsArchives}
-use Rattle.registry_tables.specs.Effects.{registry_in, stored}
+use Rattle.registry_tables.specs.Contents.{Contents, registry_of}
+use Rattle.registry_tables.specs.Effects.{stored}
 use Rattle.registry_tables.specs.Fresh.{fresh}
 use Rattle.registry_tables.specs.Needs.{HoldsNeeds}
 use Rattle.registry_tables.specs.Teams.{GrantsInScope}
@@ -20,8 +21,9 @@ use Rattle.registry_history.specs.Runs.{Outcome, Ran, history}
 use Rattle.registry_history.specs.Says.{Says}
 use Rattle.registry_desk.specs.Adopted.{IsMade}
 use Rattle.registry_desk.specs.Opened.{HoldsEach}
-use Rattle.registry_desk.specs.Promises.{Answered, HoldsReferences, HoldsSound, HoldsSoundFor, IsSure, Keeps, KeepsForm, KeepsFormRun, KeepsRun, KeepsSure, Moves, RanTo, Served, ServedRun, ShutByFaults, StaysSure, Stepped, Stored, SurvivesOne, SurvivesRun, WasOpen}
-use Rattle.registry_desk.specs.Resting.{Rests, end_stored, settled_by}
+use Rattle.registry_desk.specs.Promises.{Answered, HoldsReferences, HoldsSoundFor, IsSure, Keeps, KeepsForm, KeepsFormRun, KeepsRun, KeepsSure, Moves, RanTo, Served, ServedRun, ShutByFaults, StaysSure, Stepped, Stored, SurvivesOne, SurvivesRun, WasOpen}
+use Rattle.registry_desk.specs.Resting.{Rests, end_stored, next_stored, settled_by}
+use Rattle.registry_desk.specs.Stops.{AreLeft}
 
 -- ---- requests, one after another
 
@@ -57,10 +59,12 @@ pub record HasRun (old new : Shown) (rs : List Request) (os : List Outcome) : Ty
 
 -- ---- what a life does
 
--- what is asked of a registry in a life, the oldest first, and what comes of each
+-- what is asked of a registry in a life, the oldest first, what comes of each, and whether the
+-- registry is open at the end
 pub record Life : Type 0 where
   pub requests : List Request
   pub outcomes : List Outcome
+  pub is_open : Bool
 
 -- nothing was answered any more
 abbrev pub AreFaults : List Outcome → Type 0
@@ -68,25 +72,105 @@ AreFaults [] = Unit {0}
 AreFaults (Ok reply ∷ os) = ⊥
 AreFaults (Err fault ∷ os) = AreFaults os
 
--- What was done, with its replies: each request that was answered, with its reply, in their order;
--- and at the end, of those that met a fault when nothing was answered any more, one or none
-abbrev pub Did : List Request → List Outcome → List Request → List Outcome → Type 0
-Did [] os ds ps = (ds ≡ []) × (ps ≡ [])
-Did (r ∷ rs) [] ds ps = (ds ≡ []) × (ps ≡ [])
-Did (r ∷ rs) (Ok reply ∷ os) ds ps = (es : List Request) × (qs : List Outcome) × Did rs os es qs × (ds ≡ r ∷ es) × (ps ≡ Ok reply ∷ qs)
-Did (r ∷ rs) (Err fault ∷ os) ds ps = Did rs os ds ps ⊎ (AreFaults os × (reply : Reply) × (ds ≡ r ∷ []) × (ps ≡ Ok reply ∷ []))
+-- What was done, with its replies: each request that was answered, with its reply, in their order.
+-- What met a fault wasn't done, as long as the registry is open at the end. Where a fault of the disk
+-- has shut it, of the requests that met a fault when nothing was answered any more one may be done
+abbrev pub Did : Bool → List Request → List Outcome → List Request → List Outcome → Type 0
+Did is_open [] os ds ps = (ds ≡ []) × (ps ≡ [])
+Did is_open (r ∷ rs) [] ds ps = (ds ≡ []) × (ps ≡ [])
+Did is_open (r ∷ rs) (Ok reply ∷ os) ds ps = (es : List Request) × (qs : List Outcome) × Did is_open rs os es qs × (ds ≡ r ∷ es) × (ps ≡ Ok reply ∷ qs)
+Did is_open (r ∷ rs) (Err fault ∷ os) ds ps = Did is_open rs os ds ps ⊎ ((is_open ≡ false) × AreFaults os × (reply : Reply) × (ds ≡ r ∷ []) × (ps ≡ Ok reply ∷ []))
 
 -- what was done in one life after another
 abbrev pub DidAll : List Life → List Request → List Outcome → Type 0
 DidAll [] ds ps = (ds ≡ []) × (ps ≡ [])
 DidAll (life ∷ lives) ds ps = (es : List Request) × (qs : List Outcome) × (fs : List Request) × (ss : List Outcome)
-    × Did life.requests life.outcomes es qs × DidAll lives fs ss × (ds ≡ es ++ fs) × (ps ≡ qs ++ ss)
+    × Did life.is_open life.requests life.outcomes es qs × DidAll lives fs ss × (ds ≡ es ++ fs) × (ps ≡ qs ++ ss)
 
 -- each request is in form, as every value of `Request` is
 abbrev pub AreInForm : List Life → Type 0
 AreInForm = AllByRecursion (λ (life : Life). AllByRecursion IsInForm life.requests)
 
+-- ---- one life
+
+-- A life: a registry of which a crash leaves what it holds and nothing else, as of one that was
+-- just opened, is asked requests, by `run`, by `apply` in turn, or over HTTP
+pub record HasLived (first last : Shown) (life : Life) : Type 0 where
+  pub sure : IsSure first
+  pub ran : RanTo first last life.requests life.outcomes
+  pub stored : Stored first last life.requests life.outcomes
+  pub survives : SurvivesRun first last life.requests life.outcomes
+  pub stays : StaysSure last
+  pub ends : life.is_open ≡ last.is_open
+
+-- It ends wherever it is stopped: a crash leaves one of the databases that it may leave there, opens
+-- that are stopped again leave another, and the next registry is opened from files that hold that
+pub record IsOpenedAgain (last next : Shown) : Type 0 where
+  pub was_clean : HasCleanDisk last
+  pub db : Trees
+  pub left : last.may_leave db
+  pub stops : List Trees
+  pub found : Trees
+  pub stopped : AreLeft db stops found
+  pub image : Image
+  pub holds : HoldsDatabase image found
+  pub each : HoldsEach image next
+
+-- or it is released, and the next one takes over its connection
+pub record IsHandedOn (last next : Shown) : Type 0 where
+  pub rests : Rests last
+  pub made : IsMade last next
+
+-- or it is open, and is asked on: nothing that is stored has changed, as by a look whether it is open
+pub record IsAskedOn (last next : Shown) : Type 0 where
+  pub was_clean : HasCleanDisk last
+  pub was_open : IsTrue last.is_open
+  pub same : stored next ≡ stored last
+
+abbrev pub Follows : Shown → Shown → Type 0
+Follows last next = IsOpenedAgain last next ⊎ (IsHandedOn last next ⊎ IsAskedOn last next)
+
+-- what a life supposes of all that is stored, and leaves so
+pub record IsInOrder (c : Contents) : Type 0 where
+  pub grants : GrantsInScope c
+  pub needs : HoldsNeeds c
+  pub archives : HoldsArchives c
+
+-- What a life comes to, from what was stored before it to what the next registry holds: a run of what
+-- was done in it, in which every request is answered
+pub record ComesTo (life : Life) (before last : Contents) : Type 0 where
+  pub requests : List Request
+  pub replies : List Outcome
+  pub did : Did life.is_open life.requests life.outcomes requests replies
+  pub ran : Ran (registry_of before) requests replies true (registry_of last)
+  pub same : last ≡ end_stored requests replies before
+
 -- ---- lives
+
+-- one life after another, each from what the one before it came to, whatever store each is over
+abbrev pub AreLives : List Life → Contents → Contents → Type 0
+AreLives [] first last = last ≡ first
+AreLives (life ∷ lives) first last = (next : Contents) × (IsInOrder first → ComesTo life first next) × AreLives lives next last
+
+-- What a list of lives comes to: one run of what was done in them, in which every request is
+-- answered. So at last that is stored which a registry in memory stores that is asked the same
+pub record AreOneRun (lives : List Life) (first last : Contents) : Type 0 where
+  pub requests : List Request
+  pub replies : List Outcome
+  pub did : DidAll lives requests replies
+  pub ran : Ran (registry_of first) requests replies true (registry_of last)
+  pub same : last ≡ end_stored requests replies first
+  pub in_order : IsInOrder last
+  pub headline : registry_of first ≡ nothing → Headline requests replies (registry_of last)
+  pub says : (h : List Entry) → Legal h → registry_of first ≡ after h → Says (history h (registry_of first) requests replies) (registry_of last)
+
+abbrev pub LivesAreOneRun : Type 0
+LivesAreOneRun = (lives : List Life) (first last : Contents) → IsInOrder first → AreInForm lives → AreLives lives first last → AreOneRun lives first last
+
+-- from a fresh registry, as empty files become one, the headline holds of that run
+abbrev pub LivesHaveHeadline : Type 0
+LivesHaveHeadline = (lives : List Life) (last : Contents) → AreInForm lives → AreLives lives fresh last
+    → (run : AreOneRun lives fresh last) × Headline run.requests run.replies (registry_of last)
 
 module _ {C : Type 0} (show : C → Shown) where
   -- requests are asked by `apply`, one after another
@@ -96,66 +180,29 @@ module _ {C : Type 0} (show : C → Shown) where
   AskedInTurn [] (o ∷ os) first last = ⊥
   AskedInTurn (r ∷ rs) [] first last = ⊥
 
-  -- A life: a registry of which a crash leaves what it holds and nothing else, as of one that was
-  -- just opened, is asked requests, by `run`, by `apply` in turn, or over HTTP
-  pub record HasLived (first last : C) (life : Life) : Type 0 where
-    pub sure : IsSure (show first)
-    pub ran : RanTo (show first) (show last) life.requests life.outcomes
-    pub stored : Stored (show first) (show last) life.requests life.outcomes
-    pub survives : SurvivesRun (show first) (show last) life.requests life.outcomes
+  -- requests that are asked by `apply` in turn are a run
+  abbrev pub TurnsAreRuns : Type 0
+  TurnsAreRuns = (first last : C) (rs : List Request) (os : List Outcome) → AskedInTurn rs os first last → HasRun (show first) (show last) rs os
 
-  -- It ends wherever it is stopped: a crash leaves files that hold one of the databases that it may
-  -- leave there, and the next registry is opened from them
-  pub record IsOpenedAgain (last next : C) : Type 0 where
-    pub was_clean : HasCleanDisk (show last)
-    pub image : Image
-    pub db : Trees
-    pub left : (show last).may_leave db
-    pub holds : HoldsDatabase image db
-    pub each : HoldsEach image (show next)
-
-  -- or it is released, and the next one takes over its connection
-  pub record IsHandedOn (last next : C) : Type 0 where
-    pub rests : Rests (show last)
-    pub made : IsMade (show last) (show next)
-
-  -- one life after another, and the registry that is opened at last
-  abbrev pub AreLives : List Life → C → C → Type 0
-  AreLives [] first last = last ≡ first
-  AreLives (life ∷ lives) first last = (end : C) × (next : C) × HasLived first end life × (IsOpenedAgain end next ⊎ IsHandedOn end next) × HasCleanDisk (show next)
-      × AreLives lives next last
-
--- What a list of lives comes to: one run of what was done in them, in which every request is
--- answered. So `last` holds what a registry in memory holds that is asked the same
-pub record AreOneRun (first last : Shown) (lives : List Life) : Type 0 where
-  pub requests : List Request
-  pub replies : List Outcome
-  pub did : DidAll lives requests replies
-  pub ran : Ran (registry_in first) requests replies true (registry_in last)
-  pub same : stored last ≡ end_stored requests replies (stored first)
-  pub sound : HoldsSound last
-  pub archives : HoldsArchives (stored last)
-  pub headline : registry_in first ≡ nothing → Headline requests replies (registry_in last)
-  pub says : (h : List Entry) → Legal h → registry_in first ≡ after h → Says (history h (registry_in first) requests replies) (registry_in last)
-
-module _ {C : Type 0} (show : C → Shown) where
+-- The next registry may be over another store: the files that another run of the program opens have
+-- another type
+module _ {C D : Type 0} (show : C → Shown) (show_next : D → Shown) where
   -- A request is asked of a registry of which a crash leaves what it holds and nothing else. Wherever
   -- it is stopped, the registry that is opened from what a crash leaves holds what was held before
   -- the request, or what all of it makes. So nothing that was answered before is lost
   abbrev pub StopsLeaveAllOrNothing : Type 0
-  StopsLeaveAllOrNothing = (first last next : C) (r : Request) → HoldsSoundFor r (show first) → IsSure (show first) → SurvivesOne (show first) (show last) r
-      → IsOpenedAgain show last next → HasCleanDisk (show next)
-      → (stored (show next) ≡ stored (show first)) ⊎ (stored (show next) ≡ settled_by r (stored (show first)))
+  StopsLeaveAllOrNothing = (first last : C) (next : D) (r : Request) → HoldsSoundFor r (show first) → IsSure (show first) → SurvivesOne (show first) (show last) r
+      → IsOpenedAgain (show last) (show_next next) → HasCleanDisk (show_next next)
+      → (stored (show_next next) ≡ stored (show first)) ⊎ (stored (show_next next) ≡ settled_by r (stored (show first)))
 
-  -- requests that are asked by `apply` in turn are a run
-  abbrev pub TurnsAreRuns : Type 0
-  TurnsAreRuns = (first last : C) (rs : List Request) (os : List Outcome) → AskedInTurn show rs os first last → HasRun (show first) (show last) rs os
+  -- where the request leaves the registry open, it holds what the outcome says: after a reply what
+  -- the request makes, and after a fault what was held before it
+  abbrev pub StopsKeepOutcomes : Type 0
+  StopsKeepOutcomes = (first last : C) (next : D) (r : Request) (o : Outcome) → HoldsSoundFor r (show first) → Stepped (show first) (show last) r o → StaysSure (show last)
+      → IsTrue (show last).is_open → IsOpenedAgain (show last) (show_next next) → HasCleanDisk (show_next next)
+      → stored (show_next next) ≡ next_stored r o (stored (show first))
 
-  abbrev pub LivesAreOneRun : Type 0
-  LivesAreOneRun = (first last : C) (lives : List Life) → HoldsSound (show first) → HoldsArchives (stored (show first)) → AreInForm lives
-      → AreLives show lives first last → AreOneRun (show first) (show last) lives
-
-  -- from a fresh registry, as empty files become one, the headline holds of that run
-  abbrev pub LivesHaveHeadline : Type 0
-  LivesHaveHeadline = (first last : C) (lives : List Life) → stored (show first) ≡ fresh → AreInForm lives
-      → AreLives show lives first last → (run : AreOneRun (show first) (show last) lives) × Headline run.requests run.replies (registry_in (show last))
+  -- a life that is followed by another comes to a run
+  abbrev pub LivesComeToRuns : Type 0
+  LivesComeToRuns = (first last : C) (next : D) (life : Life) → HasLived (show first) (show last) life → Follows (show last) (show_next next) → HasCleanDisk (show_next next)
+      → IsInOrder (stored (show first)) → ComesTo life (stored (show first)) (stored (show_next next))

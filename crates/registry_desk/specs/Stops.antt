@@ -1,5 +1,5 @@
 -- What is found again after a stop.
-use Rattle.std.specs.Prelude.{◌≡◌, List}
+use Rattle.std.specs.Prelude.{◌≡◌, List, [], ◌∷◌}
 use Rattle.sqlite.specs.Files.{HoldsDatabase}
 use Rattle.sqlite.specs.Start.{FindsIn}
 use Rattle.sqlite.specs.State.{State as Shown, HasCleanDisk, IsLive, Opens}
@@ -62,3 +62,19 @@ HoldsMigrated older db c = Migrates older (contents_of older db) c
 -- whatever a stop in an open leaves of such a database, the next open makes that registry of it
 abbrev pub MigrationsLoseNothing : Type 0
 MigrationsLoseNothing = (older : Older) (db left : Trees) (c : Contents) → IsSound (schema_of older) db → LeavesFound db left → GivesFound left c → HoldsMigrated older db c
+
+-- ---- of an open that is stopped
+
+-- opens are stopped, one after another: each finds what the one before it left, and leaves the next
+-- of these databases
+abbrev pub AreLeft : Trees → List Trees → Trees → Type 0
+AreLeft db [] last = last ≡ db
+AreLeft db (left ∷ more) last = LeavesFound db left × AreLeft left more last
+
+-- what an open of such files gives, an open of the files before the stop would have given
+abbrev pub StoppedOpensLoseNothing : Type 0
+StoppedOpensLoseNothing = (db left : Trees) (c : Contents) → LeavesFound db left → GivesFound left c → GivesFound db c
+
+-- so it is of any number of stops
+abbrev pub StopsInARowLoseNothing : Type 0
+StopsInARowLoseNothing = (db last : Trees) (stops : List Trees) (c : Contents) → AreLeft db stops last → GivesFound last c → GivesFound db c
