@@ -33,7 +33,7 @@ help:
 	@echo '  make kill     kills a server 500 times while versions are published: 6 minutes'
 	@echo '  make files    fills a disk, and opens files that hold no registry'
 	@echo '  make older    migrates files of older schemas, and kills that at any moment: two minutes'
-	@echo '  make limits   tries the limits of connections, and hostile clients: 4 minutes'
+	@echo '  make limits   tries the limits of connections, and hostile clients: 5 minutes'
 	@echo '  make large    two million bytes of each thing, and whether they are refused soon'
 	@echo '  make soak     a hundred clients for ten minutes, and whether memory and answers hold'
 	@echo '  make starve   refuses each piece of memory in turn (EVERY=20: every 20th; JOBS=4: four at once)'
