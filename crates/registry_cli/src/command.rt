@@ -20,7 +20,9 @@ const LAST_SECOND: i64 = 253_402_300_799;
 /// What the program is, with its version.
 const ABOUT: &str = "registry 0.1.0, a package registry for one house, in npm's manner";
 
-const EXAMPLE: &str = "Example: registry --db registry.db --operator user-add ann";
+/// What stands at the end of the help: an example, and the commands that ask for no request.
+const MORE: &str =
+    "Example: registry --db registry.db --operator user-add ann\n\nFor whoever runs it there are token-new, check and backup, too: registry check --help";
 
 // The argument that an argument is.
 fn argument<'a>(alloc: Global, parameter: &Parameter) -> Arg<'a>
@@ -153,7 +155,7 @@ fn bare<'a>(alloc: Global) -> Result<Command<'a>, AllocError>
         .subcommand_required(true)
         .disable_help_subcommand(true)
         .about(ABOUT)
-        .after_help(EXAMPLE)
+        .after_help(MORE)
         .bin_name("registry")
 }
 

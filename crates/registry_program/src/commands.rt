@@ -4,11 +4,12 @@ ghost use Rattle.std.specs.Prelude.{◌≡◌, false};
 ghost use Rattle.registry_cli.specs.Lines.{IsWhole, asks_to_serve};
 
 use crate::ending::{Ending, Failure};
+use crate::errands::run_errand;
 use crate::moment::read_moment;
 use crate::registries::Registries;
 use crate::run::MOST_READ;
 use crate::serving::serve;
-use registry_cli::{Line, action_of, line, print_reply};
+use registry_cli::{Line, Usage, action_of, errand_of, line, print_reply};
 use registry_names::{ByteOut, Fault, FromRead, Moment, ReadStop, Text, read_whole};
 use registry_rules::Request;
 use std::alloc::Global;
@@ -20,7 +21,7 @@ use std::io::ErrorKind;
 ///
 /// The moment is read first, where the arguments say none, then the file of a publish, then the
 /// texts in their order, and last the registry is asked. Arguments that ask to serve are answered
-/// once the last connection has ended.
+/// once the last connection has ended. Where they mean no line they may name an errand.
 pub fn answer_command<R: Registries, O: ByteOut, E: ByteOut>(
     rt: &HostRuntime,
     alloc: Global,
@@ -29,11 +30,43 @@ pub fn answer_command<R: Registries, O: ByteOut, E: ByteOut>(
     output: &mut O,
     errors: &mut E,
 ) -> Result<u8, Ending> {
-    let line = line(alloc, arguments)?;
+    match line(alloc, arguments) {
+        Ok(line) => answer_line(rt, alloc, registries, &line, output, errors),
+        Err(usage) => answer_errand(rt, alloc, registries, arguments, usage, output, errors),
+    }
+}
+
+fn answer_line<R: Registries, O: ByteOut, E: ByteOut>(
+    rt: &HostRuntime,
+    alloc: Global,
+    registries: &mut R,
+    line: &Line,
+    output: &mut O,
+    errors: &mut E,
+) -> Result<u8, Ending>
+    requires whole { IsWhole line.now.what }
+{
     if line.asks_to_serve() {
-        serve(rt, alloc, &line, output, errors)
+        serve(rt, alloc, line, output, errors)
     } else {
-        print_answer(rt, alloc, registries, &line, output, errors)
+        print_answer(rt, alloc, registries, line, output, errors)
+    }
+}
+
+// Arguments that mean no line, and what is to be said of them where they name no errand.
+fn answer_errand<R: Registries, O: ByteOut, E: ByteOut>(
+    rt: &HostRuntime,
+    alloc: Global,
+    registries: &mut R,
+    arguments: &[Text],
+    usage: Usage,
+    output: &mut O,
+    errors: &mut E,
+) -> Result<u8, Ending> {
+    match errand_of(alloc, arguments) {
+        Ok(Some(errand)) => run_errand(rt, alloc, registries, errand, output, errors),
+        Ok(None) => Err(Ending::from(usage)),
+        Err(usage) => Err(Ending::from(usage)),
     }
 }
 
@@ -55,8 +88,8 @@ fn print_answer<R: Registries, O: ByteOut, E: ByteOut>(
     Ok(print_reply(&reply, output, errors)?)
 }
 
-// What a line asks for, and when.
-fn request(rt: &HostRuntime, alloc: Global, line: &Line) -> Result<Request, Ending>
+/// What a line asks for, and when.
+pub fn request(rt: &HostRuntime, alloc: Global, line: &Line) -> Result<Request, Ending>
     requires whole { IsWhole line.now.what }
     requires asks { asks_to_serve line.now.what ≡ false }
 {

@@ -28,17 +28,35 @@ pub enum Failure {
     Opening(Obstacle),
     /// The disk of the registry's file, which is shut for it.
     Shut,
-    /// Standard input, the machine's clock, or the port where connections are to come in.
+    /// Standard input, the machine's clock or its randomness, or the port where connections are to
+    /// come in.
     Read,
     /// A file that the arguments name.
     File,
+    /// The copy that the arguments name.
+    Backup(Snag),
     /// Standard output.
     Write,
+}
+
+/// Why there is no copy.
+#[derive(Clone, Copy)]
+pub enum Snag {
+    /// A file has its name already, or the name of its log or of its part.
+    Taken,
+    /// The disk is full.
+    Full,
+    /// It can't be written.
+    Unwritable,
+    /// What was written doesn't open.
+    Unreadable,
 }
 
 /// Why the registry's file can't be opened.
 #[derive(Clone, Copy)]
 pub enum Obstacle {
+    /// It isn't there or is empty, and a registry is to be in it.
+    Missing,
     /// Another process has it.
     Busy,
     /// It, or its log, can't be opened or written.

@@ -1,8 +1,11 @@
 //! The registry as a program, over any byte streams: `main` calls it, and so do the stories.
 #![tactic(auto)]
 
+mod checking;
 mod commands;
+mod copying;
 mod ending;
+mod errands;
 mod moment;
 mod opening;
 mod publication;
@@ -10,7 +13,8 @@ mod registries;
 mod run;
 mod serving;
 
-pub use crate::ending::{Ending, Failure, Obstacle};
+pub use crate::copying::write_copy;
+pub use crate::ending::{Ending, Failure, Obstacle, Snag};
 pub use crate::opening::let_go;
 pub use crate::registries::{InFiles, Registries, reply_of};
 pub use crate::run::{program, program_over, report};

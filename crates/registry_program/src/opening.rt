@@ -8,6 +8,8 @@ use sqlite::types::ValueRef;
 use sqlite::{Alter, Connection, Error, ErrorCode, File, FileStore};
 use sqlite_disk::Disk;
 use std::alloc::Global;
+use std::fs;
+use std::io::ErrorKind;
 
 /// The registry in the file at the path.
 pub fn open(rt: &HostRuntime, path: &str) -> Result<Registry<FileStore<File>>, Ending> {
@@ -18,14 +20,28 @@ pub fn open(rt: &HostRuntime, path: &str) -> Result<Registry<FileStore<File>>, E
     }
 }
 
+/// A file that isn't empty is at the path. An open would make a registry of none, or of an empty one.
+pub fn require_file(rt: &HostRuntime, path: &str) -> Result<(), Ending> {
+    match fs::metadata(rt, path) {
+        Ok(found) if found.len() == 0 => Err(missing()),
+        Err(error) if error.kind() == ErrorKind::NotFound => Err(missing()),
+        _ => Ok(()),
+    }
+}
+
+fn missing() -> Ending {
+    Ending::Fault(Failure::Opening(Obstacle::Missing))
+}
+
 /// Lets go of a registry's files. Its log isn't copied into the database file: the next open does
 /// what is to be done.
 pub fn let_go<D: Disk + Drop>(registry: Registry<FileStore<D>>) {
     close(registry.release());
 }
 
+/// Lets go of a connection's files, as [`let_go`] does.
 // The store's own `close` leaves only the files to be dropped, and none of what is built on them.
-fn close<D: Disk + Drop>(conn: Connection<FileStore<D>>) {
+pub fn close<D: Disk + Drop>(conn: Connection<FileStore<D>>) {
     drop(conn.into_store().close());
 }
 
@@ -78,7 +94,8 @@ fn is_older<S: Alter>(alloc: Global, conn: &Connection<S>) -> bool {
     matches!(older_schema(alloc, conn.schema()), Ok(Some(_)))
 }
 
-fn obstacle_of(error: Error) -> Obstacle {
+/// What keeps a database that gives this error from being opened.
+pub fn obstacle_of(error: Error) -> Obstacle {
     match error {
         Error::SqliteFailure(ErrorCode::DatabaseBusy) => Obstacle::Busy,
         Error::SqliteFailure(ErrorCode::DiskFull) => Obstacle::Full,
