@@ -2,6 +2,7 @@ pub mod CalendarFacts
 pub mod DocumentFacts
 pub mod LenFacts
 pub mod ManifestFacts
+pub mod MemberFacts
 pub mod MomentFacts
 pub mod OrderFacts
 pub mod PackFacts

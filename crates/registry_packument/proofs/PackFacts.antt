@@ -173,11 +173,6 @@ pack_pairs-parts head ps =
 
 -- ---- the loop over the versions
 
--- a version's key, and then its document
-pub member_written : (old mid new key : List ℕ) (later : Bool) (document : Option (List ℕ)) → mid ≡ old ++ (comma_if later ++ (quoted key ++ 58 ∷ []))
-    → Adds (λ d. d) document mid new → Adds (member_text later) (option_map (λ d. (key, d)) document) old new
-member_written old mid new key later document e (d, (is, w)) = ((key, d), (rw is refl, rw (w, e) (simp append_assoc)))
-
 -- what is written, and then the rows that are left and the end, if each row has a document
 abbrev pub whole_of : List ℕ → Bool → Option (List Pair) → Option (List ℕ)
 whole_of out later left = option_map (λ ps. out ++ versions_text later ps) left

@@ -3,6 +3,7 @@ pub mod Dates
 pub mod Documents
 pub mod Heads
 pub mod Lists
+pub mod Members
 pub mod Moments
 pub mod ObjectTexts
 pub mod Packuments

@@ -8,7 +8,7 @@ ghost use Rattle.json.specs.Tree.{json_tokens, HasNumbers, MembersHaveNumbers};
 ghost use Rattle.json.specs.Value.{value_view, members_view};
 ghost use Rattle.registry_names.specs.Texts.{text_cmp};
 ghost use Rattle.registry_packument.specs.Documents.{manifest_members, members_in, written_members, members_without, placed, deprecated_text, document_text};
-ghost use Rattle.registry_packument.specs.Writing.{Adds, IsFaultOf};
+ghost use Rattle.registry_packument.specs.Writing.{IsFaultOf};
 
 use crate::manifest::is_manifest;
 use json::{Error, Scratch, Value, to_vec};
@@ -111,25 +111,19 @@ fn deprecated(alloc: Global, manifest: &str, message: &str) -> Result<String, Fa
     Ok(text_of(alloc, &Value::Object(members))?)
 }
 
-/// The document, written after what the text has already.
-pub(crate) fn push_document(
-    alloc: Global,
-    out: &mut String,
-    manifest: &str,
-    message: &str,
-) -> Result<(), Fault>
-    ensures ok { OnOk result (Adds (λ document. document) (document_text manifest.now message.now)
-        (string_bytes out.old) (string_bytes out.new)) }
-    ensures err { IfErr result (IsFaultOf (document_text manifest.now message.now)) }
+/// The document of a version, made of its manifest, which it is itself where the message is empty.
+pub(crate) fn document_of(alloc: Global, manifest: Text, message: &str) -> Result<Text, Fault>
+    ensures ok { IfOk result (λ text. document_text manifest message.now ≡ Some text) }
+    ensures err { IfErr result (IsFaultOf (document_text manifest message.now)) }
 {
-    if !is_manifest(alloc, manifest)? {
+    if !is_manifest(alloc, manifest.as_str())? {
         return Err(Fault::Database);
     }
     if message.is_empty() {
-        return Ok(out.push_str(manifest)?);
+        return Ok(manifest);
     }
-    let text = deprecated(alloc, manifest, message)?;
-    Ok(out.push_str(text.as_str())?)
+    let text = deprecated(alloc, manifest.as_str(), message)?;
+    Ok(Text::from(text))
 }
 
 /// The document of a version: the manifest itself where the message is empty; else the manifest as
@@ -144,7 +138,6 @@ pub fn version_text(alloc: Global, manifest: &str, message: &str) -> Result<Text
     ensures ok { IfOk result (λ text. document_text manifest.now message.now ≡ Some text) }
     ensures err { IfErr result (IsFaultOf (manifest_members manifest.now)) }
 {
-    let mut out = String::new(alloc);
-    push_document(alloc, &mut out, manifest, message)?;
-    Ok(Text::from(out))
+    let manifest = Text::from_str(alloc, manifest)?;
+    document_of(alloc, manifest, message)
 }

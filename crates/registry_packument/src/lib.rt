@@ -7,9 +7,10 @@
 //! so are the documents and the packument ([`laws`]). A call fails where no memory is left, and
 //! exactly where a manifest is none.
 //!
-//! The versions of a packument come from a source, which gives them one after the other, and no
-//! more than one of them is held. Its text is made whole, or is written version by version, or its
-//! bytes are counted. A fault leaves a prefix of what is written, and nothing else.
+//! The versions of a packument come from a source, which gives them one after the other. Its text is
+//! made whole, once, into exact room: for that all its documents are held. Or it is written version
+//! by version, or its bytes are counted: for that one version is held at a time. A fault leaves a
+//! prefix of what is written, and nothing else.
 #![tactic(auto)]
 
 mod document;

@@ -1,18 +1,25 @@
 //! Packuments.
 
-ghost use Rattle.std.specs.Prelude.{◌≡◌, [], Some, string_bytes, OnOk, IfOk, IfErr};
+ghost use Rattle.std.specs.Prelude.{◌≡◌, ◌+◌, [], Some, length, option_map, false, string_bytes, string_capacity, OnOk, IfOk, IfErr};
 ghost use Rattle.registry_packument.specs.ObjectTexts.{member_text};
-ghost use Rattle.registry_packument.specs.Packuments.{version_pair, pack_text};
+ghost use Rattle.registry_packument.specs.Packuments.{version_pair, version_pairs, versions_text, pack_text};
 ghost use Rattle.registry_packument.specs.Sources.{IsFaultFrom};
 ghost use Rattle.registry_packument.specs.Writing.{Adds, IsFaultOf};
+ghost use Rattle.registry_packument.specs.Members.{member_bytes, text_of_members};
 
-use crate::document::push_document;
+use crate::document::document_of;
 use crate::head::PackHead;
 use crate::json_text::push_key;
 use crate::opening::opening;
 use crate::source::VersionSource;
 use registry_names::{Fault, Text};
-use std::alloc::Global;
+use std::alloc::{AllocError, Global};
+
+/// What ends a packument: the brace of its versions, and its own.
+pub(crate) const CLOSING: &str = "}}";
+
+/// How many bytes a key may have beside its version: a comma, two quotes and a colon.
+const KEY_MARKS: usize = 4;
 
 /// A version of a package, with its document.
 pub struct VersionRow {
@@ -34,23 +41,103 @@ impl Drop for VersionRow {
     }
 }
 
-/// What ends a packument: the brace of its versions, and its own.
-pub(crate) const CLOSING: &str = "}}";
+impl VersionRow {
+    /// The version's member, with a comma before it where a member came earlier.
+    pub(crate) fn into_member(self, alloc: Global, later: bool) -> Result<VersionMember, Fault>
+        ensures ok { IfOk result (λ member. Adds (member_text later) (version_pair self)
+            [] (member_bytes member)) }
+        ensures err { IfErr result (IsFaultOf (version_pair self)) }
+    {
+        let VersionRow {
+            version,
+            manifest,
+            message,
+        } = self;
+        let key_len = version.as_str().len().saturating_add(KEY_MARKS);
+        let mut key = String::with_capacity(alloc, key_len)?;
+        push_key(alloc, &mut key, later, version.as_str())?;
+        let document = document_of(alloc, manifest, message.as_str())?;
+        Ok(VersionMember {
+            key: Text::from(key),
+            document,
+        })
+    }
+}
 
-/// The member of one version.
-pub(crate) fn push_version(
+/// The member of one version in a packument, in two parts.
+#[derive(Drop)]
+pub(crate) struct VersionMember {
+    /// The version in quotes, and a colon, with a comma before it where a member came earlier.
+    pub(crate) key: Text,
+    /// The version's document.
+    pub(crate) document: Text,
+}
+
+// The members of the versions that the source gives.
+fn version_members<S: VersionSource>(
     alloc: Global,
-    out: &mut String,
-    later: bool,
-    row: &VersionRow,
-) -> Result<(), Fault>
-    ensures ok { OnOk result (Adds (member_text later) (version_pair row.now)
-        (string_bytes out.old) (string_bytes out.new)) }
-    ensures err { IfErr result (IsFaultOf (version_pair row.now)) }
+    source: &mut S,
+) -> Result<Vec<VersionMember>, Fault>
+    ensures ok { IfOk result (λ members.
+        option_map (versions_text false) (version_pairs (S.rows source.old))
+        ≡ Some (text_of_members [] members.items)) }
+    ensures err { IfErr result (IsFaultFrom (S.stopped source.new)
+        (version_pairs (S.rows source.old))) }
+    ensures taken { OnOk result (S.rows source.new ≡ []) }
 {
-    push_key(alloc, out, later, row.version.as_str())?;
-    push_document(alloc, out, row.manifest.as_str(), row.message.as_str())?;
-    Ok(())
+    let mut members = Vec::new(alloc);
+    let mut later = false;
+    'versions: while let Some(row) = source.next(alloc)? {
+        let member = row.into_member(alloc, later)?;
+        members.push(member)?;
+        later = true;
+    }
+    Ok(members)
+}
+
+// ---- the text, in exact room
+
+// A number of bytes, and those of a text. An error comes where memory has fewer places than that.
+fn longer(len: usize, text: &str) -> Result<usize, AllocError>
+    ensures { IfOk result (λ sum. sum ≡ len + length text.now) }
+{
+    len.checked_add(text.len()).ok_or(AllocError)
+}
+
+// How many bytes the packument has that begins so, and then has these members.
+fn text_len(start: &str, members: &[VersionMember]) -> Result<usize, AllocError>
+    ensures { IfOk result (λ len. len ≡ length (text_of_members start.now members.now)) }
+{
+    let mut len = longer(start.len(), CLOSING)?;
+    for member in members {
+        let key_end = longer(len, member.key.as_str())?;
+        len = longer(key_end, member.document.as_str())?;
+    }
+    Ok(len)
+}
+
+// Room for the packument that begins so, and then has these members: as many bytes as it has.
+fn room_for(alloc: Global, start: &str, members: &[VersionMember]) -> Result<String, AllocError>
+    ensures empty { IfOk result (λ room. string_bytes room ≡ []) }
+    ensures exact { IfOk result (λ room.
+        string_capacity room ≡ length (text_of_members start.now members.now)) }
+{
+    String::with_capacity(alloc, text_len(start, members)?)
+}
+
+// The packument that begins so, and then has these members.
+fn text_of(alloc: Global, start: &str, members: &[VersionMember]) -> Result<String, AllocError>
+    ensures { IfOk result (λ text.
+        string_bytes text ≡ text_of_members start.now members.now) }
+{
+    let mut out = room_for(alloc, start, members)?;
+    out.push_str(start)?;
+    for member in members {
+        out.push_str(member.key.as_str())?;
+        out.push_str(member.document.as_str())?;
+    }
+    out.push_str(CLOSING)?;
+    Ok(out)
 }
 
 /// The packument of a package, as npm's registry answers it: an object with `_id` and `name` (the
@@ -62,6 +149,9 @@ pub(crate) fn push_version(
 /// A version's document is that of [`version_text`](crate::version_text).
 /// `Database` comes where a manifest is none (see there), and else the source's own fault, or
 /// `Memory` where no memory is left. Where it succeeds, the source has given all its rows.
+///
+/// The documents are made first, each manifest without a message in its own memory. So the length is
+/// known before the text is written, once, into room for exactly that many bytes.
 pub fn packument_text<S: VersionSource>(
     alloc: Global,
     head: &PackHead,
@@ -72,12 +162,8 @@ pub fn packument_text<S: VersionSource>(
         (pack_text head.now (S.rows source.old))) }
     ensures taken { OnOk result (S.rows source.new ≡ []) }
 {
-    let mut out = opening(alloc, head)?;
-    let mut later = false;
-    'versions: while let Some(row) = source.next(alloc)? {
-        push_version(alloc, &mut out, later, &row)?;
-        later = true;
-    }
-    out.push_str(CLOSING)?;
-    Ok(Text::from(out))
+    let start = opening(alloc, head)?;
+    let members = version_members(alloc, source)?;
+    let text = text_of(alloc, start.as_str(), &members)?;
+    Ok(Text::from(text))
 }

@@ -13,7 +13,7 @@ ghost use Rattle.registry_packument.specs.declared.stream.PackFault.TheVariants.
 
 use crate::head::PackHead;
 use crate::opening::{opening_len, write_opening};
-use crate::packument::{CLOSING, VersionRow, push_version};
+use crate::packument::{CLOSING, VersionMember, VersionRow};
 use crate::source::VersionSource;
 use registry_names::{ByteOut, Fault, WriteFailed, write_whole};
 use std::alloc::{AllocError, Global};
@@ -66,14 +66,15 @@ impl From<AllocError> for PackFault {
     }
 }
 
-// The member of one version.
-fn version_member(alloc: Global, later: bool, row: &VersionRow) -> Result<String, Fault>
-    ensures ok { IfOk result (λ text. Adds (member_text later) (version_pair row.now)
+// The member of one version, in one piece.
+fn member_string(alloc: Global, later: bool, row: VersionRow) -> Result<String, Fault>
+    ensures ok { IfOk result (λ text. Adds (member_text later) (version_pair row)
         [] (string_bytes text)) }
-    ensures err { IfErr result (IsFaultOf (version_pair row.now)) }
+    ensures err { IfErr result (IsFaultOf (version_pair row)) }
 {
-    let mut text = String::new(alloc);
-    push_version(alloc, &mut text, later, row)?;
+    let VersionMember { key, document } = row.into_member(alloc, later)?;
+    let mut text = key.into_string();
+    text.push_str(document.as_str())?;
     Ok(text)
 }
 
@@ -88,13 +89,13 @@ pub(crate) fn counted(count: u64, text: &str) -> Result<u64, Fault>
 }
 
 // A count of bytes, and those of the member of one version.
-fn counted_row(alloc: Global, count: u64, later: bool, row: &VersionRow) -> Result<u64, Fault>
-    ensures ok { IfOk result (λ sum. (p : Pair) × (version_pair row.now ≡ Some p)
+fn counted_row(alloc: Global, count: u64, later: bool, row: VersionRow) -> Result<u64, Fault>
+    ensures ok { IfOk result (λ sum. (p : Pair) × (version_pair row ≡ Some p)
         × (sum ≡ count + length (member_text later p))) }
     ensures err { IfErr result (λ fault. (fault ≡ Fault.Memory) ⊎ ((p : Pair)
-        → version_pair row.now ≡ Some p → 2 ^ 64 ≤ count + length (member_text later p))) }
+        → version_pair row ≡ Some p → 2 ^ 64 ≤ count + length (member_text later p))) }
 {
-    let member = version_member(alloc, later, row)?;
+    let member = member_string(alloc, later, row)?;
     counted(count, member.as_str())
 }
 
@@ -116,7 +117,7 @@ pub fn packument_len<S: VersionSource>(
     let mut count = opening_len(alloc, head)?;
     let mut later = false;
     'versions: while let Some(row) = source.next(alloc)? {
-        count = counted_row(alloc, count, later, &row)?;
+        count = counted_row(alloc, count, later, row)?;
         later = true;
     }
     counted(count, CLOSING)
@@ -126,21 +127,21 @@ pub fn packument_len<S: VersionSource>(
 fn write_version<W: ByteOut>(
     alloc: Global,
     later: bool,
-    row: &VersionRow,
+    row: VersionRow,
     writer: &mut W,
 ) -> Result<(), PackFault>
     ensures ok { OnOk result (Writes (W.bytes writer.old) (W.bytes writer.new)
-        (W.is_unknown writer.new) (row_prefix later row.now)) }
-    ensures whole { OnOk result (IsSome (version_pair row.now)) }
+        (W.is_unknown writer.new) (row_prefix later row)) }
+    ensures whole { OnOk result (IsSome (version_pair row)) }
     ensures err { OnErr result (WritesPrefix (W.bytes writer.old) (W.bytes writer.new)
-        (W.is_unknown writer.new) (row_prefix later row.now)) }
-    ensures fault { IfErr result (IsPackFault None (version_pair row.now)) }
+        (W.is_unknown writer.new) (row_prefix later row)) }
+    ensures fault { IfErr result (IsPackFault None (version_pair row)) }
 
     ensures counted { W.failures writer.new ≡ failures_after result (W.failures writer.old) }
     ensures told { result ≢ Err Write → W.is_unknown writer.new ≡ W.is_unknown writer.old }
     ensures unknown { W.is_unknown writer.old ≡ true → W.is_unknown writer.new ≡ true }
 {
-    write_whole(writer, version_member(alloc, later, row)?.as_bytes())?;
+    write_whole(writer, member_string(alloc, later, row)?.as_bytes())?;
     Ok(())
 }
 
@@ -165,7 +166,7 @@ fn write_versions<W: ByteOut, S: VersionSource>(
 {
     let mut later = false;
     'versions: while let Some(row) = source.next(alloc)? {
-        write_version(alloc, later, &row, writer)?;
+        write_version(alloc, later, row, writer)?;
         later = true;
     }
     write_whole(writer, CLOSING.as_bytes())?;

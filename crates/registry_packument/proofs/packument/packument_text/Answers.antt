@@ -1,24 +1,17 @@
-use Rattle.std.proofs.Common.{◌∙◌, inr, string_bytes}
+use Rattle.std.proofs.Common.{◌∙◌}
 use Rattle.std.proofs.lemmas.Result.{err_from_is_err_and}
-use Rattle.registry_packument.proofs.PackFacts.{rows_start, row_step, row_stop, rows_end}
+use Rattle.registry_packument.specs.ObjectTexts.{object_text}
+use Rattle.registry_packument.specs.Packuments.{pack_pairs, version_pairs}
+use Rattle.registry_packument.proofs.MemberFacts.{fault_from_map, text_of_pack}
 use Rattle.registry_packument.proofs.packument.packument_text.Goals as goal
 
-pub versions-init : goal.versions-init
-versions-init g c = rows_start c.args.head.now (g.S.VersionSource.rows c.args.source.now) (string_bytes c.in_ok-out.out) c.in_ok-out.ensures
-
-pub versions-preserved : goal.versions-preserved
-versions-preserved g c =
-    row_step _ _ c.versions.later c.in-Some.row (g.S.VersionSource.rows c.versions.source) (g.S.VersionSource.rows c.next.new.self) _ (rw c.in-Some.is at c.in_ok-row.ensures.gives)
-    c.versions.invariant c.in_ok-push_version.ensures.ok
-
-pub returns-in_err-push_version-clause-err : goal.returns-in_err-push_version-clause-err
-returns-in_err-push_version-clause-err g c =
-    let q = err_from_is_err_and c.from_residual-in_err-push_version.result c.from_residual-in_err-push_version.ensures.1 in
-    let fault = row_stop _ c.versions.later c.in-Some.row (g.S.VersionSource.rows c.versions.source) (g.S.VersionSource.rows c.next.new.self) _ _
-    (rw c.in-Some.is at c.in_ok-row.ensures.gives) c.versions.invariant c.in_err-push_version.ensures.err in
-    rw (q.1, q.2) (inr fault)
+pub returns-in_err-members-clause-err : goal.returns-in_err-members-clause-err
+returns-in_err-members-clause-err g c =
+    let head = c.args.head.now in
+    let q = err_from_is_err_and c.from_residual-in_err-members.result c.from_residual-in_err-members.ensures.1 in
+    rw (q.1, q.2) (fault_from_map (λ ps. object_text (pack_pairs head ps)) _ (version_pairs (g.S.VersionSource.rows c.args.source.now)) _ c.in_err-members.ensures.err)
 
 pub returns-clause-ok : goal.returns-clause-ok
 returns-clause-ok g c =
-    let none = rw c.in_default.is at c.in_ok-row.ensures.gives in
-    rows_end _ c.from.result c.versions.later (g.S.VersionSource.rows c.versions.source) _ none.0 c.versions.invariant (c.from.ensures ∙ c.in_ok-push_str.ensures.bytes)
+    text_of_pack c.args.head.now (version_pairs (g.S.VersionSource.rows c.args.source.now)) c.in_ok-members.members.items _ _
+    c.in_ok-start.ensures c.in_ok-members.ensures.ok (c.from.ensures ∙ (rw (c.as_str.ensures.value, c.deref.ensures.value) at c.in_ok-text.ensures))
