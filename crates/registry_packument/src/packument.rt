@@ -78,12 +78,13 @@ fn version_members<S: VersionSource>(
     alloc: Global,
     source: &mut S,
 ) -> Result<Vec<VersionMember>, Fault>
-    ensures ok { IfOk result (λ members.
+    ensures ok { S.is_known source.new → IfOk result (λ members.
         option_map (versions_text false) (version_pairs (S.rows source.old))
         ≡ Some (text_of_members [] members.items)) }
-    ensures err { IfErr result (IsFaultFrom (S.stopped source.new)
+    ensures err { S.is_known source.new → IfErr result (IsFaultFrom (S.stopped source.new)
         (version_pairs (S.rows source.old))) }
-    ensures taken { OnOk result (S.rows source.new ≡ []) }
+    ensures taken { S.is_known source.new → OnOk result (S.rows source.new ≡ []) }
+    ensures known { S.is_known source.new → S.is_known source.old }
 {
     let mut members = Vec::new(alloc);
     let mut later = false;
@@ -157,10 +158,14 @@ pub fn packument_text<S: VersionSource>(
     head: &PackHead,
     source: &mut S,
 ) -> Result<Text, Fault>
-    ensures ok { IfOk result (λ text. pack_text head.now (S.rows source.old) ≡ Some text) }
-    ensures err { IfErr result (IsFaultFrom (S.stopped source.new)
+    // Where what the source gave is known:
+    ensures ok { S.is_known source.new
+        → IfOk result (λ text. pack_text head.now (S.rows source.old) ≡ Some text) }
+    ensures err { S.is_known source.new → IfErr result (IsFaultFrom (S.stopped source.new)
         (pack_text head.now (S.rows source.old))) }
-    ensures taken { OnOk result (S.rows source.new ≡ []) }
+    ensures taken { S.is_known source.new → OnOk result (S.rows source.new ≡ []) }
+
+    ensures known { S.is_known source.new → S.is_known source.old }
 {
     let start = opening(alloc, head)?;
     let members = version_members(alloc, source)?;

@@ -1,6 +1,6 @@
 //! Sources of versions.
 
-ghost use Rattle.std.specs.Prelude.{◌≡◌, ◌↔◌, List, Option, Some, None, Err, IfOk, IfErr, IfSome, IsTrue, MatchOption};
+ghost use Rattle.std.specs.Prelude.{◌≡◌, ◌↔◌, ◌<◌, ℕ, ⊤, List, Option, Some, None, Err, length, IfOk, IfErr, IfSome, OnSome, IsTrue, MatchOption};
 ghost use Rattle.std.specs.Ordering.{is_lt};
 ghost use Rattle.registry_names.specs.Texts.{text_cmp};
 ghost use Rattle.registry_names.specs.declared.stop.Fault.{Fault};
@@ -14,7 +14,8 @@ use std::collections::VecDeque;
 
 /// The versions of a package, given one after the other, in byte order of their texts, each once.
 ///
-/// Contracts see the rows that are left, and the fault that the source stopped at, if any.
+/// Contracts see the rows that are left, and the fault that the source stopped at, if any. They say
+/// what it gives where that is known: a source that reads a disk knows it while no read fails.
 pub trait VersionSource {
     // The rows that are left.
     ghost rows: { Self → List VersionRow };
@@ -22,11 +23,20 @@ pub trait VersionSource {
     // The fault that it stopped at, which it answers from then on.
     ghost stopped: { Self → Option Fault };
 
+    // What it has given is known, and so is what it gives next.
+    ghost is_known: { Self → Type 0 } = { λ _. ⊤ };
+
+    // How many rows it gives at most, also where they aren't known.
+    ghost most: { Self → ℕ };
+
     /// The next version. None where none is left.
     ///
     /// After a fault it answers that fault again, and it stops at a fault alone.
     fn next(&mut self, alloc: Global) -> Result<Option<VersionRow>, Fault>
-        ensures gives { IfOk result (λ row. Gives (rows self.old) row (rows self.new)) }
+        ensures gives { is_known self.new
+            → IfOk result (λ row. Gives (rows self.old) row (rows self.new)) }
+        ensures known { is_known self.new → is_known self.old }
+        ensures ends { IfOk result (λ row. OnSome row (most self.new < most self.old)) }
         ensures stops { IfErr result (λ fault. stopped self.new ≡ Some fault) }
         ensures goes_on { IfOk result (λ _. stopped self.new ≡ None) }
         ensures again { IfSome (stopped self.old) (λ fault. result ≡ Err fault) };
@@ -75,6 +85,8 @@ impl VersionSource for VersionRows {
     ghost rows = { λ source. source.left.items };
 
     ghost stopped = { λ _. None };
+
+    ghost most = { λ source. length source.left.items };
 
     ghost ordered = { λ source. source.ordered };
 

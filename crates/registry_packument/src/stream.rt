@@ -109,10 +109,14 @@ pub fn packument_len<S: VersionSource>(
     head: &PackHead,
     source: &mut S,
 ) -> Result<u64, Fault>
-    ensures ok { IfOk result (λ len. pack_len head.now (S.rows source.old) ≡ Some len) }
-    ensures err { IfErr result (IsFaultFrom (S.stopped source.new)
+    // Where what the source gave is known:
+    ensures ok { S.is_known source.new
+        → IfOk result (λ len. pack_len head.now (S.rows source.old) ≡ Some len) }
+    ensures err { S.is_known source.new → IfErr result (IsFaultFrom (S.stopped source.new)
         (pack_len head.now (S.rows source.old))) }
-    ensures taken { OnOk result (S.rows source.new ≡ []) }
+    ensures taken { S.is_known source.new → OnOk result (S.rows source.new ≡ []) }
+
+    ensures known { S.is_known source.new → S.is_known source.old }
 {
     let mut count = opening_len(alloc, head)?;
     let mut later = false;
@@ -151,14 +155,18 @@ fn write_versions<W: ByteOut, S: VersionSource>(
     source: &mut S,
     writer: &mut W,
 ) -> Result<(), PackFault>
-    ensures ok { OnOk result (Writes (W.bytes writer.old) (W.bytes writer.new)
-        (W.is_unknown writer.new) (versions_prefix false (S.rows source.old))) }
-    ensures whole { OnOk result (IsSome (version_pairs (S.rows source.old))) }
-    ensures err { OnErr result (WritesPrefix (W.bytes writer.old) (W.bytes writer.new)
-        (W.is_unknown writer.new) (versions_prefix false (S.rows source.old))) }
-    ensures fault { IfErr result (IsPackFault (S.stopped source.new)
+    ensures ok { S.is_known source.new → OnOk result (Writes (W.bytes writer.old)
+        (W.bytes writer.new) (W.is_unknown writer.new)
+        (versions_prefix false (S.rows source.old))) }
+    ensures whole { S.is_known source.new
+        → OnOk result (IsSome (version_pairs (S.rows source.old))) }
+    ensures err { S.is_known source.new → OnErr result (WritesPrefix (W.bytes writer.old)
+        (W.bytes writer.new) (W.is_unknown writer.new)
+        (versions_prefix false (S.rows source.old))) }
+    ensures fault { S.is_known source.new → IfErr result (IsPackFault (S.stopped source.new)
         (version_pairs (S.rows source.old))) }
-    ensures taken { OnOk result (S.rows source.new ≡ []) }
+    ensures taken { S.is_known source.new → OnOk result (S.rows source.new ≡ []) }
+    ensures known { S.is_known source.new → S.is_known source.old }
 
     ensures counted { W.failures writer.new ≡ failures_after result (W.failures writer.old) }
     ensures told { result ≢ Err Write → W.is_unknown writer.new ≡ W.is_unknown writer.old }
@@ -187,13 +195,18 @@ pub fn write_packument<W: ByteOut, S: VersionSource>(
     source: &mut S,
     writer: &mut W,
 ) -> Result<(), PackFault>
-    ensures ok { OnOk result (IsSomeAnd (pack_text head.now (S.rows source.old)) (λ text.
+    // Where what the source gave is known:
+    ensures ok { S.is_known source.new
+        → OnOk result (IsSomeAnd (pack_text head.now (S.rows source.old)) (λ text.
         Writes (W.bytes writer.old) (W.bytes writer.new) (W.is_unknown writer.new) text)) }
-    ensures err { OnErr result (WritesPrefix (W.bytes writer.old) (W.bytes writer.new)
-        (W.is_unknown writer.new) (pack_prefix head.now (S.rows source.old))) }
-    ensures fault { IfErr result (IsPackFault (S.stopped source.new)
+    ensures err { S.is_known source.new → OnErr result (WritesPrefix (W.bytes writer.old)
+        (W.bytes writer.new) (W.is_unknown writer.new)
+        (pack_prefix head.now (S.rows source.old))) }
+    ensures fault { S.is_known source.new → IfErr result (IsPackFault (S.stopped source.new)
         (pack_text head.now (S.rows source.old))) }
-    ensures taken { OnOk result (S.rows source.new ≡ []) }
+    ensures taken { S.is_known source.new → OnOk result (S.rows source.new ≡ []) }
+
+    ensures known { S.is_known source.new → S.is_known source.old }
 
     // Only a failed write is counted, and only it makes the bytes unknown, for good.
     ensures counted { W.failures writer.new ≡ failures_after result (W.failures writer.old) }

@@ -29,6 +29,10 @@ impl<S: VersionSource> VersionSource for Failing<S> {
     ghost stopped = { λ failing.
         if failing.failed then Some Database else S.stopped failing.source };
 
+    ghost is_known = { λ failing. S.is_known failing.source };
+
+    ghost most = { λ failing. S.most failing.source };
+
     ghost ordered = { λ failing. S.ordered failing.source };
 
     fn next(&mut self, alloc: Global) -> Result<Option<VersionRow>, Fault> {

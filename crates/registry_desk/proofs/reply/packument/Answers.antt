@@ -14,4 +14,4 @@ returns c =
     (ap (λ (p : Text). pack_text (head_of_rows p c.args.tags.items c.args.times) c.args.versions.items) (sym same)
     ∙ ap (λ (head : HeadParts). pack_text head c.args.versions.items) (sym c.in-Some.ensures.parts)
     ∙ ap (pack_text c.in-Some.head) (sym c.in-Some-new.ensures) ∙ written) shown named timed)
-    c.packument_text.ensures.ok
+    (c.packument_text.ensures.ok tt)

@@ -1,4 +1,4 @@
-use Rattle.std.proofs.Common.{◌≡◌, false, is_some, length}
+use Rattle.std.proofs.Common.{◌≡◌, false, is_some}
 use Rattle.registry_packument.specs.Packuments.{version_pairs}
 use Rattle.registry_packument.specs.Streams.{versions_prefix}
 use Rattle.registry_packument.proofs.StreamFacts.{HasLeft}
@@ -6,12 +6,14 @@ use Rattle.registry_packument.proofs.stream.write_versions.Given as goal
 
 abbrev pub invariant-versions : goal.invariant-versions
 invariant-versions g l = record {
-  prefix : HasLeft (g.W.ByteOut.bytes l.fn.writer) (g.W.ByteOut.bytes l.writer) (g.W.ByteOut.is_unknown l.writer)
+  known : g.S.VersionSource.is_known l.source → g.S.VersionSource.is_known l.fn.source;
+  prefix : g.S.VersionSource.is_known l.source → HasLeft (g.W.ByteOut.bytes l.fn.writer) (g.W.ByteOut.bytes l.writer) (g.W.ByteOut.is_unknown l.writer)
       (versions_prefix false (g.S.VersionSource.rows l.fn.source)) (versions_prefix l.later (g.S.VersionSource.rows l.source));
-  documents : is_some (version_pairs (g.S.VersionSource.rows l.fn.source)) ≡ is_some (version_pairs (g.S.VersionSource.rows l.source));
+  documents : g.S.VersionSource.is_known l.source
+      → is_some (version_pairs (g.S.VersionSource.rows l.fn.source)) ≡ is_some (version_pairs (g.S.VersionSource.rows l.source));
   failures : g.W.ByteOut.failures l.writer ≡ g.W.ByteOut.failures l.fn.writer;
   still_unknown : g.W.ByteOut.is_unknown l.writer ≡ g.W.ByteOut.is_unknown l.fn.writer;
 }
 
 abbrev pub decreases-versions : goal.decreases-versions
-decreases-versions g l = length (g.S.VersionSource.rows l.source)
+decreases-versions g l = g.S.VersionSource.most l.source
