@@ -41,7 +41,7 @@ help:
 	@echo
 	@echo 'Measure the built program out/registry:'
 	@echo '  make bench    how long requests and the reading of bodies take: 5 minutes'
-	@echo '  make compare  its speed beside nginx and SQLite: 10 minutes'
+	@echo '  make compare  its speed beside nginx and SQLite: 15 minutes'
 
 kit:
 ifeq ($(KIT),)
