@@ -3,7 +3,8 @@
 ghost use Rattle.std.specs.Prelude.{◌≡◌, false};
 ghost use Rattle.registry_cli.specs.Lines.{IsWhole, asks_to_serve};
 
-use crate::ending::{Ending, Failure};
+use crate::beside::answer_beside;
+use crate::ending::{Ending, Failure, Obstacle};
 use crate::moment::read_moment;
 use crate::registries::Registries;
 use crate::run::MOST_READ;
@@ -12,15 +13,23 @@ use registry_cli::{Line, action_of, line, print_reply};
 use registry_names::{ByteOut, Fault, FromRead, Moment, ReadStop, Text, read_whole};
 use registry_rules::Request;
 use std::alloc::Global;
-use std::fs;
 use std::io::ErrorKind;
+use std::time::Duration;
+use std::{fs, thread};
+
+/// So often the registry's file is asked for where another process has it, and so its server.
+const TRIES: u32 = 100;
+
+/// So many milliseconds pass between two tries: five seconds in all.
+const PAUSE: u64 = 50;
 
 /// Answers what the arguments ask for, prints the answer, and gives the exit status: 0, or 1 where
 /// it is refused.
 ///
 /// The moment is read first, where the arguments say none, then the file of a publish, then the
-/// texts in their order, and last the registry is asked. Arguments that ask to serve are answered
-/// once the last connection has ended.
+/// texts in their order, and last the registry is asked. Where another process has its file and is a
+/// server, that is asked instead. Arguments that ask to serve are answered once the last connection
+/// has ended.
 pub fn answer_command<R: Registries, O: ByteOut, E: ByteOut>(
     rt: &HostRuntime,
     alloc: Global,
@@ -33,7 +42,7 @@ pub fn answer_command<R: Registries, O: ByteOut, E: ByteOut>(
     if line.asks_to_serve() {
         serve(rt, alloc, &line, output, errors)
     } else {
-        print_answer(rt, alloc, registries, &line, output, errors)
+        print_answer(rt, alloc, registries, &line, arguments, output, errors)
     }
 }
 
@@ -44,26 +53,36 @@ fn print_answer<R: Registries, O: ByteOut, E: ByteOut>(
     alloc: Global,
     registries: &mut R,
     line: &Line,
+    arguments: &[Text],
     output: &mut O,
     errors: &mut E,
 ) -> Result<u8, Ending>
     requires whole { IsWhole line.now.what }
     requires asks { asks_to_serve line.now.what ≡ false }
 {
-    let request = request(rt, alloc, line)?;
-    let reply = registries.reply(rt, alloc, line.db.as_str(), &request)?;
-    Ok(print_reply(&reply, output, errors)?)
-}
-
-// What a line asks for, and when.
-fn request(rt: &HostRuntime, alloc: Global, line: &Line) -> Result<Request, Ending>
-    requires whole { IsWhole line.now.what }
-    requires asks { asks_to_serve line.now.what ≡ false }
-{
     let at = asked_at(rt, line)?;
     let body = body(rt, alloc, line)?;
     let (who, what) = action_of(alloc, line, &body)?;
-    Ok(Request { at, who, what })
+    let request = Request { at, who, what };
+    let path = line.db.as_str();
+    for _ in 0..TRIES {
+        match registries.reply(rt, alloc, path, &request) {
+            Ok(reply) => return Ok(print_reply(&reply, output, errors)?),
+            Err(ending) if is_busy(&ending) => {}
+            Err(ending) => return Err(ending),
+        }
+        let answered = answer_beside(rt, alloc, path, arguments, &body, output, errors)?;
+        if let Some(status) = answered {
+            return Ok(status);
+        }
+        thread::sleep(rt, Duration::from_millis(PAUSE));
+    }
+    Err(Ending::Fault(Failure::Opening(Obstacle::Busy)))
+}
+
+// Whether another process has the registry's file.
+fn is_busy(ending: &Ending) -> bool {
+    matches!(ending, Ending::Fault(Failure::Opening(Obstacle::Busy)))
 }
 
 // When a line asks: at the moment that it says, or now.

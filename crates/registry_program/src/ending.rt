@@ -28,6 +28,8 @@ pub enum Failure {
     Opening(Obstacle),
     /// The disk of the registry's file, which is shut for it.
     Shut,
+    /// A server that has the registry's file: it gave no answer, and what was asked may be done.
+    Unanswered,
     /// Standard input, the machine's clock, or the port where connections are to come in.
     Read,
     /// A file that the arguments name.
@@ -41,6 +43,8 @@ pub enum Failure {
 pub enum Obstacle {
     /// Another process has it.
     Busy,
+    /// Another process has it, and commands can't reach that.
+    Barred,
     /// It, or its log, can't be opened or written.
     Unreachable,
     /// The disk is full.

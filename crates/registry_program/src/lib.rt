@@ -1,6 +1,7 @@
 //! The registry as a program, over any byte streams: `main` calls it, and so do the stories.
 #![tactic(auto)]
 
+mod beside;
 mod commands;
 mod ending;
 mod moment;

@@ -13,6 +13,9 @@ pub(crate) const MOST_READ: usize = BODY_LIMIT + 1;
 /// What is said where the disk has failed under a server.
 const SHUT: &str = "the disk failed while the registry was served";
 
+/// What is said where a server that has the file ended, or was silent, before it had answered.
+const UNANSWERED: &str = "the registry's server gave no answer: what was asked may be done";
+
 /// Runs the program on the arguments after its name, and answers its exit status.
 ///
 /// Without arguments it reads a publish body from the input. The user `first` publishes it at
@@ -86,7 +89,7 @@ fn print_line<E: ByteOut>(errors: &mut E, front: &str, text: &str) {
 fn failure_text(failure: Failure) -> &'static str {
     match failure {
         Failure::Registry(fault) => fault.text(),
-        Failure::Opening(_) | Failure::Shut => Fault::Database.text(),
+        Failure::Opening(_) | Failure::Shut | Failure::Unanswered => Fault::Database.text(),
         Failure::Read => "Read",
         Failure::File => "File",
         Failure::Write => "Write",
@@ -98,6 +101,7 @@ fn reason(ending: &Ending) -> Option<&'static str> {
     match ending {
         Ending::Fault(Failure::Opening(obstacle)) => Some(obstacle_text(*obstacle)),
         Ending::Fault(Failure::Shut) => Some(SHUT),
+        Ending::Fault(Failure::Unanswered) => Some(UNANSWERED),
         _ => None,
     }
 }
@@ -105,6 +109,7 @@ fn reason(ending: &Ending) -> Option<&'static str> {
 fn obstacle_text(obstacle: Obstacle) -> &'static str {
     match obstacle {
         Obstacle::Busy => "another process has the registry's file",
+        Obstacle::Barred => "another process has the registry's file, and commands can't reach it",
         Obstacle::Unreachable => "the registry's file can't be opened or written",
         Obstacle::Full => "the disk is full",
         Obstacle::Foreign => "the file holds no registry, or was changed by another hand",

@@ -5,18 +5,24 @@ use crate::moment::read_moment;
 use crate::opening::{let_go, open};
 use registry_cli::Line;
 use registry_desk::Registry;
+use registry_guests::{Door, close};
 use registry_http::RegistryService;
-use registry_names::{ByteOut, Text, write_whole};
+use registry_names::{ByteOut, Moment, Text, write_whole};
 use registry_server::{Ended, Server};
 use sqlite::{Alter, FileStore};
 use sqlite_disk::Disk;
 use std::alloc::Global;
+use std::io;
+use std::io::ErrorKind;
 
 /// What is said of a port or of connections that are no number.
 const NO_NUMBER: &str = "error: --port and --connections take whole numbers";
 
 /// What is said where a server ends.
 const ENOUGH: &str = "ended: as many connections came as --connections says\n";
+
+/// What is said of a door that stays shut.
+const SHUT_DOOR: &str = "no command beside this server is answered: ";
 
 /// Where connections come in, and how many.
 #[derive(Clone, Copy)]
@@ -49,41 +55,88 @@ pub fn serve<O: ByteOut, E: ByteOut>(
         return Err(Ending::Wrong(NO_NUMBER));
     };
     let ended = match open(rt, line.db.as_str()) {
-        Ok(registry) => serve_registry(rt, alloc, entrance, registry, output)?,
+        Ok(registry) => serve_registry(
+            rt,
+            alloc,
+            entrance,
+            line.db.as_str(),
+            registry,
+            output,
+            errors,
+        )?,
         Err(ending) => return Err(ending),
     };
     end(ended, errors)
 }
 
 // Serves a registry, and lets go of it.
-fn serve_registry<D: Disk + Drop, O: ByteOut>(
+fn serve_registry<D: Disk + Drop, O: ByteOut, E: ByteOut>(
     rt: &HostRuntime,
     alloc: Global,
     entrance: Entrance,
+    path: &str,
     registry: Registry<FileStore<D>>,
     output: &mut O,
+    errors: &mut E,
 ) -> Result<Ended, Ending> {
     let mut service = RegistryService::new(registry);
-    let ended = serve_at(rt, alloc, entrance, &mut service, output);
+    let ended = serve_at(rt, alloc, entrance, path, &mut service, output, errors);
     let_go(service.into_registry());
     ended
 }
 
 // Serves with the service, from the moment on that it is now. The clock is read before anything is
 // printed.
-fn serve_at<S: Alter, O: ByteOut>(
+fn serve_at<S: Alter, O: ByteOut, E: ByteOut>(
     rt: &HostRuntime,
     alloc: Global,
     entrance: Entrance,
+    path: &str,
     service: &mut RegistryService<S>,
     output: &mut O,
+    errors: &mut E,
 ) -> Result<Ended, Ending> {
     let Some(at) = read_moment(rt) else {
         return Err(Ending::Fault(Failure::Read));
     };
     let server = Server::bind(rt, alloc, entrance.port, entrance.connections)?;
-    announce(alloc, &server, output)?;
-    Ok(server.run(rt, alloc, at, service)?)
+    let mut door = Door::shut(alloc)?;
+    if let Err(error) = door.open(rt, alloc, server.registry(), path) {
+        warn(&error, errors);
+    }
+    let ended = match announce(alloc, &server, output) {
+        Ok(()) => run(rt, alloc, server, at, service, &mut door),
+        Err(ending) => Err(ending),
+    };
+    if door.is_open() {
+        let _ = close(rt, alloc, path);
+    }
+    ended
+}
+
+// Runs a server.
+fn run<S: Alter>(
+    rt: &HostRuntime,
+    alloc: Global,
+    server: Server,
+    at: Moment,
+    service: &mut RegistryService<S>,
+    door: &mut Door,
+) -> Result<Ended, Ending> {
+    Ok(server.run_beside(rt, alloc, at, service, door)?)
+}
+
+// Says that commands beside the server aren't answered, and why.
+fn warn<E: ByteOut>(error: &io::Error, errors: &mut E) {
+    let why = match error.kind() {
+        ErrorKind::PermissionDenied =>
+            "its folder isn't one that the file's owner alone may enter\n",
+        ErrorKind::InvalidInput => "the path is too long for a socket\n",
+        _ => "its socket can't be made\n",
+    };
+    for text in [SHUT_DOOR, why] {
+        let _ = write_whole(errors, text.as_bytes());
+    }
 }
 
 // What a server that ended so leaves: the exit status, or the fault of its disk.

@@ -4,10 +4,11 @@ ghost use Rattle.std.specs.Prelude.{◌≡◌, ◌≤◌, IfOk, if◌then◌else
 ghost use Rattle.registry_server.specs.Pools as spec;
 
 use crate::clocks::{Timer, WallClock};
+use crate::guests::{FIRST_GUEST, GUEST_TOKENS, Guests, NoGuests};
 use crate::listener::{Listener, NoDescriptor};
 use crate::pool::{CONNECTION_COUNT, ConnectionPool};
 use mio::net::TcpStream;
-use mio::{Events, Interest, Poll, Token};
+use mio::{Events, Interest, Poll, Registry, Token};
 use registry_names::Moment;
 use registry_service::Service;
 use std::alloc::Global;
@@ -18,8 +19,8 @@ use std::{io, time};
 /// The token of the listener. Those of connections are their places.
 const LISTENER: Token = Token(CONNECTION_COUNT);
 
-/// The most events of one wait: one of each connection, and one of the listener.
-const EVENT_COUNT: usize = CONNECTION_COUNT + 1;
+/// The most events of one wait: one of each connection, one of the listener, and those of guests.
+const EVENT_COUNT: usize = FIRST_GUEST + GUEST_TOKENS;
 
 /// The most bytes of one read.
 const BUFFER_LEN: usize = 16_384;
@@ -67,6 +68,11 @@ impl Server {
         })
     }
 
+    /// Where guests register.
+    pub fn registry(&self) -> &Registry {
+        self.poll.registry()
+    }
+
     /// The port at which it listens.
     pub fn port(&self) -> io::Result<u16> {
         self.listener.port()
@@ -79,7 +85,7 @@ impl Server {
     /// error comes where the time of the server can't be read at first, or the system can't be asked
     /// what is ready.
     pub fn run<R: time::Clock, D: Service>(
-        mut self,
+        self,
         rt: &R,
         alloc: Global,
         at: Moment,
@@ -87,21 +93,38 @@ impl Server {
     ) -> io::Result<Ended>
         ensures { IfOk result (λ ended. ended ≡ spec.why_ended (D.over service.new)) }
     {
+        self.run_beside(rt, alloc, at, service, &mut NoGuests)
+    }
+
+    /// Serves as [`run`](Server::run) does, and looks after guests once in each round, after the
+    /// connections. Where connections are counted it goes on until no guest is there, either.
+    pub fn run_beside<R: time::Clock, D: Service, G: Guests>(
+        mut self,
+        rt: &R,
+        alloc: Global,
+        at: Moment,
+        service: &mut D,
+        guests: &mut G,
+    ) -> io::Result<Ended>
+        ensures { IfOk result (λ ended. ended ≡ spec.why_ended (D.over service.new)) }
+    {
         let mut timer = Timer::new(rt, Instant::now(rt)?);
         let mut clock = WallClock::new(rt, at);
         let mut buffer = [0; BUFFER_LEN];
         for _ in 0..u64::MAX {
-            let patience = self.patience();
-            self.look(patience)?;
+            let patience = if guests.is_busy() { 0 } else { self.patience() };
+            self.look(patience, guests)?;
             let now = timer.pass(patience + ROUND_TIME);
             self.pool
                 .visit_all(alloc, service, &mut clock, &mut buffer, now);
+            let registry = self.poll.registry();
+            guests.visit(alloc, service, &mut clock, &mut buffer, registry, now);
             if service.is_over() {
                 break;
             }
             self.end_late(now);
-            self.let_in(alloc, now)?;
-            if self.listener.is_shut() && self.pool.is_empty() {
+            self.let_in(alloc, now, guests)?;
+            if self.listener.is_shut() && self.pool.is_empty() && guests.is_empty() {
                 break;
             }
         }
@@ -117,14 +140,17 @@ impl Server {
     }
 
     // Waits for so many milliseconds until something is ready. What is ready is to be visited.
-    fn look(&mut self, patience: u64) -> io::Result<()> {
+    fn look<G: Guests>(&mut self, patience: u64, guests: &mut G) -> io::Result<()> {
         self.poll
             .poll(&mut self.events, Some(Duration::from_millis(patience)))?;
         for event in self.events.iter() {
-            if event.token() == LISTENER {
+            let token = event.token();
+            if token == LISTENER {
                 self.listener.ask();
+            } else if token.0 < FIRST_GUEST {
+                self.pool.wake(token.0);
             } else {
-                self.pool.wake(event.token().0);
+                guests.wake(token.0 - FIRST_GUEST);
             }
         }
         Ok(())
@@ -132,12 +158,12 @@ impl Server {
 
     // Lets in who is there. Where every place is taken it is looked first on which connections
     // something has come, so that none of these ends for a new one.
-    fn let_in(&mut self, alloc: Global, now: u64) -> io::Result<()> {
+    fn let_in<G: Guests>(&mut self, alloc: Global, now: u64, guests: &mut G) -> io::Result<()> {
         if self.listener.is_asked() {
             if self.pool.is_full() {
-                self.look(0)?;
+                self.look(0, guests)?;
             }
-            self.admit(alloc, now)?;
+            self.admit(alloc, now, guests)?;
         }
         Ok(())
     }
@@ -145,7 +171,7 @@ impl Server {
     // Lets in who is there, as long as there are places. Where the system has no descriptor left for
     // one, the connection ends on which nothing was begun for longest. If that gives none for it
     // either, it is tried again in the next round.
-    fn admit(&mut self, alloc: Global, now: u64) -> io::Result<()> {
+    fn admit<G: Guests>(&mut self, alloc: Global, now: u64, guests: &mut G) -> io::Result<()> {
         let mut may_end = true;
         for _ in 0..2 * CONNECTION_COUNT {
             if !self.listener.is_asked() {
@@ -161,7 +187,7 @@ impl Server {
                 }
                 Ok(None) => return Ok(()),
                 Err(NoDescriptor) => {
-                    if !may_end || !self.end_idle()? {
+                    if !may_end || !self.end_idle(guests)? {
                         return Ok(());
                     }
                     may_end = false;
@@ -173,8 +199,8 @@ impl Server {
 
     // Ends the connection on which nothing was begun for longest, and says whether there is one. It is
     // looked first on which connections something has come, so that none of these ends.
-    fn end_idle(&mut self) -> io::Result<bool> {
-        self.look(0)?;
+    fn end_idle<G: Guests>(&mut self, guests: &mut G) -> io::Result<bool> {
+        self.look(0, guests)?;
         Ok(self.pool.end_idle())
     }
 

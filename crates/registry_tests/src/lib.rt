@@ -14,6 +14,8 @@ mod crowd;
 #[cfg(test)]
 mod ends;
 #[cfg(test)]
+mod guests;
+#[cfg(test)]
 mod names;
 #[cfg(test)]
 mod outcome;
