@@ -30,7 +30,7 @@ help:
 	@echo 'Try the built program out/registry:'
 	@echo '  make npm      publishes and installs with the stock npm client: a minute'
 	@echo '  make front    the same through nginx with TLS: it needs nginx, and yarn where it is there'
-	@echo '  make beside   runs commands beside a server, and kills and halts it meanwhile: two minutes'
+	@echo '  make beside   runs commands beside a server, and kills, halts and stops it meanwhile: 4 minutes'
 	@echo '  make kill     kills a server 500 times while versions are published: 6 minutes'
 	@echo '  make files    fills a disk, and opens files that hold no registry'
 	@echo '  make older    migrates files of older schemas, and kills that at any moment: two minutes'

@@ -9,8 +9,10 @@
 # both must print the same, byte for byte, and end alike. Then it is tried what a killed server leaves,
 # two servers, a folder that others may enter, a path too long for a socket, a server that is just
 # starting, one that is halted, clients that stop in the middle, more clients at once than there are
-# seats, and a server that is killed while it answers. Each try prints a line, and the last line is
-# `N passed, 0 failed`, with status 0, or the status is 1. It needs curl and python3.
+# seats, and a server that is killed while it answers. Last come tokens that are made beside a server,
+# copies and checks while versions are published, commands that are killed or halted while they hold
+# the server, and stops. Each try prints a line, and the last line is `N passed, 0 failed`, with status
+# 0, or the status is 1. It takes four minutes, and needs curl and python3.
 set -eu
 
 top=$(cd "$(dirname "$0")/.." && pwd)
@@ -66,6 +68,11 @@ serve() {
 }
 stop() { kill -9 "$server" 2>/dev/null || true; wait "$server" 2>/dev/null || true; server=; }
 port() { sed 's/.*://' "$work/server"; }
+
+# The status by which a server answers a token, and what it answers nobody.
+status_of() {
+    curl -s -m 10 -o "$work/answer" -w '%{http_code}' -H "authorization: Bearer $1" "http://127.0.0.1:$(port)/$2"
+}
 
 # Runs a command on a file, into NAME.out, NAME.errors and NAME.status.
 run() {
@@ -127,8 +134,17 @@ cat > "$work/commands" <<'END'
 --at 100 --as bob withdraw @lab/kit 1.0.0
 --at 100 --as ann org-rm lab bob
 --at 100 --as ann --operator members lab
+--at 100 token-new ann
+--at 100 --as ann token-new ann
+--at 100 --operator token-new nobody
+--at 100 --operator token-new Ann
+--at 100 --operator token-new -- -ann
+--at 100 --as=-ann token-new ann
+--at 100 check
+--at 100 backup no-such-folder/copy.db
 --at 100 members
 --at 100 --help
+check more
 nothing
 END
 python3 - "$work" <<'END'
@@ -201,10 +217,12 @@ is_private() {
 try "the socket lies in a folder of mode 0700" is_private
 
 is_seen_by_connections() {
-    run one "$db" --operator user-add bob && is_done one
-    run one "$db" --operator token-add bob npm_bob_000000001 && is_done one
-    curl -s -H 'authorization: Bearer npm_bob_000000001' "http://127.0.0.1:$(port)/-/whoami" > "$work/said"
-    grep -q bob "$work/said"
+    [ "$(status_of npm_bob_000000001 kit)" = 401 ] || return 1
+    run one "$db" --operator user-add bob
+    is_done one || return 1
+    run one "$db" --operator token-add bob npm_bob_000000001
+    is_done one || return 1
+    [ "$(status_of npm_bob_000000001 kit)" = 404 ]
 }
 try 'a connection sees what a command did' is_seen_by_connections
 
@@ -430,6 +448,263 @@ is_taken_away() {
     [ ! -e "$db-server" ]
 }
 try 'a server that ends takes its door away' is_taken_away
+
+# ---- tokens that are made
+
+db=$work/errands.db
+run first "$db" --operator user-add ann
+makes_a_token() {
+    serve "$db" || return 1
+    run one "$db" --operator token-new ann
+    cat "$work/one.out" "$work/one.errors" >> "$work/said"
+    [ "$(cat "$work/one.status")" = 0 ] && [ ! -s "$work/one.errors" ] || return 1
+    grep -qxE 'npm_[0-9a-f]{40}' "$work/one.out" || return 1
+    token=$(cat "$work/one.out")
+    [ "$(status_of "$token" kit)" = 404 ] || return 1
+    run two "$db" --operator token-new ann
+    [ "$(cat "$work/one.out")" != "$(cat "$work/two.out")" ]
+}
+try 'token-new beside a server prints a token that the server takes' makes_a_token
+
+# ---- copies and checks
+
+# Publishes so many versions of a package, of so many bytes each, and prints each that was answered.
+cat > "$work/publish.py" <<'END'
+import base64, http.client, json, os, sys
+port, token, name, first, count, size = int(sys.argv[1]), sys.argv[2], sys.argv[3], *map(int, sys.argv[4:])
+connection = http.client.HTTPConnection('127.0.0.1', port, timeout=100)
+for number in range(first, first + count):
+    version = f'1.0.{number}'
+    body = {'name': name, 'versions': {version: {'name': name, 'version': version}},
+            '_attachments': {'kit.tgz': {'data': base64.b64encode(os.urandom(size)).decode()}}}
+    connection.request('PUT', f'/{name}', json.dumps(body), {'authorization': f'Bearer {token}'})
+    answer = connection.getresponse()
+    said = answer.read()
+    if answer.status not in (200, 201):
+        sys.exit(f'{version}: {answer.status} {said}')
+    print(version, flush=True)
+END
+# Each version that is named in a file is in the packument that a run printed.
+cat > "$work/all_in.py" <<'END'
+import json, sys
+there = json.load(open(sys.argv[2]))['versions']
+missing = [line for line in open(sys.argv[1]).read().split() if line not in there]
+print(f'{len(there)} versions, missing {missing}')
+sys.exit(1 if missing else 0)
+END
+copies_while_it_publishes() {
+    python3 "$work/publish.py" "$(port)" "$token" big 0 12 2500000 > "$work/published" 2>> "$work/said" || return 1
+    python3 "$work/publish.py" "$(port)" "$token" kit 0 100000 20000 > "$work/published" 2>> "$work/said" &
+    others=$!
+    for time in 1 2 3 4 5; do
+        sleep 0.5
+        cp "$work/published" "$work/before"
+        run one "$db" backup "$work/copy-$time.db"
+        is_done one || return 1
+        [ "$(stat -c %a "$work/copy-$time.db")" = 600 ] || return 1
+        for end in -wal -part -part-wal; do [ ! -e "$work/copy-$time.db$end" ] || return 1; done
+        run one "$work/copy-$time.db" check
+        is_done one || return 1
+        run one "$work/copy-$time.db" packument kit
+        python3 "$work/all_in.py" "$work/before" "$work/one.out" >> "$work/said" || return 1
+    done
+    run one "$db" backup "$work/copy-1.db"
+    is one 3 'a file has the name of the copy' || return 1
+    kill -0 "$others"
+}
+try 'copies open, are in form and have what was answered, while versions are published' copies_while_it_publishes
+
+checks_while_it_publishes() {
+    for _ in 1 2 3; do
+        run one "$db" check
+        is_done one || return 1
+        [ -z "$(find "$db-server" -name 'check*')" ] || return 1
+    done
+    kill -0 "$others" || return 1
+    kill "$others"
+    wait "$others" 2>/dev/null || true
+    others=
+}
+try 'so do checks, and nothing of them is left in the folder' checks_while_it_publishes
+
+# Runs a backup, halts it as soon as its second file is there, and then does as the first word says:
+# `kill` leaves it halted, prints its number and ends; `late` lets it go on after 62 s, and prints how it
+# ended.
+cat > "$work/halt.py" <<'END'
+import os, signal, subprocess, sys, time
+how, program, db, copy = sys.argv[1:]
+backup = subprocess.Popen([program, '--db', db, 'backup', copy], stdout=subprocess.PIPE, stderr=subprocess.STDOUT, text=True)
+while not os.path.exists(copy + '-part-wal') and backup.poll() is None:
+    pass
+os.kill(backup.pid, signal.SIGSTOP)
+if os.path.exists(copy):
+    backup.kill()
+    sys.exit('it was too fast')
+if how == 'kill':
+    print(backup.pid, flush=True)
+    os._exit(0)
+time.sleep(62)
+backup.send_signal(signal.SIGCONT)
+print(backup.communicate(timeout=60)[0], backup.returncode)
+END
+halt() { python3 "$work/halt.py" kill "$program" "$db" "$1" > "$work/halted" 2>> "$work/said" && others=$(cat "$work/halted"); }
+is_silent() { ! curl -s -m 1 "http://127.0.0.1:$(port)/kit" > /dev/null; }
+answers() { curl -s -m 2 "http://127.0.0.1:$(port)/kit" > /dev/null; }
+goes_on_after_a_killed_hold() {
+    halt "$work/held.db" || return 1
+    is_silent || return 1
+    kill -9 "$others"
+    others=
+    answers || return 1
+    [ ! -e "$work/held.db" ] && [ -e "$work/held.db-part" ] || return 1
+    run one "$db" backup "$work/held.db"
+    is one 3 'a file has the name of the copy' || return 1
+    rm "$work/held.db-part" "$work/held.db-part-wal"
+    run one "$db" backup "$work/held.db"
+    is_done one
+}
+try 'a server that is held answers nobody, and goes on at once where the command is killed' goes_on_after_a_killed_hold
+
+waits_for_a_hold() {
+    halt "$work/second.db" || return 1
+    run one "$db" check &
+    first=$!
+    run two "$db" --operator user-add bea
+    wait "$first"
+    is one 3 "can't be held" || return 1
+    is two 3 'gave no answer' || return 1
+    kill -9 "$others"
+    others=
+    run one "$db" check
+    is_done one
+}
+try 'a second command waits for a held server for ten seconds, and no longer' waits_for_a_hold
+
+is_let_go_late() {
+    python3 "$work/halt.py" late "$program" "$db" "$work/late.db" > "$work/late" 2>&1 || return 1
+    cat "$work/late" >> "$work/said"
+    grep -q "went on, or ended, before all was copied" "$work/late" && grep -q '^ *3$' "$work/late" || return 1
+    for end in '' -part -part-wal; do [ ! -e "$work/late.db$end" ] || return 1; done
+    answers
+}
+try 'a server is held for a minute at most, and nothing is made of what was copied' is_let_go_late
+
+# ---- stops
+
+# Sends the half of a publish, and the rest after so many seconds; and prints how it was answered.
+cat > "$work/upload.py" <<'END'
+import base64, json, os, socket, sys, time
+port, token, seconds = int(sys.argv[1]), sys.argv[2], float(sys.argv[3])
+body = json.dumps({'name': 'last', 'versions': {'1.0.0': {'name': 'last', 'version': '1.0.0'}},
+                   '_attachments': {'kit.tgz': {'data': base64.b64encode(os.urandom(1000000)).decode()}}}).encode()
+head = f'PUT /last HTTP/1.1\r\nhost: localhost\r\nauthorization: Bearer {token}\r\ncontent-length: {len(body)}\r\n\r\n'
+server = socket.create_connection(('127.0.0.1', port))
+server.sendall(head.encode() + body[:len(body) // 2])
+print('half', flush=True)
+time.sleep(seconds)
+server.sendall(body[len(body) // 2:])
+print(server.recv(100), flush=True)
+END
+answers_an_upload_first() {
+    python3 "$work/upload.py" "$(port)" "$token" 2 > "$work/uploaded" 2>> "$work/said" &
+    others=$!
+    for _ in $(seq 1 400); do
+        if grep -q half "$work/uploaded"; then break; fi
+        sleep 0.01
+    done
+    sleep 0.2
+    run one "$db" stop &
+    first=$!
+    sleep 0.5
+    kill -0 "$first" && is_silent || return 1
+    wait "$first"
+    ended=0
+    wait "$server" || ended=$?
+    server=
+    wait "$others" || true
+    others=
+    cat "$work/uploaded" "$work/server.errors" >> "$work/said"
+    is_done one && [ "$ended" = 0 ] && grep -q ' 201 ' "$work/uploaded" || return 1
+    grep -qx 'ended: a command told it to stop' "$work/server.errors" && [ ! -e "$db-server" ] || return 1
+    cp "$db" "$work/alone.db"
+    run one "$work/alone.db" check
+    is_done one || return 1
+    run one "$work/alone.db" packument last
+    is one 0 '1.0.0'
+}
+try 'stop waits for an upload that is under way, and leaves all in the file, without its log' answers_an_upload_first
+
+finds_no_server() {
+    run one "$db" stop
+    is one 3 "no server has the registry's file" || return 1
+    serve "$db" || return 1
+    stop
+    [ -S "$db-server/control" ] || return 1
+    run one "$db" stop
+    is one 3 "no server has the registry's file" || return 1
+    run one "$work/none.db" stop
+    is one 3 "isn't there or is empty" && [ ! -e "$work/none.db" ]
+}
+try 'where no server has the file, also where one was killed, stop says so' finds_no_server
+
+stops_twice() {
+    serve "$db" || return 1
+    run one "$db" stop &
+    first=$!
+    run two "$db" stop
+    wait "$first"
+    ended=0
+    wait "$server" || ended=$?
+    server=
+    [ "$ended" = 0 ] || return 1
+    is_done one || is one 3 "no server has the registry's file" || return 1
+    is_done two || is two 3 "no server has the registry's file"
+}
+try 'two stops at once end one server' stops_twice
+
+stops_a_start() {
+    "$program" --db "$db" serve --port 0 > "$work/server" 2> "$work/server.errors" &
+    server=$!
+    for _ in $(seq 1 100); do
+        run one "$db" stop
+        if is_done one; then break; fi
+        is one 3 "no server has the registry's file" || return 1
+    done
+    is_done one || return 1
+    wait "$server" || return 1
+    server=
+    run one "$db" check
+    is_done one
+}
+try 'a server that is just starting is stopped, too' stops_a_start
+
+stops_a_held_server() {
+    serve "$db" || return 1
+    halt "$work/third.db" || return 1
+    run one "$db" stop &
+    first=$!
+    sleep 0.5
+    kill -0 "$first" || return 1
+    kill -9 "$others"
+    others=
+    wait "$first"
+    wait "$server" || return 1
+    server=
+    is_done one
+}
+try 'a stop waits for who holds the server' stops_a_held_server
+
+is_barred() {
+    mkdir -m 755 "$db-server" 2>/dev/null || chmod 755 "$db-server"
+    serve "$db" || return 1
+    for errand in 'check' "backup $work/barred.db" 'stop' '--operator token-new ann'; do
+        # shellcheck disable=SC2086
+        run one "$db" $errand
+        is one 3 "another process has the registry's file, and commands can't reach it" || return 1
+    done
+    [ ! -e "$work/barred.db" ] && [ ! -e "$work/barred.db-part" ]
+}
+try 'a folder that others may enter is no way for any of them' is_barred
 
 say "$passed passed, $failed failed"
 [ "$failed" -eq 0 ]

@@ -2,6 +2,7 @@
 
 ghost use Rattle.std.specs.Prelude.{◌≡◌, find, map, option_map};
 ghost use Rattle.std.specs.Str.{bytes_eq};
+ghost use Rattle.registry_cli.specs.Errands.{errands};
 ghost use Rattle.registry_cli.specs.Subcommands.{subcommands};
 ghost use Rattle.registry_cli.specs.Tables.{row_of};
 
@@ -128,6 +129,12 @@ const SELECTOR: Parameter = Parameter {
 const MESSAGE: Parameter = Parameter {
     id: "MESSAGE",
     help: "At most 1,024 bytes; the empty text takes a deprecation back",
+    need: Need::Required,
+};
+
+const COPY: Parameter = Parameter {
+    id: "COPY",
+    help: "The path of the copy, where no file is yet",
     need: Need::Required,
 };
 
@@ -322,14 +329,48 @@ static SUBCOMMANDS: [Subcommand; 28] = [
     },
 ];
 
-/// All subcommands.
+static ERRANDS: [Subcommand; 4] = [
+    Subcommand {
+        name: "token-new",
+        parameters: &[USER],
+        about: "Make a token for a user, and print it once (the operator)",
+        example: "Example: registry --operator token-new ann",
+    },
+    Subcommand {
+        name: "check",
+        parameters: &[],
+        about: "Check that all that the file holds is in form",
+        example: "Example: registry --db registry.db check",
+    },
+    Subcommand {
+        name: "backup",
+        parameters: &[COPY],
+        about: "Copy the file, and check the copy",
+        example: "Example: registry --db registry.db backup copy.db",
+    },
+    Subcommand {
+        name: "stop",
+        parameters: &[],
+        about: "End the server that has the file, once what is under way is answered",
+        example: "Example: registry --db registry.db stop",
+    },
+];
+
+/// All subcommands that ask for a request, and `serve`.
 pub(crate) fn all() -> &'static [Subcommand]
     ensures { map row_of result.now ≡ subcommands }
 {
     SUBCOMMANDS.as_slice()
 }
 
-/// The subcommand of this name, if there is one.
+/// The subcommands that ask for no request.
+pub(crate) fn errands() -> &'static [Subcommand]
+    ensures { map row_of result.now ≡ errands }
+{
+    ERRANDS.as_slice()
+}
+
+/// The subcommand of a request, or `serve`, of this name, if there is one.
 pub(crate) fn called(name: &str) -> Option<&'static Subcommand>
     ensures { option_map (λ row. row_of row.now) result
         ≡ find (λ row. bytes_eq row.0 name.now) subcommands }

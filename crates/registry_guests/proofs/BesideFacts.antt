@@ -1,19 +1,16 @@
 -- Connections beside guests.
-use Rattle.std.proofs.Common.{◌≡◌, ◌⊎◌, ◌++◌, ◌∷◌, ◌∙◌, [], ℕ, Bool, List, Option, Some, None, refl, sym, ap, subst, inl, inr, append-nil, append_assoc}
+use Rattle.std.proofs.Common.{◌≡◌, ◌++◌, ◌∷◌, ◌∙◌, [], ℕ, Bool, List, Option, Some, None, refl, sym, ap, subst, inl, inr, append_assoc}
 use Rattle.std.specs.Prelude.{IfSome}
 use Rattle.std.specs.Io.KnownBytes.{append_known}
 use Rattle.registry_wire.specs.declared.wanted.Wanted.{Wanted}
 use Rattle.registry_service.specs.HttpAnswers.{Outcome}
-use Rattle.registry_service.specs.Turns.{Answering, Cause, IsAnswered, IsTurnFor, Turns, bad_input, no_memory, request}
+use Rattle.registry_service.specs.Turns.{Answering, Cause, IsAnswered, IsTurnFor, bad_input, no_memory, request}
 use Rattle.registry_service.specs.declared.turning.End.{End}
-use Rattle.registry_service.specs.declared.turning.Turned.{Turned}
 use Rattle.registry_service.proofs.HistoryFacts.{one-history}
 use Rattle.registry_server.specs.ConnectionStates.{Pending, TakesTurn}
-use Rattle.registry_server.specs.Connections.{OpenConnection, TakesOne}
-use Rattle.registry_guests.specs.Beside.{AnswersOnce, GuestTurn, GuestsGoOn, GuestsLead, GuestsTurn, MakeOneHistory, ShowsGuest, VisitsFollow, beside_guests}
-use Rattle.registry_guests.specs.Guests as guests
-use Rattle.registry_guests.specs.Guests.{AnswersMessage, Begins, GoesOn, Listens, OpenGuest, SendsDue, VisitsIn}
-use Rattle.registry_guests.specs.Saying.{Spoken, sent_as}
+use Rattle.registry_guests.specs.Beside.{AnswersOnce, GuestsGoOn, GuestsLead, MakeOneHistory, ShowsGuest, VisitsFollow, beside_guests}
+use Rattle.registry_guests.specs.Guests.{AnswersMessage, Begins, Listens, OpenGuest, VisitsIn}
+use Rattle.registry_guests.specs.Saying.{sent_as}
 
 -- ---- connections
 

@@ -1,5 +1,5 @@
 -- What the steps of a visit of a guest come to.
-use Rattle.std.proofs.Common.{◌≡◌, ◌⊎◌, ◌≤◌, ◌++◌, ◌∷◌, ◌==◌, ◌∙◌, [], ℕ, true, List, Option, None, Some, length, take, drop, refl, ap, sym, subst, inl, inr, arith, append-nil}
+use Rattle.std.proofs.Common.{◌≡◌, ◌≤◌, ◌++◌, ◌∷◌, ◌==◌, ◌∙◌, [], ℕ, true, List, Option, None, Some, length, take, drop, refl, ap, sym, subst, inl, inr, arith, append-nil}
 use Rattle.std.proofs.lemmas.Bool.Decides.{nat_tests}
 use Rattle.std.proofs.lemmas.List.{length-take, take-append-drop}
 use Rattle.std.specs.Io.KnownBytes.{append_known}

@@ -5,7 +5,6 @@ use Rattle.std.proofs.lemmas.Bool.Decides.{nat_tests}
 use Rattle.std.specs.List.{flat_map, AllByRecursion}
 use Rattle.std.specs.Int.{w32, w64, to_be_bytes}
 use Rattle.std.proofs.lemmas.List.Concat.{flat_map-cons}
-use Rattle.registry_guests.specs.declared.fault.Malformed.{Malformed}
 use Rattle.registry_guests.specs.Spelling.{AreWords, long_word, spelled, spelling, view, word}
 use Rattle.registry_guests.specs.declared.fault.ReadError.{ReadError}
 use Rattle.registry_guests.specs.declared.reading.Message.{Message}

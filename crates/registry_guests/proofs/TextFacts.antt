@@ -1,5 +1,5 @@
 -- Words that are texts.
-use Rattle.std.proofs.Common.{◌≡◌, ◌<◌, ◌≤◌, ◌+◌, ◌++◌, ◌∷◌, ◌∙◌, [], ℕ, List, IsUtf8, All, length, get_or, take, map, ap, sym, subst, arith, below_more}
+use Rattle.std.proofs.Common.{◌≡◌, ◌<◌, ◌≤◌, ◌+◌, ◌++◌, ◌∷◌, ◌∙◌, [], ℕ, List, IsUtf8, All, length, get_or, take, ap, sym, subst, arith, below_more}
 use Rattle.std.proofs.lemmas.List.{get_or-map, get_or_default, length-map, take_all, take_more}
 use Rattle.std.specs.Global.{Vec}
 use Rattle.registry_guests.specs.Spelling.{words}

@@ -10,7 +10,7 @@ use Rattle.registry_cli.specs.declared.usage.Usage.TheVariants as usages
 use Rattle.registry_guests.specs.GuestTurns.{IsUnasked}
 use Rattle.registry_guests.specs.Hearing.{HearsAs, HearsIn}
 use Rattle.registry_guests.specs.Reading.{Fails}
-use Rattle.registry_guests.specs.Saying.{Spoken, on_usage, spoken}
+use Rattle.registry_guests.specs.Saying.{Spoken, on_usage}
 use Rattle.registry_guests.specs.declared.fault.ReadError.{ReadError}
 use Rattle.registry_guests.specs.declared.fault.ReadError.TheVariants as errors
 use Rattle.registry_guests.specs.declared.hearing.Heard.{Heard}

@@ -5,7 +5,6 @@ use Rattle.registry_service.specs.Histories.{IsOneHistory, Reached, World}
 use Rattle.registry_service.specs.Turns.{Answering}
 use Rattle.registry_server.specs.Connections.{OpenConnection}
 use Rattle.registry_server.specs.Connections as connections
-use Rattle.registry_server.specs.Worlds.{VisitsLead}
 use Rattle.registry_guests.specs.Guests as guests
 use Rattle.registry_guests.specs.Guests.{AnswersMessage, OpenGuest}
 use Rattle.registry_guests.specs.GuestTurns.{IsGuestTurn}

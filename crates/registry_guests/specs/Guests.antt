@@ -1,5 +1,5 @@
 -- A guest: what is received of it, what it is answered, and what of that is sent.
-use Rattle.std.specs.Prelude.{◌≡◌, ◌⊎◌, ◌+◌, ◌-◌, ◌<◌, ◌≤◌, ◌++◌, ◌∷◌, ◌^◌, min, nat_le, ℕ, Bool, true, List, [], Option, Some, None, length, take}
+use Rattle.std.specs.Prelude.{◌≡◌, ◌⊎◌, ◌+◌, ◌-◌, ◌<◌, ◌≤◌, ◌++◌, ◌∷◌, ◌^◌, min, nat_le, ℕ, Bool, true, List, [], Option, Some, None, length}
 use Rattle.std.specs.Io.KnownBytes.{append_known}
 use Rattle.registry_service.specs.Courses.{Gave}
 use Rattle.registry_service.specs.Turns.{Answering}

@@ -1,5 +1,5 @@
 -- Seats for guests: who is visited, and who is let go.
-use Rattle.std.specs.Prelude.{◌≡◌, ◌∷◌, [], ℕ, zero, suc, Bool, true, false, List, Option, Some, None, is_none, is_some, not, ◌&&◌, if◌then◌else◌}
+use Rattle.std.specs.Prelude.{◌≡◌, ◌∷◌, [], ℕ, Bool, true, false, List, Option, Some, None, is_none, is_some, not, ◌&&◌, if◌then◌else◌}
 use Rattle.registry_server.specs.declared.connection.Visit.{Visit}
 use Rattle.registry_server.specs.declared.connection.Visit.TheVariants.{Again, Rests, Over}
 use Rattle.registry_service.specs.Turns.{Answering}

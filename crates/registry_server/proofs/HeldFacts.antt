@@ -1,5 +1,6 @@
 -- How many bodies are read of a crowd, and how much is held.
 use Rattle.std.proofs.Common.{◌≡◌, ◌≢◌, ◌<◌, ◌≤◌, ◌⊎◌, ◌+◌, ◌*◌, ◌++◌, ◌∷◌, ◌∙◌, [], ℕ, zero, suc, Bool, true, false, List, Option, None, Some, All, IsSome, cond, length, map, max, nat_lt, replicate, sum_by, refl, ap, subst, sym, inl, inr, arith, le_trans, length-append, add-mul, suc-mul, mul-le-mul_right, ◌&&◌, not, if◌then◌else◌}
+use Rattle.std.specs.Prelude.{is_some}
 use Rattle.std.proofs.lemmas.Bool.{and_parts, false≢true, leb-false, ltb-false, ltb-true}
 use Rattle.std.proofs.lemmas.List.{length-replicate}
 use Rattle.std.proofs.lemmas.List.Elements.{All-cons, All-head, All-map, All-replicate, All-tail, All-weaker}
@@ -16,7 +17,7 @@ use Rattle.registry_service.specs.Turns.{Answering}
 use Rattle.registry_server.specs.ConnectionStates.{Pending, TakesNone}
 use Rattle.registry_server.specs.Connections.{Keeps, LeavesLittle, MayReceive, OpenConnection, ReceivesLean, TakesOne, Visits, body_least, has_body, has_body_in}
 use Rattle.registry_server.specs.Phases.{is_late}
-use Rattle.registry_server.specs.Pools.{AllHoldLittle, ChoosesIf, EndsLeaveFew, EndsLeaveLittle, FewChosen, HoldLittle, HoldLittleMore, HoldsLittleMore, HoldsLittleRest, HoldsOneRequest, IdleEndsLeaveFew, IdleEndsLeaveLittle, NewConnectionsLeaveFew, NewConnectionsLeaveLittle, NewPoolHoldsLittle, NewPoolReadsFew, RoundsHoldLittleMore, RoundsLeaveLittle, RoundsReadFew, ServersHoldLittle, UnreadHoldLittle, VisitsAll, VisitsIf, VisitsThere, WakesLeaveFew, WakesLeaveLittle, WhoWaitsHasBegun, added_at_most, after_visit, answered_with, at_place, body_with, chosen, chosen_of, counted_at, emptied, emptied_of, free, has_body_at, has_room, held_at, held_before, held_limit, held_with, in_time, is_answered_at, is_crowd, is_held_back, is_read, kept_at, new_at, place_count, read_count, read_together, settled, unread_at, waiting_with, woken}
+use Rattle.registry_server.specs.Pools.{AllHoldLittle, AllIdleEndsLeaveFew, AllIdleEndsLeaveLittle, ChoosesIf, EndsLeaveFew, EndsLeaveLittle, FewChosen, HoldLittle, HoldLittleMore, HoldsLittleMore, HoldsLittleRest, HoldsOneRequest, IdleEndsLeaveFew, IdleEndsLeaveLittle, NewConnectionsLeaveFew, NewConnectionsLeaveLittle, NewPoolHoldsLittle, NewPoolReadsFew, RoundsHoldLittleMore, RoundsLeaveLittle, RoundsReadFew, ServersHoldLittle, UnreadHoldLittle, VisitsAll, VisitsIf, VisitsThere, WakesLeaveFew, WakesLeaveLittle, WhoWaitsHasBegun, added_at_most, after_visit, answered_with, at_place, body_with, chosen, chosen_of, counted_at, emptied, emptied_of, free, has_body_at, has_room, held_at, held_before, held_limit, held_with, idle_in, in_time, is_answered_at, is_crowd, is_held_back, kept_at, new_at, place_count, read_count, read_together, settled, unless_idle, unread_at, waiting_with, woken}
 use Rattle.registry_server.specs.declared.connection.Visit.{Visit}
 use Rattle.registry_server.specs.declared.connection.Visit.TheVariants.{Again, Rests, Over}
 use Rattle.registry_server.specs.declared.phase.Stage.{Stage}
@@ -164,6 +165,9 @@ module _ (S : Type 0) where
 
   pub idle-ends-leave-few : IdleEndsLeaveFew S
   idle-ends-leave-few old new found few ends = subst FewChosen (sym ends.places) (emptied-few old ends.which few)
+
+  pub all-idle-ends-leave-few : AllIdleEndsLeaveFew S
+  all-idle-ends-leave-few places few = omega (arith, few, map-sum (chosen_count {S = S}) chosen_count unless_idle (λ (p : Place S). omega arith) places)
 
   pub ends-leave-few : EndsLeaveFew S
   ends-leave-few now places few = omega (arith, few, map-sum (chosen_count {S = S}) chosen_count (kept_at now) (λ (p : Place S). omega arith) places)
@@ -358,11 +362,23 @@ waiting-little : {S : Type 0} (most now : ℕ) (o : Option (OpenConnection S)) �
 waiting-little most now None little = little
 waiting-little most now (Some c) little = little
 
+-- where nothing is begun the connection may be gone
+left-held : {S : Type 0} (b : Bool) (o : Option (OpenConnection S)) → held_with (if b then None else o) ≤ held_with o
+left-held true o = omega arith
+left-held false o = omega arith
+
+left-little : {S : Type 0} (most : ℕ) (b : Bool) (o : Option (OpenConnection S)) → LittleRest most o → LittleRest most (if b then None else o)
+left-little most true o little = λ is. absurd (false≢true is)
+left-little most false o little = little
+
 above : (a b c : ℕ) → a ≤ c → a ≤ b + c
 above a b c few = omega (arith, few)
 
 kept-held : {S : Type 0} (now : ℕ) (p : Place S) → held_at (kept_at now p) ≤ held_at p
 kept-held now p = in-time-held now p.connection
+
+unless-idle-held : {S : Type 0} (p : Place S) → held_at (unless_idle p) ≤ held_at p
+unless-idle-held p = left-held (is_some (idle_in p)) p.connection
 
 chosen-of-counts : {S : Type 0} (most : ℕ) (places : List (Place S)) (next : Option ℕ) → sum_by (counted_at most) (chosen_of places next) ≤ sum_by (counted_at most) places
 chosen-of-counts {S} most places None = omega arith
@@ -573,6 +589,9 @@ at-little most change places k less keeps rests few h = record {
 kept-counts : {S : Type 0} (most now : ℕ) (p : Place S) → counted_at most (kept_at now p) ≤ counted_at most p
 kept-counts most now p = counts-less p.is_chosen (held_at (kept_at now p)) (held_at p) (held_before most) (λ none. omega (arith, kept-held now p))
 
+unless-idle-counts : {S : Type 0} (most : ℕ) (p : Place S) → counted_at most (unless_idle p) ≤ counted_at most p
+unless-idle-counts most p = counts-less p.is_chosen (held_at (unless_idle p)) (held_at p) (held_before most) (λ none. omega (arith, unless-idle-held p))
+
 replicated-count : (S : Type 0) (n most : ℕ) → sum_by (counted_at {S = S} most) (replicate n free) ≤ held_limit + n * added_at_most most
 replicated-count S n most =
     subst (λ (k : ℕ). sum_by (counted_at {S = S} most) (replicate n free) ≤ held_limit + k * added_at_most most) (length-replicate {A = Place S} n free)
@@ -606,6 +625,17 @@ module _ (S : Type 0) where
 
   pub idle-ends-leave-little : IdleEndsLeaveLittle S
   idle-ends-leave-little most old new found h ends = subst (HoldLittle most) (sym ends.places) (emptied-little most old ends.which h)
+
+  pub all-idle-ends-leave-little : AllIdleEndsLeaveLittle S
+  all-idle-ends-leave-little most places h = record {
+    size = map-length unless_idle places ∙ h.size;
+    few = all-idle-ends-leave-few S places h.few;
+    each = All-map (HoldsOneRequest {S = S} most) unless_idle places
+        (All-weaker (HoldsOneRequest {S = S} most) (λ (p : Place S). HoldsOneRequest most (unless_idle p)) (λ (p : Place S) few. omega (arith, few, unless-idle-held p)) places h.each);
+    rest = All-map (HoldsLittleRest {S = S} most) unless_idle places
+        (All-weaker (HoldsLittleRest {S = S} most) (λ (p : Place S). HoldsLittleRest most (unless_idle p)) (λ (p : Place S) few. left-little most (is_some (idle_in p)) p.connection few) places h.rest);
+    counted = le_trans (map-sum (counted_at {S = S} most) (counted_at most) unless_idle (unless-idle-counts most) places) h.counted;
+  }
 
   pub ends-leave-little : EndsLeaveLittle S
   ends-leave-little most now places h = record {

@@ -1,6 +1,6 @@
 -- Whom a new connection ends.
 use Rattle.std.proofs.Common.{◌≡◌, ◌∷◌, ◌∙◌, [], ℕ, zero, suc, Bool, true, false, List, Option, None, Some, get_or, is_none, length, refl, ap, subst, sym, if◌then◌else◌, ◌&&◌, not}
-use Rattle.std.specs.Prelude.{All, MatchOption, map, position, slice_get}
+use Rattle.std.specs.Prelude.{All, MatchOption, is_some, map, position, slice_get}
 use Rattle.std.proofs.lemmas.Bool.{false≢true}
 use Rattle.std.proofs.lemmas.List.Elements.{All-cons, All-head, All-map, All-replicate, All-tail, All-weaker}
 use Rattle.std.proofs.lemmas.List.Quantifiers.{position-Some}
@@ -8,7 +8,7 @@ use Rattle.std.proofs.lemmas.Option.{get_or_from_slice_get, slice_get_within}
 use Rattle.registry_service.specs.Turns.{Answering}
 use Rattle.registry_server.specs.Connections.{OpenConnection, waiting}
 use Rattle.registry_server.specs.Phases.{idle_from, is_late}
-use Rattle.registry_server.specs.Pools.{ChoosesIf, EndsLeaveRest, IdleEndsLeaveRest, IsAtRest, IsFirstOfEarliest, NewConnectionsLeaveRest, NewPoolRests, NewcomersEndIdle, VisitsAll, VisitsIf, VisitsLeaveRest, VisitsThere, WakesLeaveRest, WantOfRoomEndsIdle, after_visit, at_place, chosen, chosen_of, emptied, emptied_of, free, has_room, idle_at, idle_times, idle_with, in_time, is_crowd, is_free, is_held_back, kept_at, new_at, place_count, settled, waiting_at, waiting_with, woken}
+use Rattle.registry_server.specs.Pools.{AllIdleEndsLeaveRest, ChoosesIf, EndsLeaveRest, IdleEndsLeaveRest, IsAtRest, IsFirstOfEarliest, IsUnderWay, NewConnectionsLeaveRest, NewPoolRests, NewcomersEndIdle, StopsEndIdle, StopsLeaveUnderWay, VisitsAll, VisitsIf, VisitsLeaveRest, VisitsThere, WakesLeaveRest, WantOfRoomEndsIdle, after_visit, at_place, chosen, chosen_of, emptied, emptied_of, free, has_room, idle_at, idle_in, idle_times, idle_with, in_time, is_crowd, is_free, is_held_back, kept_at, new_at, place_count, settled, unless_idle, waiting_at, waiting_with, woken}
 use Rattle.registry_server.specs.declared.connection.Visit.{Visit}
 use Rattle.registry_server.specs.declared.connection.Visit.TheVariants.{Again, Rests, Over}
 use Rattle.registry_server.specs.declared.phase.Stage.{Stage}
@@ -70,6 +70,17 @@ module _ {S : Type 0} (must_wait : S → Bool) where
 
   pub idle-ends-leave-rest : IdleEndsLeaveRest must_wait
   idle-ends-leave-rest old new found h ends = subst (All (IsAtRest must_wait)) (sym ends.places) (emptied-at-rest old ends.which h)
+
+  left-if : (b : Bool) (o : Option (OpenConnection S)) (c : OpenConnection S) → (if b then None else o) ≡ Some c → o ≡ Some c
+  left-if true o c is = none-some c is
+  left-if false o c is = is
+
+  left-rest : (p : Place S) → IsAtRest must_wait p → IsAtRest must_wait (unless_idle p)
+  left-rest p h c ready at = h c ready (left-if (is_some (idle_in p)) p.connection c at)
+
+  pub all-idle-ends-leave-rest : AllIdleEndsLeaveRest must_wait
+  all-idle-ends-leave-rest places h = All-map (IsAtRest must_wait) unless_idle places
+      (All-weaker (IsAtRest must_wait) (λ p. IsAtRest must_wait (unless_idle p)) left-rest places h)
 
   pub ends-leave-rest : EndsLeaveRest must_wait
   ends-leave-rest now places h = All-map (IsAtRest must_wait) (kept_at now) places
@@ -141,6 +152,31 @@ module _ {S : Type 0} (must_wait : S → Bool) where
       let idle = idle-first old ends.which k p c ends.first is there at in
       let rest : IsAtRest must_wait p = subst (IsAtRest must_wait) (get_or_from_slice_get old k p p there) (rests k p (slice_get_within old k p there)) in
       (idle.0, rest c idle.0 at, idle.1)
+
+  -- a connection was there, and isn't any more
+  was-idle : (o : Option ℕ) (there : Option (OpenConnection S)) (c : OpenConnection S) → there ≡ Some c → (if is_some o then None else there) ≡ None → (t : ℕ) × (o ≡ Some t)
+  was-idle None there c at is = none-some c (sym is ∙ at)
+  was-idle (Some t) there c at is = (t, refl)
+
+  pub stops-end-idle : StopsEndIdle must_wait
+  stops-end-idle p c rests at is =
+      let was = was-idle (idle_in p) p.connection c at is in
+      let idle = idle-if p.is_ready p.connection c was.0 at was.1 in
+      (idle.0, rests c idle.0 at, idle.1)
+
+-- none is left on which nothing is begun
+left-idle : {S : Type 0} (o : Option (OpenConnection S)) (t : Option ℕ) → idle_with o ≡ t → idle_with (if is_some t then None else o) ≡ None
+left-idle o None is = is
+left-idle o (Some t) is = refl
+
+left-under-way : {S : Type 0} (ready : Bool) (o : Option (OpenConnection S))
+    → (if ready then None else idle_with (if is_some (if ready then None else idle_with o) then None else o)) ≡ None
+left-under-way true o = refl
+left-under-way false o = left-idle o (idle_with o) refl
+
+pub stops-leave-under-way : (S : Type 0) → StopsLeaveUnderWay S
+stops-leave-under-way S places = All-map (IsUnderWay {S = S}) unless_idle places
+    (λ k d lt. left-under-way (get_or places k d).is_ready (get_or places k d).connection)
 
 module _ {S : Type 0} (received sent : S → Option (List ℕ)) (must_wait has_more is_ended is_broken : S → Bool) {D : Type 0} (answers : Answering D) (over : D → Bool) where
   there-rests : (now most : ℕ) (p : Place S) (o : Option (OpenConnection S)) (q : Place S) (M N : D) (r r2 : Option (List ℕ))

@@ -11,7 +11,7 @@ use Rattle.registry_server.specs.declared.connection.Visit.TheVariants.{Again, R
 use Rattle.registry_server.specs.declared.phase.Stage.TheVariants.{Begun, Idle, Next}
 use Rattle.registry_server.specs.declared.pool.Place.{Place}
 use Rattle.registry_server.specs.declared.server.Ended.{Ended}
-use Rattle.registry_server.specs.declared.server.Ended.TheVariants.{Enough, ServiceOver}
+use Rattle.registry_server.specs.declared.server.Ended.TheVariants.{Enough, ServiceOver, Stopped}
 
 -- the most connections that are open at once
 abbrev pub place_count : ℕ
@@ -115,6 +115,16 @@ pub record EndsIdle {S : Type 0} (old new : List (Place S)) (was : Bool) : Type 
   pub first : IsFirstOfEarliest (idle_times old) (length old) which
   pub places : new ≡ emptied_of old which
   pub found : was ≡ is_some which
+
+-- ---- where a server is to end
+
+-- the connection there ends where nothing is begun on it and it isn't to be visited
+abbrev pub unless_idle : {S : Type 0} → Place S → Place S
+unless_idle p = with_connection p (if is_some (idle_in p) then None else p.connection) p.is_ready
+
+-- something is begun there, or it is to be visited, or nobody is there
+abbrev pub IsUnderWay : {S : Type 0} → Place S → Type 0
+IsUnderWay p = idle_in p ≡ None
 
 -- ---- which bodies are read of a crowd
 
@@ -342,6 +352,10 @@ EndsLeaveFew S = (now : ℕ) (places : List (Place S)) → FewChosen places → 
 abbrev pub IdleEndsLeaveFew : Type 0 → Type 0
 IdleEndsLeaveFew S = (old new : List (Place S)) (found : Bool) → FewChosen old → EndsIdle old new found → FewChosen new
 
+-- and once each ended on which nothing was begun
+abbrev pub AllIdleEndsLeaveFew : Type 0 → Type 0
+AllIdleEndsLeaveFew S = (places : List (Place S)) → FewChosen places → FewChosen (map unless_idle places)
+
 -- who is held back has begun a request that isn't whole
 abbrev pub WhoWaitsHasBegun : Type 0 → Type 0
 WhoWaitsHasBegun S = (crowd : Bool) (p : Place S) (c : OpenConnection S) → is_held_back crowd p ≡ true → p.connection ≡ Some c → c.phase.stage ≡ Begun
@@ -411,6 +425,10 @@ EndsLeaveLittle S = (most now : ℕ) (places : List (Place S)) → HoldLittle mo
 abbrev pub IdleEndsLeaveLittle : Type 0 → Type 0
 IdleEndsLeaveLittle S = (most : ℕ) (old new : List (Place S)) (found : Bool) → HoldLittle most old → EndsIdle old new found → HoldLittle most new
 
+-- once each ended on which nothing was begun
+abbrev pub AllIdleEndsLeaveLittle : Type 0 → Type 0
+AllIdleEndsLeaveLittle S = (most : ℕ) (places : List (Place S)) → HoldLittle most places → HoldLittle most (map unless_idle places)
+
 module _ {S : Type 0} (received sent : S → Option (List ℕ)) (must_wait has_more is_ended is_broken : S → Bool) {D : Type 0} (answers : Answering D) (over : D → Bool) where
   -- and after a round
   abbrev pub RoundsLeaveLittle : Type 0
@@ -461,6 +479,10 @@ EndsLeaveRest {S} must_wait = (now : ℕ) (places : List (Place S)) → All (IsA
 abbrev pub IdleEndsLeaveRest : {S : Type 0} → (S → Bool) → Type 0
 IdleEndsLeaveRest {S} must_wait = (old new : List (Place S)) (found : Bool) → All (IsAtRest must_wait) old → EndsIdle old new found → All (IsAtRest must_wait) new
 
+-- once each ended on which nothing was begun
+abbrev pub AllIdleEndsLeaveRest : {S : Type 0} → (S → Bool) → Type 0
+AllIdleEndsLeaveRest {S} must_wait = (places : List (Place S)) → All (IsAtRest must_wait) places → All (IsAtRest must_wait) (map unless_idle places)
+
 module _ {S : Type 0} (received sent : S → Option (List ℕ)) (must_wait has_more is_ended is_broken : S → Bool) {D : Type 0} (answers : Answering D) (over : D → Bool) where
   -- and after visits
   abbrev pub VisitsLeaveRest : Type 0
@@ -480,9 +502,17 @@ WantOfRoomEndsIdle {S} must_wait = (old new : List (Place S)) (found : Bool) (en
     → All (IsAtRest must_wait) old → ends.which ≡ Some k → slice_get old k ≡ Some p → p.connection ≡ Some c
     → (p.is_ready ≡ false) × (must_wait c.socket ≡ true) × (c.phase.stage ≡ Idle)
 
+-- And no more does one that ends where a server is to end: then none is left that isn't under way.
+abbrev pub StopsEndIdle : {S : Type 0} → (S → Bool) → Type 0
+StopsEndIdle {S} must_wait = (p : Place S) (c : OpenConnection S) → IsAtRest must_wait p → p.connection ≡ Some c → (unless_idle p).connection ≡ None
+    → (p.is_ready ≡ false) × (must_wait c.socket ≡ true) × (c.phase.stage ≡ Idle)
+
+abbrev pub StopsLeaveUnderWay : Type 0 → Type 0
+StopsLeaveUnderWay S = (places : List (Place S)) → All IsUnderWay (map (unless_idle {S = S}) places)
+
 -- ---- why a server ends
 
--- because the service is over, or else because as many connections as were to come in have come, and
--- all have ended
-abbrev pub why_ended : Bool → Ended
-why_ended over = if over then ServiceOver else Enough
+-- because the service is over; or else because it was to end, and all that was under way has ended;
+-- or else because as many connections as were to come in have come, and all have ended
+abbrev pub why_ended : Bool → Bool → Ended
+why_ended over stops = if over then ServiceOver else (if stops then Stopped else Enough)

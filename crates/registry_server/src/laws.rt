@@ -1,7 +1,7 @@
 //! Laws of connections. Each is the contract of a function that does nothing.
 
 ghost use Rattle.registry_server.specs.Phases.{BytesGive, EnteredEndsInTime, NeverGiveMore, NewPhasesEndInTime, PaidEndsInTime, ResponseTimePasses, StagesGiveNone, WaitedEndsInTime, WaitsGiveNone};
-ghost use Rattle.registry_server.specs.Pools.{AllHoldLittle, EndsLeaveFew, EndsLeaveLittle, EndsLeaveRest, IdleEndsLeaveFew, IdleEndsLeaveLittle, IdleEndsLeaveRest, NewConnectionsLeaveFew, NewConnectionsLeaveLittle, NewConnectionsLeaveRest, NewPoolHoldsLittle, NewPoolReadsFew, NewPoolRests, NewcomersEndIdle, RoundsHoldLittleMore, RoundsLeaveLittle, RoundsReadFew, ServersHoldLittle, UnreadHoldLittle, VisitsLeaveRest, WakesLeaveFew, WakesLeaveLittle, WakesLeaveRest, WantOfRoomEndsIdle, WhoWaitsHasBegun};
+ghost use Rattle.registry_server.specs.Pools.{AllHoldLittle, AllIdleEndsLeaveFew, AllIdleEndsLeaveLittle, AllIdleEndsLeaveRest, EndsLeaveFew, EndsLeaveLittle, EndsLeaveRest, IdleEndsLeaveFew, IdleEndsLeaveLittle, IdleEndsLeaveRest, NewConnectionsLeaveFew, NewConnectionsLeaveLittle, NewConnectionsLeaveRest, NewPoolHoldsLittle, NewPoolReadsFew, NewPoolRests, NewcomersEndIdle, RoundsHoldLittleMore, RoundsLeaveLittle, RoundsReadFew, ServersHoldLittle, StopsEndIdle, StopsLeaveUnderWay, UnreadHoldLittle, VisitsLeaveRest, WakesLeaveFew, WakesLeaveLittle, WakesLeaveRest, WantOfRoomEndsIdle, WhoWaitsHasBegun};
 ghost use Rattle.registry_server.specs.Worlds.{Begins, Comes, Sends, Shuts, Starves, TakesTurns, VisitsLead};
 
 use crate::socket::Socket;
@@ -53,16 +53,20 @@ pub fn requests_end_in_time()
 /// had to wait when it was asked last. So it is in a new pool, and new connections, wakes, ends and
 /// visits leave it so. And a new connection takes the place of another one only where that rests
 /// and nothing is begun on it (`ended`), and so it is where one ends as the system has no descriptor
-/// left (`lacks`).
+/// left (`lacks`), or as the server is to end (`stops`). Then each connection that is left is under
+/// way: something is begun on it, or it is to be visited (`left`).
 pub fn newcomers_end_idle_connections<S: Socket, D: Service>()
     ensures begins { NewPoolRests S.must_wait }
     ensures comes { NewConnectionsLeaveRest S.must_wait }
     ensures wakes { WakesLeaveRest S.must_wait }
     ensures late { EndsLeaveRest S.must_wait }
     ensures room { IdleEndsLeaveRest S.must_wait }
+    ensures idle { AllIdleEndsLeaveRest S.must_wait }
     ensures visits { VisitsLeaveRest S.received S.sent S.must_wait S.has_more S.is_ended S.is_broken D.answers D.over }
     ensures ended { NewcomersEndIdle S.must_wait }
     ensures lacks { WantOfRoomEndsIdle S.must_wait }
+    ensures stops { StopsEndIdle S.must_wait }
+    ensures left { StopsLeaveUnderWay S }
 {}
 
 /// A crowd holds little more after a round than before it: a connection holds no more bytes than one
@@ -75,6 +79,7 @@ pub fn a_crowd_holds_little_more<S: Socket, D: Service>()
     ensures wakes { WakesLeaveFew S }
     ensures late { EndsLeaveFew S }
     ensures room { IdleEndsLeaveFew S }
+    ensures idle { AllIdleEndsLeaveFew S }
     ensures rounds { RoundsReadFew S.received S.sent S.must_wait S.has_more S.is_ended S.is_broken D.answers D.over }
     ensures few { RoundsHoldLittleMore S.received S.sent S.must_wait S.has_more S.is_ended S.is_broken D.answers D.over }
     ensures waits { WhoWaitsHasBegun S }
@@ -92,6 +97,7 @@ pub fn connections_hold_little<S: Socket, D: Service>()
     ensures wakes { WakesLeaveLittle S }
     ensures late { EndsLeaveLittle S }
     ensures room { IdleEndsLeaveLittle S }
+    ensures idle { AllIdleEndsLeaveLittle S }
     ensures rounds { RoundsLeaveLittle S.received S.sent S.must_wait S.has_more S.is_ended S.is_broken D.answers D.over }
     ensures unread { UnreadHoldLittle S }
     ensures all { AllHoldLittle S }

@@ -1,6 +1,6 @@
 //! Where connections come in.
 
-ghost use Rattle.std.specs.Prelude.{◌≡◌, ◌&&◌, true, not, IfOk, IfSome, IfNone, OnErr};
+ghost use Rattle.std.specs.Prelude.{◌≡◌, ◌&&◌, Some, true, not, IfOk, IfSome, IfNone, OnErr};
 ghost use Rattle.registry_server.specs.Listening as spec;
 ghost use Rattle.registry_server.specs.Listening.{counted, expecting, lets_in, one_less};
 
@@ -24,7 +24,7 @@ const NONE_IN_SYSTEM: i32 = 23;
 pub struct NoDescriptor;
 
 /// A port of 127.0.0.1, and how many more connections are to come in, where they are counted. It is
-/// closed once the last was taken.
+/// closed once the last was taken, or it was shut.
 #[derive(Drop)]
 pub struct Listener {
     listener: Option<TcpListener>,
@@ -87,7 +87,15 @@ impl Listener {
         self.is_asked && self.listener.is_some()
     }
 
-    /// Whether the last connection has come in.
+    /// Nobody comes in any more.
+    pub fn shut(&mut self)
+        ensures { self.new ≡ expecting (Some 0) self.old.is_asked }
+    {
+        self.listener = None;
+        self.left = Some(0);
+    }
+
+    /// Whether nobody comes in any more.
     pub fn is_shut(&self) -> bool
         ensures { result ≡ not (lets_in self.now.left) }
     {

@@ -169,6 +169,15 @@ impl<S: Socket> Place<S> {
         }
     }
 
+    // Ends the connection if nothing is begun on it and it isn't to be visited.
+    fn end_idle(&mut self)
+        ensures { self.new ≡ spec.unless_idle self.old }
+    {
+        if self.idle_since().is_some() {
+            self.connection = None;
+        }
+    }
+
     // Ends the connection if its time is up.
     fn end_late(&mut self, now: u64)
         ensures { self.new ≡ spec.kept_at now self.old }
@@ -259,6 +268,16 @@ impl<S: Socket> ConnectionPool<S> {
                 true
             }
             None => false,
+        }
+    }
+
+    /// Each connection ends on which nothing is begun, of those that aren't to be visited, and no
+    /// other.
+    pub fn end_idle_all(&mut self)
+        ensures { self.new.places.items ≡ map spec.unless_idle self.old.places.items }
+    {
+        for place in self.places.iter_mut() {
+            place.end_idle();
         }
     }
 

@@ -1,4 +1,4 @@
-use Rattle.std.proofs.Common.{◌≡◌, ◌<◌, ◌^◌, ◌∷◌, [], List, ℕ, Ok, ap, sym, refl, arith, length}
+use Rattle.std.proofs.Common.{◌<◌, ◌^◌, ◌∷◌, [], List, ℕ, ap, sym, arith, length}
 use Rattle.registry_guests.specs.Saying.{Spoken}
 use Rattle.registry_guests.specs.Spelling.{AreWords, view}
 use Rattle.registry_guests.proofs.Fields.{ok_is}

@@ -1,4 +1,4 @@
-use Rattle.registry_server.proofs.RestFacts.{ends-leave-rest, idle-ends-leave-rest, new-connections-leave-rest, new-pool-rests, newcomers-end-idle, visits-leave-rest, wakes-leave-rest, want-of-room-ends-idle}
+use Rattle.registry_server.proofs.RestFacts.{all-idle-ends-leave-rest, ends-leave-rest, idle-ends-leave-rest, new-connections-leave-rest, new-pool-rests, newcomers-end-idle, stops-end-idle, stops-leave-under-way, visits-leave-rest, wakes-leave-rest, want-of-room-ends-idle}
 use Rattle.registry_server.proofs.laws.newcomers_end_idle_connections.Goals as goal
 
 pub returns-clause-begins : goal.returns-clause-begins
@@ -24,3 +24,12 @@ returns-clause-visits g c = visits-leave-rest g.S.Socket.received g.S.Socket.sen
 
 pub returns-clause-ended : goal.returns-clause-ended
 returns-clause-ended g c = newcomers-end-idle g.S.Socket.must_wait
+
+pub returns-clause-idle : goal.returns-clause-idle
+returns-clause-idle g c = all-idle-ends-leave-rest g.S.Socket.must_wait
+
+pub returns-clause-stops : goal.returns-clause-stops
+returns-clause-stops g c = stops-end-idle g.S.Socket.must_wait
+
+pub returns-clause-left : goal.returns-clause-left
+returns-clause-left g c = stops-leave-under-way g.row.S.Denot

@@ -1,4 +1,4 @@
-use Rattle.std.proofs.Common.{◌∙◌, ◌<◌, ◌≤◌, Some, true, false, length, ap, arith, slice_set}
+use Rattle.std.proofs.Common.{◌∙◌, ◌<◌, ◌≤◌, Some, true, length, ap, arith, slice_set}
 use Rattle.registry_guests.specs.Guests.{OpenGuest}
 use Rattle.registry_guests.specs.Halls.{new_at, seat}
 use Rattle.registry_guests.proofs.HallFacts.{at-none, at-put}
