@@ -107,10 +107,10 @@ document_found p v old new rows form call clean =
 abbrev list_text : List ℕ
 list_text = codes "SELECT version, manifest, deprecated, published FROM versions WHERE package = ?1 ORDER BY version"
 
-abbrev list_columns : List Term
+abbrev pub list_columns : List Term
 list_columns = col 1 2 ∷ col 1 4 ∷ col 1 5 ∷ col 1 3 ∷ []
 
-list_means : MeansQuery schema list_text (Select (record { lets = []; body = scan 18 (by_texts 0 1 0) list_columns (in_order 0 2) }) (codes "version" ∷ codes "manifest" ∷ codes "deprecated" ∷ codes "published" ∷ []))
+pub list_means : MeansQuery schema list_text (Select (record { lets = []; body = scan 18 (by_texts 0 1 0) list_columns (in_order 0 2) }) (codes "version" ∷ codes "manifest" ∷ codes "deprecated" ∷ codes "published" ∷ []))
 unfolding understood everything
 list_means = ((refl, (refl, refl)), refl)
 

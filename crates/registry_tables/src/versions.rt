@@ -135,6 +135,10 @@ pub struct LiveVersions {
     pub times: Vec<VersionTime>,
 }
 
+/// What asks for the live versions of a package, with all of this.
+pub(crate) const LIVE_VERSIONS: &str =
+    "SELECT version, manifest, deprecated, published FROM versions WHERE package = ?1 ORDER BY version";
+
 /// The live versions of a package, with their manifests, their messages and the moments of their
 /// publication. One statement reads them all.
 pub fn load_versions<S: Alter>(
@@ -151,11 +155,7 @@ pub fn load_versions<S: Alter>(
         (λ live c. map time_entry live.times.items
         ≡ map (seen published) (of (live_of c) name.now)) }
 {
-    let rows = read(
-        tx,
-        "SELECT version, manifest, deprecated, published FROM versions WHERE package = ?1 ORDER BY version",
-        params![name.text()],
-    )?;
+    let rows = read(tx, LIVE_VERSIONS, params![name.text()])?;
     live_in(alloc, &rows)
 }
 
@@ -278,8 +278,8 @@ pub(crate) fn put_message<S: Alter>(
     )
 }
 
-// A version, its manifest and its message.
-struct ListedVersion;
+/// A version, its manifest and its message.
+pub(crate) struct ListedVersion;
 
 impl RowKind for ListedVersion {
     type Value = VersionRow;
