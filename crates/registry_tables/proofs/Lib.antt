@@ -39,6 +39,5 @@ pub mod TokenFacts
 pub mod UserFacts
 pub mod VersionFacts
 pub mod WalkFacts
-pub mod WalkOrderFacts
 pub mod WalkSourceFacts
 pub mod WithdrawalFacts

@@ -1,17 +1,18 @@
 -- What a walk has left.
-use Rattle.std.proofs.Common.{◌≡◌, ◌≤◌, ◌∙◌, ℕ, ◌+◌, List, [], ◌∷◌, ◌++◌, map, length, drop, refl, sym, ap, IsTrue, arith, Some, None}
+use Rattle.std.proofs.Common.{◌≡◌, ◌≤◌, ◌∙◌, ℕ, ◌+◌, List, [], ◌∷◌, ◌++◌, map, length, drop, refl, sym, ap, IsTrue, arith, false, inl, Some, None, Result, Ok, Err, IfOk, OnErr}
 use Rattle.std.proofs.Math.Logic.{∥∥₁_elim, ∥∥₁_map}
-use Rattle.std.proofs.lemmas.List.{map-append, append_assoc, append-nil, drop_all, length-append, length-map}
+use Rattle.std.proofs.lemmas.List.{map-append, append_assoc, drop_all, length-append, length-map}
 use lib.Seq.{drop_at}
 use base.Stored.{Coded-set}
 use Rattle.std.specs.Coded.{coded×, coded_ℕ, coded_list}
 use Rattle.sqlite.specs.Effect.{Database}
-use Rattle.sqlite.specs.Given.{HasBegun}
+use Rattle.sqlite.specs.Given.{HasBegun, IsRefused}
 use Rattle.sqlite.specs.Held.{Held, state}
 use Rattle.sqlite.specs.State.{HasCleanDisk, IsUnchanged, Survives, CommitsShowing}
+use Rattle.sqlite.specs.declared.error.Error.{Error}
+use Rattle.sqlite.specs.declared.rows.stream.Rows.{Rows}
 use Rattle.sqlite.specs.declared.types.Value.TheVariants.{Text as Stored}
 use Rattle.sqlite_trees.specs.declared.store.Store.{Ghosts}
-use Rattle.sqlite_value.specs.Order.{Row}
 use Rattle.registry_names.specs.Maps.{of, seen}
 use Rattle.registry_names.specs.Texts.{Text}
 use Rattle.registry_packument.specs.declared.packument.VersionRow.{VersionRow}
@@ -19,9 +20,9 @@ use Rattle.registry_rows.specs.Ready.{Ready}
 use Rattle.registry_tables.specs.Contents.{contents, live_of}
 use Rattle.registry_tables.specs.Schema.{schema}
 use Rattle.registry_tables.specs.Spelled.{document, row_entry, row_spelled}
-use Rattle.registry_tables.specs.Walks.{walk_text, documents_of, row_of_entry, rows_after, HasWalked, Steps, IsAt, IsGoing}
+use Rattle.registry_tables.specs.Walks.{walk_text, documents_of, row_of_entry, rows_after, Begins, IsAt, IsGoing, IsLeftAlone, Steps, shown_by}
 use Rattle.registry_tables.specs.declared.walk.stage.Stage.TheVariants.{Goes, Over}
-use Rattle.registry_tables.proofs.WalkFacts.{begun_walk, commits_nothing, ready_still, walked_first, shown_all}
+use Rattle.registry_tables.proofs.WalkFacts.{begun_walk, commits_nothing, left_by, ready_still, refused_leaves, walked_first, shown_all}
 
 entries_set : IsSet (List (Text × (Text × Text)))
 entries_set = Coded-set (coded_list (coded× (coded_list coded_ℕ) (coded× (coded_list coded_ℕ) (coded_list coded_ℕ))))
@@ -34,7 +35,7 @@ pub same_rows : {S : Type 0} (g : Ghosts S) (p : Text) (old new : Held S) (n : �
 same_rows g p old new n same = ap (λ es. map row_of_entry (drop n es)) (same_documents p (state g old).now (state g new).now same.0.now_is)
 
 -- a walk begins before the first version
-pub starts : {S : Type 0} (g : Ghosts S) (p : Text) (old new : Held S) → Ready schema (state g old) → (HasCleanDisk (state g old) → IsTrue (state g old).is_open)
+starts : {S : Type 0} (g : Ghosts S) (p : Text) (old new : Held S) → Ready schema (state g old) → (HasCleanDisk (state g old) → IsTrue (state g old).is_open)
     → Survives (state g old) (state g new) (CommitsShowing walk_text (Stored p ∷ []) (state g old)) → (HasCleanDisk (state g new) → HasBegun g walk_text (Stored p ∷ []) old new)
     → IsGoing g p new 0
 starts g p old new form unshut s begun =
@@ -44,6 +45,37 @@ starts g p old new form unshut s begun =
       unshut = λ clean. (begun_walk g p old new form unshut s (begun clean) clean).1.0.is_open;
       walked = λ clean. ([], (begun_walk g p old new form unshut s (begun clean) clean).0, refl);
     }
+
+-- ---- the rows that are asked for
+
+module _ {S : Type 0} (g : Ghosts S) (p : Text) (old : Held S) (form : Ready schema (state g old)) (unshut : HasCleanDisk (state g old) → IsTrue (state g old).is_open) where
+  -- what the query of a walk says of its answer
+  abbrev pub IsAsked : Rows S g → Type 0
+  IsAsked rows =
+      Survives (state g old) (shown_by g rows) (CommitsShowing walk_text (Stored p ∷ []) (state g old)) × (old.in_transaction ≡ false → rows.conn.now.in_transaction ≡ false)
+      × (HasCleanDisk (shown_by g rows) → HasBegun g walk_text (Stored p ∷ []) old rows.conn.now)
+
+  pub asked_left : (rows : Rows S g) → IsAsked rows → IsLeftAlone (state g old) (shown_by g rows)
+  asked_left rows it =
+      left_by (state g old) (shown_by g rows) (commits_nothing p (state g old) (shown_by g rows) form unshut it.0) it.1
+      (λ clean. inl (begun_walk g p old rows.conn.now form unshut it.0 (it.2 clean) clean).1)
+
+  pub asked_same : (rows : Rows S g) → IsAsked rows → HasCleanDisk (shown_by g rows) → IsUnchanged (state g old) (shown_by g rows)
+  asked_same rows it clean = (begun_walk g p old rows.conn.now form unshut it.0 (it.2 clean) clean).1
+
+  pub asked_begins : (rows : Rows S g) → IsAsked rows → Begins g p rows
+  asked_begins rows it = starts g p old rows.conn.now form unshut it.0 it.2
+
+  -- where none are given, the connection is left alone
+  pub refused_alone : (r : Result (Rows S g) Error) (new : Held S) → OnErr r (IsRefused g walk_text (Stored p ∷ []) old r new) → OnErr r (IsLeftAlone (state g old) (state g new))
+  refused_alone (Ok rows) new it = tt
+  refused_alone (Err e) new it = refused_leaves p (state g old) (state g new) e form unshut it.survives it.mode it.err
+
+  pub is_asked : (r : Result (Rows S g) Error) → IfOk r (λ rows. Survives (state g old) (shown_by g rows) (CommitsShowing walk_text (Stored p ∷ []) (state g old)))
+      → IfOk r (λ rows. old.in_transaction ≡ false → rows.conn.now.in_transaction ≡ false) → IfOk r (λ rows. HasCleanDisk (shown_by g rows) → HasBegun g walk_text (Stored p ∷ []) old rows.conn.now)
+      → IfOk r IsAsked
+  is_asked (Ok rows) survives mode begun = (survives, mode, begun)
+  is_asked (Err e) survives mode begun = tt
 
 module _ {S : Type 0} (g : Ghosts S) (p : Text) (old new : Held S) (n : ℕ) where
   -- what is left of a walk that has gone on

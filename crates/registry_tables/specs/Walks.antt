@@ -1,9 +1,11 @@
 -- A walk over the live versions of a package, outside a transaction.
-use Rattle.std.specs.Prelude.{◌≡◌, ◌≤◌, ℕ, List, [], ◌∷◌, ◌++◌, codes, drop, length, map, Option, Some, None, IsTrue, ⊤}
+use Rattle.std.specs.Prelude.{◌≡◌, ◌≤◌, ℕ, List, ◌∷◌, [], ◌++◌, codes, drop, false, length, map, Option, Some, None, IsTrue, ⊤}
+use Rattle.std.specs.Borrow.{GName, MutBor}
+use Rattle.sqlite.specs.declared.rows.stream.Rows.{Rows}
 use Rattle.sqlite.specs.declared.types.Value.TheVariants.{Text as Stored}
 use Rattle.sqlite.specs.Given.{HasGiven}
 use Rattle.sqlite.specs.Held.{Held, state}
-use Rattle.sqlite.specs.State.{State as Seen, HasCleanDisk, Shown}
+use Rattle.sqlite.specs.State.{State as Seen, HasCleanDisk, Shown, Survives}
 use Rattle.sqlite_trees.specs.declared.store.Store.{Ghosts}
 use Rattle.sqlite_value.specs.Order.{Row}
 use Rattle.registry_names.specs.Maps.{of, seen}
@@ -40,7 +42,38 @@ fault_at Goes = None
 fault_at Over = None
 fault_at (Stopped fault) = Some fault
 
+-- ---- the connection that is walked over
+
+-- What a walk leaves of what a connection shows, whatever it has given
+pub record IsLeftAlone (old new : Seen) : Type 0 where
+  -- nothing was committed by it
+  pub survives : Survives old new (λ _. ⊥)
+  -- no transaction was begun
+  pub idle : old.in_transaction ≡ false → new.in_transaction ≡ false
+  -- where it is open, it was; what was committed stays so, and what saw that still sees it
+  pub opened : HasCleanDisk new → IsTrue new.is_open → IsTrue old.is_open
+  pub committed : HasCleanDisk new → IsTrue new.is_open → new.committed ≡ old.committed
+  pub same : HasCleanDisk new → IsTrue new.is_open → old.now ≡ old.committed → new.now ≡ old.now
+
 module _ {S : Type 0} (store : Ghosts S) where
+  -- the connection whose rows they are
+  abbrev pub reference : Rows S store → GName
+  reference rows = rows.conn.ghost_name
+
+  -- what it shows
+  abbrev pub shown_by : Rows S store → Seen
+  shown_by rows = state store rows.conn.now
+
+  -- A walk has gone on over the same rows: their connection is the same one and left alone, and open
+  -- as long as no fault has stopped the walk
+  pub record HasGoneOn (old new : MutBor (Rows S store)) (stopped : Option Fault) : Type 0 where
+    pub same_rows : new.ghost_name ≡ old.ghost_name
+    pub same_reference : reference new.now ≡ reference old.now
+    pub left : IsLeftAlone (shown_by old.now) (shown_by new.now)
+    pub unshut : stopped ≡ None → HasCleanDisk (shown_by new.now) → IsTrue (shown_by new.now).is_open
+
+  -- ---- its steps
+
   -- the connection walks over the versions of the package, and has given these rows
   abbrev pub HasWalked : Text → Held S → List Row → Type 0
   HasWalked p h given = HasGiven store walk_text (Stored p ∷ []) h given
@@ -65,3 +98,7 @@ module _ {S : Type 0} (store : Ghosts S) (p : Text) (h : Held S) (n : ℕ) where
   IsAt Goes = IsGoing
   IsAt Over = HasCleanDisk (state store h) → length (documents_of (state store h) p) ≤ n
   IsAt (Stopped fault) = ⊤
+
+-- they are those of a walk over the package that has given nothing yet
+abbrev pub Begins : {S : Type 0} (store : Ghosts S) → Text → Rows S store → Type 0
+Begins store p rows = IsGoing store p rows.conn.now 0

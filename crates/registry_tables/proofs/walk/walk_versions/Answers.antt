@@ -1,26 +1,23 @@
-use Rattle.std.proofs.Common.{ap, drop, map}
-use Rattle.sqlite.specs.Held.{state}
-use Rattle.registry_tables.proofs.WalkFacts.{begun_walk, commits_nothing}
-use Rattle.registry_tables.proofs.WalkSourceFacts.{same_rows, starts}
+use Rattle.std.proofs.Common.{refl}
+use Rattle.std.proofs.lemmas.Result.{IfOk-weaker}
+use Rattle.registry_tables.proofs.WalkSourceFacts.{asked_begins, asked_left, asked_same, is_asked, refused_alone}
 use Rattle.registry_tables.proofs.walk.walk_versions.Goals as goal
 
-pub new-requires : goal.new-requires
-new-requires g c =
-    let made = rw (c.params-to_sql.ensures, c.text.ensures.text) at c.in-Ok.ensures in
-    starts g.S.Store c.args.name.now c.args.conn.now c.in-Ok.rows.conn.now c.requires.in_form c.requires.unshut made.survives made.begun
-
-pub returns-in-Ok-clause-unchanged : goal.returns-in-Ok-clause-unchanged
-returns-in-Ok-clause-unchanged g c clean =
-    let made = rw (c.params-to_sql.ensures, c.text.ensures.text) at c.in-Ok.ensures in
-    (begun_walk g.S.Store c.args.name.now c.args.conn.now c.in-Ok.rows.conn.now c.requires.in_form c.requires.unshut made.survives (made.begun clean) clean).1
-
-pub returns-in-Ok-clause-all : goal.returns-in-Ok-clause-all
-returns-in-Ok-clause-all g c clean =
-    let made = rw (c.params-to_sql.ensures, c.text.ensures.text) at c.in-Ok.ensures in
-    let begun = begun_walk g.S.Store c.args.name.now c.args.conn.now c.in-Ok.rows.conn.now c.requires.in_form c.requires.unshut made.survives (made.begun clean) clean in
-    same_rows g.S.Store c.args.name.now c.args.conn.now c.in-Ok.rows.conn.now 0 begun.1
-
-pub returns-in-Ok-clause-survives : goal.returns-in-Ok-clause-survives
-returns-in-Ok-clause-survives g c =
-    let made = rw (c.params-to_sql.ensures, c.text.ensures.text) at c.in-Ok.ensures in
-    commits_nothing c.args.name.now (state g.S.Store c.args.conn.now) (state g.S.Store c.in-Ok.rows.conn.now) c.requires.in_form c.requires.unshut made.survives
+pub returns : goal.returns
+returns g c =
+    let p = c.args.name.now in
+    let old = c.args.conn.now in
+    let form = c.requires.in_form in
+    let unshut = c.requires.unshut in
+    let held = rw (c.params-to_sql.ensures, c.text.ensures.text) at c.query.follows.holds-at-none in
+    let made = rw (c.params-to_sql.ensures, c.text.ensures.text) at c.query.ensures in
+    let asked = is_asked g.S.Store p old form unshut c.query.result made.survives made.mode made.begun in (
+      (refl, c.query.follows.holds, refused_alone g.S.Store p old form unshut c.query.result c.query.follows.lender-at-none held),
+      record {
+        refused = tt;
+        same_reference = made.same_reference;
+        left = IfOk-weaker c.query.result _ _ (asked_left g.S.Store p old form unshut) asked;
+        unchanged = IfOk-weaker c.query.result _ _ (asked_same g.S.Store p old form unshut) asked;
+        begun = IfOk-weaker c.query.result _ _ (asked_begins g.S.Store p old form unshut) asked;
+      },
+    )
