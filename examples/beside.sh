@@ -55,10 +55,23 @@ try() {
 
 # ---- servers and commands
 
-# Starts a server of a file, and waits until it listens.
-serve() {
-    "$program" --db "$1" serve --port 0 > "$work/server" 2> "$work/server.errors" &
+# A port at which nobody listens.
+free_port() {
+    python3 -c 'import socket; one = socket.socket(); one.bind(("127.0.0.1", 0)); print(one.getsockname()[1])'
+}
+
+# Starts a server of a file, with these words more.
+begin() {
+    file=$1
+    shift
+    place=$(free_port)
+    : > "$work/server"
+    "$program" --db "$file" serve --port "$place" "$@" > "$work/server" 2> "$work/server.errors" &
     server=$!
+}
+# The same, and waits until it listens.
+serve() {
+    begin "$@"
     for _ in $(seq 1 400); do
         if grep -q listening "$work/server"; then return 0; fi
         sleep 0.01
@@ -227,7 +240,7 @@ is_seen_by_connections() {
 try 'a connection sees what a command did' is_seen_by_connections
 
 is_refused_twice() {
-    run two "$db" serve --port 0
+    run two "$db" serve --port "$(free_port)"
     is two 3 "another process has the registry's file"
 }
 try 'a second server of the file is refused' is_refused_twice
@@ -286,8 +299,7 @@ try 'ten kills while commands are answered lose none that was' loses_nothing
 
 waits_for_a_start() {
     stop
-    "$program" --db "$db" serve --port 0 > "$work/server" 2> "$work/server.errors" &
-    server=$!
+    begin "$db"
     run one "$db" --operator user-add fay
     is_done one || is one 1 Exists || return 1
     for _ in $(seq 1 400); do
@@ -434,12 +446,7 @@ try 'a path too long for a socket is served without a door' is_too_long
 
 is_taken_away() {
     stop
-    "$program" --db "$db" serve --port 0 --connections 1 > "$work/server" 2> "$work/server.errors" &
-    server=$!
-    for _ in $(seq 1 400); do
-        if grep -q listening "$work/server"; then break; fi
-        sleep 0.01
-    done
+    serve "$db" --connections 1 || return 1
     run one "$db" --operator user-add kim
     is_done one || return 1
     curl -s -H 'connection: close' "http://127.0.0.1:$(port)/-/ping" > /dev/null
@@ -470,7 +477,7 @@ try 'token-new beside a server prints a token that the server takes' makes_a_tok
 
 # Publishes so many versions of a package, of so many bytes each, and prints each that was answered.
 cat > "$work/publish.py" <<'END'
-import base64, http.client, json, os, sys
+import base64, http.client, json, os, sys, time
 port, token, name, first, count, size = int(sys.argv[1]), sys.argv[2], sys.argv[3], *map(int, sys.argv[4:])
 connection = http.client.HTTPConnection('127.0.0.1', port, timeout=100)
 for number in range(first, first + count):
@@ -483,6 +490,8 @@ for number in range(first, first + count):
     if answer.status not in (200, 201):
         sys.exit(f'{version}: {answer.status} {said}')
     print(version, flush=True)
+    # a hundred a second at most, so that the file stays small
+    time.sleep(0.01)
 END
 # Each version that is named in a file is in the packument that a run printed.
 cat > "$work/all_in.py" <<'END'
@@ -626,10 +635,10 @@ answers_an_upload_first() {
     cat "$work/uploaded" "$work/server.errors" >> "$work/said"
     is_done one && [ "$ended" = 0 ] && grep -q ' 201 ' "$work/uploaded" || return 1
     grep -qx 'ended: a command told it to stop' "$work/server.errors" && [ ! -e "$db-server" ] || return 1
-    cp "$db" "$work/alone.db"
-    run one "$work/alone.db" check
+    cp "$db" "$work/stopped.db"
+    run one "$work/stopped.db" check
     is_done one || return 1
-    run one "$work/alone.db" packument last
+    run one "$work/stopped.db" packument last
     is one 0 '1.0.0'
 }
 try 'stop waits for an upload that is under way, and leaves all in the file, without its log' answers_an_upload_first
@@ -663,8 +672,7 @@ stops_twice() {
 try 'two stops at once end one server' stops_twice
 
 stops_a_start() {
-    "$program" --db "$db" serve --port 0 > "$work/server" 2> "$work/server.errors" &
-    server=$!
+    begin "$db"
     for _ in $(seq 1 100); do
         run one "$db" stop
         if is_done one; then break; fi

@@ -50,27 +50,27 @@ told : (byte : ℕ) (before later : Option (List ℕ)) (visit : Visit) → Answe
 told byte before later visit (inl said) on = said.0
 told byte before later visit (inr over) on = absurd (on over.1)
 
-module _ {S : Type 0} (received sent : S → Option (List ℕ)) (must_wait is_ended is_broken : S → Bool) where
+module _ {S : Type 0} (received sent : S → Option (List ℕ)) (has_none is_ended is_broken : S → Bool) where
   -- ---- a visit
 
   -- nobody is to be visited
-  pub control-rests : (now : ℕ) (c : Control S) → c.is_ready ≡ false → VisitsControl received sent must_wait is_ended is_broken now c c
-  control-rests now c is = subst (λ (b : Bool). VisitsIf received sent must_wait is_ended is_broken b now c c) (sym is) refl
+  pub control-rests : (now : ℕ) (c : Control S) → c.is_ready ≡ false → VisitsControl received sent has_none is_ended is_broken now c c
+  control-rests now c is = subst (λ (b : Bool). VisitsIf received sent has_none is_ended is_broken b now c c) (sym is) refl
 
-  there : (now : ℕ) (p q : Control S) (o : Option (Visitor S)) → p.is_ready ≡ true → p.visitor ≡ o → VisitsThere received sent must_wait is_ended is_broken now o p.is_stopping q
-      → VisitsControl received sent must_wait is_ended is_broken now p q
+  there : (now : ℕ) (p q : Control S) (o : Option (Visitor S)) → p.is_ready ≡ true → p.visitor ≡ o → VisitsThere received sent has_none is_ended is_broken now o p.is_stopping q
+      → VisitsControl received sent has_none is_ended is_broken now p q
   there now p q o is at visits =
-      subst (λ (b : Bool). VisitsIf received sent must_wait is_ended is_broken b now p q) (sym is)
-      (subst (λ (v : Option (Visitor S)). VisitsThere received sent must_wait is_ended is_broken now v p.is_stopping q) (sym at) visits)
+      subst (λ (b : Bool). VisitsIf received sent has_none is_ended is_broken b now p q) (sym is)
+      (subst (λ (v : Option (Visitor S)). VisitsThere received sent has_none is_ended is_broken now v p.is_stopping q) (sym at) visits)
 
   -- nobody is there
-  pub control-free : (now : ℕ) (p : Control S) → p.is_ready ≡ true → p.visitor ≡ None → VisitsControl received sent must_wait is_ended is_broken now p (control p.visitor false p.is_stopping)
+  pub control-free : (now : ℕ) (p : Control S) → p.is_ready ≡ true → p.visitor ≡ None → VisitsControl received sent has_none is_ended is_broken now p (control p.visitor false p.is_stopping)
   control-free now p is at = there now p (control p.visitor false p.is_stopping) None is at (ap (λ (o : Option (Visitor S)). control o false p.is_stopping) at)
 
   -- a visitor is there, and was visited
   pub control-there : (now : ℕ) (p : Control S) (v w : Visitor S) (visit : Visit) → p.is_ready ≡ true → p.visitor ≡ Some v
-      → Visits received sent is_ended is_broken p.is_stopping now v w visit → (visit ≡ Rests → must_wait w.socket ≡ true)
-      → VisitsControl received sent must_wait is_ended is_broken now p (after_visit visit w p.is_stopping)
+      → Visits received sent is_ended is_broken p.is_stopping now v w visit → (visit ≡ Rests → has_none w.socket ≡ true)
+      → VisitsControl received sent has_none is_ended is_broken now p (after_visit visit w p.is_stopping)
   control-there now p v w visit is at visits waits =
       there now p (after_visit visit w p.is_stopping) (Some v) is at (record { visitor = w; visit = visit; visits = visits; control_after = refl; waits = waits })
 
@@ -105,8 +105,8 @@ module _ {S : Type 0} (received sent : S → Option (List ℕ)) (must_wait is_en
       )
   asked-heard (byte ∷ (more ∷ rest)) stopping now v w visit gave hears was is on = absurd hears
 
-  asked-there : (now : ℕ) (old new : Control S) (o : Option (Visitor S)) → old.visitor ≡ o → VisitsThere received sent must_wait is_ended is_broken now o old.is_stopping new
-      → holds_with o ≡ false → holds new ≡ true → HasAsked received sent must_wait is_ended is_broken old new
+  asked-there : (now : ℕ) (old new : Control S) (o : Option (Visitor S)) → old.visitor ≡ o → VisitsThere received sent has_none is_ended is_broken now o old.is_stopping new
+      → holds_with o ≡ false → holds new ≡ true → HasAsked received sent has_none is_ended is_broken old new
   asked-there now old new None at v was is = absurd (false≢true (sym (ap holds v) ∙ is))
   asked-there now old new (Some v) at one was is =
       let still = stays one.visit one.visitor old.is_stopping (sym (ap holds one.control_after) ∙ is) in
@@ -121,12 +121,12 @@ module _ {S : Type 0} (received sent : S → Option (List ℕ)) (must_wait is_en
         goes_on = asked.2;
       }
 
-  asked-if : (b : Bool) (now : ℕ) (old new : Control S) → VisitsIf received sent must_wait is_ended is_broken b now old new → holds old ≡ false → holds new ≡ true
-      → HasAsked received sent must_wait is_ended is_broken old new
+  asked-if : (b : Bool) (now : ℕ) (old new : Control S) → VisitsIf received sent has_none is_ended is_broken b now old new → holds old ≡ false → holds new ≡ true
+      → HasAsked received sent has_none is_ended is_broken old new
   asked-if true now old new v was is = asked-there now old new old.visitor refl v was is
   asked-if false now old new same was is = absurd (false≢true (sym was ∙ sym (ap holds same) ∙ is))
 
-  pub holders-have-asked : HoldersHaveAsked received sent must_wait is_ended is_broken
+  pub holders-have-asked : HoldersHaveAsked received sent has_none is_ended is_broken
   holders-have-asked now old new v was is = asked-if old.is_ready now old new v was is
 
   -- ---- a server that is to end
@@ -136,13 +136,13 @@ module _ {S : Type 0} (received sent : S → Option (List ℕ)) (must_wait is_en
   stops-after Rests w b is = ap (λ (t : Bool). t || stops_at w.post) is
   stops-after Over w b is = ap (λ (t : Bool). t || stops_at w.post) is
 
-  stops-there : (now : ℕ) (new : Control S) (b : Bool) (o : Option (Visitor S)) → VisitsThere received sent must_wait is_ended is_broken now o b new → b ≡ true → stops new ≡ true
+  stops-there : (now : ℕ) (new : Control S) (b : Bool) (o : Option (Visitor S)) → VisitsThere received sent has_none is_ended is_broken now o b new → b ≡ true → stops new ≡ true
   stops-there now new b None v is = ap stops v ∙ is
   stops-there now new b (Some v) one is = ap stops one.control_after ∙ stops-after one.visit one.visitor b is
 
-  stops-if : (b : Bool) (now : ℕ) (old new : Control S) → VisitsIf received sent must_wait is_ended is_broken b now old new → stops old ≡ true → stops new ≡ true
+  stops-if : (b : Bool) (now : ℕ) (old new : Control S) → VisitsIf received sent has_none is_ended is_broken b now old new → stops old ≡ true → stops new ≡ true
   stops-if true now old new v is = stops-there now new old.is_stopping old.visitor v is
   stops-if false now old new same is = ap stops same ∙ is
 
-  pub stops-stay : StopsStay received sent must_wait is_ended is_broken
+  pub stops-stay : StopsStay received sent has_none is_ended is_broken
   stops-stay now old new v is = stops-if old.is_ready now old new v is

@@ -155,15 +155,15 @@ after_visit Again v stopping = control (Some v) true (stopping || stops_at v.pos
 after_visit Rests v stopping = control (Some v) false (stopping || stops_at v.post)
 after_visit Over v stopping = control None false (stopping || stops_at v.post)
 
-module _ {S : Type 0} (received sent : S → Option (List ℕ)) (must_wait is_ended is_broken : S → Bool) where
-  -- The visitor was visited: it goes on at once, rests, or is let go. It rests only where its socket has
-  -- to wait.
+module _ {S : Type 0} (received sent : S → Option (List ℕ)) (has_none is_ended is_broken : S → Bool) where
+  -- The visitor was visited: it goes on at once, rests, or is let go. It rests only where its socket
+  -- gives nothing.
   pub record VisitsOne (now : ℕ) (stopping : Bool) (old : Visitor S) (new : Control S) : Type 0 where
     pub visitor : Visitor S
     pub visit : Visit
     pub visits : Visits received sent is_ended is_broken stopping now old visitor visit
     pub control_after : new ≡ after_visit visit visitor stopping
-    pub waits : visit ≡ Rests → must_wait visitor.socket ≡ true
+    pub waits : visit ≡ Rests → has_none visitor.socket ≡ true
 
   abbrev pub VisitsThere : ℕ → Option (Visitor S) → Bool → Control S → Type 0
   VisitsThere now None stopping new = new ≡ control None false stopping

@@ -1,6 +1,6 @@
 //! Who holds or stops a server.
 
-ghost use Rattle.std.specs.Prelude.{◌≡◌, ◌⊎◌, ◌||◌, true};
+ghost use Rattle.std.specs.Prelude.{◌≡◌, ◌≢◌, ◌⊎◌, ◌||◌, true};
 ghost use Rattle.std.specs.Io.KnownBytes.{append_known};
 ghost use Rattle.registry_guests.specs.Controls as spec;
 ghost use Rattle.registry_guests.specs.Controls.{Answers, Obeys, Visits, VisitsControl, after, bytes_in, came, kept_at, nobody, woken};
@@ -34,7 +34,7 @@ impl<S: Socket> Visitor<S> {
     // Goes on with it: hears one byte at most, and does what that asks for.
     fn visit(&mut self, is_stopping: bool, now: u64) -> Visit
         ensures visits { Visits S.received S.sent S.is_ended S.is_broken is_stopping now self.old self.new result }
-        ensures waits { result ≡ visits.Rests → S.must_wait self.new.socket ≡ true }
+        ensures waits { result ≡ visits.Rests → S.has_none self.new.socket ≡ true }
     {
         match hear(&mut self.socket) {
             Heard::Byte(byte) => self.obey(byte, is_stopping, now),
@@ -49,7 +49,7 @@ impl<S: Socket> Visitor<S> {
         ensures obeys { Obeys (after self.old.post byte is_stopping now) byte
             self.old.post self.new.post (S.sent self.old.socket) (S.sent self.new.socket) result }
         ensures received { S.received self.new.socket ≡ S.received self.old.socket }
-        ensures goes_on { result ≡ visits.Rests → S.must_wait self.new.socket ≡ true }
+        ensures goes_on { result ≢ visits.Rests }
     {
         match self.post.after(byte, is_stopping, now) {
             Some(post) => {
@@ -65,7 +65,7 @@ impl<S: Socket> Visitor<S> {
 fn hear<S: Socket>(socket: &mut S) -> Heard
     ensures received { S.received socket.new ≡ append_known (S.received socket.old) (bytes_in result) }
     ensures sent { S.sent socket.new ≡ S.sent socket.old }
-    ensures waits { result ≡ heard.Waits → S.must_wait socket.new ≡ true }
+    ensures waits { result ≡ heard.Waits → S.has_none socket.new ≡ true }
     ensures over { result ≡ heard.Over → (S.is_ended socket.new ≡ true) ⊎ (S.is_broken socket.new ≡ true) }
 {
     let mut byte = [0; 1];
@@ -81,7 +81,7 @@ fn hear<S: Socket>(socket: &mut S) -> Heard
 fn answer<S: Socket>(socket: &mut S, holds: bool, byte: u8) -> Visit
     ensures answers { Answers holds byte (S.sent socket.old) (S.sent socket.new) result }
     ensures received { S.received socket.new ≡ S.received socket.old }
-    ensures goes_on { result ≡ visits.Rests → S.must_wait socket.new ≡ true }
+    ensures goes_on { result ≢ visits.Rests }
 {
     if !holds {
         return Visit::Again;
@@ -173,7 +173,7 @@ impl<S: Socket> Control<S> {
     /// Goes on with the visitor where it is to be visited: hears one byte at most, and does what that
     /// asks for.
     pub fn visit(&mut self, now: u64)
-        ensures { VisitsControl S.received S.sent S.must_wait S.is_ended S.is_broken now self.old self.new }
+        ensures { VisitsControl S.received S.sent S.has_none S.is_ended S.is_broken now self.old self.new }
     {
         if !self.is_ready {
             return;

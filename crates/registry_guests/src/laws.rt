@@ -28,6 +28,6 @@ pub fn guests_share_one_history<S: Socket, D: Service>()
 /// Who holds a server has asked to, and was told so, and the server wasn't to end then. A server that
 /// is to end stays so.
 pub fn holders_have_asked<S: Socket>()
-    ensures asked { HoldersHaveAsked S.received S.sent S.must_wait S.is_ended S.is_broken }
-    ensures stay { StopsStay S.received S.sent S.must_wait S.is_ended S.is_broken }
+    ensures asked { HoldersHaveAsked S.received S.sent S.has_none S.is_ended S.is_broken }
+    ensures stay { StopsStay S.received S.sent S.has_none S.is_ended S.is_broken }
 {}

@@ -1,5 +1,5 @@
 -- A transaction that is begun finds the tables in form.
-use Rattle.std.proofs.Common.{◌≡◌, true}
+use Rattle.std.proofs.Common.{true}
 use Rattle.sqlite.specs.Held.{Held, state}
 use Rattle.sqlite_trees.specs.declared.store.Store.{Ghosts}
 use Rattle.registry_rows.specs.Ready.{Ready}

@@ -1,6 +1,6 @@
 -- What is read of a disk piece by piece is all of it, and the database file of a closed registry
 -- holds it alone.
-use Rattle.std.proofs.Common.{◌≡◌, ◌∙◌, ◌+◌, ◌<◌, ◌++◌, ℕ, List, [], Option, ap, arith, drop, get_or-drop, get_or-take, length, length-drop, length-take, refl, subst, sym, take}
+use Rattle.std.proofs.Common.{◌≡◌, ◌∙◌, ◌+◌, ◌<◌, ◌++◌, ℕ, List, Option, ap, arith, drop, get_or-drop, get_or-take, length, length-drop, length-take, subst, sym, take}
 use Rattle.std.specs.Io.KnownBytes.{Appends}
 use Rattle.std.proofs.Math.Logic.{∥∥₁_map}
 use Rattle.std.proofs.Math.Seq.{take-add}

@@ -76,7 +76,9 @@ impl Socket for Client {
 
     ghost sent = { λ _. None };
 
-    ghost must_wait = { λ _. true };
+    ghost has_none = { λ _. true };
+
+    ghost is_full = { λ _. true };
 
     ghost has_more = { λ _. true };
 

@@ -35,7 +35,9 @@ impl Socket for Memory {
 
     ghost sent = { λ _. None };
 
-    ghost must_wait = { λ _. true };
+    ghost has_none = { λ _. true };
+
+    ghost is_full = { λ _. true };
 
     ghost has_more = { λ _. true };
 
@@ -75,7 +77,9 @@ impl Socket for Memory {
 // A message of these words, which asks nothing of a file.
 fn message(rt: &impl Abort, alloc: Global, words: &[&str]) -> Vec<u8> {
     let words = texts(rt, alloc, words);
-    same(rt, "words", fits(&words), true);
+    if !fits(&words) {
+        panic!(rt; "the words don't fit into a message");
+    }
     write(alloc, &words, b"a body").expect(rt, "memory")
 }
 

@@ -34,11 +34,15 @@ fn the_line_adds_the_digest_of_the_token(rt: HostRuntime) {
     let line = new
         .line(alloc, text(&rt, alloc, TOKEN))
         .expect(&rt, "memory");
-    let Ok((_, Action::TokenAdd { user, digest })) = action_of(alloc, &line, &[]) else {
+    let Ok((_, what)) = action_of(alloc, &line, &[]) else {
+        panic!(rt; "the line asks for nothing");
+    };
+    let Action::TokenAdd { user, digest } = &what else {
         panic!(rt; "the line adds no token");
     };
     same(&rt, TOKEN, user.text(), "ann");
-    same(&rt, TOKEN, TokenDigest::of(TOKEN) == Some(digest), true);
+    let is_of_token = TokenDigest::of(TOKEN).is_some_and(|made| made == *digest);
+    same(&rt, TOKEN, is_of_token, true);
 }
 
 // Sees that this is printed, where the line is answered so.
