@@ -23,6 +23,7 @@ mod policy;
 mod registry;
 mod reply;
 mod rows;
+mod sending;
 mod teams;
 mod withdrawals;
 

@@ -11,3 +11,4 @@ mod files;
 mod lies;
 mod lists;
 mod program;
+mod sent;

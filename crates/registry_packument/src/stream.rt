@@ -66,8 +66,8 @@ impl From<AllocError> for PackFault {
     }
 }
 
-// The member of one version, in one piece.
-fn member_string(alloc: Global, later: bool, row: VersionRow) -> Result<String, Fault>
+/// The member of one version, in one piece.
+pub(crate) fn member_string(alloc: Global, later: bool, row: VersionRow) -> Result<String, Fault>
     ensures ok { IfOk result (λ text. Adds (member_text later) (version_pair row)
         [] (string_bytes text)) }
     ensures err { IfErr result (IsFaultOf (version_pair row)) }

@@ -7,7 +7,7 @@ use Rattle.registry_tables.specs.Contents.{contents, registry_of}
 use Rattle.registry_tables.specs.Effects.{shown}
 use Rattle.registry_tables.specs.Schema.{schema}
 use Rattle.registry_desk.proofs.AnswerFacts.{times_are}
-use Rattle.registry_desk.proofs.rows.load_times.Goals as goal
+use Rattle.registry_desk.proofs.rows.pack_times.Goals as goal
 
 pub load_last_withdrawal-requires : goal.load_last_withdrawal-requires
 load_last_withdrawal-requires g c = record { in_form = λ clean on. (c.in_ok-withdrawn.ensures.loads clean).0.ready }
