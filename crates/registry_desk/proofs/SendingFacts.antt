@@ -11,7 +11,6 @@ use Rattle.sqlite_trees.specs.View.{doubt}
 use Rattle.sqlite_trees.specs.declared.store.Store.{Ghosts}
 use Rattle.registry_names.specs.Maps.{of, seen}
 use Rattle.registry_names.specs.Texts.{Text}
-use Rattle.registry_names.specs.ByteStreams.{Writes}
 use Rattle.registry_names.specs.declared.refusal.Refusal.{Refusal}
 use Rattle.registry_names.specs.declared.stop.Fault.{Fault}
 use Rattle.registry_names.proofs.ByteStreamFacts.{Writes-nothing}

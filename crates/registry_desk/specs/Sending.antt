@@ -1,18 +1,16 @@
 -- A packument that is sent as it is made, in place of being answered as one text.
-use Rattle.std.specs.Prelude.{◌≡◌, ℕ, Bool, false, true, List, [], map, Option, None, Ok, Err, IsTrue}
+use Rattle.std.specs.Prelude.{◌≡◌, ℕ, Bool, false, true, List, [], map, Option, Ok, Err, IsTrue}
 use Rattle.sqlite.specs.Held.{Held, state}
-use Rattle.sqlite.specs.State.{State as Shown, HasCleanDisk, Survives}
+use Rattle.sqlite.specs.State.{State as Shown, Survives}
 use Rattle.sqlite_trees.specs.declared.store.Store.{Ghosts}
 use Rattle.registry_names.specs.ByteStreams.{Writes, WritesPrefix}
 use Rattle.registry_names.specs.Maps.{of}
 use Rattle.registry_names.specs.Texts.{Text}
-use Rattle.registry_packument.specs.Packuments.{pack_text}
 use Rattle.registry_packument.specs.Sendings.{WritesSome, opened}
 use Rattle.registry_packument.specs.Heads.{HeadParts}
 use Rattle.registry_packument.specs.declared.opener.Sent.{Sent}
 use Rattle.registry_packument.specs.declared.opener.Sent.TheVariants.{Refused, Whole, WriteFault, Broken}
 use Rattle.registry_packument.specs.declared.packument.VersionRow.{VersionRow}
-use Rattle.registry_rules.specs.Refusals.{refusal}
 use Rattle.registry_rules.specs.State.{State}
 use Rattle.registry_rules.specs.declared.reply.Reply.TheVariants as reply
 use Rattle.registry_rules.specs.declared.reply.Reply.TheVariants.{Doc}
@@ -20,14 +18,13 @@ use Rattle.registry_rules.specs.declared.request.Action.{Action}
 use Rattle.registry_rules.specs.declared.request.Action.TheVariants.{Packument}
 use Rattle.registry_rules.specs.declared.request.Request.{Request}
 use Rattle.registry_tables.specs.Archives.{HoldsArchives}
-use Rattle.registry_tables.specs.Contents.{Contents, registry_of}
-use Rattle.registry_tables.specs.Effects.{registry_in, stored}
+use Rattle.registry_tables.specs.Effects.{stored}
 use Rattle.registry_tables.specs.Needs.{HoldsNeeds}
 use Rattle.registry_tables.specs.Teams.{GrantsInScope}
 use Rattle.registry_history.specs.Answers.{answer, head_of, packument_in, version_row}
 use Rattle.registry_history.specs.Runs.{Outcome}
 use Rattle.registry_desk.specs.Lives.{HasAnswered}
-use Rattle.registry_desk.specs.Promises.{Answered, GrowsHistory, HidesUnread, HoldsReferences, HoldsSoundFor, Keeps, KeepsForm, KeepsStored, Moves, Served, StaysSure, Stepped, SurvivesOne, Unchanged, WasOpen}
+use Rattle.registry_desk.specs.Promises.{Answered, GrowsHistory, HidesUnread, HoldsReferences, Keeps, KeepsForm, KeepsStored, Moves, Served, StaysSure, Stepped, SurvivesOne, Unchanged, WasOpen}
 use Rattle.registry_desk.specs.Resting.{IsRegistryOf, Rests}
 use Rattle.registry_desk.specs.declared.sending.Origin.{Origin}
 use Rattle.registry_desk.specs.declared.sending.Origin.TheVariants as origin

@@ -37,8 +37,8 @@ use registry_packument::{
 };
 use registry_rows::{commit, fault_of};
 use registry_rules::{Facts, Request, may_ask};
-use registry_tables::{VersionWalk, load_caller, load_tags, load_times, walk_versions};
-use sqlite::{Alter, Connection, Rows, Transaction};
+use registry_tables::{LiveRows, VersionWalk, load_caller, load_tags, load_times, walk_versions};
+use sqlite::{Alter, Connection, Transaction};
 use std::alloc::Global;
 
 /// What a query for a packument comes to, before a byte of it is written.
@@ -176,35 +176,39 @@ fn origin_of<S: Alter>(
 // ---- in walks over the versions, outside a transaction
 
 // How many bytes the packument with this head has, and the versions that a walk has left.
-fn walk_len<S: Alter>(
+fn walk_len<R: LiveRows>(
     alloc: Global,
     head: &PackHead,
-    walk: &mut VersionWalk<'_, '_, S>,
+    walk: &mut VersionWalk<'_, R>,
 ) -> Result<u64, Fault>
-    ensures same_rows { (lent S.Store walk.new).ghost_name ≡ (lent S.Store walk.old).ghost_name }
-    ensures goes_on { HasGoneOn S.Store (lent S.Store walk.old) (lent S.Store walk.new)
-        (stopped_at S.Store walk.new) }
-    ensures unstopped { OnOk result (stopped_at S.Store walk.new ≡ None) }
-    ensures len { HasCleanDisk (seen_by S.Store walk.new) → IfOk result (λ len.
-        pack_len head.now (rows_left S.Store walk.old) ≡ Some len) }
+    ensures same_rows { (lent R.LiveRows walk.new).ghost_name
+        ≡ (lent R.LiveRows walk.old).ghost_name }
+    ensures goes_on { HasGoneOn R.store (lent R.LiveRows walk.old) (lent R.LiveRows walk.new)
+        (stopped_at R.LiveRows walk.new) }
+    ensures unstopped { OnOk result (stopped_at R.LiveRows walk.new ≡ None) }
+    ensures len { HasCleanDisk (seen_by R.LiveRows walk.new) → IfOk result (λ len.
+        pack_len head.now (rows_left R.LiveRows walk.old) ≡ Some len) }
 {
     packument_len(alloc, head, walk)
 }
 
 // How many bytes the packument with this head has, and the versions that were asked for.
-fn rows_len<S: Alter>(
+fn rows_len<R: LiveRows>(
     alloc: Global,
     name: &Name,
     head: &PackHead,
-    rows: &mut Rows<'_, S>,
+    rows: &mut R,
 ) -> Result<u64, Fault>
-    requires begun { Begins S.Store name.now rows.old }
-    ensures same_reference { reference S.Store rows.new ≡ reference S.Store rows.old }
-    ensures left { IsLeftAlone (shown_by S.Store rows.old) (shown_by S.Store rows.new) }
-    ensures unshut { HasCleanDisk (shown_by S.Store rows.new)
-        → OnOk result (IsTrue (shown_by S.Store rows.new).is_open) }
-    ensures len { HasCleanDisk (shown_by S.Store rows.new) → IfOk result (λ len. pack_len head.now
-        (versions_in (registry_in (shown_by S.Store rows.old)) name.now) ≡ Some len) }
+    requires begun { Begins R.store name.now (R.rows rows.old) }
+    ensures same_reference { reference R.store (R.rows rows.new)
+        ≡ reference R.store (R.rows rows.old) }
+    ensures left { IsLeftAlone (shown_by R.store (R.rows rows.old))
+        (shown_by R.store (R.rows rows.new)) }
+    ensures unshut { HasCleanDisk (shown_by R.store (R.rows rows.new))
+        → OnOk result (IsTrue (shown_by R.store (R.rows rows.new)).is_open) }
+    ensures len { HasCleanDisk (shown_by R.store (R.rows rows.new)) → IfOk result (λ len.
+        pack_len head.now (versions_in (registry_in (shown_by R.store (R.rows rows.old))) name.now)
+        ≡ Some len) }
 {
     let mut walk = VersionWalk::over(rows, name);
     walk_len(alloc, head, &mut walk)
@@ -234,23 +238,24 @@ fn stored_len<S: Alter>(
 
 // Sends the packument with this head, and the versions that a walk has left, which was counted to
 // have so many bytes.
-fn send_walk<S: Alter, W: ByteOut, O: Opener>(
+fn send_walk<R: LiveRows, W: ByteOut, O: Opener>(
     alloc: Global,
     head: &PackHead,
-    walk: &mut VersionWalk<'_, '_, S>,
+    walk: &mut VersionWalk<'_, R>,
     len: u64,
     writer: &mut W,
     opener: &O,
 ) -> Sent
-    requires counted { HasCleanDisk (seen_by S.Store walk.old)
-        → pack_len head.now (rows_left S.Store walk.old) ≡ Some len }
-    requires unstopped { stopped_at S.Store walk.old ≡ None }
-    ensures same_rows { (lent S.Store walk.new).ghost_name ≡ (lent S.Store walk.old).ghost_name }
-    ensures goes_on { HasGoneOn S.Store (lent S.Store walk.old) (lent S.Store walk.new)
-        (stopped_at S.Store walk.new) }
-    ensures unstopped { IsUnbroken result → stopped_at S.Store walk.new ≡ None }
-    ensures takes { Takes (O.opens opener.now) (λ text. HasCleanDisk (seen_by S.Store walk.new)
-        → pack_text head.now (rows_left S.Store walk.old) ≡ Some text)
+    requires counted { HasCleanDisk (seen_by R.LiveRows walk.old)
+        → pack_len head.now (rows_left R.LiveRows walk.old) ≡ Some len }
+    requires unstopped { stopped_at R.LiveRows walk.old ≡ None }
+    ensures same_rows { (lent R.LiveRows walk.new).ghost_name
+        ≡ (lent R.LiveRows walk.old).ghost_name }
+    ensures goes_on { HasGoneOn R.store (lent R.LiveRows walk.old) (lent R.LiveRows walk.new)
+        (stopped_at R.LiveRows walk.new) }
+    ensures unstopped { IsUnbroken result → stopped_at R.LiveRows walk.new ≡ None }
+    ensures takes { Takes (O.opens opener.now) (λ text. HasCleanDisk (seen_by R.LiveRows walk.new)
+        → pack_text head.now (rows_left R.LiveRows walk.old) ≡ Some text)
         (W.bytes writer.old) (W.bytes writer.new) (W.is_unknown writer.new) result }
 
     ensures counted { W.failures writer.new ≡ failures_after result (W.failures writer.old) }
@@ -262,25 +267,27 @@ fn send_walk<S: Alter, W: ByteOut, O: Opener>(
 
 // Sends the packument with this head, and the versions that were asked for, which was counted to
 // have so many bytes.
-fn send_rows<S: Alter, W: ByteOut, O: Opener>(
+fn send_rows<R: LiveRows, W: ByteOut, O: Opener>(
     alloc: Global,
     name: &Name,
     head: &PackHead,
-    rows: &mut Rows<'_, S>,
+    rows: &mut R,
     len: u64,
     writer: &mut W,
     opener: &O,
 ) -> Sent
-    requires begun { Begins S.Store name.now rows.old }
-    requires counted { HasCleanDisk (shown_by S.Store rows.old) → pack_len head.now
-        (versions_in (registry_in (shown_by S.Store rows.old)) name.now) ≡ Some len }
-    ensures same_reference { reference S.Store rows.new ≡ reference S.Store rows.old }
-    ensures left { IsLeftAlone (shown_by S.Store rows.old) (shown_by S.Store rows.new) }
-    ensures unshut { HasCleanDisk (shown_by S.Store rows.new) → IsUnbroken result
-        → IsTrue (shown_by S.Store rows.new).is_open }
-    ensures takes { Takes (O.opens opener.now) (λ text. HasCleanDisk (shown_by S.Store rows.new)
-        → pack_text head.now (versions_in (registry_in (shown_by S.Store rows.old)) name.now)
-        ≡ Some text)
+    requires begun { Begins R.store name.now (R.rows rows.old) }
+    requires counted { HasCleanDisk (shown_by R.store (R.rows rows.old)) → pack_len head.now
+        (versions_in (registry_in (shown_by R.store (R.rows rows.old))) name.now) ≡ Some len }
+    ensures same_reference { reference R.store (R.rows rows.new)
+        ≡ reference R.store (R.rows rows.old) }
+    ensures left { IsLeftAlone (shown_by R.store (R.rows rows.old))
+        (shown_by R.store (R.rows rows.new)) }
+    ensures unshut { HasCleanDisk (shown_by R.store (R.rows rows.new)) → IsUnbroken result
+        → IsTrue (shown_by R.store (R.rows rows.new)).is_open }
+    ensures takes { Takes (O.opens opener.now) (λ text.
+        HasCleanDisk (shown_by R.store (R.rows rows.new)) → pack_text head.now
+        (versions_in (registry_in (shown_by R.store (R.rows rows.old))) name.now) ≡ Some text)
         (W.bytes writer.old) (W.bytes writer.new) (W.is_unknown writer.new) result }
 
     ensures counted { W.failures writer.new ≡ failures_after result (W.failures writer.old) }

@@ -64,6 +64,10 @@ module _ {S : Type 0} (store : Ghosts S) where
   abbrev pub shown_by : Rows S store → Seen
   shown_by rows = state store rows.conn.now
 
+  -- a reference to such rows, as one to those that contracts see
+  abbrev pub as_rows : {R : Type 0} → (R → Rows S store) → MutBor R → MutBor (Rows S store)
+  as_rows rows r = record { ref_ptr = r.ref_ptr; ghost_name = r.ghost_name; now = rows r.now }
+
   -- A walk has gone on over the same rows: their connection is the same one and left alone, and open
   -- as long as no fault has stopped the walk
   pub record HasGoneOn (old new : MutBor (Rows S store)) (stopped : Option Fault) : Type 0 where

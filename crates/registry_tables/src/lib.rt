@@ -61,4 +61,4 @@ pub use crate::versions::{
     DocumentRow, LiveVersions, has_live, has_version, load_document, load_live, load_published,
     load_times, load_versions, put_version,
 };
-pub use crate::walk::{VersionWalk, walk_versions};
+pub use crate::walk::{LiveRows, VersionWalk, walk_versions};

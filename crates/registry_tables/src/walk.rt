@@ -4,6 +4,8 @@ ghost use Rattle.std.specs.Prelude.{◌≡◌, IfOk, IsTrue, OnOk};
 ghost use Rattle.std.specs.Borrow.{sem, RestsIfErr};
 ghost use Rattle.sqlite.specs.Held.{state};
 ghost use Rattle.sqlite.specs.State.{HasCleanDisk, IsUnchanged};
+ghost use Rattle.sqlite.specs.declared.rows.stream.Rows.{Rows};
+ghost use Rattle.sqlite_trees.specs.declared.store.Store.{Ghosts};
 ghost use Rattle.sqlite.specs.contracts.connection.Connection.{the_row};
 ghost use Rattle.registry_rows.specs.Ready.{Ready};
 ghost use Rattle.registry_tables.specs.Schema.{schema};
@@ -42,6 +44,41 @@ pub fn walk_versions<'c, S: Alter>(
     ensures begun { IfOk result (λ rows. Begins S.Store name.now rows) }
 {
     conn.query(LIVE_VERSIONS, params![name.text()])
+}
+
+/// Rows that [`walk_versions`] asked for, of whatever lifetime.
+pub trait LiveRows {
+    // What their database is stored in.
+    ghost Disk: { Type 0 };
+
+    ghost store: { Ghosts Disk };
+
+    // The rows, as contracts see them.
+    ghost rows: { Self → Rows Disk store };
+
+    /// The next version, if there is one.
+    fn step(&mut self) -> Result<Option<VersionRow>, Fault>
+        ensures same_reference { (rows self.new).conn.ghost_name
+            ≡ (rows self.old).conn.ghost_name }
+        ensures ok { HasCleanDisk (state store (rows self.new).conn.now) → IfOk result
+            (Steps store (rows self.old).conn.now (rows self.new).conn.now) }
+        ensures same { HasCleanDisk (state store (rows self.new).conn.now)
+            → OnOk result (IsUnchanged (state store (rows self.old).conn.now)
+            (state store (rows self.new).conn.now)) }
+        ensures left { IsLeftAlone (state store (rows self.old).conn.now)
+            (state store (rows self.new).conn.now) };
+}
+
+impl<S: Alter> LiveRows for Rows<'_, S> {
+    ghost Disk = { S };
+
+    ghost store = { S.Store };
+
+    ghost rows = { λ rows. rows };
+
+    fn step(&mut self) -> Result<Option<VersionRow>, Fault> {
+        step(self)
+    }
 }
 
 // The next version of the walk.

@@ -1,23 +1,16 @@
-use Rattle.std.proofs.Common.{◌≡◌, ◌∙◌, arith, ap, subst, sym, Some, None, Option, IfOk}
+use Rattle.std.proofs.Common.{◌≡◌, ◌∙◌, arith, subst, sym, Some, None}
 use Rattle.std.proofs.lemmas.Result.{IfOk-weaker}
 use Rattle.sqlite.specs.Effect.{Database}
 use Rattle.sqlite.specs.State.{HasCleanDisk}
-use Rattle.registry_access.specs.declared.caller.Caller.{Caller}
-use Rattle.registry_names.specs.declared.refusal.Refusal.{Refusal}
 use Rattle.registry_names.specs.declared.refusal.Refusal.TheVariants.{NoCaller}
-use Rattle.registry_rows.proofs.QuietFacts.{stays_then}
 use Rattle.registry_rules.specs.Callers.{caller_of}
 use Rattle.registry_rules.specs.Facts.{AboutTells}
 use Rattle.registry_rules.specs.Refusals.{refusal}
-use Rattle.registry_rules.specs.declared.request.Action.{Action}
-use Rattle.registry_tables.specs.Contents.{Contents, contents, registry_of}
+use Rattle.registry_tables.specs.Contents.{contents, registry_of}
 use Rattle.registry_tables.specs.Effects.{shown, stored_in}
-use Rattle.registry_tables.specs.Teams.{AreTeamsSound}
-use Rattle.registry_history.specs.Answers.{answer}
 use Rattle.registry_desk.specs.Caches.{ArePackuments}
 use Rattle.registry_desk.specs.Sending.{IsShownBy}
 use Rattle.registry_desk.proofs.AnswerFacts.{known_stands, nobody_is_refused, refused}
-use Rattle.registry_desk.proofs.LoadedFacts.{three_stay}
 use Rattle.registry_desk.proofs.SendingFacts.{asked_tells, before_reads, origin_is, packument_answer, reads_before}
 use Rattle.registry_desk.proofs.sending.find_origin.Goals as goal
 

@@ -1,4 +1,4 @@
-use Rattle.std.proofs.Common.{◌≡◌, ◌∙◌, rules, ap, subst, IfOk, IsTrue, List, OnOk, Some}
+use Rattle.std.proofs.Common.{◌≡◌, ◌∙◌, rules, ap, subst, sym, IfOk, IsTrue, List, OnOk, Some}
 use Rattle.std.proofs.lemmas.Result.{on_ok_weaker}
 use Rattle.sqlite.specs.State.{HasCleanDisk}
 use Rattle.registry_packument.specs.Packuments.{pack_len}
@@ -12,24 +12,28 @@ use Rattle.registry_desk.proofs.sending.rows_len.Goals as goal
 
 pub returns-clause-same_reference : goal.returns-clause-same_reference
 returns-clause-same_reference g c =
-    let left : (lent g.S.Store c.walk_len.new.walk).now ≡ c.rows-1.given = search rules in
-    subst (λ rows. reference g.S.Store rows ≡ reference g.S.Store c.args.rows.now) left (c.walk_len.ensures.goes_on.same_reference ∙ ap (λ rows. reference g.S.Store rows) c.over-walk.ensures.same)
+    let same : c.rows-1.given.0 ≡ c.walk_len.new.walk.rows.now = search rules in
+    let left = ap g.R.LiveRows.rows (sym same) in
+    subst (λ rows. reference g.R.LiveRows.store rows ≡ reference g.R.LiveRows.store (g.R.LiveRows.rows c.args.rows.now)) left (c.walk_len.ensures.goes_on.same_reference ∙ ap (λ rows. reference g.R.LiveRows.store rows) c.over-walk.ensures.same)
 
 pub returns-clause-left : goal.returns-clause-left
 returns-clause-left g c =
-    let left : (lent g.S.Store c.walk_len.new.walk).now ≡ c.rows-1.given = search rules in
-    subst (λ rows. IsLeftAlone (shown_by g.S.Store c.args.rows.now) (shown_by g.S.Store rows)) left
-    (subst (λ rows. IsLeftAlone (shown_by g.S.Store rows) (shown_by g.S.Store (lent g.S.Store c.walk_len.new.walk).now)) c.over-walk.ensures.same c.walk_len.ensures.goes_on.left)
+    let same : c.rows-1.given.0 ≡ c.walk_len.new.walk.rows.now = search rules in
+    let left = ap g.R.LiveRows.rows (sym same) in
+    subst (λ rows. IsLeftAlone (shown_by g.R.LiveRows.store (g.R.LiveRows.rows c.args.rows.now)) (shown_by g.R.LiveRows.store rows)) left
+    (subst (λ rows. IsLeftAlone (shown_by g.R.LiveRows.store rows) (shown_by g.R.LiveRows.store (lent g.R.LiveRows c.walk_len.new.walk).now)) c.over-walk.ensures.same c.walk_len.ensures.goes_on.left)
 
 pub returns-clause-unshut : goal.returns-clause-unshut
 returns-clause-unshut g c =
-    let left : (lent g.S.Store c.walk_len.new.walk).now ≡ c.rows-1.given = search rules in
-    subst (λ rows. HasCleanDisk (shown_by g.S.Store rows) → OnOk c.walk_len.result (IsTrue (shown_by g.S.Store rows).is_open)) left
+    let same : c.rows-1.given.0 ≡ c.walk_len.new.walk.rows.now = search rules in
+    let left = ap g.R.LiveRows.rows (sym same) in
+    subst (λ rows. HasCleanDisk (shown_by g.R.LiveRows.store rows) → OnOk c.walk_len.result (IsTrue (shown_by g.R.LiveRows.store rows).is_open)) left
     (λ clean. on_ok_weaker c.walk_len.result (λ none. c.walk_len.ensures.goes_on.unshut none clean) c.walk_len.ensures.unstopped)
 
 pub returns-clause-len : goal.returns-clause-len
 returns-clause-len g c =
-    let left : (lent g.S.Store c.walk_len.new.walk).now ≡ c.rows-1.given = search rules in
-    let rows = walk_rows (shown_by g.S.Store c.args.rows.now) c.args.name.now (rows_left g.S.Store c.over-walk.result) c.over-walk.ensures.all in
-    subst (λ seen. HasCleanDisk (shown_by g.S.Store seen) → IfOk c.walk_len.result (λ len. pack_len c.args.head.now (versions_in (registry_in (shown_by g.S.Store c.args.rows.now)) c.args.name.now) ≡ Some len)) left
+    let same : c.rows-1.given.0 ≡ c.walk_len.new.walk.rows.now = search rules in
+    let left = ap g.R.LiveRows.rows (sym same) in
+    let rows = walk_rows (shown_by g.R.LiveRows.store (g.R.LiveRows.rows c.args.rows.now)) c.args.name.now (rows_left g.R.LiveRows c.over-walk.result) c.over-walk.ensures.all in
+    subst (λ seen. HasCleanDisk (shown_by g.R.LiveRows.store seen) → IfOk c.walk_len.result (λ len. pack_len c.args.head.now (versions_in (registry_in (shown_by g.R.LiveRows.store (g.R.LiveRows.rows c.args.rows.now))) c.args.name.now) ≡ Some len)) left
     (λ clean. subst (λ (rs : List VersionRow). IfOk c.walk_len.result (λ len. pack_len c.args.head.now rs ≡ Some len)) rows (c.walk_len.ensures.len clean))

@@ -1,4 +1,4 @@
-use Rattle.std.proofs.Common.{◌≡◌, ◌∙◌, arith, ap, sym, subst, Some}
+use Rattle.std.proofs.Common.{◌≡◌, arith, ap, sym, subst, Some}
 use Rattle.sqlite.specs.Held.{state}
 use Rattle.sqlite.specs.State.{HasCleanDisk}
 use Rattle.registry_names.proofs.ByteStreamFacts.{Writes-nothing}

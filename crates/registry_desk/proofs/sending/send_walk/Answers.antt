@@ -16,5 +16,5 @@ returns-clause-unstopped g c unbroken = c.send_counted.ensures.goes_on c.require
 
 pub returns-clause-takes : goal.returns-clause-takes
 returns-clause-takes g c =
-    takes_if_clean (g.O.Opener.opens c.args.opener.now) (λ (text : Text). pack_text c.args.head.now (rows_left g.S.Store c.args.walk.now) ≡ Some text) (λ (text : Text). length text ≡ c.args.len) (seen_by g.S.Store c.send_counted.new.source) _ _ _
+    takes_if_clean (g.O.Opener.opens c.args.opener.now) (λ (text : Text). pack_text c.args.head.now (rows_left g.R.LiveRows c.args.walk.now) ≡ Some text) (λ (text : Text). length text ≡ c.args.len) (seen_by g.R.LiveRows c.send_counted.new.source) _ _ _
     c.send_counted.result (λ clean. c.send_counted.ensures.takes clean (c.requires.counted (omega (arith, c.send_counted.ensures.behind.left.survives.clean, clean)))) c.send_counted.ensures.framed

@@ -1,7 +1,6 @@
-use Rattle.std.proofs.Common.{◌≡◌, ◌∙◌, arith, ap, sym, subst}
+use Rattle.std.proofs.Common.{sym, subst}
 use Rattle.sqlite.specs.Held.{state}
 use Rattle.registry_desk.specs.Caches.{HasPackuments}
-use Rattle.registry_desk.specs.Sending.{LeavesAll}
 use Rattle.registry_desk.proofs.CacheFacts.{same_no_more}
 use Rattle.registry_desk.proofs.SendingFacts.{asked_no_more, fault_sends, kept_sends, refused_sends, right_left, stored_sends, walk_leaves}
 use Rattle.registry_desk.proofs.sending.sent.Goals as goal
