@@ -1,5 +1,6 @@
 pub mod HidingFacts
 pub mod LookFacts
 pub mod RunningFacts
+pub mod SentFacts
 pub mod UnseenFacts
 pub mod AloneFacts
