@@ -8,6 +8,7 @@ pub mod Moments
 pub mod ObjectTexts
 pub mod Packuments
 pub mod Passing
+pub mod Sendings
 pub mod Sources
 pub mod Streams
 pub mod TextValues
