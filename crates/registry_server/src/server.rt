@@ -119,6 +119,7 @@ impl Server {
                 .visit_all(alloc, service, &mut clock, &mut buffer, now);
             let registry = self.poll.registry();
             guests.visit(alloc, service, &mut clock, &mut buffer, registry, now);
+            service.rest();
             if service.is_over() {
                 break;
             }
