@@ -10,5 +10,4 @@ mod both_ways;
 mod files;
 mod lies;
 mod lists;
-mod log;
 mod program;
