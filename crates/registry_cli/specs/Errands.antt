@@ -11,9 +11,9 @@ use Rattle.registry_rules.specs.declared.request.Action.TheVariants as action
 use Rattle.registry_rules.specs.declared.request.Credential.{Credential}
 use Rattle.registry_cli.specs.Asked.{reads_line}
 use Rattle.registry_cli.specs.Lines.{at_in, has_both, line_of, value_in, who_in}
-use Rattle.registry_cli.specs.Subcommands.{bare, options, registry, required, user, with_rules, with_subcommands}
+use Rattle.registry_cli.specs.Subcommands.{bare, connections, option, options, port, registry, required, user, with_rules, with_subcommands}
 use Rattle.registry_cli.specs.declared.errands.Errand.{Errand}
-use Rattle.registry_cli.specs.declared.errands.Errand.TheVariants.{TokenNew, Check, Backup, Stop}
+use Rattle.registry_cli.specs.declared.errands.Errand.TheVariants.{TokenNew, Check, Backup, Stop, Serve}
 use Rattle.registry_cli.specs.declared.errands.NewToken.{NewToken}
 use Rattle.registry_cli.specs.declared.meaning.Line.{Line}
 use Rattle.registry_cli.specs.declared.meaning.Who.{Who}
@@ -24,8 +24,11 @@ use Rattle.registry_cli.specs.declared.meaning.Who.TheVariants.{Operator, User, 
 abbrev pub copy : Rule
 copy = required (codes "COPY")
 
+abbrev pub log : Rule
+log = record (option (codes "LOG") (codes "log")) { required = true }
+
 abbrev pub errands : List (Text × List Rule)
-errands = (codes "token-new", user ∷ []) ∷ (codes "check", []) ∷ (codes "backup", copy ∷ []) ∷ (codes "stop", []) ∷ []
+errands = (codes "token-new", user ∷ []) ∷ (codes "check", []) ∷ (codes "backup", copy ∷ []) ∷ (codes "stop", []) ∷ (codes "serve", port ∷ connections ∷ log ∷ []) ∷ []
 
 -- the options are those of requests
 abbrev pub house : App
@@ -48,13 +51,18 @@ backup rows found = Some (Backup (db_in rows) (value_in found (codes "COPY")))
 abbrev pub stop : List Row → Option Errand
 stop rows = Some (Stop (db_in rows))
 
+-- the line that serves without a log, and the file of the log
+abbrev pub serve : Who → List Row → List Row → Option Errand
+serve who rows found = Some (Serve (record { db = db_in rows; who = who; at = at_in rows; what = codes "serve" ∷ value_in found (codes "PORT") ∷ value_in found (codes "CONNECTIONS") ∷ [] }) (value_in found (codes "LOG")))
+
 abbrev pub errand_called : Who → List Row → Text → List Row → Option Errand
 errand_called who rows name found =
     if bytes_eq name (codes "token-new") then new_token who rows found else (
     if bytes_eq name (codes "check") then check rows else (
     if bytes_eq name (codes "backup") then backup rows found else (
     if bytes_eq name (codes "stop") then stop rows else (
-    None))))
+    if bytes_eq name (codes "serve") then serve who rows found else (
+    None)))))
 
 abbrev pub errand_by : Who → List Row → Option (Text × List Row) → Option Errand
 errand_by who rows None = None

@@ -41,6 +41,7 @@ fn argument<'a>(alloc: Global, parameter: &Parameter) -> Arg<'a>
             .long(option)
             .value_parser(ValueParser::Signed(1, i64::from(greatest)))
             .default_value(default),
+        Need::Word { option } => argument.long(option).required(true),
     }
 }
 

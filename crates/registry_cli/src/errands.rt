@@ -48,6 +48,13 @@ pub enum Errand {
         /// The path of the file that keeps the registry.
         db: Text,
     },
+    /// A server that keeps a log.
+    Serve {
+        /// The line that serves without one.
+        line: Line,
+        /// The path of the log.
+        log: Text,
+    },
 }
 
 /// A token that is to be made for a user.
@@ -304,6 +311,7 @@ fn errand_called(
         "check" => check(alloc, matches),
         "backup" => backup(alloc, matches, found),
         "stop" => stop(alloc, matches),
+        "serve" => serve(alloc, matches, who, found),
         _ => Ok(None),
     }
 }
@@ -352,5 +360,30 @@ fn stop(alloc: Global, matches: &ArgMatches<'_>) -> Result<Option<Errand>, Alloc
 {
     Ok(Some(Errand::Stop {
         db: Text::from_str(alloc, value(matches, "PATH"))?,
+    }))
+}
+
+fn serve(
+    alloc: Global,
+    matches: &ArgMatches<'_>,
+    who: Who,
+    found: &ArgMatches<'_>,
+) -> Result<Option<Errand>, AllocError>
+    ensures { IfOk result (λ e. e ≡ spec.serve who (rows_of (found_of matches.now))
+        (rows_of (found_of found.now))) }
+{
+    let mut what = Vec::new(alloc);
+    what.push(Text::from_str(alloc, "serve")?)?;
+    what.push(Text::from_str(alloc, value(found, "PORT"))?)?;
+    what.push(Text::from_str(alloc, value(found, "CONNECTIONS"))?)?;
+    let line = Line {
+        db: Text::from_str(alloc, value(matches, "PATH"))?,
+        who,
+        at: at(matches),
+        what: Arguments::from(what),
+    };
+    Ok(Some(Errand::Serve {
+        line,
+        log: Text::from_str(alloc, value(found, "LOG"))?,
     }))
 }

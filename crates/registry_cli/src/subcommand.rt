@@ -22,6 +22,11 @@ pub(crate) enum Need {
         /// What it is where it is left out.
         default: &'static str,
     },
+    /// It is an option, and has to be there.
+    Word {
+        /// The option's name, without its hyphens.
+        option: &'static str,
+    },
 }
 
 /// An argument of a subcommand.
@@ -329,7 +334,13 @@ static SUBCOMMANDS: [Subcommand; 28] = [
     },
 ];
 
-static ERRANDS: [Subcommand; 4] = [
+const LOG: Parameter = Parameter {
+    id: "LOG",
+    help: "The file to whose end a line is written for each request",
+    need: Need::Word { option: "log" },
+};
+
+static ERRANDS: [Subcommand; 5] = [
     Subcommand {
         name: "token-new",
         parameters: &[USER],
@@ -353,6 +364,12 @@ static ERRANDS: [Subcommand; 4] = [
         parameters: &[],
         about: "End the server that has the file, once what is under way is answered",
         example: "Example: registry --db registry.db stop",
+    },
+    Subcommand {
+        name: "serve",
+        parameters: &[PORT, CONNECTIONS, LOG],
+        about: "Serve npm over HTTP, and keep a log of the requests",
+        example: "Example: registry serve --port 8080 --log requests.log",
     },
 ];
 

@@ -8,3 +8,4 @@ pub mod Counting
 pub mod Lives
 pub mod Stops
 pub mod Early
+pub mod TokenUsers

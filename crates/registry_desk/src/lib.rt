@@ -24,6 +24,7 @@ mod registry;
 mod reply;
 mod rows;
 mod teams;
+mod token_user;
 mod withdrawals;
 
 pub use crate::open::{SCHEMA, Unopened};

@@ -10,4 +10,5 @@ mod both_ways;
 mod files;
 mod lies;
 mod lists;
+mod log;
 mod program;

@@ -3,3 +3,4 @@ pub mod LookFacts
 pub mod RunningFacts
 pub mod UnseenFacts
 pub mod AloneFacts
+pub mod SeekingFacts

@@ -4,10 +4,12 @@ ghost use Rattle.std.specs.Prelude.{◌≡◌, false, true};
 ghost use Rattle.sqlite.specs.Held.{state};
 ghost use Rattle.sqlite.specs.State.{Survives};
 ghost use Rattle.registry_desk.specs.Promises.{KeepsStored, WasOpen};
+ghost use Rattle.registry_desk.specs.TokenUsers.{NamesUser};
 ghost use Rattle.registry_http.specs.Services.{Applies, EndsBy, EndsByFault, EndsIfShut, EndsShut, applied, shown};
 
 use registry_desk::Registry;
-use registry_names::Fault;
+use registry_names::{Fault, Ident};
+use registry_publish::TokenDigest;
 use registry_rules::{Reply, Request};
 use registry_service::Service;
 use sqlite::Alter;
@@ -50,6 +52,19 @@ impl<S: Alter> RegistryService<S> {
             registry,
             is_over: false,
         }
+    }
+
+    /// The user of the token with this digest, as `Registry::user_of` looks it up. None where no
+    /// token has it. Nothing that is stored is changed.
+    pub fn user_of(&mut self, alloc: Global, digest: &TokenDigest) -> Result<Option<Ident>, Fault>
+        ensures names { NamesUser (shown S.Store self.old) (shown S.Store self.new)
+            digest.now result }
+        ensures opened { WasOpen (shown S.Store self.old) (shown S.Store self.new) }
+        ensures stored { KeepsStored (shown S.Store self.old) (shown S.Store self.new) }
+        ensures survives { Survives (shown S.Store self.old) (shown S.Store self.new) (λ _. ⊥) }
+        ensures over { self.new.is_over ≡ self.old.is_over }
+    {
+        self.registry.user_of(alloc, digest)
     }
 
     /// The registry itself. It takes no memory.

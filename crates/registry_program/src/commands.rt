@@ -51,7 +51,7 @@ fn answer_line<R: Registries, O: ByteOut, E: ByteOut>(
     requires whole { IsWhole line.now.what }
 {
     if line.asks_to_serve() {
-        serve(rt, alloc, line, output, errors)
+        serve(rt, alloc, line, None, output, errors)
     } else {
         print_answer(rt, alloc, registries, line, arguments, output, errors)
     }

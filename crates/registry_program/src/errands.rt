@@ -7,6 +7,7 @@ use crate::commands::request;
 use crate::copying::back_up;
 use crate::ending::{Ending, Failure};
 use crate::registries::Registries;
+use crate::serving::serve;
 use crate::stopping::stop;
 use registry_cli::{Errand, NewToken, TOKEN_BYTES, print_token, token_of};
 use registry_names::{ByteOut, Text, write_whole};
@@ -37,6 +38,9 @@ pub fn run_errand<R: Registries, O: ByteOut, E: ByteOut>(
         Errand::Stop { db } => {
             stop(rt, alloc, db.as_str())?;
             print_done(output)
+        }
+        Errand::Serve { line, log } => {
+            serve(rt, alloc, &line, Some(log.as_str()), output, errors)
         }
     }
 }

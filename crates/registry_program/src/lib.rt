@@ -10,6 +10,7 @@ mod copying;
 mod ending;
 mod errands;
 mod held;
+mod logging;
 mod moment;
 mod opening;
 mod publication;

@@ -2,12 +2,14 @@
 
 use crate::copying::unclosed;
 use crate::ending::{Ending, Failure};
+use crate::logging::{LogFile, MachineClock};
 use crate::moment::read_moment;
 use crate::opening::open;
 use registry_cli::Line;
 use registry_desk::Registry;
 use registry_guests::{Door, close};
 use registry_http::RegistryService;
+use registry_log::{LineSink, Log, LogClock, LoggedService};
 use registry_names::{ByteOut, Moment, Text, write_whole};
 use registry_server::{Ended, Server};
 use sqlite::{Alter, FileStore, Files};
@@ -57,10 +59,14 @@ impl Entrance<'_> {
 /// first one is accepted. Commands beside it are answered, too, and one of them may end it: then its
 /// log is copied into its file, and last of all that command hears of it. A registry that a fault of
 /// its disk has shut is a fault, and so is a log that can't be copied.
+///
+/// Where the path of a log of requests is given, a line is put there for each request, and one for
+/// the begin and the end. A log that can't be written stops nothing.
 pub fn serve<O: ByteOut, E: ByteOut>(
     rt: &HostRuntime,
     alloc: Global,
     line: &Line,
+    log: Option<&str>,
     output: &mut O,
     errors: &mut E,
 ) -> Result<u8, Ending> {
@@ -70,7 +76,9 @@ pub fn serve<O: ByteOut, E: ByteOut>(
     // Who asked for the end is behind the door until it is dropped: at the end of this function.
     let mut door = Door::shut(alloc)?;
     let ended = match open(rt, entrance.path) {
-        Ok(registry) => serve_registry(rt, alloc, entrance, registry, &mut door, output, errors),
+        Ok(registry) => {
+            serve_registry(rt, alloc, entrance, log, registry, &mut door, output, errors)
+        }
         Err(ending) => Err(ending),
     };
     end(ended?, errors)
@@ -82,14 +90,17 @@ fn serve_registry<D: Disk + Drop, O: ByteOut, E: ByteOut>(
     rt: &HostRuntime,
     alloc: Global,
     entrance: Entrance<'_>,
+    log: Option<&str>,
     registry: Registry<FileStore<D>>,
     door: &mut Door,
     output: &mut O,
     errors: &mut E,
 ) -> Result<Ended, Ending> {
-    let mut service = RegistryService::new(registry);
+    let log = log_at(rt, alloc, log)?;
+    let mut service = LoggedService::new(RegistryService::new(registry), log);
     let ended = serve_at(rt, alloc, entrance, &mut service, door, output, errors);
-    let left = leave(service.into_registry(), &ended);
+    service.say(end_text(&ended));
+    let left = leave(service.into_inner().into_registry(), &ended);
     if door.is_open() {
         let _ = close(rt, alloc, entrance.path);
     }
@@ -99,6 +110,32 @@ fn serve_registry<D: Disk + Drop, O: ByteOut, E: ByteOut>(
             ended
         }
         Err(ending) => Err(ending),
+    }
+}
+
+// The log at the path, if one is to be kept.
+fn log_at<'a>(
+    rt: &'a HostRuntime,
+    alloc: Global,
+    path: Option<&'a str>,
+) -> Result<Option<Log<MachineClock<'a>, LogFile<'a>>>, Ending> {
+    let Some(path) = path else {
+        return Ok(None);
+    };
+    let Some(at) = read_moment(rt) else {
+        return Err(Ending::Fault(Failure::Read));
+    };
+    let clock = MachineClock::new(rt, at)?;
+    Ok(Some(Log::new(alloc, clock, LogFile::at(rt, path))?))
+}
+
+// What the log says of why the server ends.
+fn end_text(ended: &Result<Ended, Ending>) -> &'static str {
+    match ended {
+        Ok(Ended::Enough) => "ended: as many connections came as --connections says",
+        Ok(Ended::Stopped) => "ended: a command told it to stop",
+        Ok(Ended::ServiceOver) => "ended: the disk failed",
+        Err(_) => "ended: a fault",
     }
 }
 
@@ -124,11 +161,11 @@ fn leave<D: Disk + Drop>(
 
 // Serves with the service, from the moment on that it is now. The clock is read before anything is
 // printed.
-fn serve_at<S: Alter, O: ByteOut, E: ByteOut>(
+fn serve_at<S: Alter, K: LogClock, W: LineSink, O: ByteOut, E: ByteOut>(
     rt: &HostRuntime,
     alloc: Global,
     entrance: Entrance<'_>,
-    service: &mut RegistryService<S>,
+    service: &mut LoggedService<S, K, W>,
     door: &mut Door,
     output: &mut O,
     errors: &mut E,
@@ -141,18 +178,21 @@ fn serve_at<S: Alter, O: ByteOut, E: ByteOut>(
         warn(&error, errors);
     }
     match announce(alloc, &server, output) {
-        Ok(()) => run(rt, alloc, server, at, service, door),
+        Ok(()) => {
+            service.say("begun");
+            run(rt, alloc, server, at, service, door)
+        }
         Err(ending) => Err(ending),
     }
 }
 
 // Runs a server.
-fn run<S: Alter>(
+fn run<S: Alter, K: LogClock, W: LineSink>(
     rt: &HostRuntime,
     alloc: Global,
     server: Server,
     at: Moment,
-    service: &mut RegistryService<S>,
+    service: &mut LoggedService<S, K, W>,
     door: &mut Door,
 ) -> Result<Ended, Ending> {
     Ok(server.run_beside(rt, alloc, at, service, door)?)

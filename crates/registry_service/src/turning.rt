@@ -32,6 +32,17 @@ pub trait Service {
     /// Whether it is over: nothing more is to be asked of it.
     fn is_over(&self) -> bool
         ensures { result ≡ over self.now };
+
+    /// A turn was taken: for this request, or for what is none or could not be read. Nothing that
+    /// contracts see of the service is changed. One that keeps a log says here what was answered.
+    fn note(&mut self, _wanted: Option<&Wanted>, _turned: &Turned)
+        ensures { self.new ≡ self.old }
+    {}
+
+    /// A round of turns is over. Nothing that contracts see of the service is changed.
+    fn rest(&mut self)
+        ensures { self.new ≡ self.old }
+    {}
 }
 
 /// How a connection ends.
