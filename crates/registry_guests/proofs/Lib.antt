@@ -6,3 +6,4 @@ pub mod BesideFacts
 pub mod TurnFacts
 pub mod GuestFacts
 pub mod TextFacts
+pub mod ControlFacts

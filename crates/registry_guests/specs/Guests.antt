@@ -26,6 +26,16 @@ pub record OpenGuest (S : Type 0) : Type 0 where
 abbrev pub guest_at : {S : Type 0} → S → List ℕ → Option (List ℕ) → ℕ → OpenGuest S
 guest_at socket held left until = record { socket = socket; held = held; left = left; until = until }
 
+-- What a guest waits for: that its socket gives more of its message, and once that is answered that its
+-- socket takes some of the answer. So it has to wait where that has none, or is full.
+abbrev pub must_wait_in : Option (List ℕ) → Bool → Bool → Bool
+must_wait_in None has_none is_full = has_none
+must_wait_in (Some left) has_none is_full = is_full
+
+-- a guest has to wait
+abbrev pub must_wait : {S : Type 0} → (S → Bool) → (S → Bool) → OpenGuest S → Bool
+must_wait has_none is_full g = must_wait_in g.left (has_none g.socket) (is_full g.socket)
+
 -- one that has just come
 abbrev pub first_guest : {S : Type 0} → S → ℕ → OpenGuest S
 first_guest socket now = guest_at socket [] None (min (now + time_limit) (2 ^ 64 - 1))

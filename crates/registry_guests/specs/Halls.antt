@@ -3,7 +3,7 @@ use Rattle.std.specs.Prelude.{◌≡◌, ◌∷◌, [], ℕ, zero, suc, Bool, tr
 use Rattle.registry_server.specs.declared.connection.Visit.{Visit}
 use Rattle.registry_server.specs.declared.connection.Visit.TheVariants.{Again, Rests, Over}
 use Rattle.registry_service.specs.Turns.{Answering}
-use Rattle.registry_guests.specs.Guests.{IsOver, OpenGuest, Visits, first_guest, is_late}
+use Rattle.registry_guests.specs.Guests.{IsOver, OpenGuest, Visits, first_guest, is_late, must_wait}
 use Rattle.registry_guests.specs.declared.hall.Seat.{Seat}
 
 -- as many guests as are there at once
@@ -46,15 +46,15 @@ after_visit Again g = seat (Some g) true
 after_visit Rests g = seat (Some g) false
 after_visit Over g = seat None false
 
-module _ {S : Type 0} (received sent : S → Option (List ℕ)) (must_wait is_ended is_broken : S → Bool) {D : Type 0} (answers : Answering D) where
-  -- A guest was visited: it goes on at once, rests, or is over. It rests only where its socket has to
-  -- wait.
+module _ {S : Type 0} (received sent : S → Option (List ℕ)) (has_none is_full is_ended is_broken : S → Bool) {D : Type 0} (answers : Answering D) where
+  -- A guest was visited: it goes on at once, rests, or is over. It rests only where its socket gives
+  -- nothing of its message, or takes nothing of its answer.
   pub record VisitsOne (most : ℕ) (old : OpenGuest S) (new : Seat S) (M N : D) (readings readings2 : Option (List ℕ)) : Type 0 where
     pub guest : OpenGuest S
     pub visits : Visits received sent answers most old guest M N readings readings2
     pub visit : Visit
     pub seat_after : new ≡ after_visit visit guest
-    pub waits : visit ≡ Rests → must_wait guest.socket ≡ true
+    pub waits : visit ≡ Rests → must_wait has_none is_full guest ≡ true
     pub over : visit ≡ Over → IsOver is_ended is_broken guest
 
   -- nobody was visited, and the seat is as this one
@@ -72,11 +72,11 @@ module _ {S : Type 0} (received sent : S → Option (List ℕ)) (must_wait is_en
   VisitsIf true most old new M N readings readings2 = VisitsThere most old.guest new M N readings readings2
   VisitsIf false most old new M N readings readings2 = VisitsNone old new M N readings readings2
 
-module _ {S : Type 0} (received sent : S → Option (List ℕ)) (must_wait is_ended is_broken : S → Bool) {D : Type 0} (answers : Answering D) (over : D → Bool) where
+module _ {S : Type 0} (received sent : S → Option (List ℕ)) (has_none is_full is_ended is_broken : S → Bool) {D : Type 0} (answers : Answering D) (over : D → Bool) where
   -- a seat is visited where it is to be, unless the service is over
   abbrev pub VisitsAt : ℕ → Seat S → Seat S → D → D → Option (List ℕ) → Option (List ℕ) → Type 0
   VisitsAt most old new M N readings readings2 =
-      VisitsIf received sent must_wait is_ended is_broken answers (old.is_ready && not (over M)) most old new M N readings readings2
+      VisitsIf received sent has_none is_full is_ended is_broken answers (old.is_ready && not (over M)) most old new M N readings readings2
 
   -- Each guest that is to be visited is visited, once, in the order of their seats, and no other is.
   -- After the visit in which the service is over none is. Of each so many bytes are received at most.

@@ -1,6 +1,6 @@
 //! A guest's side: asking a server of the registry's file.
 
-use crate::door::{folder, is_private, place};
+use crate::door::{WORDS_SOCKET, folder, is_private, place};
 use std::alloc::Global;
 use std::fs::Files;
 use std::io;
@@ -10,7 +10,7 @@ use std::os::unix::net::UnixStream;
 use std::time::Duration;
 
 /// So many seconds a guest waits at most until a server takes or gives something.
-const PATIENCE: u64 = 10;
+pub(crate) const PATIENCE: u64 = 10;
 
 /// The most bytes of one read.
 const PIECE_LEN: usize = 16_384;
@@ -21,6 +21,16 @@ const PIECE_LEN: usize = 16_384;
 /// `PermissionDenied` comes where the folder is another's or others may enter it, and else what the
 /// system says.
 pub fn knock<R: Files + Net>(rt: &R, alloc: Global, file: &str) -> io::Result<Option<UnixStream>> {
+    reach(rt, alloc, file, WORDS_SOCKET)
+}
+
+/// A socket of the door of a server of the file, as [`knock`] finds it.
+pub(crate) fn reach<R: Files + Net>(
+    rt: &R,
+    alloc: Global,
+    file: &str,
+    socket: &str,
+) -> io::Result<Option<UnixStream>> {
     let folder = folder(alloc, file)?;
     let is_private = match is_private(rt, folder.as_str(), file) {
         Ok(is_private) => is_private,
@@ -30,7 +40,7 @@ pub fn knock<R: Files + Net>(rt: &R, alloc: Global, file: &str) -> io::Result<Op
     if !is_private {
         return Err(io::Error::from(ErrorKind::PermissionDenied));
     }
-    connect(rt, place(alloc, file)?.as_str())
+    connect(rt, place(alloc, file, socket)?.as_str())
 }
 
 fn connect<R: Net>(rt: &R, place: &str) -> io::Result<Option<UnixStream>> {

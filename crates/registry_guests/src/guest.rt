@@ -2,7 +2,7 @@
 
 ghost use Rattle.std.specs.Prelude.{◌≡◌, ◌++◌, [], ℕ, List, true, Some, IfOk, IfSome, IfNone, OnOk, OnErr, length};
 ghost use Rattle.registry_guests.specs.Guests as spec;
-ghost use Rattle.registry_guests.specs.Guests.{AnswersMessage, Hears, IsNoMessage, IsOver, IsOverIn, SendsDue, Visits, first_guest};
+ghost use Rattle.registry_guests.specs.Guests.{AnswersMessage, Hears, IsNoMessage, IsOver, IsOverIn, SendsDue, Visits, first_guest, must_wait};
 ghost use Rattle.registry_guests.specs.Saying.{sent_as};
 ghost use Rattle.registry_server.specs.declared.connection.Visit.TheVariants as visits;
 ghost use Rattle.registry_server.specs.declared.socket.Flow.TheVariants as flows;
@@ -87,7 +87,7 @@ impl<S: Socket> Guest<S> {
     ) -> Visit
         ensures visits { Visits S.received S.sent D.answers (length buffer.old) self.old self.new
             service.old service.new (C.readings clock.old) (C.readings clock.new) }
-        ensures waits { result ≡ visits.Rests → S.must_wait self.new.socket ≡ true }
+        ensures waits { result ≡ visits.Rests → must_wait S.has_none S.is_full self.new ≡ true }
         ensures over { result ≡ visits.Over → IsOver S.is_ended S.is_broken self.new }
     {
         match &mut self.unsent {
@@ -111,7 +111,7 @@ impl<S: Socket> Guest<S> {
         ensures sends { (left : List ℕ) × SendsDue S.received S.sent self.old.socket self.new.socket (sent_as said) left
             × (self.new.left ≡ Some left) }
         ensures until { self.new.until ≡ self.old.until }
-        ensures waits { result ≡ visits.Rests → S.must_wait self.new.socket ≡ true }
+        ensures waits { result ≡ visits.Rests → must_wait S.has_none S.is_full self.new ≡ true }
         ensures over { result ≡ visits.Over → IsOver S.is_ended S.is_broken self.new }
     {
         let mut unsent = Unsent::of(said);
@@ -132,7 +132,7 @@ fn receive<S: Socket>(
     ensures lost { OnErr result ((got : List ℕ) × Hears S.received S.sent (length buffer.old)
         socket.old socket.new held.old.items (held.old.items ++ got)) }
     ensures none { IfOk result (λ flow. flow ≡ flows.Ended → held.new.items ≡ held.old.items) }
-    ensures waits { IfOk result (λ flow. flow ≡ flows.Waits → S.must_wait socket.new ≡ true) }
+    ensures waits { IfOk result (λ flow. flow ≡ flows.Waits → S.has_none socket.new ≡ true) }
     ensures ended { IfOk result (λ flow. flow ≡ flows.Ended → S.is_ended socket.new ≡ true) }
     ensures broken { IfOk result (λ flow. flow ≡ flows.Broken → S.is_broken socket.new ≡ true) }
 {
@@ -166,7 +166,7 @@ fn answer<D: Service, C: Clock>(
 // Sends once.
 fn send<S: Socket>(socket: &mut S, unsent: &mut Unsent) -> Visit
     ensures sends { SendsDue S.received S.sent socket.old socket.new unsent.old unsent.new }
-    ensures waits { result ≡ visits.Rests → S.must_wait socket.new ≡ true }
+    ensures waits { result ≡ visits.Rests → S.is_full socket.new ≡ true }
     ensures over { result ≡ visits.Over → IsOverIn [] (Some unsent.new) (S.is_ended socket.new) (S.is_broken socket.new) }
 {
     let (front, text) = unsent.parts();

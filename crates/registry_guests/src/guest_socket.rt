@@ -1,7 +1,8 @@
 //! The sockets of guests.
 
-ghost use Rattle.std.specs.Prelude.{◌≡◌, ℕ};
+ghost use Rattle.std.specs.Prelude.{◌≡◌, ◌≢◌, ℕ};
 ghost use Rattle.registry_server.specs.Sockets.{MovesAtMost};
+ghost use Rattle.registry_server.specs.declared.socket.Flow.TheVariants.{Ended};
 
 use mio::net::UnixStream;
 use mio::{Interest, Registry, Token};
@@ -39,7 +40,11 @@ impl Socket for GuestSocket {
 
     ghost sent = { λ _. None };
 
-    ghost must_wait = { λ _. true };
+    ghost has_none = { λ _. true };
+
+    ghost is_full = { λ _. true };
+
+    ghost has_more = { λ _. true };
 
     ghost is_ended = { λ _. true };
 
@@ -51,6 +56,11 @@ impl Socket for GuestSocket {
             Ok(count) => Flow::Moved(count),
             Err(error) => failed(&error),
         }
+    }
+
+    // The system tells only by a read what has come here. So more may always have.
+    fn look(&mut self) -> Flow {
+        Flow::Moved(0)
     }
 
     // Both pieces go out in one call of the system.
@@ -70,7 +80,8 @@ impl Socket for GuestSocket {
 }
 
 fn failed(error: &io::Error) -> Flow
-    ensures { MovesAtMost 0 result }
+    ensures none { MovesAtMost 0 result }
+    ensures goes_on { result ≢ Ended }
 {
     match error.kind() {
         ErrorKind::WouldBlock => Flow::Waits,

@@ -42,7 +42,7 @@ impl<S: Socket> Seat<S> {
         clock: &mut C,
         buffer: &mut [u8],
     )
-        ensures { VisitsAt S.received S.sent S.must_wait S.is_ended S.is_broken D.answers D.over
+        ensures { VisitsAt S.received S.sent S.has_none S.is_full S.is_ended S.is_broken D.answers D.over
             (length buffer.old) self.old self.new service.old service.new
             (C.readings clock.old) (C.readings clock.new) }
     {
@@ -150,7 +150,7 @@ impl<S: Socket> Hall<S> {
         clock: &mut C,
         buffer: &mut [u8],
     )
-        ensures { VisitsAll S.received S.sent S.must_wait S.is_ended S.is_broken D.answers D.over
+        ensures { VisitsAll S.received S.sent S.has_none S.is_full S.is_ended S.is_broken D.answers D.over
             (length buffer.old) self.old.seats.items self.new.seats.items service.old service.new
             (C.readings clock.old) (C.readings clock.new) }
     {

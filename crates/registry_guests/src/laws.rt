@@ -1,6 +1,7 @@
 //! Laws of guests. Each is the contract of a function that does nothing.
 
 ghost use Rattle.registry_guests.specs.Beside.{AnswersOnce, GuestsGoOn, MakeOneHistory, VisitsFollow, beside_guests};
+ghost use Rattle.registry_guests.specs.Controls.{HoldersHaveAsked, StopsStay};
 ghost use Rattle.registry_server.specs.Worlds.{VisitsLead};
 
 use registry_server::Socket;
@@ -22,4 +23,11 @@ pub fn guests_share_one_history<S: Socket, D: Service>()
     ensures follows { VisitsFollow S.received S.sent D.answers }
     ensures leads { VisitsLead S.received S.sent (beside_guests D.answers) }
     ensures one { MakeOneHistory D.answers }
+{}
+
+/// Who holds a server has asked to, and was told so, and the server wasn't to end then. A server that
+/// is to end stays so.
+pub fn holders_have_asked<S: Socket>()
+    ensures asked { HoldersHaveAsked S.received S.sent S.has_none S.is_ended S.is_broken }
+    ensures stay { StopsStay S.received S.sent S.has_none S.is_ended S.is_broken }
 {}

@@ -1,7 +1,9 @@
 //! The loop over all connections.
 
-ghost use Rattle.std.specs.Prelude.{◌≡◌, ◌≤◌, IfOk, if◌then◌else◌};
+ghost use Rattle.std.specs.Prelude.{◌≡◌, ◌≤◌, All, true, false, IfOk, OnOk, if◌then◌else◌};
+ghost use Rattle.registry_server.specs.Listening.{lets_in};
 ghost use Rattle.registry_server.specs.Pools as spec;
+ghost use Rattle.registry_server.specs.Pools.{IsUnderWay};
 
 use crate::clocks::{Timer, WallClock};
 use crate::guests::{FIRST_GUEST, GUEST_TOKENS, Guests, NoGuests};
@@ -10,7 +12,7 @@ use crate::pool::{CONNECTION_COUNT, ConnectionPool};
 use mio::net::TcpStream;
 use mio::{Events, Interest, Poll, Registry, Token};
 use registry_names::Moment;
-use registry_service::Service;
+use registry_service::{Clock, Service};
 use std::alloc::Global;
 use std::net::Net;
 use std::time::{Duration, Instant};
@@ -38,6 +40,8 @@ pub enum Ended {
     Enough,
     /// The service is over.
     ServiceOver,
+    /// It was to end, and all that was under way has ended.
+    Stopped,
 }
 
 /// A port of 127.0.0.1, and the connections that came in there.
@@ -91,13 +95,17 @@ impl Server {
         at: Moment,
         service: &mut D,
     ) -> io::Result<Ended>
-        ensures { IfOk result (λ ended. ended ≡ spec.why_ended (D.over service.new)) }
+        ensures { IfOk result (λ ended. ended ≡ spec.why_ended (D.over service.new) false) }
     {
         self.run_beside(rt, alloc, at, service, &mut NoGuests)
     }
 
     /// Serves as [`run`](Server::run) does, and looks after guests once in each round, after the
     /// connections. Where connections are counted it goes on until no guest is there, either.
+    ///
+    /// While guests hold the server nobody is visited or let in, and no time of connections passes.
+    /// Where they stop it, it lets nobody in any more, ends the connections on which nothing is begun,
+    /// answers what is under way, and ends once nobody is there.
     pub fn run_beside<R: time::Clock, D: Service, G: Guests>(
         mut self,
         rt: &R,
@@ -106,29 +114,95 @@ impl Server {
         service: &mut D,
         guests: &mut G,
     ) -> io::Result<Ended>
-        ensures { IfOk result (λ ended. ended ≡ spec.why_ended (D.over service.new)) }
+        ensures { IfOk result (λ ended. ended ≡ spec.why_ended (D.over service.new) (G.stops guests.new)) }
     {
-        let mut timer = Timer::new(rt, Instant::now(rt)?);
+        let start = Instant::now(rt)?;
+        // One goes on while the server is held, and one doesn't.
+        let mut attending = Timer::new(rt, start);
+        let mut serving = Timer::new(rt, start);
         let mut clock = WallClock::new(rt, at);
         let mut buffer = [0; BUFFER_LEN];
         for _ in 0..u64::MAX {
-            let patience = if guests.is_busy() { 0 } else { self.patience() };
-            self.look(patience, guests)?;
-            let now = timer.pass(patience + ROUND_TIME);
-            self.pool
-                .visit_all(alloc, service, &mut clock, &mut buffer, now);
-            let registry = self.poll.registry();
-            guests.visit(alloc, service, &mut clock, &mut buffer, registry, now);
-            if service.is_over() {
-                break;
-            }
-            self.end_late(now);
-            self.let_in(alloc, now, guests)?;
-            if self.listener.is_shut() && self.pool.is_empty() && guests.is_empty() {
+            let most = self.attend(&mut attending, guests)?;
+            let now = serving.pass(most);
+            if !self.serve(alloc, service, &mut clock, &mut buffer, guests, now)? {
                 break;
             }
         }
-        Ok(why_ended(service.is_over()))
+        Ok(why_ended(service.is_over(), guests.stops()))
+    }
+
+    // Waits until something is ready, and goes on with who holds or stops the server. So many
+    // milliseconds of the round count for the others: none where it was held, or is.
+    fn attend<R: time::Clock, G: Guests>(
+        &mut self,
+        timer: &mut Timer<'_, R>,
+        guests: &mut G,
+    ) -> io::Result<u64>
+        ensures was_held { G.holds guests.old ≡ true → IfOk result (λ most. most ≡ 0) }
+        ensures is_held { G.holds guests.new ≡ true → IfOk result (λ most. most ≡ 0) }
+    {
+        let was_held = guests.holds();
+        let patience = if guests.is_busy() {
+            0
+        } else if was_held {
+            LOOK_TIME
+        } else {
+            self.patience()
+        };
+        self.look(patience, guests)?;
+        let most = patience + ROUND_TIME;
+        guests.attend(self.poll.registry(), timer.pass(most));
+        if was_held || guests.holds() {
+            Ok(0)
+        } else {
+            Ok(most)
+        }
+    }
+
+    // Visits who is to be visited, ends who is late, and lets in who is there. Where the server is held
+    // it does nothing. Whether it goes on.
+    fn serve<D: Service, C: Clock, G: Guests>(
+        &mut self,
+        alloc: Global,
+        service: &mut D,
+        clock: &mut C,
+        buffer: &mut [u8],
+        guests: &mut G,
+        now: u64,
+    ) -> io::Result<bool>
+        ensures held { G.holds guests.old ≡ true → self.new.pool.places.items ≡ self.old.pool.places.items }
+        ensures held_guests { G.holds guests.old ≡ true → guests.new ≡ guests.old }
+        ensures held_service { G.holds guests.old ≡ true → service.new ≡ service.old }
+        ensures held_clock { G.holds guests.old ≡ true → C.readings clock.new ≡ C.readings clock.old }
+        ensures held_listener { G.holds guests.old ≡ true → self.new.listener ≡ self.old.listener }
+    {
+        if guests.holds() {
+            return Ok(true);
+        }
+        self.pool.visit_all(alloc, service, clock, buffer, now);
+        guests.visit(alloc, service, clock, buffer, self.poll.registry(), now);
+        if service.is_over() {
+            return Ok(false);
+        }
+        self.end_late(now);
+        if guests.stops() {
+            self.stop(guests)?;
+        }
+        self.let_in(alloc, now, guests)?;
+        Ok(!self.listener.is_shut() || !self.pool.is_empty() || !guests.is_empty())
+    }
+
+    // Lets nobody in any more, and ends the connections on which nothing is begun. It is looked first
+    // on which of them something has come, so that none of these ends.
+    fn stop<G: Guests>(&mut self, guests: &mut G) -> io::Result<()>
+        ensures shut { OnOk result (lets_in self.new.listener.left ≡ false) }
+        ensures under_way { OnOk result (All IsUnderWay self.new.pool.places.items) }
+    {
+        self.look(0, guests)?;
+        self.listener.shut();
+        self.pool.end_idle_all();
+        Ok(())
     }
 
     // How many milliseconds to wait for what is ready: none while a connection may go on.
@@ -224,12 +298,14 @@ impl Server {
     }
 }
 
-// Why a server ended, by a service that is over or isn't.
-fn why_ended(is_over: bool) -> Ended
-    ensures { result ≡ spec.why_ended is_over }
+// Why a server ended, by a service that is over or isn't, and guests who stopped it or didn't.
+fn why_ended(is_over: bool, is_stopped: bool) -> Ended
+    ensures { result ≡ spec.why_ended is_over is_stopped }
 {
     if is_over {
         Ended::ServiceOver
+    } else if is_stopped {
+        Ended::Stopped
     } else {
         Ended::Enough
     }

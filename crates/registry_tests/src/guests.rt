@@ -7,7 +7,8 @@ use crate::outcome::same;
 use crate::parts::{as_text, text, texts};
 use crate::talk::connections::{FixedTags, Steps};
 use registry_guests::{
-    GUEST_COUNT, GUEST_TIME_LIMIT, Guest, Hall, Said, Unsent, fits, hear, read, write,
+    Control, GUEST_COUNT, GUEST_TIME_LIMIT, Guest, HOLD_LIMIT, Hall, SILENCE_LIMIT, Said, Unsent,
+    fits, hear, read, write,
 };
 use registry_names::{Blob, Fault, Refusal};
 use registry_rules::Reply;
@@ -34,7 +35,11 @@ impl Socket for Memory {
 
     ghost sent = { λ _. None };
 
-    ghost must_wait = { λ _. true };
+    ghost has_none = { λ _. true };
+
+    ghost is_full = { λ _. true };
+
+    ghost has_more = { λ _. true };
 
     ghost is_ended = { λ _. true };
 
@@ -49,6 +54,10 @@ impl Socket for Memory {
         buffer[..count].copy_from_slice(&rest[..count]);
         self.taken = self.taken.saturating_add(count);
         Flow::Moved(count)
+    }
+
+    fn look(&mut self) -> Flow {
+        Flow::Moved(0)
     }
 
     fn send(&mut self, head: &[u8], body: &[u8]) -> Flow {
@@ -236,4 +245,88 @@ fn a_hall_has_eight_seats(rt: HostRuntime) {
     same(&rt, "in time", hall.is_empty(), false);
     hall.end_late(GUEST_TIME_LIMIT);
     same(&rt, "late", hall.is_empty(), true);
+}
+
+// A server whose visitor of the control socket says this, a byte a visit, from 0 on.
+fn controlled(rt: &impl Abort, alloc: Global, said: &str) -> Control<Memory> {
+    let mut control = Control::new();
+    come(rt, alloc, &mut control, said);
+    control
+}
+
+fn come(rt: &impl Abort, alloc: Global, control: &mut Control<Memory>, said: &str) {
+    let said = Vec::from_slice(alloc, said.as_bytes()).expect(rt, "memory");
+    control.add(socket(alloc, said, 1), 0);
+}
+
+// What was sent to who is there.
+fn answers(rt: &impl Abort, control: Control<Memory>) -> Vec<u8> {
+    control.into_socket().expect(rt, "a visitor").got
+}
+
+#[test]
+fn a_visitor_holds_a_server(rt: HostRuntime) {
+    let alloc = rt.alloc();
+    let mut control = controlled(&rt, alloc, "hk");
+    same(&rt, "before it asks", control.holds(), false);
+    control.visit(0);
+    same(&rt, "once it has", control.holds(), true);
+    control.visit(HOLD_LIMIT - 1);
+    control.end_late(HOLD_LIMIT - 1);
+    same(&rt, "until its time is up", control.holds(), true);
+    same(&rt, "it stops nothing", control.stops(), false);
+    same(&rt, "it was told", as_text(&answers(&rt, control)), "hk");
+}
+
+#[test]
+fn a_hold_ends(rt: HostRuntime) {
+    let alloc = rt.alloc();
+    for said in ["h", "hh", "hs", "hx"] {
+        let mut control = controlled(&rt, alloc, said);
+        control.visit(0);
+        same(&rt, said, control.holds(), true);
+        control.visit(0);
+        same(&rt, said, control.holds(), false);
+        same(&rt, said, control.is_free(), true);
+        same(&rt, said, control.stops(), false);
+    }
+    let mut control = controlled(&rt, alloc, "hk");
+    control.visit(1);
+    control.end_late(HOLD_LIMIT);
+    same(&rt, "in time", control.holds(), true);
+    control.end_late(HOLD_LIMIT + 1);
+    same(&rt, "late", control.is_free(), true);
+}
+
+#[test]
+fn a_visitor_that_says_nothing_is_let_go(rt: HostRuntime) {
+    let alloc = rt.alloc();
+    let mut control = controlled(&rt, alloc, "");
+    same(&rt, "it is visited", control.is_busy(), true);
+    control.end_late(SILENCE_LIMIT - 1);
+    same(&rt, "in time", control.is_free(), false);
+    control.end_late(SILENCE_LIMIT);
+    same(&rt, "late", control.is_free(), true);
+    for said in ["k", "x"] {
+        let mut control = controlled(&rt, alloc, said);
+        control.visit(0);
+        same(&rt, said, control.is_free(), true);
+        same(&rt, said, control.holds(), false);
+    }
+}
+
+#[test]
+fn a_visitor_stops_a_server(rt: HostRuntime) {
+    let alloc = rt.alloc();
+    let mut control = controlled(&rt, alloc, "s");
+    control.visit(0);
+    control.end_late(u64::MAX);
+    same(&rt, "it stays", control.is_free(), false);
+    same(&rt, "it stops", control.stops(), true);
+    control.visit(0);
+    same(&rt, "it ends", control.is_free(), true);
+    come(&rt, alloc, &mut control, "h");
+    control.visit(0);
+    same(&rt, "nobody holds it", control.holds(), false);
+    same(&rt, "it still stops", control.stops(), true);
 }

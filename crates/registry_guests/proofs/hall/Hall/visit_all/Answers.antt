@@ -13,9 +13,9 @@ loop-seat-preserved g c =
     let here = get_or items i c.seat-item.result in
     let within : i < length old = grind (arith, c.loop-seat-test.true, c.loop-seat.auto.seat-items, c.deref_mut-seat-items.ensures.value, c.deref_mut-seat-items.ensures.len) in
     let len : length items ≡ length old = grind (arith, c.loop-seat-test.true, c.loop-seat.auto.seat-items, c.deref_mut-seat-items.ensures.value, c.deref_mut-seat-items.ensures.len) in
-    let one = subst (λ (most : ℕ). VisitsAt socket.received socket.sent socket.must_wait socket.is_ended socket.is_broken g.D.Service.answers g.D.Service.over most here c.visit.new.self c.loop-seat.service c.visit.new.service (g.C.Clock.readings c.loop-seat.clock) (g.C.Clock.readings c.visit.new.clock)) c.loop-seat.auto.buffer c.visit.ensures in
+    let one = subst (λ (most : ℕ). VisitsAt socket.received socket.sent socket.has_none socket.is_full socket.is_ended socket.is_broken g.D.Service.answers g.D.Service.over most here c.visit.new.self c.loop-seat.service c.visit.new.service (g.C.Clock.readings c.loop-seat.clock) (g.C.Clock.readings c.visit.new.clock)) c.loop-seat.auto.buffer c.visit.ensures in
     record {
-      visited = visits-step socket.received socket.sent socket.must_wait socket.is_ended socket.is_broken g.D.Service.answers g.D.Service.over (length c.args.buffer.now) old items i here _ _ _ _ _ _ _ within len
+      visited = visits-step socket.received socket.sent socket.has_none socket.is_full socket.is_ended socket.is_broken g.D.Service.answers g.D.Service.over (length c.args.buffer.now) old items i here _ _ _ _ _ _ _ within len
           c.loop-seat.invariant.rest (ap (λ (d : Seat g.row.S.Denot). get_or items i d) c.seat-item.is) c.loop-seat.invariant.visited one;
       rest = rest-step old items i _ c.loop-seat.invariant.rest;
     }
