@@ -50,6 +50,8 @@ impl Socket for GuestSocket {
 
     ghost is_broken = { λ _. true };
 
+    ghost was_interrupted = { λ _. true };
+
     fn receive(&mut self, buffer: &mut [u8]) -> Flow {
         match self.stream.read(buffer) {
             Ok(0) => Flow::Ended,

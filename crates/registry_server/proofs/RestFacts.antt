@@ -182,20 +182,20 @@ pub stops-leave-under-way : (S : Type 0) → StopsLeaveUnderWay S
 stops-leave-under-way S places = All-map (IsUnderWay {S = S}) unless_idle places
     (λ k d lt. left-under-way (get_or places k d).is_ready (get_or places k d).connection)
 
-module _ {S : Type 0} (received sent : S → Option (List ℕ)) (has_none is_full has_more is_ended is_broken : S → Bool) {D : Type 0} (answers : Answering D) (over : D → Bool) where
+module _ {S : Type 0} (received sent : S → Option (List ℕ)) (has_none is_full has_more is_ended is_broken was_interrupted : S → Bool) {D : Type 0} (answers : Answering D) (over : D → Bool) where
   there-rests : (now most : ℕ) (p : Place S) (o : Option (OpenConnection S)) (q : Place S) (M N : D) (r r2 : Option (List ℕ))
-      → VisitsThere received sent has_none is_full has_more is_ended is_broken answers now most p o q M N r r2 → IsAtRest has_none is_full q
+      → VisitsThere received sent has_none is_full has_more is_ended is_broken was_interrupted answers now most p o q M N r r2 → IsAtRest has_none is_full q
   there-rests now most p None q M N r r2 v = subst (IsAtRest has_none is_full) (sym v.place) (λ c ready at. none-some c at)
   there-rests now most p (Some c) q M N r r2 v = subst (IsAtRest has_none is_full) (sym v.place) (after-rest has_none is_full v.visit p v.connection v.waits)
 
   visited-rests : (b held : Bool) (now most : ℕ) (p q : Place S) (M N : D) (r r2 : Option (List ℕ)) → IsAtRest has_none is_full p
-      → VisitsIf received sent has_none is_full has_more is_ended is_broken answers b held now most p q M N r r2 → IsAtRest has_none is_full q
+      → VisitsIf received sent has_none is_full has_more is_ended is_broken was_interrupted answers b held now most p q M N r r2 → IsAtRest has_none is_full q
   visited-rests true true now most p q M N r r2 h v = subst (IsAtRest has_none is_full) (sym v.place) (waiting-at-rest has_none is_full now p h)
   visited-rests true false now most p q M N r r2 h v = there-rests now most p p.connection q M N r r2 v
   visited-rests false held now most p q M N r r2 h v = subst (IsAtRest has_none is_full) (sym v.place) h
 
   visited-rest : (crowd : Bool) (now most : ℕ) (ps qs : List (Place S)) (M N : D) (r r2 : Option (List ℕ)) → All (IsAtRest has_none is_full) ps
-      → VisitsAll received sent has_none is_full has_more is_ended is_broken answers over crowd now most ps qs M N r r2 → All (IsAtRest has_none is_full) qs
+      → VisitsAll received sent has_none is_full has_more is_ended is_broken was_interrupted answers over crowd now most ps qs M N r r2 → All (IsAtRest has_none is_full) qs
   visited-rest crowd now most [] [] M N r r2 h v = h
   visited-rest crowd now most (p ∷ ps) (q ∷ qs) M N r r2 h v = All-cons (IsAtRest has_none is_full) q qs
       (visited-rests (p.is_ready && not (over M)) (is_held_back crowd p) now most p q M v.0 r v.1 (All-head (IsAtRest has_none is_full) p ps h) v.2)
@@ -203,6 +203,6 @@ module _ {S : Type 0} (received sent : S → Option (List ℕ)) (has_none is_ful
   visited-rest crowd now most [] (q ∷ qs) M N r r2 h v = absurd v
   visited-rest crowd now most (p ∷ ps) [] M N r r2 h v = absurd v
 
-  pub visits-leave-rest : VisitsLeaveRest received sent has_none is_full has_more is_ended is_broken answers over
+  pub visits-leave-rest : VisitsLeaveRest received sent has_none is_full has_more is_ended is_broken was_interrupted answers over
   visits-leave-rest now most old new M N r r2 h round = visited-rest (is_crowd old) now most round.looked new M N r r2
       (looked-rest has_none is_full (is_crowd old && has_room old) (map settled old) round.looked round.looks (settled-rest has_none is_full old h)) round.visits

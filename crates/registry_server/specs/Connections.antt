@@ -1,5 +1,5 @@
 -- An open connection with its socket, and what a visit makes of both.
-use Rattle.std.specs.Prelude.{◌≡◌, ◌≢◌, ◌≤◌, ◌==◌, ◌⊎◌, ◌++◌, [], ℕ, Bool, true, false, List, Option, None, Some, IsSome, is_none, is_some, length, nat_lt, if◌then◌else◌}
+use Rattle.std.specs.Prelude.{◌≡◌, ◌≢◌, ◌≤◌, ◌<◌, ◌+◌, ◌==◌, ◌⊎◌, ◌++◌, [], ⊤, ℕ, Bool, true, false, List, Option, None, Some, IsSome, is_none, is_some, length, nat_lt, if◌then◌else◌}
 use Rattle.std.specs.Io.KnownBytes.{append_known}
 use Rattle.registry_wire.specs.Spelling.{HasRequest, IsUnfinished, head_limit}
 use Rattle.registry_wire.specs.declared.wanted.Wanted.{Wanted}
@@ -10,6 +10,8 @@ use Rattle.registry_server.specs.Phases.{HeardAt, LookedAt, SentAt, entered, rec
 use Rattle.registry_server.specs.declared.phase.Phase.{Phase}
 use Rattle.registry_server.specs.declared.phase.Stage.{Stage}
 use Rattle.registry_server.specs.declared.phase.Stage.TheVariants.{Idle, Begun, Next, Sends, Drains}
+use Rattle.registry_server.specs.declared.socket.Flow.{Flow}
+use Rattle.registry_server.specs.declared.socket.Flow.TheVariants.{Moved, Waits, Ended, Broken}
 
 -- a socket, what of the connection isn't done, what it is at and until when, and whether the other
 -- side sends no more
@@ -203,3 +205,37 @@ module _ {S : Type 0} (received sent : S → Option (List ℕ)) {D : Type 0} (an
     pub took : sent new.socket ≡ append_known (sent old.socket) put
     pub sends : due ≡ sending new.state (put ++ new.state.outgoing)
     pub over : old.is_over ≡ true → new.is_over ≡ true
+
+-- ---- where a visit goes on
+
+module _ {S : Type 0} (received sent : S → Option (List ℕ)) (was_interrupted : S → Bool) where
+  -- Bytes were received from a socket, or it took some to send. Else it was interrupted.
+  pub record MovesSome (old new : S) : Type 0 where
+    pub got : List ℕ
+    pub put : List ℕ
+    pub gave : received new ≡ append_known (received old) got
+    pub took : sent new ≡ append_known (sent old) put
+    pub some : (0 < length got + length put) ⊎ (was_interrupted new ≡ true)
+
+  -- A visit got somewhere: bytes were moved, or what is held of a next request was looked at.
+  abbrev pub GetsOn : OpenConnection S → OpenConnection S → Type 0
+  GetsOn old new = MovesSome old.socket new.socket ⊎ ((old.phase.stage ≡ Next) × (new.phase.stage ≢ Next))
+
+  -- no byte was moved
+  pub record MovesNone (old new : S) : Type 0 where
+    pub unread : received new ≡ received old
+    pub unsent : sent new ≡ sent old
+    pub still : was_interrupted old ≡ true → was_interrupted new ≡ true
+
+  -- What is held was looked at, and then it was looked whether more comes, which it may.
+  pub record LooksOn (old new : OpenConnection S) : Type 0 where
+    pub moves : MovesNone old.socket new.socket
+    pub goes_on : old.is_over ≡ false
+    pub looked : new.phase.stage ≢ Next
+
+  -- what was heard: bytes, unless it was interrupted; or that the other side sends no more
+  abbrev pub HeardAs : Flow → OpenConnection S → OpenConnection S → Type 0
+  HeardAs (Moved count) old new = MovesSome old.socket new.socket
+  HeardAs Waits old new = ⊤
+  HeardAs Ended old new = new.is_over ≡ true
+  HeardAs Broken old new = ⊤

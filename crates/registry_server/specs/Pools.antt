@@ -4,7 +4,7 @@ use Rattle.std.specs.List.{list_any}
 use Rattle.registry_wire.specs.Spelling.{request_limit}
 use Rattle.registry_service.specs.Turns.{Answering}
 use Rattle.registry_server.specs.ConnectionStates.{fresh}
-use Rattle.registry_server.specs.Connections.{IsDone, IsLost, LeavesLittle, OpenConnection, Visits, body_least, body_since, connected, has_body, is_answered, must_wait, waiting}
+use Rattle.registry_server.specs.Connections.{GetsOn, IsDone, IsLost, LeavesLittle, OpenConnection, Visits, body_least, body_since, connected, has_body, is_answered, must_wait, waiting}
 use Rattle.registry_server.specs.Phases.{first_phase, idle_since, is_late}
 use Rattle.registry_server.specs.declared.connection.Visit.{Visit}
 use Rattle.registry_server.specs.declared.connection.Visit.TheVariants.{Again, Rests, Over}
@@ -255,10 +255,11 @@ after_visit Again p c = with_connection p (Some c) true
 after_visit Rests p c = with_connection p (Some c) false
 after_visit Over p c = with_connection p None false
 
-module _ {S : Type 0} (received sent : S → Option (List ℕ)) (has_none is_full has_more is_ended is_broken : S → Bool) {D : Type 0} (answers : Answering D) where
+module _ {S : Type 0} (received sent : S → Option (List ℕ)) (has_none is_full has_more is_ended is_broken was_interrupted : S → Bool) {D : Type 0} (answers : Answering D) where
   -- A connection was visited: it goes on at once, rests, or ends. It rests only where its socket takes
   -- nothing of a response that is due, or where none is due and its socket gives nothing; and what is
-  -- held of a next request was looked at. Within a request it goes on only where its socket may have
+  -- held of a next request was looked at. It goes on only where bytes were moved, or what is held was
+  -- looked at, or else its socket was interrupted; and within a request only where its socket may have
   -- more. It ends where the other side sends no more and all was answered and sent before, and else
   -- only where it is broken. Where it goes on after an answer little is held, if it was so before.
   pub record VisitsOne (now most : ℕ) (at : Place S) (old : OpenConnection S) (new : Place S) (M N : D) (readings readings2 : Option (List ℕ)) : Type 0 where
@@ -268,6 +269,7 @@ module _ {S : Type 0} (received sent : S → Option (List ℕ)) (has_none is_ful
     pub place : new ≡ after_visit visit at connection
     pub rests : visit ≡ Rests → connection.phase.stage ≢ Next
     pub waits : visit ≡ Rests → must_wait has_none is_full connection ≡ true
+    pub forward : visit ≡ Again → GetsOn received sent was_interrupted old connection
     pub more : visit ≡ Again → connection.phase.stage ≡ Begun → has_more connection.socket ≡ true
     pub over : visit ≡ Over → IsLost is_ended is_broken connection
     pub ends : IsDone old.state → connection.is_over ≡ true → visit ≡ Over
@@ -290,11 +292,11 @@ module _ {S : Type 0} (received sent : S → Option (List ℕ)) (has_none is_ful
   VisitsIf true false now most old new M N readings readings2 = VisitsThere now most old old.connection new M N readings readings2
   VisitsIf false held now most old new M N readings readings2 = VisitsNone old new M N readings readings2
 
-module _ {S : Type 0} (received sent : S → Option (List ℕ)) (has_none is_full has_more is_ended is_broken : S → Bool) {D : Type 0} (answers : Answering D) (over : D → Bool) where
+module _ {S : Type 0} (received sent : S → Option (List ℕ)) (has_none is_full has_more is_ended is_broken was_interrupted : S → Bool) {D : Type 0} (answers : Answering D) (over : D → Bool) where
   -- a place is visited where it is to be and isn't held back, unless the service is over
   abbrev pub VisitsAt : Bool → ℕ → ℕ → Place S → Place S → D → D → Option (List ℕ) → Option (List ℕ) → Type 0
   VisitsAt crowd now most old new M N readings readings2 =
-      VisitsIf received sent has_none is_full has_more is_ended is_broken answers (old.is_ready && not (over M)) (is_held_back crowd old) now most old new M N readings readings2
+      VisitsIf received sent has_none is_full has_more is_ended is_broken was_interrupted answers (old.is_ready && not (over M)) (is_held_back crowd old) now most old new M N readings readings2
 
   -- Each connection that is to be visited and isn't held back is visited, once, in the order of their
   -- places, and no other is. After the visit in which the service is over none is. Of each so many
@@ -360,17 +362,17 @@ AllIdleEndsLeaveFew S = (places : List (Place S)) → FewChosen places → FewCh
 abbrev pub WhoWaitsHasBegun : Type 0 → Type 0
 WhoWaitsHasBegun S = (crowd : Bool) (p : Place S) (c : OpenConnection S) → is_held_back crowd p ≡ true → p.connection ≡ Some c → c.phase.stage ≡ Begun
 
-module _ {S : Type 0} (received sent : S → Option (List ℕ)) (has_none is_full has_more is_ended is_broken : S → Bool) {D : Type 0} (answers : Answering D) (over : D → Bool) where
+module _ {S : Type 0} (received sent : S → Option (List ℕ)) (has_none is_full has_more is_ended is_broken was_interrupted : S → Bool) {D : Type 0} (answers : Answering D) (over : D → Bool) where
   -- and in a round, also once it is looked which bodies are read
   abbrev pub RoundsReadFew : Type 0
   RoundsReadFew = (now most : ℕ) (old new : List (Place S)) (M N : D) (readings readings2 : Option (List ℕ)) → FewChosen old
-      → (round : VisitsRound received sent has_none is_full has_more is_ended is_broken answers over now most old new M N readings readings2) → FewChosen round.looked × FewChosen new
+      → (round : VisitsRound received sent has_none is_full has_more is_ended is_broken was_interrupted answers over now most old new M N readings readings2) → FewChosen round.looked × FewChosen new
 
   -- A round leaves at each place no more than so many bytes beside those that were held before, and
   -- no more at those of connections that are held back.
   abbrev pub RoundsHoldLittleMore : Type 0
   RoundsHoldLittleMore = (now most : ℕ) (old new : List (Place S)) (M N : D) (readings readings2 : Option (List ℕ))
-      → (round : VisitsRound received sent has_none is_full has_more is_ended is_broken answers over now most old new M N readings readings2) → HoldLittleMore (is_crowd old) most round.looked new
+      → (round : VisitsRound received sent has_none is_full has_more is_ended is_broken was_interrupted answers over now most old new M N readings readings2) → HoldLittleMore (is_crowd old) most round.looked new
 
 -- ---- how much is held after any number of rounds
 
@@ -429,11 +431,11 @@ IdleEndsLeaveLittle S = (most : ℕ) (old new : List (Place S)) (found : Bool) �
 abbrev pub AllIdleEndsLeaveLittle : Type 0 → Type 0
 AllIdleEndsLeaveLittle S = (most : ℕ) (places : List (Place S)) → HoldLittle most places → HoldLittle most (map unless_idle places)
 
-module _ {S : Type 0} (received sent : S → Option (List ℕ)) (has_none is_full has_more is_ended is_broken : S → Bool) {D : Type 0} (answers : Answering D) (over : D → Bool) where
+module _ {S : Type 0} (received sent : S → Option (List ℕ)) (has_none is_full has_more is_ended is_broken was_interrupted : S → Bool) {D : Type 0} (answers : Answering D) (over : D → Bool) where
   -- and after a round
   abbrev pub RoundsLeaveLittle : Type 0
   RoundsLeaveLittle = (now most : ℕ) (old new : List (Place S)) (M N : D) (readings readings2 : Option (List ℕ)) → HoldLittle most old
-      → VisitsRound received sent has_none is_full has_more is_ended is_broken answers over now most old new M N readings readings2 → HoldLittle most new
+      → VisitsRound received sent has_none is_full has_more is_ended is_broken was_interrupted answers over now most old new M N readings readings2 → HoldLittle most new
 
 -- what is held at a place whose body isn't chosen
 abbrev pub unread_at : {S : Type 0} → Place S → ℕ
@@ -484,11 +486,11 @@ IdleEndsLeaveRest {S} has_none is_full = (old new : List (Place S)) (found : Boo
 abbrev pub AllIdleEndsLeaveRest : {S : Type 0} → (S → Bool) → (S → Bool) → Type 0
 AllIdleEndsLeaveRest {S} has_none is_full = (places : List (Place S)) → All (IsAtRest has_none is_full) places → All (IsAtRest has_none is_full) (map unless_idle places)
 
-module _ {S : Type 0} (received sent : S → Option (List ℕ)) (has_none is_full has_more is_ended is_broken : S → Bool) {D : Type 0} (answers : Answering D) (over : D → Bool) where
+module _ {S : Type 0} (received sent : S → Option (List ℕ)) (has_none is_full has_more is_ended is_broken was_interrupted : S → Bool) {D : Type 0} (answers : Answering D) (over : D → Bool) where
   -- and after visits
   abbrev pub VisitsLeaveRest : Type 0
   VisitsLeaveRest = (now most : ℕ) (old new : List (Place S)) (M N : D) (readings readings2 : Option (List ℕ)) → All (IsAtRest has_none is_full) old
-      → VisitsRound received sent has_none is_full has_more is_ended is_broken answers over now most old new M N readings readings2 → All (IsAtRest has_none is_full) new
+      → VisitsRound received sent has_none is_full has_more is_ended is_broken was_interrupted answers over now most old new M N readings readings2 → All (IsAtRest has_none is_full) new
 
 -- A new connection ends no other but one that isn't to be visited, whose socket gave nothing when it
 -- was asked last, and on which nothing is begun.

@@ -1,9 +1,9 @@
 //! One open connection.
 
-ghost use Rattle.std.specs.Prelude.{◌≡◌, ◌≢◌, [], true, false, IfOk, IsSome, OnOk, OnErr, length};
+ghost use Rattle.std.specs.Prelude.{◌≡◌, ◌≢◌, ◌⊎◌, [], true, false, IfOk, IsSome, OnOk, OnErr, length};
 ghost use Rattle.registry_wire.specs.Spelling.{IsUnfinished};
 ghost use Rattle.registry_server.specs.ConnectionStates.{Does, MayTakeTurn, fresh};
-ghost use Rattle.registry_server.specs.Connections.{AnswersOnce, Drops, IsDone, IsLost, LeavesLittle, LeavesRest, Receives, SendsDue, StarvesOnce, Visits, body_since, connected, has_body, is_answered, must_wait, stage_after, waiting};
+ghost use Rattle.registry_server.specs.Connections.{AnswersOnce, Drops, GetsOn, HeardAs, IsDone, IsLost, LeavesLittle, LeavesRest, LooksOn, MovesSome, Receives, SendsDue, StarvesOnce, Visits, body_since, connected, has_body, is_answered, must_wait, stage_after, waiting};
 ghost use Rattle.registry_server.specs.Phases as phases;
 ghost use Rattle.registry_server.specs.declared.connection.Visit.TheVariants as visits;
 ghost use Rattle.registry_server.specs.declared.phase.Stage.TheVariants as stages;
@@ -142,6 +142,7 @@ impl<S: Socket> Connection<S> {
             service.old service.new (C.readings clock.old) (C.readings clock.new) }
         ensures rests { result ≡ visits.Rests → self.new.phase.stage ≢ stages.Next }
         ensures waits { result ≡ visits.Rests → must_wait S.has_none S.is_full self.new ≡ true }
+        ensures forward { result ≡ visits.Again → GetsOn S.received S.sent S.was_interrupted self.old self.new }
         ensures more { result ≡ visits.Again → self.new.phase.stage ≡ stages.Begun → S.has_more self.new.socket ≡ true }
         ensures over { result ≡ visits.Over → IsLost S.is_ended S.is_broken self.new }
         ensures ends { IsDone self.old.state → self.new.is_over ≡ true → result ≡ visits.Over }
@@ -175,6 +176,7 @@ impl<S: Socket> Connection<S> {
         ensures stage { phases.takes_turns self.new.phase.stage ≡ true }
         ensures quiet { IfOk result (λ flow. flow ≡ flows.Waits → phases.receives self.new.phase.stage ≡ true) }
         ensures none { IfOk result (λ flow. flow ≡ flows.Waits → S.has_none self.new.socket ≡ true) }
+        ensures heard { IfOk result (λ flow. HeardAs S.received S.sent S.was_interrupted flow self.old self.new) }
         ensures goes_on { IfOk result (λ flow. flow ≡ flows.Waits → self.new.is_over ≡ false) }
         ensures ended { OnOk result (self.new.is_over ≡ true → self.new.state ≡ self.old.state) }
         ensures not_ended { OnErr result (self.new.is_over ≡ false) }
@@ -209,6 +211,8 @@ impl<S: Socket> Connection<S> {
             service.old service.new (C.readings clock.old) (C.readings clock.new) }
         ensures rests { result ≡ visits.Rests → self.new.phase.stage ≢ stages.Next }
         ensures waits { result ≡ visits.Rests → must_wait S.has_none S.is_full self.new ≡ true }
+        ensures forward { result ≡ visits.Again → MovesSome S.received S.sent S.was_interrupted self.old.socket self.new.socket
+            ⊎ LooksOn S.received S.sent S.was_interrupted self.old self.new }
         ensures more { result ≡ visits.Again → self.new.phase.stage ≡ stages.Begun → S.has_more self.new.socket ≡ true }
         ensures over { result ≡ visits.Over → IsLost S.is_ended S.is_broken self.new }
         ensures ends { self.old.is_over ≡ true → self.old.state.held ≡ [] → result ≡ visits.Over }
@@ -228,6 +232,7 @@ impl<S: Socket> Connection<S> {
         ensures received { S.received self.new.socket ≡ S.received self.old.socket }
         ensures over { self.new.is_over ≡ self.old.is_over }
         ensures phase { self.new.phase ≡ self.old.phase }
+        ensures still { S.was_interrupted self.old.socket ≡ true → S.was_interrupted self.new.socket ≡ true }
         ensures waits { result ≡ visits.Rests → S.has_none self.new.socket ≡ true }
         ensures more { result ≡ visits.Again → S.has_more self.new.socket ≡ true }
         ensures lost { result ≡ visits.Over → S.is_broken self.new.socket ≡ true }
@@ -275,6 +280,7 @@ impl<S: Socket> Connection<S> {
         ensures starves { StarvesOnce S.received S.sent now self.old self.new }
         ensures rests { result ≡ visits.Rests → self.new.phase.stage ≢ stages.Next }
         ensures waits { result ≡ visits.Rests → must_wait S.has_none S.is_full self.new ≡ true }
+        ensures forward { result ≡ visits.Again → MovesSome S.received S.sent S.was_interrupted self.old.socket self.new.socket }
         ensures more { self.new.phase.stage ≢ stages.Begun }
         ensures over { result ≡ visits.Over → IsLost S.is_ended S.is_broken self.new }
     {
@@ -291,6 +297,7 @@ impl<S: Socket> Connection<S> {
         ensures sends { SendsDue S.received S.sent now self.old self.new }
         ensures rests { result ≡ visits.Rests → self.new.phase.stage ≢ stages.Next }
         ensures waits { result ≡ visits.Rests → must_wait S.has_none S.is_full self.new ≡ true }
+        ensures forward { result ≡ visits.Again → MovesSome S.received S.sent S.was_interrupted self.old.socket self.new.socket }
         ensures over { result ≡ visits.Over → IsLost S.is_ended S.is_broken self.new }
     {
         let (head, body) = self.state.outgoing().parts();
@@ -318,6 +325,7 @@ impl<S: Socket> Connection<S> {
         ensures received { S.received self.new.socket ≡ S.received self.old.socket }
         ensures over { self.new.is_over ≡ self.old.is_over }
         ensures phase { self.new.phase ≡ self.old.phase }
+        ensures still { S.was_interrupted self.old.socket ≡ true → S.was_interrupted self.new.socket ≡ true }
         ensures rests { result ≢ visits.Rests }
         ensures lost { result ≡ visits.Over → S.is_broken self.new.socket ≡ true }
     {
@@ -335,6 +343,7 @@ impl<S: Socket> Connection<S> {
         ensures ended { IsSome self.old.state.ends }
         ensures stage { self.new.phase.stage ≡ stages.Drains }
         ensures waits { result ≡ visits.Rests → must_wait S.has_none S.is_full self.new ≡ true }
+        ensures forward { result ≡ visits.Again → MovesSome S.received S.sent S.was_interrupted self.old.socket self.new.socket }
         ensures over { result ≡ visits.Over → IsLost S.is_ended S.is_broken self.new }
         ensures over_ends { self.new.is_over ≡ true → result ≡ visits.Over }
     {

@@ -63,7 +63,7 @@ pub fn newcomers_end_idle_connections<S: Socket, D: Service>()
     ensures late { EndsLeaveRest S.has_none S.is_full }
     ensures room { IdleEndsLeaveRest S.has_none S.is_full }
     ensures idle { AllIdleEndsLeaveRest S.has_none S.is_full }
-    ensures visits { VisitsLeaveRest S.received S.sent S.has_none S.is_full S.has_more S.is_ended S.is_broken D.answers D.over }
+    ensures visits { VisitsLeaveRest S.received S.sent S.has_none S.is_full S.has_more S.is_ended S.is_broken S.was_interrupted D.answers D.over }
     ensures ended { NewcomersEndIdle S.has_none S.is_full }
     ensures lacks { WantOfRoomEndsIdle S.has_none S.is_full }
     ensures stops { StopsEndIdle S.has_none S.is_full }
@@ -81,8 +81,8 @@ pub fn a_crowd_holds_little_more<S: Socket, D: Service>()
     ensures late { EndsLeaveFew S }
     ensures room { IdleEndsLeaveFew S }
     ensures idle { AllIdleEndsLeaveFew S }
-    ensures rounds { RoundsReadFew S.received S.sent S.has_none S.is_full S.has_more S.is_ended S.is_broken D.answers D.over }
-    ensures few { RoundsHoldLittleMore S.received S.sent S.has_none S.is_full S.has_more S.is_ended S.is_broken D.answers D.over }
+    ensures rounds { RoundsReadFew S.received S.sent S.has_none S.is_full S.has_more S.is_ended S.is_broken S.was_interrupted D.answers D.over }
+    ensures few { RoundsHoldLittleMore S.received S.sent S.has_none S.is_full S.has_more S.is_ended S.is_broken S.was_interrupted D.answers D.over }
     ensures waits { WhoWaitsHasBegun S }
 {}
 
@@ -99,7 +99,7 @@ pub fn connections_hold_little<S: Socket, D: Service>()
     ensures late { EndsLeaveLittle S }
     ensures room { IdleEndsLeaveLittle S }
     ensures idle { AllIdleEndsLeaveLittle S }
-    ensures rounds { RoundsLeaveLittle S.received S.sent S.has_none S.is_full S.has_more S.is_ended S.is_broken D.answers D.over }
+    ensures rounds { RoundsLeaveLittle S.received S.sent S.has_none S.is_full S.has_more S.is_ended S.is_broken S.was_interrupted D.answers D.over }
     ensures unread { UnreadHoldLittle S }
     ensures all { AllHoldLittle S }
     ensures servers { ServersHoldLittle S }

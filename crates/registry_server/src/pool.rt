@@ -147,7 +147,7 @@ impl<S: Socket> Place<S> {
         now: u64,
         is_crowd: bool,
     )
-        ensures { VisitsAt S.received S.sent S.has_none S.is_full S.has_more S.is_ended S.is_broken D.answers D.over
+        ensures { VisitsAt S.received S.sent S.has_none S.is_full S.has_more S.is_ended S.is_broken S.was_interrupted D.answers D.over
             is_crowd now (length buffer.old) self.old self.new
             service.old service.new (C.readings clock.old) (C.readings clock.new) }
     {
@@ -329,7 +329,7 @@ impl<S: Socket> ConnectionPool<S> {
         buffer: &mut [u8],
         now: u64,
     )
-        ensures { VisitsRound S.received S.sent S.has_none S.is_full S.has_more S.is_ended S.is_broken D.answers D.over
+        ensures { VisitsRound S.received S.sent S.has_none S.is_full S.has_more S.is_ended S.is_broken S.was_interrupted D.answers D.over
             now (length buffer.old) self.old.places.items self.new.places.items service.old service.new
             (C.readings clock.old) (C.readings clock.new) }
     {
@@ -347,7 +347,7 @@ impl<S: Socket> ConnectionPool<S> {
         now: u64,
         is_crowd: bool,
     )
-        ensures { VisitsAll S.received S.sent S.has_none S.is_full S.has_more S.is_ended S.is_broken D.answers D.over
+        ensures { VisitsAll S.received S.sent S.has_none S.is_full S.has_more S.is_ended S.is_broken S.was_interrupted D.answers D.over
             is_crowd now (length buffer.old) self.old.places.items self.new.places.items
             service.old service.new (C.readings clock.old) (C.readings clock.new) }
     {

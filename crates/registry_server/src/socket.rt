@@ -3,7 +3,7 @@
 ghost use Rattle.std.specs.Prelude.{◌≡◌, ◌≢◌, ◌++◌, ℕ, List, Option, Bool, true, false, length};
 ghost use Rattle.std.specs.Io.KnownBytes.{append_known};
 ghost use Rattle.registry_server.specs.Sockets.{MovesAtMost, moved};
-ghost use Rattle.registry_server.specs.declared.socket.Flow.TheVariants.{Waits, Ended, Broken};
+ghost use Rattle.registry_server.specs.declared.socket.Flow.TheVariants.{Moved, Waits, Ended, Broken};
 
 use mio::net::TcpStream;
 use std::io;
@@ -50,6 +50,9 @@ pub trait Socket: Drop {
     // Whether the connection may be broken.
     ghost is_broken: { Self → Bool };
 
+    // Whether a call may have been interrupted, or have taken nothing.
+    ghost was_interrupted: { Self → Bool };
+
     /// Receives once what has come, into the front of the buffer, which has room.
     fn receive(&mut self, buffer: &mut [u8]) -> Flow
         ensures bound { MovesAtMost (length buffer.new) result }
@@ -59,7 +62,9 @@ pub trait Socket: Drop {
         ensures waits { result ≡ Waits → has_none self.new ≡ true }
         ensures ended { result ≡ Ended → is_ended self.new ≡ true }
         ensures still_ended { is_ended self.old ≡ true → is_ended self.new ≡ true }
-        ensures broken { result ≡ Broken → is_broken self.new ≡ true };
+        ensures broken { result ≡ Broken → is_broken self.new ≡ true }
+        ensures interrupted { result ≡ Moved 0 → was_interrupted self.new ≡ true }
+        ensures still_interrupted { was_interrupted self.old ≡ true → was_interrupted self.new ≡ true };
 
     /// Looks once whether something has come, and receives nothing of it.
     fn look(&mut self) -> Flow
@@ -68,7 +73,8 @@ pub trait Socket: Drop {
         ensures waits { result ≡ Waits → has_none self.new ≡ true }
         ensures more { result ≢ Waits → has_more self.new ≡ true }
         ensures still_ended { is_ended self.old ≡ true → is_ended self.new ≡ true }
-        ensures broken { result ≡ Broken → is_broken self.new ≡ true };
+        ensures broken { result ≡ Broken → is_broken self.new ≡ true }
+        ensures still_interrupted { was_interrupted self.old ≡ true → was_interrupted self.new ≡ true };
 
     /// Takes some of the first bytes of these two to send, once.
     fn send(&mut self, head: &[u8], body: &[u8]) -> Flow
@@ -79,14 +85,17 @@ pub trait Socket: Drop {
         ensures waits { result ≡ Waits → is_full self.new ≡ true }
         ensures goes_on { result ≢ Ended }
         ensures still_ended { is_ended self.old ≡ true → is_ended self.new ≡ true }
-        ensures broken { result ≡ Broken → is_broken self.new ≡ true };
+        ensures broken { result ≡ Broken → is_broken self.new ≡ true }
+        ensures interrupted { result ≡ Moved 0 → was_interrupted self.new ≡ true }
+        ensures still_interrupted { was_interrupted self.old ≡ true → was_interrupted self.new ≡ true };
 
     /// Says to the other side that no more is sent. False where that fails.
     fn shut(&mut self) -> bool
         ensures sent { sent self.new ≡ sent self.old }
         ensures received { received self.new ≡ received self.old }
         ensures still_ended { is_ended self.old ≡ true → is_ended self.new ≡ true }
-        ensures broken { result ≡ false → is_broken self.new ≡ true };
+        ensures broken { result ≡ false → is_broken self.new ≡ true }
+        ensures still_interrupted { was_interrupted self.old ≡ true → was_interrupted self.new ≡ true };
 }
 
 impl Socket for TcpStream {
@@ -105,6 +114,8 @@ impl Socket for TcpStream {
     ghost is_ended = { λ _. true };
 
     ghost is_broken = { λ _. true };
+
+    ghost was_interrupted = { λ _. true };
 
     fn receive(&mut self, buffer: &mut [u8]) -> Flow {
         match self.read(buffer) {

@@ -86,6 +86,8 @@ impl Socket for Client {
 
     ghost is_broken = { λ _. true };
 
+    ghost was_interrupted = { λ _. true };
+
     // Which bytes come in a read of the body is all the same.
     fn receive(&mut self, buffer: &mut [u8]) -> Flow {
         if self.is_answered {

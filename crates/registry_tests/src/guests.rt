@@ -45,6 +45,8 @@ impl Socket for Memory {
 
     ghost is_broken = { λ _. true };
 
+    ghost was_interrupted = { λ _. true };
+
     fn receive(&mut self, buffer: &mut [u8]) -> Flow {
         let rest = self.message.get(self.taken..).unwrap_or(&[]);
         let count = rest.len().min(buffer.len()).min(self.piece_len);

@@ -1,8 +1,10 @@
 use Rattle.std.proofs.Common.{◌≡◌, ◌∙◌, ◌≤◌, [], List, ℕ, length, ap, refl, subst, sym, take}
 use Rattle.std.specs.Io.KnownBytes.{append_known}
-use Rattle.registry_server.specs.Connections.{OpenConnection, SendsDue, connected}
+use Rattle.registry_server.specs.Connections.{MovesSome, OpenConnection, SendsDue, connected}
 use Rattle.registry_server.specs.Phases.{entered}
 use Rattle.registry_server.specs.declared.phase.Phase.{Phase}
+use Rattle.registry_server.specs.declared.socket.Flow.TheVariants.{Moved}
+use Rattle.registry_server.proofs.ForwardFacts.{moves-sent}
 use Rattle.registry_server.proofs.IdleFacts.{held-none}
 use Rattle.registry_server.proofs.OrderFacts.{sent-in-order}
 use Rattle.registry_server.proofs.PhaseFacts.{entered-same, moved-on, sent-front-at, sent-still}
@@ -84,3 +86,9 @@ returns-in-Broken-clause-sends g c =
       over = refl;
       times = sent-still c.args.now c.self.inside.phase;
     })
+
+pub returns-else-is_empty-clause-forward : goal.returns-else-is_empty-clause-forward
+returns-else-is_empty-clause-forward g c again =
+    subst (λ (x : OpenConnection g.row.S.Denot). MovesSome g.S.Socket.received g.S.Socket.sent g.S.Socket.was_interrupted x.socket c.send.new.self) c.self.view_is
+    (moves-sent g.S.Socket.received g.S.Socket.sent g.S.Socket.was_interrupted c.in-Moved.count _ c.self.inside.socket c.send.new.self
+    c.in-Moved.ensures.bound c.in-Moved.ensures.received c.in-Moved.ensures.sent (λ none. c.in-Moved.ensures.interrupted (ap (λ (n : ℕ). Moved n) none)))

@@ -1,6 +1,7 @@
-use Rattle.std.proofs.Common.{◌∙◌, ap, rules, sym}
+use Rattle.std.proofs.Common.{◌∙◌, ap, inl, rules, sym}
 use Rattle.std.proofs.lemmas.Bool.{false≢true}
 use Rattle.registry_server.specs.Phases.{receives}
+use Rattle.registry_server.proofs.ForwardFacts.{moves-then}
 use Rattle.registry_server.proofs.RemainderFacts.{little-answered, little-drained, little-received, little-sent, little-starved, little-turned}
 use Rattle.registry_server.proofs.VisitFacts.{visit-answered, visit-dropped, visit-received, visit-sent, visit-starved, visit-turned, waits-for-more}
 use Rattle.registry_server.proofs.connection.Connection.visit.Goals as goal
@@ -58,3 +59,8 @@ returns-in-Sends-clause-leaves g c = λ goes before. little-sent g.S.Socket.rece
 
 pub returns-in-Drains-clause-leaves : goal.returns-in-Drains-clause-leaves
 returns-in-Drains-clause-leaves g c = λ goes before. little-drained _ c.drain.new.self c.drain.ensures.stage
+
+pub returns-in-Err-clause-forward : goal.returns-in-Err-clause-forward
+returns-in-Err-clause-forward g c again =
+    let h = c.in-Err.ensures.lost in
+    inl (moves-then g.S.Socket.received g.S.Socket.sent g.S.Socket.was_interrupted h.got c.args.self.now.socket c.receive.new.self.socket c.starve.new.self.socket h.gave h.unsent (c.starve.ensures.forward again))
