@@ -1,9 +1,11 @@
 //! The file at a path, opened as a registry and as any database.
 
 use registry_desk::Registry;
+use registry_http::RegistryService;
 use registry_names::Fault;
 use registry_rules::Request;
-use registry_test_requests::{Outcome, outcome_of};
+use registry_service::Service;
+use registry_test_requests::Outcome;
 use sqlite::{Alter, Connection, Error, ErrorCode, FileStore};
 use sqlite_disk::Disk;
 use std::alloc::Global;
@@ -22,9 +24,9 @@ fn outcome_in<D: Disk + Drop>(
     registry: Registry<FileStore<D>>,
     request: &Request,
 ) -> Outcome {
-    let mut registry = registry;
-    let outcome = outcome_of(alloc, &mut registry, request);
-    if is_closed(registry.release()) {
+    let mut service = RegistryService::new(registry);
+    let outcome = service.answer(alloc, request);
+    if is_closed(service.into_registry().release()) {
         outcome
     } else {
         Err(Fault::Database)
@@ -69,8 +71,9 @@ fn number_of<S: Alter>(
     row.get(0)
 }
 
-// Closes a connection. Whether its log was copied into its file.
-fn is_closed<D: Disk + Drop>(conn: Connection<FileStore<D>>) -> bool {
+/// Closes a connection. Whether its log was copied into its file. A registry in a file ends so in every
+/// test, and is never just let go: a function that lets one go is checked for a minute.
+pub(crate) fn is_closed<D: Disk + Drop>(conn: Connection<FileStore<D>>) -> bool {
     match conn.close_files() {
         Ok(_files) => true,
         Err((_, store)) => {

@@ -6,10 +6,12 @@ use crate::tests::lists::{
     WITHDRAWALS,
 };
 use registry_desk::Registry;
+use registry_http::RegistryService;
 use registry_names::{Fault, Refusal};
 use registry_rules::{Reply, Request};
 use registry_test_requests::{Outcome, outcomes_of, push_requests, request_of, requests_of};
 use registry_test_support::{otherwise, same};
+use sqlite::Alter;
 use std::alloc::{AllocError, Global};
 use std::test::Fail;
 
@@ -75,8 +77,19 @@ pub(crate) fn ran(
 }
 
 fn one_by_one(alloc: Global, requests: &[Request]) -> Result<Vec<Outcome>, Fault> {
-    let mut registry = Registry::in_memory(alloc)?;
-    Ok(outcomes_of(alloc, &mut registry, requests)?)
+    match Registry::in_memory(alloc) {
+        Ok(registry) => one_by_one_over(alloc, registry, requests),
+        Err(fault) => Err(fault),
+    }
+}
+
+fn one_by_one_over<S: Alter + Drop>(
+    alloc: Global,
+    registry: Registry<S>,
+    requests: &[Request],
+) -> Result<Vec<Outcome>, Fault> {
+    let mut service = RegistryService::new(registry);
+    Ok(outcomes_of(alloc, &mut service, requests)?)
 }
 
 // Whether both are the same replies.

@@ -1,13 +1,15 @@
 //! Registries in the machine's files: what becomes one, and from what none opens. That one is kept
 //! as it was, and the program reports why.
 
+use crate::tests::at_path::is_closed;
 use crate::tests::lies::{FOLDER, LOG, Lies, PATH, added, lay};
 use crate::tests::program::{Case, Failing, leaves_it, with_db};
 use registry_desk::Registry;
 use registry_names::{Fault, Refusal};
 use registry_rules::Reply;
 use registry_test_support::same;
-use sqlite::Alter;
+use sqlite::FileStore;
+use sqlite_disk::Disk;
 use std::fs;
 use std::os::unix::fs::PermissionsExt;
 use std::test::Fail;
@@ -233,11 +235,13 @@ fn all_print(rt: &HostRuntime, errors: &'static str) -> Result<(), Fail> {
     Ok(())
 }
 
-// While a registry is held its file and its log are its owner's alone, and no other opens.
-fn is_held<S: Alter + Drop>(rt: &HostRuntime, held: Registry<S>) -> Result<(), Fail> {
+// While a registry is held its file and its log are its owner's alone, and no other opens. Then it is
+// closed.
+fn is_held<D: Disk + Drop>(rt: &HostRuntime, held: Registry<FileStore<D>>) -> Result<(), Fail> {
     let seen = is_seen_held(rt);
-    drop(held);
-    seen
+    let is_closed = is_closed(held.release());
+    seen?;
+    same("the close", is_closed, true)
 }
 
 fn is_seen_held(rt: &HostRuntime) -> Result<(), Fail> {

@@ -21,7 +21,7 @@ pub(crate) const LOG: &str = "files_of_registries/registry.db-wal";
 const OLDEST_COUNT: usize = 14;
 
 /// What lies at the path.
-#[derive(Clone, Copy, Debug)]
+#[derive(Clone, Copy)]
 pub(crate) enum Lies {
     /// Nothing, and no folder for it.
     Nowhere,

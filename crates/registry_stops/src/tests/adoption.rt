@@ -5,17 +5,19 @@ ghost use Rattle.sqlite.specs.Files.{file_state};
 ghost use Rattle.registry_desk.specs.Adopted.{CanBeAdopted};
 
 use crate::disks::{
-    Closed, Leaves, NEVER, Stopping, StoppingDisk, close, connected, empty_files, left_of, opened,
-    options,
+    Adoptions, Held, Leaves, NO_STOP, Stop, Stopping, StoppingDisk, adopted, adopted_twice, closed,
+    connected, files_of, left_of, opened,
 };
+use crate::lives::{ask_all, lived, replies_of};
 use crate::requests::{COMMANDS, QUERIES};
-use registry_desk::Registry;
+use registry_http::RegistryService;
 use registry_names::Fault;
-use registry_test_requests::{outcomes_of, requests_of};
+use registry_rules::{Reply, Request};
+use registry_test_requests::requests_of;
 use registry_test_support::same;
-use sqlite::{Connection, FileStore, Files};
-use sqlite_disk::{Fuse, Memory};
-use std::alloc::Global;
+use sqlite::{Connection, FileStore};
+use sqlite_disk::{Disk, Fuse, Memory};
+use std::alloc::{AllocError, Global};
 use std::test::Fail;
 
 /// More calls than an open makes of one file.
@@ -34,99 +36,93 @@ static CHANGES: [&str; 4] = [
 
 #[test]
 fn a_released_registry_is_adopted(rt: HostRuntime) -> Result<(), Fail> {
-    is_adopted::<Fuse<Memory>>(rt.alloc())
+    let held = held_after(rt.alloc(), SAME)?;
+    let queries = requests_of(rt.alloc(), QUERIES)?;
+    is_adopted::<Fuse<Memory>>(rt.alloc(), &held, &queries)
 }
 
-fn is_adopted<D: StoppingDisk>(alloc: Global) -> Result<(), Fail> {
-    let queries = requests_of(alloc, QUERIES)?;
-    let Ok(mut registry) = opened(alloc, files_after::<D>(alloc, SAME)?) else {
-        return Err(Fail::new(format_args!("nothing opens")));
-    };
-    let shown = outcomes_of(alloc, &mut registry, &queries)?;
-    match Registry::adopt(alloc, registry.release()) {
-        Ok(mut registry) => {
-            let found = outcomes_of(alloc, &mut registry, &queries)?;
-            same("what is shown", found.as_slice() == shown.as_slice(), true)
+fn is_adopted<D: StoppingDisk>(
+    alloc: Global,
+    held: &Held,
+    queries: &[Request],
+) -> Result<(), Fail> {
+    match opened(alloc, files_of::<D>(alloc, held, NO_STOP)?) {
+        Ok(registry) => shows_the_same(alloc, registry, queries),
+        Err((fault, _)) => Err(Fail::new(format_args!("an open: {fault}"))),
+    }
+}
+
+// A registry that takes over the connection of this one shows what this one shows.
+fn shows_the_same<D: Disk + Drop>(
+    alloc: Global,
+    registry: RegistryService<FileStore<D>>,
+    queries: &[Request],
+) -> Result<(), Fail> {
+    let mut registry = registry;
+    let shown = replies_of(alloc, &mut registry, &[queries]);
+    let found = replies_of_next(alloc, registry, queries);
+    let (shown, found) = (shown?, found?);
+    same("replies", shown.len(), queries.len())?;
+    same("what is shown", found.as_slice(), shown.as_slice())
+}
+
+// What a registry shows that takes over the connection of this one: nothing if there is none.
+fn replies_of_next<D: Disk + Drop>(
+    alloc: Global,
+    registry: RegistryService<FileStore<D>>,
+    queries: &[Request],
+) -> Result<Vec<Reply>, AllocError> {
+    match adopted(alloc, registry.into_registry().release()) {
+        Ok(registry) => Ok(ask_all(alloc, registry, &[queries])?.replies),
+        Err((_, connection)) => {
+            let _files = closed(connection);
+            Ok(Vec::new(alloc))
         }
-        Err((fault, _)) => Err(Fail::new(format_args!("{fault}"))),
     }
 }
 
 #[test]
 fn what_another_hand_changed_is_handed_back(rt: HostRuntime) -> Result<(), Fail> {
     for change in &CHANGES {
-        is_refused::<Fuse<Memory>>(rt.alloc(), change)?;
+        let held = held_after(rt.alloc(), change)?;
+        is_refused::<Fuse<Memory>>(rt.alloc(), change, &held)?;
     }
     Ok(())
 }
 
-fn is_refused<D: StoppingDisk>(alloc: Global, change: &str) -> Result<(), Fail> {
-    match connected(alloc, files_after::<D>(alloc, change)?) {
-        Ok(connection) => is_handed_back(alloc, change, connection),
-        Err(_) => Err(Fail::new(format_args!("after {change} nothing opens"))),
-    }
-}
-
 // The connection is refused, and once more.
-fn is_handed_back<D: StoppingDisk>(
-    alloc: Global,
-    change: &str,
-    connection: Connection<FileStore<D>>,
-) -> Result<(), Fail>
-    requires rises { CanBeAdopted (file_state connection) }
-{
-    match Registry::adopt(alloc, connection) {
-        Ok(_) => Err(Fail::new(format_args!("a registry after {change}"))),
-        Err((fault, connection)) => {
-            same(change, fault, Fault::Database)?;
-            match Registry::adopt(alloc, connection) {
-                Ok(_) => Err(Fail::new(format_args!("then a registry after {change}"))),
-                Err((fault, _)) => same((change, "again"), fault, Fault::Database),
-            }
-        }
-    }
+fn is_refused<D: StoppingDisk>(alloc: Global, change: &str, held: &Held) -> Result<(), Fail> {
+    let connection = connected(alloc, files_of::<D>(alloc, held, NO_STOP)?)?;
+    let adoptions = adopted_twice(alloc, connection);
+    same(change, adoptions.first, Some(Fault::Database))?;
+    same((change, "again"), adoptions.second, Some(Fault::Database))
 }
 
 #[test]
 fn a_connection_inside_a_transaction_is_handed_back(rt: HostRuntime) -> Result<(), Fail> {
-    is_back_inside::<Fuse<Memory>>(rt.alloc())
+    let held = held_after(rt.alloc(), SAME)?;
+    is_back_inside::<Fuse<Memory>>(rt.alloc(), &held)
 }
 
-fn is_back_inside<D: StoppingDisk>(alloc: Global) -> Result<(), Fail> {
-    let Ok(mut connection) = connected(alloc, files_after::<D>(alloc, SAME)?) else {
-        return Err(Fail::new(format_args!("nothing opens")));
-    };
-    connection.execute_batch("BEGIN")?;
-    if connection.is_autocommit() {
-        return Err(Fail::new(format_args!("no transaction is open")));
-    }
-    match Registry::adopt(alloc, connection) {
-        Ok(_) => Err(Fail::new(format_args!("a registry inside a transaction"))),
-        Err((fault, connection)) => {
-            same("the fault", fault, Fault::Database)?;
-            same("it is inside", connection.is_autocommit(), false)
-        }
-    }
+fn is_back_inside<D: StoppingDisk>(alloc: Global, held: &Held) -> Result<(), Fail> {
+    let mut connection = connected(alloc, files_of::<D>(alloc, held, NO_STOP)?)?;
+    let begun = connection.execute_batch("BEGIN");
+    let is_inside = !connection.is_autocommit();
+    let adoptions = adopted_twice(alloc, connection);
+    begun?;
+    same("a transaction is open", is_inside, true)?;
+    same("the fault", adoptions.first, Some(Fault::Database))?;
+    same("it is inside", adoptions.is_inside, true)
 }
 
 #[test]
 fn files_come_back_from_an_open(rt: HostRuntime) -> Result<(), Fail> {
-    come_back::<Fuse<Memory>>(rt.alloc())
-}
-
-fn come_back<D: StoppingDisk>(alloc: Global) -> Result<(), Fail> {
-    let files = files_after::<D>(alloc, "CREATE TABLE notes (note TEXT)")?;
-    if !files.may_be_used() {
-        return Err(Fail::new(format_args!("the files can't be used")));
-    }
-    match Registry::open_files(alloc, files, options()) {
-        Ok(_) => Err(Fail::new(format_args!("a registry with notes"))),
-        Err((fault, left)) => {
-            same("the fault", fault, Fault::Database)?;
-            let files = changed(alloc, left.into_files(), "DROP TABLE notes")?;
-            same("it opens without notes", opened(alloc, files).is_ok(), true)
-        }
-    }
+    let held = held_after(rt.alloc(), "CREATE TABLE notes (note TEXT)")?;
+    let with_notes = lived(rt.alloc(), &held, NO_STOP, &[])?;
+    same("the fault", with_notes.unopened, Some(Fault::Database))?;
+    let held = changed::<Fuse<Memory>>(rt.alloc(), &with_notes.left, "DROP TABLE notes")?;
+    let without = lived(rt.alloc(), &held, NO_STOP, &[])?;
+    same("without notes", without.unopened, None)
 }
 
 // Until an adoption meets no fault: after one, another meets it again, and a crash leaves files
@@ -154,58 +150,58 @@ enum Adoption {
 }
 
 fn is_met_again<D: StoppingDisk>(alloc: Global, calls: u64) -> Result<Adoption, Fail> {
-    let Ok(connection) = connected(alloc, empty_files::<D>(alloc, Stopping::Log, calls)) else {
-        return Ok(Adoption::Unopened);
+    let stop = Stop {
+        stopping: Stopping::Log,
+        calls,
+        leaves: Leaves::Synced,
     };
-    match Registry::adopt(alloc, connection) {
-        Ok(_) => Ok(Adoption::Succeeds),
-        Err((_, connection)) => {
-            meets_it_again(alloc, calls, connection)?;
-            Ok(Adoption::Fails)
-        }
+    match connected(alloc, files_of::<D>(alloc, &Held::nothing(alloc), stop)?) {
+        Ok(connection) => comes_of(alloc, calls, connection),
+        Err(_) => Ok(Adoption::Unopened),
     }
 }
 
-fn meets_it_again<D: StoppingDisk>(
+fn comes_of<D: StoppingDisk>(
     alloc: Global,
     calls: u64,
     connection: Connection<FileStore<D>>,
-) -> Result<(), Fail>
+) -> Result<Adoption, Fail>
     requires rises { connection.in_transaction ≡ false → CanBeAdopted (file_state connection) }
 {
-    match Registry::adopt(alloc, connection) {
-        Ok(_) => Err(Fail::new(format_args!("after {calls} calls a registry"))),
-        Err((_, connection)) => {
-            let Closed { files, .. } = close(connection);
-            let files = left_of(alloc, files, Leaves::Synced)?;
-            same((calls, "it opens"), opened(alloc, files).is_ok(), true)
-        }
+    let Adoptions {
+        first,
+        second,
+        files,
+        ..
+    } = adopted_twice(alloc, connection);
+    if first.is_none() {
+        return Ok(Adoption::Succeeds);
     }
+    same((calls, "it fails again"), second.is_some(), true)?;
+    let left = left_of(alloc, files, Leaves::Synced)?;
+    let after = lived(alloc, &left, NO_STOP, &[])?;
+    same((calls, "it opens"), after.unopened, None)?;
+    Ok(Adoption::Fails)
 }
 
 // The files of a registry that was asked the commands, and then changed by this SQL.
-fn files_after<D: StoppingDisk>(alloc: Global, change: &str) -> Result<Files<D>, Fail> {
-    let Ok(mut registry) = opened(alloc, empty_files::<D>(alloc, Stopping::Both, NEVER)) else {
-        return Err(Fail::new(format_args!("nothing opens")));
-    };
+fn held_after(alloc: Global, change: &str) -> Result<Held, Fail> {
     let commands = requests_of(alloc, COMMANDS)?;
-    for outcome in outcomes_of(alloc, &mut registry, &commands)? {
-        let _reply = outcome?;
-    }
-    let Closed { files, .. } = close(registry.release());
-    changed(alloc, left_of(alloc, files, Leaves::Written)?, change)
+    let made = lived(
+        alloc,
+        &Held::nothing(alloc),
+        NO_STOP,
+        &[commands.as_slice()],
+    )?;
+    same("replies", made.replies.len(), commands.len())?;
+    changed::<Fuse<Memory>>(alloc, &made.left, change)
 }
 
 // The files of a database that is changed by this SQL.
-fn changed<D: StoppingDisk>(
-    alloc: Global,
-    files: Files<D>,
-    change: &str,
-) -> Result<Files<D>, Fail> {
-    let Ok(mut connection) = connected(alloc, files) else {
-        return Err(Fail::new(format_args!("nothing opens before {change}")));
-    };
-    connection.execute_batch(change)?;
-    let Closed { files, .. } = close(connection);
-    left_of(alloc, files, Leaves::Written)
+fn changed<D: StoppingDisk>(alloc: Global, held: &Held, change: &str) -> Result<Held, Fail> {
+    let mut connection = connected(alloc, files_of::<D>(alloc, held, NO_STOP)?)?;
+    let outcome = connection.execute_batch(change);
+    let (_, files) = closed(connection);
+    outcome?;
+    Ok(left_of(alloc, files, Leaves::Written)?)
 }

@@ -1,9 +1,8 @@
 //! A service over a registry whose log fails after so many calls: a fault is answered, and the
 //! service is over where that has shut the registry.
 
-use crate::disks::{Stopping, StoppingDisk, empty_files, opened};
+use crate::disks::{Held, Leaves, Stop, Stopping, StoppingDisk, files_in, files_of, opened};
 use crate::requests::{ADD_ANN, TAGS_OF_NONE};
-use registry_http::RegistryService;
 use registry_names::Fault;
 use registry_rules::Request;
 use registry_service::Service;
@@ -17,7 +16,7 @@ use std::test::Fail;
 const ENOUGH: u64 = 1_000;
 
 /// What comes of a registry in files, and of one request to it.
-#[derive(Clone, Copy, Debug, PartialEq, Eq)]
+#[derive(Clone, Copy)]
 enum Comes {
     /// It doesn't open.
     Unopened,
@@ -67,12 +66,18 @@ fn both_are_seen(alloc: Global, asked: &Asked) -> Result<(), Fail> {
 
 // What comes of a registry whose log fails after so many calls.
 fn comes_of<D: StoppingDisk>(alloc: Global, calls: u64, asked: &Asked) -> Result<Comes, Fail> {
-    match opened(alloc, empty_files::<D>(alloc, Stopping::Log, calls)) {
-        Ok(registry) => {
-            let mut service = RegistryService::new(registry);
-            answers(alloc, calls, &mut service, asked)
+    let stop = Stop {
+        stopping: Stopping::Log,
+        calls,
+        leaves: Leaves::Synced,
+    };
+    match opened(alloc, files_of::<D>(alloc, &Held::nothing(alloc), stop)?) {
+        Ok(mut service) => {
+            let comes = answers(alloc, calls, &mut service, asked);
+            let _files = files_in(service);
+            comes
         }
-        Err(_files) => Ok(Comes::Unopened),
+        Err(_) => Ok(Comes::Unopened),
     }
 }
 

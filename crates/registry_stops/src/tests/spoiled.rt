@@ -1,15 +1,17 @@
 //! A disk that gives back another byte than it was given: the file is refused, and its page is never
 //! read as data.
 
-use crate::disks::{Closed, NEVER, Stopping, StoppingDisk, close, empty_files, opened, options};
+use crate::disks::{Held, NO_STOP};
+use crate::lives::{Asked, Life, ask_all, lived};
 use crate::requests::{ADD_ANN, COMMANDS, QUERIES, TAGS_OF_NONE};
 use registry_desk::Registry;
+use registry_http::RegistryService;
 use registry_names::{Fault, Refusal};
 use registry_rules::{Reply, Request};
-use registry_test_requests::{Outcome, outcome_of, outcomes_of, request_of, requests_of};
+use registry_test_requests::{request_of, requests_of};
 use registry_test_support::same;
-use sqlite::{Alter, FileStore, Files};
-use sqlite_disk::{Disk, Fuse, Memory, Wary};
+use sqlite::FileStore;
+use sqlite_disk::{Disk, Wary};
 use std::alloc::{AllocError, Global};
 use std::fs;
 use std::test::Fail;
@@ -41,12 +43,25 @@ const NONE_IS_FOUND: Told = (TAGS_OF_NONE, Some(Refusal::NotFound));
 
 #[test]
 fn a_registry_in_files_in_memory_lasts(rt: HostRuntime) -> Result<(), Fail> {
-    lasts::<Fuse<Memory>>(rt.alloc())
+    let alloc = rt.alloc();
+    let held = told_in(alloc, &Held::nothing(alloc), ANN_IS_ADDED)?;
+    let held = told_in(alloc, &held, ANN_IS_THERE)?;
+    let _held = told_in(alloc, &held, NONE_IS_FOUND)?;
+    Ok(())
 }
 
+// The first page ends in a sum of its bytes, which no change of one byte leaves right, and no log
+// replaces it; and what comes of a change in the size of pages or of sums is no size.
 #[test]
 fn a_byte_changed_in_the_head_is_refused(rt: HostRuntime) -> Result<(), Fail> {
-    no_changed_head_opens::<Fuse<Memory>>(rt.alloc())
+    let alloc = rt.alloc();
+    let Held { log: _, db } = told_in(alloc, &Held::nothing(alloc), ANN_IS_ADDED)?;
+    let whole = without_log(alloc, db);
+    let _held = told_in(alloc, &whole, ANN_IS_THERE)?;
+    for place in &HEAD {
+        opens_none(alloc, *place, spoiled(alloc, &whole.db, *place)?)?;
+    }
+    Ok(())
 }
 
 #[test]
@@ -57,47 +72,15 @@ fn a_byte_changed_in_any_page_is_never_read(rt: HostRuntime) -> Result<(), Fail>
     Ok(fs::remove_dir_all(&rt, FOLDER)?)
 }
 
-// A registry holds in the second run what was answered in the first.
-fn lasts<D: StoppingDisk>(alloc: Global) -> Result<(), Fail> {
-    let files = empty_files::<D>(alloc, Stopping::Both, NEVER);
-    let files = told_in(alloc, files, ANN_IS_ADDED)?;
-    let files = told_in(alloc, files, ANN_IS_THERE)?;
-    let _files = told_in(alloc, files, NONE_IS_FOUND)?;
-    Ok(())
-}
-
-// No registry opens from files with one byte of the head changed. The first page ends in a sum of
-// its bytes, which no change of one byte leaves right, and no log replaces it; and what comes of a
-// change in the size of pages or of sums is no size.
-fn no_changed_head_opens<D: StoppingDisk>(alloc: Global) -> Result<(), Fail> {
-    let files = empty_files::<D>(alloc, Stopping::Both, NEVER);
-    let files = told_in(alloc, files, ANN_IS_ADDED)?;
-    let whole = files.db.written();
-    let _files = told_in(alloc, files_of::<D>(alloc, whole)?, ANN_IS_THERE)?;
-    for place in &HEAD {
-        opens_none(alloc, *place, changed_at::<D>(alloc, whole, *place)?)?;
-    }
-    Ok(())
-}
-
 // A database of these bytes, with an empty log.
-fn files_of<D: StoppingDisk>(alloc: Global, bytes: &[u8]) -> Result<Files<D>, Fail> {
-    Ok(Files {
-        log: D::empty(alloc, NEVER),
-        db: D::holding(alloc, bytes, NEVER)?,
-    })
+fn without_log(alloc: Global, db: Vec<u8>) -> Held {
+    Held {
+        log: Vec::new(alloc),
+        db,
+    }
 }
 
-// The same with the byte at this place changed.
-fn changed_at<D: StoppingDisk>(
-    alloc: Global,
-    whole: &[u8],
-    place: usize,
-) -> Result<Files<D>, Fail> {
-    let bytes = spoiled(alloc, whole, place)?;
-    files_of(alloc, &bytes)
-}
-
+// The same bytes with the one at this place changed.
 fn spoiled(alloc: Global, whole: &[u8], place: usize) -> Result<Vec<u8>, AllocError> {
     let mut bytes = Vec::new(alloc);
     bytes.extend_from_slice(whole)?;
@@ -107,113 +90,88 @@ fn spoiled(alloc: Global, whole: &[u8], place: usize) -> Result<Vec<u8>, AllocEr
     Ok(bytes)
 }
 
-// No registry opens from these files, where the byte at this place was changed.
-fn opens_none<D: Disk + Drop>(alloc: Global, place: usize, files: Files<D>) -> Result<(), Fail> {
-    if !files.may_be_used() {
-        return Err(Fail::new(format_args!("the files can't be used")));
-    }
-    match Registry::open_files(alloc, files, options()) {
-        Ok(_registry) => Err(Fail::new(format_args!(
-            "a registry opens, with byte {place} changed"
-        ))),
-        Err((fault, _left)) => same(place, fault, Fault::Database),
-    }
+// No registry opens from this database, in which the byte at this place was changed.
+fn opens_none(alloc: Global, place: usize, db: Vec<u8>) -> Result<(), Fail> {
+    let none = lived(alloc, &without_log(alloc, db), NO_STOP, &[])?;
+    same(place, none.unopened, Some(Fault::Database))
 }
 
-// The files, once a registry in them answered as it should.
-fn told_in<D: Disk + Drop>(alloc: Global, files: Files<D>, told: Told) -> Result<Files<D>, Fail> {
-    match opened(alloc, files) {
-        Ok(registry) => told_closed(alloc, registry, told),
-        Err(_files) => Err(Fail::new(format_args!("no registry opens from the files"))),
-    }
-}
-
-fn told_closed<D: Disk + Drop>(
-    alloc: Global,
-    registry: Registry<FileStore<D>>,
-    told: Told,
-) -> Result<Files<D>, Fail> {
-    let mut registry = registry;
-    let comes_out = is_told(alloc, &mut registry, told);
-    let Closed { is_whole, files } = close(registry.release());
-    same("the reply", comes_out?, true)?;
-    same("the close", is_whole, true)?;
-    Ok(files)
-}
-
-// Whether a registry answers as it should.
-fn is_told<S: Alter>(alloc: Global, registry: &mut Registry<S>, told: Told) -> Result<bool, Fail> {
+// What the files hold, once a registry in them answered as it should.
+fn told_in(alloc: Global, held: &Held, told: Told) -> Result<Held, Fail> {
     let (words, refusal) = told;
-    let request = request_of(alloc, words)?;
-    Ok(match outcome_of(alloc, registry, &request) {
-        Ok(Reply::Done) => refusal.is_none(),
-        Ok(Reply::Refused(given)) => refusal == Some(given),
+    let requests = [request_of(alloc, words)?];
+    let Life {
+        replies,
+        is_closed,
+        left,
+        ..
+    } = lived(alloc, held, NO_STOP, &[&requests[..]])?;
+    same((words, "the reply"), is_told(&replies, refusal), true)?;
+    same((words, "the close"), is_closed, true)?;
+    Ok(left)
+}
+
+// Whether the only reply is this refusal, or says that it is done where there is none.
+fn is_told(replies: &[Reply], refusal: Option<Refusal>) -> bool {
+    match replies {
+        [Reply::Done] => refusal.is_none(),
+        [Reply::Refused(given)] => refusal == Some(*given),
         _ => false,
-    })
+    }
 }
 
 // Makes the file, of which the queries show the same until a byte is changed.
 fn no_changed_byte_is_read(rt: &HostRuntime) -> Result<(), Fail> {
+    let commands = requests_of(rt.alloc(), COMMANDS)?;
     let queries = requests_of(rt.alloc(), QUERIES)?;
-    let outcomes = made(rt)?;
-    are_replies(&outcomes)?;
-    let first = outcomes.len().saturating_sub(queries.len());
-    no_changed_page_opens(rt, &queries, outcomes.get(first..).unwrap_or(&[]))
+    let made = replies_at(rt, &[commands.as_slice(), queries.as_slice()])?;
+    same(
+        "replies",
+        made.len(),
+        commands.len().saturating_add(queries.len()),
+    )?;
+    let found = replies_at(rt, &[queries.as_slice()])?;
+    same(
+        "what is shown",
+        Some(found.as_slice()),
+        made.get(commands.len()..),
+    )?;
+    no_changed_page_opens(rt, &queries)
 }
 
-// Makes the file. What comes of the commands, and then of the queries.
-fn made(rt: &HostRuntime) -> Result<Vec<Outcome>, Fail> {
-    let text = format!(in rt.alloc(); "{COMMANDS}{QUERIES}")?;
-    let requests = requests_of(rt.alloc(), &text)?;
-    Ok(outcomes_at(rt, &requests)?)
-}
-
-fn are_replies(outcomes: &[Outcome]) -> Result<(), Fail> {
-    for (place, outcome) in outcomes.iter().enumerate() {
-        same(("a fault", place), outcome.is_err(), false)?;
-    }
-    Ok(())
-}
-
-// With no byte changed the registry opens and shows what it showed before, and with one none opens.
-fn no_changed_page_opens(
-    rt: &HostRuntime,
-    queries: &[Request],
-    shown: &[Outcome],
-) -> Result<(), Fail> {
-    let found = outcomes_at(rt, queries)?;
-    same("what is shown", found.as_slice() == shown, true)?;
+// With a byte changed no registry opens, whichever page it is in.
+fn no_changed_page_opens(rt: &HostRuntime, queries: &[Request]) -> Result<(), Fail> {
     let whole = fs::read(rt, PATH)?;
     for place in (PAGE_LEN / 2..whole.len()).step_by(PAGE_LEN) {
         let bytes = spoiled(rt.alloc(), &whole, place)?;
         fs::write(rt, PATH, bytes.as_slice())?;
-        same(place, outcomes_at(rt, queries).err(), Some(Fault::Database))?;
+        let replies = replies_at(rt, &[queries]);
+        same(place, replies.err(), Some(Fault::Database))?;
     }
     Ok(())
 }
 
-// The outcomes of these requests at a registry from the file, which is closed. A fault comes where
-// none opens.
-fn outcomes_at(rt: &HostRuntime, requests: &[Request]) -> Result<Vec<Outcome>, Fault> {
+// What a registry in the file replies, which is closed. A fault comes where none opens or the file
+// doesn't close.
+fn replies_at(rt: &HostRuntime, asks: &[&[Request]]) -> Result<Vec<Reply>, Fault> {
     match Registry::open_from(rt, PATH, Wary) {
-        Ok(registry) => outcomes_closed(rt.alloc(), registry, requests),
+        Ok(registry) => replies_if_closed(rt.alloc(), registry, asks),
         Err(fault) => Err(fault),
     }
 }
 
-fn outcomes_closed<D: Disk + Drop>(
+fn replies_if_closed<D: Disk + Drop>(
     alloc: Global,
     registry: Registry<FileStore<D>>,
-    requests: &[Request],
-) -> Result<Vec<Outcome>, Fault> {
-    let mut registry = registry;
-    let outcomes = outcomes_of(alloc, &mut registry, requests);
-    let Closed {
-        is_whole,
+    asks: &[&[Request]],
+) -> Result<Vec<Reply>, Fault> {
+    let Asked {
+        replies,
+        is_closed,
         files: _files,
-    } = close(registry.release());
-    if is_whole {
-        Ok(outcomes?)
+    } = ask_all(alloc, RegistryService::new(registry), asks)?;
+    if is_closed {
+        Ok(replies)
     } else {
         Err(Fault::Database)
     }

@@ -1,17 +1,16 @@
 //! A stop at each call of the database file, and at each of its log. After some of them the open
 //! that follows stops at each of its calls, too.
 
-use crate::disks::{
-    Closed, Leaves, Stopping, StoppingDisk, close, copied, empty_files, left_of, opened,
-};
+use crate::disks::{Held, Leaves, NO_STOP, Stop, Stopping};
+use crate::lives::{lived, replies_of};
 use crate::requests::{COMMANDS, QUERIES};
 use registry_desk::Registry;
+use registry_http::RegistryService;
 use registry_rules::{Reply, Request};
-use registry_test_requests::{Outcome, outcome_of, outcomes_of, requests_of};
+use registry_test_requests::requests_of;
 use registry_test_support::same;
-use sqlite::{Alter, Files};
-use sqlite_disk::{Disk, Fuse, Memory};
-use std::alloc::{AllocError, Global};
+use sqlite::Alter;
+use std::alloc::Global;
 use std::env;
 use std::test::Fail;
 
@@ -21,21 +20,20 @@ const MOST_CALLS: u64 = 10_000;
 /// After one of so many stops the next open stops, too, where the environment says nothing else.
 const EVERY: u64 = 32;
 
-/// What is asked, and what a registry in memory, which never stops, answers.
+/// What is asked, and what a registry in memory, which never stops, replies after each command.
 struct Story {
     commands: Vec<Request>,
     queries: Vec<Request>,
-    answers: Answers,
+    /// What is wanted where so many commands were answered before a stop.
+    wanted: Vec<Wanted>,
 }
 
-/// What a registry in memory answers.
-struct Answers {
-    /// What comes of each command.
-    replies: Vec<Outcome>,
-    /// What comes of each command where it is asked once more, after which all is as before.
-    again: Vec<Outcome>,
-    /// What the queries show before the first command, and after each.
-    shown: Vec<Vec<Outcome>>,
+/// What a registry in memory replies to all that is asked after a stop.
+struct Wanted {
+    /// Where nothing of the stopped command was done.
+    undone: Vec<Reply>,
+    /// Where all of it was done.
+    done: Vec<Reply>,
 }
 
 // Both are written out, so that to drop one is one call and not one for each part.
@@ -44,18 +42,14 @@ impl Drop for Story {
         let Story {
             commands: _,
             queries: _,
-            answers: _,
+            wanted: _,
         } = self;
     }
 }
 
-impl Drop for Answers {
+impl Drop for Wanted {
     fn drop(self) {
-        let Answers {
-            replies: _,
-            again: _,
-            shown: _,
-        } = self;
+        let Wanted { undone: _, done: _ } = self;
     }
 }
 
@@ -68,6 +62,16 @@ struct Stops {
     every: u64,
 }
 
+impl Stops {
+    fn after(self, calls: u64) -> Stop {
+        Stop {
+            stopping: self.stopping,
+            calls,
+            leaves: self.leaves,
+        }
+    }
+}
+
 /// The stops that were made.
 #[derive(Drop)]
 struct Made {
@@ -75,14 +79,6 @@ struct Made {
     stopped: Vec<usize>,
     /// How many stops came in the open after one of them.
     in_opens: u64,
-}
-
-/// How a run ended: how many commands were answered, whether a call of a file failed, and the
-/// files.
-struct Run<D: Disk> {
-    answered: usize,
-    is_stopped: bool,
-    files: Files<D>,
 }
 
 #[test]
@@ -129,9 +125,12 @@ fn no_stop_loses_an_answer(
         every: every(rt),
     };
     let story = story_in_memory(rt.alloc())?;
-    let made = stops_made::<Fuse<Memory>>(rt.alloc(), &story, stops)?;
-    show(rt, stops, &story, &made);
-    are_stopped(&story, stopping, &made.stopped)
+    let made = stops_made(rt.alloc(), &story, stops)?;
+    show(rt, stops, story.commands.len(), &made);
+    if matches!(stopping, Stopping::Database) {
+        return Ok(());
+    }
+    are_stopped(&story, &made.stopped)
 }
 
 // After one of how many stops the next open stops, too: `STOPS_EVERY` says so in `make stops`.
@@ -143,9 +142,9 @@ fn every(rt: &HostRuntime) -> u64 {
 }
 
 // Prints how many stops there were.
-fn show(rt: &HostRuntime, stops: Stops, story: &Story, made: &Made) {
+fn show(rt: &HostRuntime, stops: Stops, commands: usize, made: &Made) {
     let (stopping, leaves, in_opens) = (stops.stopping, stops.leaves, made.in_opens);
-    let (count, commands) = (made.stopped.len(), story.commands.len());
+    let count = made.stopped.len();
     let (first, last) = (
         count_at(&made.stopped, 0),
         count_at(&made.stopped, commands),
@@ -166,13 +165,13 @@ fn count_at(stopped: &[usize], commands: usize) -> usize {
     count
 }
 
-fn stops_made<D: StoppingDisk>(alloc: Global, story: &Story, stops: Stops) -> Result<Made, Fail> {
+fn stops_made(alloc: Global, story: &Story, stops: Stops) -> Result<Made, Fail> {
     let mut made = Made {
         stopped: Vec::new(alloc),
         in_opens: 0,
     };
     for calls in 0..MOST_CALLS {
-        if !is_stopped_after::<D>(alloc, calls, story, stops, &mut made)? {
+        if !is_stopped_after(alloc, calls, story, stops, &mut made)? {
             return Ok(made);
         }
     }
@@ -180,90 +179,100 @@ fn stops_made<D: StoppingDisk>(alloc: Global, story: &Story, stops: Stops) -> Re
 }
 
 // Whether a run is stopped where what stops passes so many calls. What it leaves goes on.
-fn is_stopped_after<D: StoppingDisk>(
+fn is_stopped_after(
     alloc: Global,
     calls: u64,
     story: &Story,
     stops: Stops,
     made: &mut Made,
 ) -> Result<bool, Fail> {
-    let files = empty_files::<D>(alloc, stops.stopping, calls);
-    let Run {
-        answered,
-        is_stopped,
-        files,
-    } = run_until_stopped(alloc, files, &story.commands);
-    let left = left_of(alloc, files, stops.leaves)?;
-    if is_stopped {
-        made.stopped.push(answered)?;
-        if calls.checked_rem(stops.every) == Some(0) {
-            let count = stops_of_open(alloc, &left, story, stops, answered)?;
-            made.in_opens = made.in_opens.saturating_add(count);
-        }
+    let asks = [story.commands.as_slice()];
+    let run = lived(alloc, &Held::nothing(alloc), stops.after(calls), &asks)?;
+    let answered = run.replies.len();
+    goes_on(alloc, calls, &run.left, story, answered)?;
+    if run.is_closed && answered == story.commands.len() {
+        return Ok(false);
     }
-    goes_on(alloc, calls, left, story, answered)?;
-    Ok(is_stopped)
+    made.stopped.push(answered)?;
+    if calls.checked_rem(stops.every) == Some(0) {
+        let count = stops_of_open(alloc, &run.left, story, stops, answered)?;
+        made.in_opens = made.in_opens.saturating_add(count);
+    }
+    Ok(true)
 }
 
 // How many stops an open of what a stop left has. After each of them what the first one left is
 // shown, and so it is where none comes.
-fn stops_of_open<D: StoppingDisk>(
+fn stops_of_open(
     alloc: Global,
-    left: &Files<D>,
+    left: &Held,
     story: &Story,
     stops: Stops,
     answered: usize,
 ) -> Result<u64, Fail> {
+    let asks = [story.queries.as_slice()];
     for calls in 0..MOST_CALLS {
-        match opened(alloc, copied(alloc, left, stops.stopping, calls)?) {
-            Ok(mut registry) => {
-                shows(alloc, calls, &mut registry, story, answered)?;
-                return Ok(calls);
-            }
-            Err(files) => {
-                let files = left_of(alloc, files, stops.leaves)?;
-                opens_again(alloc, calls, files, story, answered)?;
-            }
+        let run = lived(alloc, left, stops.after(calls), &asks)?;
+        if run.unopened.is_none() {
+            are_wanted(
+                (calls, "no second stop"),
+                story,
+                answered,
+                &asks,
+                &run.replies,
+            )?;
+            return Ok(calls);
         }
+        let again = lived(alloc, &run.left, NO_STOP, &asks)?;
+        are_wanted(
+            (calls, "a second stop"),
+            story,
+            answered,
+            &asks,
+            &again.replies,
+        )?;
     }
     Err(Fail::new(format_args!("an open stops after {MOST_CALLS} calls, too")))
 }
 
-// A registry opens from the files, and shows what the first stop left.
-fn opens_again<D: Disk + Drop>(
+// A registry opens from the files and holds what so many answered commands made, or one more, and
+// the commands that follow are answered as in memory.
+fn goes_on(
     alloc: Global,
     calls: u64,
-    files: Files<D>,
+    left: &Held,
     story: &Story,
     answered: usize,
 ) -> Result<(), Fail> {
-    match opened(alloc, files) {
-        Ok(mut registry) => shows(alloc, calls, &mut registry, story, answered),
-        Err(_files) => Err(Fail::new(format_args!("nothing opens after a second stop"))),
-    }
+    let asks = asks_after(&story.commands, &story.queries, answered);
+    let run = lived(alloc, left, NO_STOP, &asks)?;
+    are_wanted((calls, "a stop"), story, answered, &asks, &run.replies)
 }
 
-// A registry shows what so many answered commands made, or one more.
-fn shows<S: Alter>(
-    alloc: Global,
-    calls: u64,
-    registry: &mut Registry<S>,
+// Whether a reply came to each of these requests, the first after a stop, and all are what is wanted
+// where so many commands were answered before it.
+fn are_wanted(
+    case: (u64, &str),
     story: &Story,
     answered: usize,
+    asks: &[&[Request]],
+    replies: &[Reply],
 ) -> Result<(), Fail> {
-    let found = outcomes_of(alloc, registry, &story.queries)?;
-    let is_before = story.answers.shown.get(answered) == Some(&found);
-    let is_after = story.answers.shown.get(answered.saturating_add(1)) == Some(&found);
-    same((calls, "after a second stop"), is_before || is_after, true)
-}
-
-// Each command that isn't refused is among those that were stopped, if it writes what stops.
-fn are_stopped(story: &Story, stopping: Stopping, stopped: &[usize]) -> Result<(), Fail> {
-    if stopping == Stopping::Database {
+    same((case, "replies"), replies.len(), count_of(asks))?;
+    let Some(wanted) = story.wanted.get(answered) else {
+        return Err(Fail::new(format_args!("{case:?}: {answered} commands were answered")));
+    };
+    if wanted.done.starts_with(replies) {
         return Ok(());
     }
-    for (place, reply) in story.answers.replies.iter().enumerate() {
-        let is_refused = matches!(reply, Ok(Reply::Refused(_)));
+    same(case, Some(replies), wanted.undone.get(..replies.len()))
+}
+
+// Each command that isn't refused is among those that were stopped.
+fn are_stopped(story: &Story, stopped: &[usize]) -> Result<(), Fail> {
+    let first = story.queries.len();
+    for (place, wanted) in story.wanted.iter().enumerate().take(story.commands.len()) {
+        let is_refused = matches!(wanted.undone.get(first), Some(Reply::Refused(_)));
         same(
             (place, "stopped"),
             is_refused || stopped.contains(&place),
@@ -273,156 +282,92 @@ fn are_stopped(story: &Story, stopping: Stopping, stopped: &[usize]) -> Result<(
     Ok(())
 }
 
-// What is asked, and what a registry in memory answers.
+// What is asked, and what a registry in memory replies.
 fn story_in_memory(alloc: Global) -> Result<Story, Fail> {
     let commands = requests_of(alloc, COMMANDS)?;
     let queries = requests_of(alloc, QUERIES)?;
-    let answers = answers_in_memory(alloc, &commands, &queries)?;
+    let wanted = all_wanted(alloc, &commands, &queries)?;
     Ok(Story {
         commands,
         queries,
-        answers,
+        wanted,
     })
 }
 
-fn answers_in_memory(
+fn all_wanted(
     alloc: Global,
     commands: &[Request],
     queries: &[Request],
-) -> Result<Answers, Fail> {
-    let mut registry = Registry::in_memory(alloc)?;
-    answers_of(alloc, &mut registry, commands, queries)
+) -> Result<Vec<Wanted>, Fail> {
+    let mut all = Vec::new(alloc);
+    for answered in 0..=commands.len() {
+        all.push(wanted_after(alloc, commands, queries, answered)?)?;
+    }
+    Ok(all)
 }
 
-fn answers_of<S: Alter>(
+// What is wanted where so many commands were answered. Once the stopped one was asked again, it is
+// the same whether it had been done before or not.
+fn wanted_after(
     alloc: Global,
-    registry: &mut Registry<S>,
     commands: &[Request],
     queries: &[Request],
-) -> Result<Answers, Fail> {
-    let mut answers = Answers {
-        replies: Vec::new(alloc),
-        again: Vec::new(alloc),
-        shown: Vec::new(alloc),
-    };
-    answers.shown.push(outcomes_of(alloc, registry, queries)?)?;
-    for command in commands {
-        push_answers(alloc, registry, command, queries, &mut answers)?;
-    }
-    Ok(answers)
-}
-
-fn push_answers<S: Alter>(
-    alloc: Global,
-    registry: &mut Registry<S>,
-    command: &Request,
-    queries: &[Request],
-    answers: &mut Answers,
-) -> Result<(), AllocError> {
-    answers.replies.push(outcome_of(alloc, registry, command))?;
-    answers.shown.push(outcomes_of(alloc, registry, queries)?)?;
-    answers.again.push(outcome_of(alloc, registry, command))?;
-    Ok(())
-}
-
-// Asks a registry in these files the commands until one meets a fault, and closes the files.
-fn run_until_stopped<D: Disk + Drop>(
-    alloc: Global,
-    files: Files<D>,
-    commands: &[Request],
-) -> Run<D> {
-    match opened(alloc, files) {
-        Ok(mut registry) => {
-            let answered = answered(alloc, &mut registry, commands);
-            let Closed { is_whole, files } = close(registry.release());
-            Run {
-                answered,
-                is_stopped: !is_whole || answered < commands.len(),
-                files,
-            }
-        }
-        Err(files) => Run {
-            answered: 0,
-            is_stopped: true,
-            files,
-        },
-    }
-}
-
-// How many commands are answered before one meets a fault.
-fn answered<S: Alter>(alloc: Global, registry: &mut Registry<S>, commands: &[Request]) -> usize {
-    for (place, command) in commands.iter().enumerate() {
-        if outcome_of(alloc, registry, command).is_err() {
-            return place;
-        }
-    }
-    commands.len()
-}
-
-// A registry opens from the files, and goes on.
-fn goes_on<D: Disk + Drop>(
-    alloc: Global,
-    calls: u64,
-    files: Files<D>,
-    story: &Story,
     answered: usize,
-) -> Result<(), Fail> {
-    match opened(alloc, files) {
-        Ok(mut registry) => holds(alloc, calls, &mut registry, story, answered),
-        Err(_files) => Err(Fail::new(format_args!("after {calls} calls nothing opens"))),
-    }
+) -> Result<Wanted, Fail> {
+    let asks = asks_after(commands, queries, answered);
+    let undone = replies_after(alloc, up_to(commands, answered), &asks)?;
+    let done = replies_after(alloc, up_to(commands, answered.saturating_add(1)), &asks)?;
+    let rest = queries.len().saturating_add(1);
+    same((answered, "the rest"), done.get(rest..), undone.get(rest..))?;
+    Ok(Wanted { undone, done })
 }
 
-// A registry holds what so many answered commands made, or one more, and the commands that follow
-// are answered as in memory.
-fn holds<S: Alter>(
-    alloc: Global,
-    calls: u64,
-    registry: &mut Registry<S>,
-    story: &Story,
+// The first so many commands, or all where there are fewer.
+fn up_to(commands: &[Request], count: usize) -> &[Request] {
+    commands.get(..count).unwrap_or(commands)
+}
+
+// What is asked after a stop before which so many commands were answered: the queries, the commands
+// that follow, and the queries again.
+fn asks_after<'a>(
+    commands: &'a [Request],
+    queries: &'a [Request],
     answered: usize,
-) -> Result<(), Fail> {
-    let found = outcomes_of(alloc, registry, &story.queries)?;
-    let next = answered.saturating_add(1);
-    let is_before = story.answers.shown.get(answered) == Some(&found);
-    let is_after = story.answers.shown.get(next) == Some(&found);
-    same((calls, "what is shown"), is_before || is_after, true)?;
-    if let Some(command) = story.commands.get(answered) {
-        let once_more = outcome_of(alloc, registry, command);
-        let is_first = is_before && story.answers.replies.get(answered) == Some(&once_more);
-        let is_again = is_after && story.answers.again.get(answered) == Some(&once_more);
-        same((calls, "the stopped command"), is_first || is_again, true)?;
-    }
-    follow(alloc, calls, registry, story, next)?;
-    shows_the_end(alloc, calls, registry, story)
+) -> [&'a [Request]; 3] {
+    [queries, commands.get(answered..).unwrap_or(&[]), queries]
 }
 
-// The commands from this place on are answered as in memory.
-fn follow<S: Alter>(
-    alloc: Global,
-    calls: u64,
-    registry: &mut Registry<S>,
-    story: &Story,
-    from: usize,
-) -> Result<(), Fail> {
-    let told = story.commands.iter().zip(&story.answers.replies);
-    for (place, (command, reply)) in told.enumerate().skip(from) {
-        same((calls, place), &outcome_of(alloc, registry, command), reply)?;
+// How many requests these lists have.
+fn count_of(asks: &[&[Request]]) -> usize {
+    let mut count = 0usize;
+    for requests in asks {
+        count = count.saturating_add(requests.len());
     }
-    Ok(())
+    count
 }
 
-// All is shown that the last command leaves in memory.
-fn shows_the_end<S: Alter>(
+// What a registry in memory that did these commands replies to this.
+fn replies_after(
     alloc: Global,
-    calls: u64,
-    registry: &mut Registry<S>,
-    story: &Story,
-) -> Result<(), Fail> {
-    let found = outcomes_of(alloc, registry, &story.queries)?;
-    same(
-        (calls, "what is shown at the end"),
-        story.answers.shown.last() == Some(&found),
-        true,
-    )
+    commands: &[Request],
+    asks: &[&[Request]],
+) -> Result<Vec<Reply>, Fail> {
+    match Registry::in_memory(alloc) {
+        Ok(registry) => replies_over(alloc, registry, commands, asks),
+        Err(fault) => Err(Fail::from(fault)),
+    }
+}
+
+fn replies_over<S: Alter + Drop>(
+    alloc: Global,
+    registry: Registry<S>,
+    commands: &[Request],
+    asks: &[&[Request]],
+) -> Result<Vec<Reply>, Fail> {
+    let mut registry = RegistryService::new(registry);
+    let before = replies_of(alloc, &mut registry, &[commands])?;
+    same("replies before", before.len(), commands.len())?;
+    let replies = replies_of(alloc, &mut registry, asks)?;
+    same("replies in memory", replies.len(), count_of(asks))?;
+    Ok(replies)
 }

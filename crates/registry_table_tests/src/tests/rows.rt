@@ -12,7 +12,7 @@ use sqlite::{Alter, Connection, Constraint, Error, ErrorCode, Row, Transaction, 
 use std::alloc::Global;
 use std::test::Fail;
 
-#[derive(Debug, Drop)]
+#[derive(Drop)]
 struct Count {
     word: String,
     times: u32,
@@ -34,56 +34,26 @@ impl RowKind for Count {
     }
 }
 
-/// What is done with the table, after those before it.
-#[derive(Clone, Copy, Debug)]
-enum Call {
-    /// A statement that writes is run.
-    Write(&'static str),
-    /// A word is put with its times.
-    Put(&'static str, i64),
-    /// A query is run, and so many rows are given.
-    Read(&'static str),
-    /// All rows of a query are read as words, each with its times.
-    All(&'static str),
-    /// The first one is.
-    First(&'static str),
-}
-
-/// Calls, and what each answers.
-static CALLS: [(Call, Result<&str, Fault>); 15] = [
-    (
-        Call::Write(
-            "CREATE TABLE counts (word TEXT NOT NULL, times INTEGER NOT NULL, PRIMARY KEY (word)) STRICT",
-        ),
-        Ok("done"),
-    ),
-    (Call::Read("SELECT * FROM counts"), Ok("0")),
-    (Call::All("SELECT * FROM counts"), Ok("")),
-    (Call::First("SELECT * FROM counts"), Ok("")),
-    (Call::Put("and", 7), Ok("done")),
-    (Call::Put("the", 9), Ok("done")),
-    (Call::Put("the", 3), Err(Fault::Database)),
-    (Call::Read("SELECT * FROM counts"), Ok("2")),
-    (
-        Call::All("SELECT * FROM counts ORDER BY times DESC"),
-        Ok(" the:9 and:7"),
-    ),
-    (Call::First("SELECT * FROM counts"), Ok(" and:7")),
-    (
-        Call::All("SELECT times, word FROM counts"),
-        Err(Fault::Database),
-    ),
-    (
-        Call::First("SELECT times, word FROM counts"),
-        Err(Fault::Database),
-    ),
-    (
-        Call::First("SELECT word, -1 FROM counts"),
-        Err(Fault::Database),
-    ),
-    (Call::Read("SELECT * FROM sums"), Err(Fault::Database)),
-    (Call::Write("DELETE FROM sums"), Err(Fault::Database)),
-];
+/// Calls, one after another, and what each answers. By `write` a statement is run that writes, and by
+/// `put` a word is put with its times. Of `read` comes how many rows a query gives, of `all` they are
+/// read as words, each with its times, and of `first` the first one is.
+const CALLS: &str = "
+write CREATE TABLE counts (word TEXT NOT NULL, times INTEGER NOT NULL, PRIMARY KEY (word)) STRICT = done
+read SELECT * FROM counts = 0
+all SELECT * FROM counts =
+first SELECT * FROM counts =
+put and 7 = done
+put the 9 = done
+put the 3 = fault
+read SELECT * FROM counts = 2
+all SELECT * FROM counts ORDER BY times DESC = the:9 and:7
+first SELECT * FROM counts = and:7
+all SELECT times, word FROM counts = fault
+first SELECT times, word FROM counts = fault
+first SELECT word, -1 FROM counts = fault
+read SELECT * FROM sums = fault
+write DELETE FROM sums = fault
+";
 
 #[test]
 fn statements_are_run(rt: HostRuntime) -> Result<(), Fail> {
@@ -102,35 +72,58 @@ fn all_come_out<S: Alter>(alloc: Global, conn: &mut Connection<S>) -> Result<(),
 fn come_out<S: Alter>(alloc: Global, tx: &mut Transaction<'_, S>) -> Result<(), Fail>
     ensures same_reference { tx.new.conn.ghost_name ≡ tx.old.conn.ghost_name }
 {
-    for (call, wanted) in &CALLS {
-        same(call, told(alloc, tx, *call).as_deref(), wanted.as_deref())?;
+    for line in CALLS.lines() {
+        if !line.is_empty() {
+            comes_out(alloc, tx, line)?;
+        }
     }
     Ok(())
 }
 
-fn told<S: Alter>(alloc: Global, tx: &mut Transaction<'_, S>, call: Call) -> Result<String, Fault>
+fn comes_out<S: Alter>(alloc: Global, tx: &mut Transaction<'_, S>, line: &str) -> Result<(), Fail>
     ensures same_reference { tx.new.conn.ghost_name ≡ tx.old.conn.ghost_name }
 {
-    match call {
-        Call::Write(text) => {
+    let (call, wanted) = line.split_once(" =").unwrap_or((line, ""));
+    match told(alloc, tx, call) {
+        Ok(text) => same(line, text.as_str().trim(), wanted.trim()),
+        Err(Fault::Database) => same(line, "fault", wanted.trim()),
+        Err(Fault::Memory) => Err(Fail::new(format_args!("no memory is left"))),
+    }
+}
+
+fn told<S: Alter>(alloc: Global, tx: &mut Transaction<'_, S>, call: &str) -> Result<String, Fault>
+    ensures same_reference { tx.new.conn.ghost_name ≡ tx.old.conn.ghost_name }
+{
+    let (what, text) = call.split_once(' ').unwrap_or((call, ""));
+    match what {
+        "write" => {
             write(tx, text, &[])?;
             Ok(String::from_str(alloc, "done")?)
         }
-        Call::Put(word, times) => {
-            write(
-                tx,
-                "INSERT INTO counts VALUES (?1, ?2)",
-                params![word, times],
-            )?;
+        "put" => {
+            put(tx, text)?;
             Ok(String::from_str(alloc, "done")?)
         }
-        Call::Read(text) => {
+        "read" => {
             let rows = read(tx, text, &[])?.len();
             Ok(format!(in alloc; "{rows}")?)
         }
-        Call::All(text) => all_text(alloc, &read(tx, text, &[])?),
-        Call::First(text) => first_text(alloc, &read(tx, text, &[])?),
+        "all" => all_text(alloc, &read(tx, text, &[])?),
+        "first" => first_text(alloc, &read(tx, text, &[])?),
+        _ => Ok(String::from_str(alloc, "no call")?),
     }
+}
+
+fn put<S: Alter>(tx: &mut Transaction<'_, S>, text: &str) -> Result<(), Fault>
+    ensures same_reference { tx.new.conn.ghost_name ≡ tx.old.conn.ghost_name }
+{
+    let (word, times) = text.split_once(' ').unwrap_or((text, ""));
+    let times = times.parse::<i64>().unwrap_or(-1);
+    write(
+        tx,
+        "INSERT INTO counts VALUES (?1, ?2)",
+        params![word, times],
+    )
 }
 
 fn all_text(alloc: Global, rows: &[Row]) -> Result<String, Fault> {

@@ -189,14 +189,13 @@ fn answers_over<S: Alter + Drop>(
     requests: &[Request],
     asks: &[&str],
 ) -> Result<String, Fail> {
-    let mut registry = registry;
-    let outcomes = outcomes_of(rt.alloc(), &mut registry, requests)?;
+    let mut service = RegistryService::new(registry);
+    let outcomes = outcomes_of(rt.alloc(), &mut service, requests)?;
     same(
         "a fault",
         outcomes.iter().any(|outcome| outcome.is_err()),
         false,
     )?;
-    let mut service = RegistryService::new(registry);
     answers_of(rt, jump, &mut service, asks)
 }
 

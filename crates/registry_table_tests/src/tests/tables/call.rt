@@ -1,16 +1,22 @@
-//! Calls on made tables, one after another, and what each answers.
+//! Calls on made tables, one after another, and what each answers, as text.
+//!
+//! A case begins with `== ` and what it shows. Each line after that is a call on made tables: the name
+//! of a package, the call, and its arguments. It ends in ` = ` and what the call answers, or has nothing
+//! there where that is `done`. A last line may be `! fault ` with a call that is a fault of the
+//! database, or `! rows `, which looks at every row that is there: these are their tables, and what
+//! versions depend on.
 
 ghost use Rattle.std.specs.Prelude.{◌≡◌, OnOk};
 ghost use Rattle.sqlite.specs.Held.{state};
 ghost use Rattle.sqlite.specs.Steps.{IsEmpty};
 ghost use Rattle.registry_tables.specs.Effects.{InForm};
 
-use super::rights::{self, RightCall};
-use super::teams::{self, TeamCall};
 use super::text::{
-    Body, archive_text, done, form_of, push_word, status_text, tags_text, versions_text, word_text,
+    archive_text, form_of, number, push_word, status_text, tags_text, versions_text, word,
+    word_text,
 };
-use registry_names::{Fault, Moment, Name, Status, Stop, Ver};
+use super::{rights, teams};
+use registry_names::{Fault, Moment, Name, Refusal, Status, Stop, Ver};
 use registry_rows::write;
 use registry_rules::Change;
 use registry_tables::{
@@ -20,7 +26,7 @@ use registry_tables::{
 use registry_test_support::{otherwise, same};
 use sqlite::{Alter, Connection, Row, Transaction, params};
 use sqlite_value::value::ValueRef;
-use std::alloc::Global;
+use std::alloc::{AllocError, Global};
 use std::test::Fail;
 
 /// Gives the name of its table for each row, and for what versions depend on the target and the
@@ -28,81 +34,21 @@ use std::test::Fail;
 const TABLE_OF_EACH_ROW: &str =
     "SELECT 'users' FROM users UNION ALL SELECT 'tokens' FROM tokens UNION ALL SELECT 'orgs' FROM orgs UNION ALL SELECT 'members' FROM members UNION ALL SELECT 'teams' FROM teams UNION ALL SELECT 'team_members' FROM team_members UNION ALL SELECT 'packages' FROM packages UNION ALL SELECT 'grants' FROM grants UNION ALL SELECT 'owners' FROM owners UNION ALL SELECT 'versions' FROM versions UNION ALL SELECT 'spent' FROM spent UNION ALL SELECT 'tags' FROM tags UNION ALL SELECT 'needs' FROM needs UNION ALL SELECT 'meta' FROM meta UNION ALL SELECT target || ' ' || range FROM need_ranges UNION ALL SELECT 'held' FROM held UNION ALL SELECT 'archives' FROM archives ORDER BY 1";
 
-/// Calls on an empty database, one after another.
-pub struct Case {
-    /// What they show.
-    pub shows: &'static str,
-    /// The calls, each with the name of its package, and what it answers.
-    pub calls: &'static [(&'static str, Call, &'static str)],
-    /// What comes after them.
-    pub end: End,
-}
-
-/// A call on a package.
-#[derive(Clone, Copy, Debug)]
-pub enum Call {
-    /// Puts its first status.
-    NewStatus(Status),
-    /// Puts another status.
-    OtherStatus(Status),
-    /// A statement keeps this number for its first status.
-    Number(i64),
-    /// Puts the version of this body as a change, published at this second.
-    Add(Body, i64),
-    /// Puts it by itself.
-    Publish(Body, i64),
-    /// A statement has the version withdrawn.
-    Withdrawn(&'static str),
-    /// A new tag is to name the version.
-    NewTag(&'static str, &'static str),
-    /// A tag that exists is to name the version.
-    MovedTag(&'static str, &'static str),
-    /// Drops the tag.
-    DropTag(&'static str),
-    /// Its status.
-    Status,
-    /// Whether a version of it lives.
-    HasLive,
-    /// Whether the version lives.
-    Lives(&'static str),
-    /// Whether the version was withdrawn.
-    IsSpent(&'static str),
-    /// Whether it has the tag.
-    HasTag(&'static str),
-    /// Its tags, each with its version.
-    Tags,
-    /// Its versions, each with its manifest and its message, and then each with the second of its
-    /// publication.
-    Versions,
-    /// The length of the version's archive, and its last bytes.
-    Archive(&'static str),
-    /// A call over the teams that may be granted something on it.
-    Teams(TeamCall),
-    /// A call over what callers may do with it.
-    Rights(RightCall),
-}
-
-/// What comes after the calls of a case.
-#[derive(Clone, Copy)]
-pub enum End {
-    /// Nothing.
-    Nothing,
-    /// A call that is a fault of the database.
-    Fault(&'static str, Call),
-    /// A look at every row that is there: these are their tables, and what versions depend on.
-    Rows(&'static str),
-}
+/// What comes of a call that isn't there.
+pub const NO_CALL: Stop = Stop::Refused(Refusal::NotFound);
 
 /// Whether all cases come out as they say.
-pub fn all_come_out(alloc: Global, cases: &[Case]) -> Result<(), Fail> {
-    for case in cases {
-        let mut conn = Connection::open_in_memory(alloc)?;
-        comes_out_on(alloc, &mut conn, case)?;
+pub fn all_come_out(alloc: Global, text: &str) -> Result<(), Fail> {
+    for case in text.split("\n== ") {
+        if !case.is_empty() {
+            let mut conn = Connection::open_in_memory(alloc)?;
+            comes_out_on(alloc, &mut conn, case)?;
+        }
     }
     Ok(())
 }
 
-fn comes_out_on<S: Alter>(alloc: Global, conn: &mut Connection<S>, case: &Case) -> Result<(), Fail>
+fn comes_out_on<S: Alter>(alloc: Global, conn: &mut Connection<S>, case: &str) -> Result<(), Fail>
     requires empty { IsEmpty (state S.Store conn.old) }
 {
     let mut tx = conn.transaction();
@@ -113,65 +59,91 @@ fn comes_out_on<S: Alter>(alloc: Global, conn: &mut Connection<S>, case: &Case) 
 fn comes_out_inside<S: Alter>(
     alloc: Global,
     tx: &mut Transaction<'_, S>,
-    case: &Case,
+    case: &str,
 ) -> Result<(), Fail>
     requires in_form { InForm S.Store tx.old }
     ensures same_reference { tx.new.conn.ghost_name ≡ tx.old.conn.ghost_name }
 {
-    all_tell(alloc, tx, case)?;
-    ends(alloc, tx, case)
+    let (shows, lines) = case.split_once('\n').unwrap_or((case, ""));
+    let (calls, end) = lines.split_once("\n! ").unwrap_or((lines, ""));
+    all_tell(alloc, tx, shows, calls)?;
+    ends(alloc, tx, shows, end.trim_end())
 }
 
-fn all_tell<S: Alter>(alloc: Global, tx: &mut Transaction<'_, S>, case: &Case) -> Result<(), Fail>
+fn all_tell<S: Alter>(
+    alloc: Global,
+    tx: &mut Transaction<'_, S>,
+    shows: &str,
+    calls: &str,
+) -> Result<(), Fail>
     requires in_form { InForm S.Store tx.old }
     ensures same_reference { tx.new.conn.ghost_name ≡ tx.old.conn.ghost_name }
     ensures in_form { OnOk result (InForm S.Store tx.new) }
 {
-    for (name, call, wanted) in case.calls {
-        loads(alloc, tx, (case.shows, *name, *call), *wanted)?;
+    for line in calls.lines() {
+        loads(alloc, tx, shows, line)?;
     }
     Ok(())
 }
 
-// What a case shows, the name of a package, and a call on it.
-type Asked = (&'static str, &'static str, Call);
-
 fn loads<S: Alter>(
     alloc: Global,
     tx: &mut Transaction<'_, S>,
-    asked: Asked,
-    wanted: &'static str,
+    shows: &str,
+    line: &str,
 ) -> Result<(), Fail>
     requires in_form { InForm S.Store tx.old }
     ensures same_reference { tx.new.conn.ghost_name ≡ tx.old.conn.ghost_name }
     ensures in_form { OnOk result (InForm S.Store tx.new) }
 {
-    match told(alloc, tx, asked.1, asked.2) {
-        Ok(text) => same(asked, text.as_str(), wanted),
-        Err(stop) => Err(otherwise(asked, stop, wanted)),
+    let (call, wanted) = line.split_once(" =").unwrap_or((line, "done"));
+    match told(alloc, tx, call) {
+        Ok(text) => same((shows, line), text.as_str().trim(), wanted.trim()),
+        Err(stop) => Err(otherwise((shows, line), stop, wanted)),
     }
 }
 
-fn ends<S: Alter>(alloc: Global, tx: &mut Transaction<'_, S>, case: &Case) -> Result<(), Fail>
+fn ends<S: Alter>(
+    alloc: Global,
+    tx: &mut Transaction<'_, S>,
+    shows: &str,
+    end: &str,
+) -> Result<(), Fail>
     requires in_form { InForm S.Store tx.old }
     ensures same_reference { tx.new.conn.ghost_name ≡ tx.old.conn.ghost_name }
 {
-    match case.end {
-        End::Nothing => Ok(()),
-        End::Fault(name, call) => is_fault(alloc, tx, (case.shows, name, call)),
-        End::Rows(wanted) => {
-            let rows = tx.query_all(TABLE_OF_EACH_ROW, &[])?;
-            same(case.shows, words_in(alloc, &rows)?.as_str(), wanted)
-        }
+    let (what, rest) = end.split_once(' ').unwrap_or((end, ""));
+    match what {
+        "fault" => is_fault(alloc, tx, shows, rest),
+        "rows" => are_rows(alloc, tx, shows, rest),
+        _ => same((shows, "the end"), end, ""),
     }
 }
 
-fn is_fault<S: Alter>(alloc: Global, tx: &mut Transaction<'_, S>, asked: Asked) -> Result<(), Fail>
+fn is_fault<S: Alter>(
+    alloc: Global,
+    tx: &mut Transaction<'_, S>,
+    shows: &str,
+    call: &str,
+) -> Result<(), Fail>
     requires in_form { InForm S.Store tx.old }
     ensures same_reference { tx.new.conn.ghost_name ≡ tx.old.conn.ghost_name }
 {
-    let told = told(alloc, tx, asked.1, asked.2);
-    same(asked, told, Err(Stop::Fault(Fault::Database)))
+    let told = told(alloc, tx, call);
+    same((shows, call), told, Err(Stop::Fault(Fault::Database)))
+}
+
+fn are_rows<S: Alter>(
+    alloc: Global,
+    tx: &mut Transaction<'_, S>,
+    shows: &str,
+    wanted: &str,
+) -> Result<(), Fail>
+    ensures same_reference { tx.new.conn.ghost_name ≡ tx.old.conn.ghost_name }
+{
+    let rows = tx.query_all(TABLE_OF_EACH_ROW, &[])?;
+    let tables = words_in(alloc, &rows)?;
+    same(shows, tables.as_str().trim(), wanted)
 }
 
 // The words of the rows, one after another.
@@ -190,70 +162,80 @@ fn word_in(row: &Row) -> Result<&str, Fail> {
     }
 }
 
-fn told<S: Alter>(
-    alloc: Global,
-    tx: &mut Transaction<'_, S>,
-    name: &str,
-    call: Call,
-) -> Result<String, Stop>
+fn told<S: Alter>(alloc: Global, tx: &mut Transaction<'_, S>, call: &str) -> Result<String, Stop>
     requires in_form { InForm S.Store tx.old }
     ensures same_reference { tx.new.conn.ghost_name ≡ tx.old.conn.ghost_name }
     ensures in_form { OnOk result (InForm S.Store tx.new) }
 {
-    let name = Name::parse(alloc, name)?;
-    told_of(alloc, tx, &name, call)
+    let words = words_of(alloc, call)?;
+    let name = Name::parse(alloc, word(&words, 0))?;
+    told_of(alloc, tx, &name, words.get(1..).unwrap_or(&[]))
 }
 
+fn words_of(alloc: Global, call: &str) -> Result<Vec<&str>, AllocError> {
+    let mut words = Vec::new(alloc);
+    for word in call.split(' ') {
+        words.push(word)?;
+    }
+    Ok(words)
+}
+
+// What a call answers: whether a version or a tag is there, or what is loaded.
 fn told_of<S: Alter>(
     alloc: Global,
     tx: &mut Transaction<'_, S>,
     name: &Name,
-    call: Call,
+    words: &[&str],
 ) -> Result<String, Stop>
     requires in_form { InForm S.Store tx.old }
     ensures same_reference { tx.new.conn.ghost_name ≡ tx.old.conn.ghost_name }
     ensures in_form { OnOk result (InForm S.Store tx.new) }
 {
-    match call {
-        Call::Status => status_text(alloc, load_status(tx, name)?),
-        Call::HasLive => word_text(alloc, has_live(tx, name)?),
-        Call::Lives(version) => word_text(alloc, has_version(tx, name, version)?),
-        Call::IsSpent(version) => word_text(alloc, is_spent(tx, name, version)?),
-        Call::HasTag(tag) => word_text(alloc, has_tag(tx, name, tag)?),
-        Call::Tags => tags_text(alloc, &load_tags(alloc, tx, name)?),
-        Call::Versions => versions_text(alloc, &load_versions(alloc, tx, name)?),
-        Call::Archive(version) => archive_text(alloc, &load_archive(tx, name, version)?),
-        Call::Teams(call) => teams::told(alloc, tx, name, call),
-        Call::Rights(call) => rights::told(alloc, tx, name, call),
-        _ => {
-            put(alloc, tx, name, call)?;
-            done(alloc)
-        }
+    match word(words, 0) {
+        "status" => status_text(alloc, load_status(tx, name)?),
+        "has-live" => word_text(alloc, has_live(tx, name)?),
+        "lives" => word_text(alloc, has_version(tx, name, word(words, 1))?),
+        "is-spent" => word_text(alloc, is_spent(tx, name, word(words, 1))?),
+        "has-tag" => word_text(alloc, has_tag(tx, name, word(words, 1))?),
+        "tags" => tags_text(alloc, &load_tags(alloc, tx, name)?),
+        "versions" => versions_text(alloc, &load_versions(alloc, tx, name)?),
+        "archive" => archive_text(alloc, &load_archive(tx, name, word(words, 1))?),
+        _ => teams::told(alloc, tx, name, words),
     }
 }
 
-// Makes a call that only writes.
-fn put<S: Alter>(
+/// Makes a call that only writes. `publish` puts a version by itself, and `add` as a change: each with
+/// its second, and with so many times `abc` for its archive, or once; or the whole body, with a
+/// second. `number` is a statement that keeps this number for the package's status, and `withdrawn` one
+/// that has a version withdrawn.
+pub fn put<S: Alter>(
     alloc: Global,
     tx: &mut Transaction<'_, S>,
     package: &Name,
-    call: Call,
+    words: &[&str],
 ) -> Result<(), Stop>
     requires in_form { InForm S.Store tx.old }
     ensures same_reference { tx.new.conn.ghost_name ≡ tx.old.conn.ghost_name }
     ensures in_form { OnOk result (InForm S.Store tx.new) }
 {
-    match call {
-        Call::NewStatus(status) => put_status(tx, package, status, false),
-        Call::OtherStatus(status) => put_status(tx, package, status, true),
-        Call::Number(number) => Ok(put_number(tx, package, number)?),
-        Call::Add(body, at) => add(alloc, tx, package, body, at),
-        Call::Publish(body, at) => publish(alloc, tx, package, body, at),
-        Call::Withdrawn(version) => Ok(withdraw(tx, package, version)?),
-        Call::NewTag(tag, version) => put_tag(alloc, tx, package, (tag, version), false),
-        Call::MovedTag(tag, version) => put_tag(alloc, tx, package, (tag, version), true),
-        Call::DropTag(tag) => made(tx, &Change::DropTag { package, tag }),
-        _ => Ok(()),
+    let first = word(words, 1);
+    match word(words, 0) {
+        "new-status" => put_status(tx, package, first, false),
+        "other-status" => put_status(tx, package, first, true),
+        "number" => Ok(put_number(tx, package, number(first))?),
+        "add" => add(alloc, tx, package, words),
+        "publish" => publish(alloc, tx, package, words),
+        "withdrawn" => Ok(withdraw(tx, package, first)?),
+        "new-tag" => put_tag(alloc, tx, package, (first, word(words, 2)), false),
+        "moved-tag" => put_tag(alloc, tx, package, (first, word(words, 2)), true),
+        "drop-tag" => made(
+            tx,
+            &Change::DropTag {
+                package,
+                tag: first,
+            },
+        ),
+        _ => teams::put(alloc, tx, package, words),
     }
 }
 
@@ -269,13 +251,16 @@ pub fn made<S: Alter>(tx: &mut Transaction<'_, S>, change: &Change<'_>) -> Resul
 fn put_status<S: Alter>(
     tx: &mut Transaction<'_, S>,
     package: &Name,
-    status: Status,
+    status: &str,
     stands: bool,
 ) -> Result<(), Stop>
     requires in_form { InForm S.Store tx.old }
     ensures same_reference { tx.new.conn.ghost_name ≡ tx.old.conn.ghost_name }
     ensures in_form { OnOk result (InForm S.Store tx.new) }
 {
+    let Some(status) = Status::parse(status) else {
+        return Err(NO_CALL);
+    };
     made(
         tx,
         &Change::PutStatus {
@@ -306,15 +291,14 @@ fn add<S: Alter>(
     alloc: Global,
     tx: &mut Transaction<'_, S>,
     package: &Name,
-    body: Body,
-    at: i64,
+    words: &[&str],
 ) -> Result<(), Stop>
     requires in_form { InForm S.Store tx.old }
     ensures same_reference { tx.new.conn.ghost_name ≡ tx.old.conn.ghost_name }
     ensures in_form { OnOk result (InForm S.Store tx.new) }
 {
-    let form = form_of(alloc, package.text(), body)?;
-    let at = Moment::clamped(at);
+    let form = form_of(alloc, package.text(), words)?;
+    let at = Moment::clamped(number(word(words, 2)));
     made(
         tx,
         &Change::AddVersion {
@@ -328,15 +312,15 @@ fn publish<S: Alter>(
     alloc: Global,
     tx: &mut Transaction<'_, S>,
     package: &Name,
-    body: Body,
-    at: i64,
+    words: &[&str],
 ) -> Result<(), Stop>
     requires in_form { InForm S.Store tx.old }
     ensures same_reference { tx.new.conn.ghost_name ≡ tx.old.conn.ghost_name }
     ensures in_form { OnOk result (InForm S.Store tx.new) }
 {
-    let form = form_of(alloc, package.text(), body)?;
-    Ok(put_version(tx, &form, Moment::clamped(at))?)
+    let form = form_of(alloc, package.text(), words)?;
+    let at = Moment::clamped(number(word(words, 2)));
+    Ok(put_version(tx, &form, at)?)
 }
 
 fn withdraw<S: Alter>(

@@ -3,8 +3,8 @@
 ghost use Rattle.std.specs.Prelude.{◌≡◌, OnOk};
 ghost use Rattle.registry_tables.specs.Effects.{InForm};
 
-use super::call::made;
-use super::text::{done, granted_text, standing_text, word_text};
+use super::call::{self, NO_CALL, made};
+use super::text::{done, granted_text, standing_text, word, word_text};
 use registry_access::{Caller, Grant};
 use registry_names::{Ident, Name, Stop};
 use registry_rules::Change;
@@ -14,96 +14,55 @@ use registry_tables::{
 use sqlite::{Alter, Transaction};
 use std::alloc::Global;
 
-/// A call on a package, which names teams with their organisation first.
-#[derive(Clone, Copy, Debug)]
-pub enum RightCall {
-    /// A team is to be granted this on it.
-    NewGrant(&'static str, &'static str, Grant),
-    /// A team that is granted something on it is to be granted this.
-    OtherGrant(&'static str, &'static str, Grant),
-    /// A team is to be granted nothing on it.
-    DropGrant(&'static str, &'static str),
-    /// A user is to be a maintainer of it.
-    NewMaintainer(&'static str),
-    /// A user is to be none.
-    DropOwner(&'static str),
-    /// Whether a team is granted something on it.
-    HasGrant(&'static str, &'static str),
-    /// Whether a user is a maintainer of it.
-    IsMaintainer(&'static str),
-    /// Whether another user than this is one.
-    OtherMaintainer(&'static str),
-    /// What a user is to it.
-    Standing(&'static str),
-    /// What somebody without a credential is to it.
-    Anonymous,
-    /// What a team is granted on packages that the user reads, who comes first.
-    Packages(&'static str, &'static str, &'static str),
-}
-
-/// What a call answers.
+/// What a call answers, which names a team with its organisation first: whether a team is granted
+/// something on the package, whether a user or another than this is a maintainer of it, what a user or
+/// somebody without a credential is to it, or what a team is granted on packages that a user reads, who
+/// comes first.
 pub fn told<S: Alter>(
     alloc: Global,
     tx: &mut Transaction<'_, S>,
     name: &Name,
-    call: RightCall,
+    words: &[&str],
 ) -> Result<String, Stop>
     requires in_form { InForm S.Store tx.old }
     ensures same_reference { tx.new.conn.ghost_name ≡ tx.old.conn.ghost_name }
     ensures in_form { OnOk result (InForm S.Store tx.new) }
 {
-    match call {
-        RightCall::HasGrant(organisation, team) => word_text(
-            alloc,
-            has_grant(tx, organisation, team, name)?,
-        ),
-        RightCall::IsMaintainer(user) => word_text(alloc, is_maintainer(tx, name, user)?),
-        RightCall::OtherMaintainer(user) => other_maintainer(alloc, tx, name, user),
-        RightCall::Standing(user) => standing(alloc, tx, name, user),
-        RightCall::Anonymous => standing_of(alloc, tx, name, &Caller::Anonymous),
-        RightCall::Packages(user, organisation, team) => packages(
-            alloc,
-            tx,
-            user,
-            (organisation, team),
-        ),
+    let (first, second) = (word(words, 1), word(words, 2));
+    match word(words, 0) {
+        "has-grant" => word_text(alloc, has_grant(tx, first, second, name)?),
+        "is-maintainer" => word_text(alloc, is_maintainer(tx, name, first)?),
+        "other-maintainer" => other_maintainer(alloc, tx, name, first),
+        "standing" => standing(alloc, tx, name, first),
+        "anonymous" => standing_of(alloc, tx, name, &Caller::Anonymous),
+        "packages" => packages(alloc, tx, first, (second, word(words, 3))),
         _ => {
-            put(alloc, tx, name, call)?;
+            call::put(alloc, tx, name, words)?;
             done(alloc)
         }
     }
 }
 
-// Makes a call that only writes.
-fn put<S: Alter>(
+/// Makes a call that only writes: a team is to be granted something on the package, where it is granted
+/// nothing or something, or nothing any more, or a user is to be a maintainer of it or none.
+pub fn put<S: Alter>(
     alloc: Global,
     tx: &mut Transaction<'_, S>,
     package: &Name,
-    call: RightCall,
+    words: &[&str],
 ) -> Result<(), Stop>
     requires in_form { InForm S.Store tx.old }
     ensures same_reference { tx.new.conn.ghost_name ≡ tx.old.conn.ghost_name }
     ensures in_form { OnOk result (InForm S.Store tx.new) }
 {
-    match call {
-        RightCall::NewGrant(organisation, team, grant) => put_grant(
-            tx,
-            (organisation, team),
-            package,
-            grant,
-            false,
-        ),
-        RightCall::OtherGrant(organisation, team, grant) => put_grant(
-            tx,
-            (organisation, team),
-            package,
-            grant,
-            true,
-        ),
-        RightCall::DropGrant(organisation, team) => drop_grant(tx, (organisation, team), package),
-        RightCall::NewMaintainer(user) => put_owner(alloc, tx, package, user),
-        RightCall::DropOwner(user) => drop_owner(alloc, tx, package, user),
-        _ => Ok(()),
+    let (first, second) = (word(words, 1), word(words, 2));
+    match word(words, 0) {
+        "new-grant" => put_grant(tx, (first, second), package, word(words, 3), false),
+        "other-grant" => put_grant(tx, (first, second), package, word(words, 3), true),
+        "drop-grant" => drop_grant(tx, (first, second), package),
+        "new-maintainer" => put_owner(alloc, tx, package, first),
+        "drop-maintainer" => drop_owner(alloc, tx, package, first),
+        _ => Err(NO_CALL),
     }
 }
 
@@ -111,13 +70,16 @@ fn put_grant<S: Alter>(
     tx: &mut Transaction<'_, S>,
     team: (&str, &str),
     package: &Name,
-    grant: Grant,
+    grant: &str,
     stands: bool,
 ) -> Result<(), Stop>
     requires in_form { InForm S.Store tx.old }
     ensures same_reference { tx.new.conn.ghost_name ≡ tx.old.conn.ghost_name }
     ensures in_form { OnOk result (InForm S.Store tx.new) }
 {
+    let Some(grant) = Grant::parse(grant) else {
+        return Err(NO_CALL);
+    };
     made(
         tx,
         &Change::PutGrant {

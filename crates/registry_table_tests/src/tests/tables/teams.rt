@@ -3,79 +3,55 @@
 ghost use Rattle.std.specs.Prelude.{◌≡◌, OnOk};
 ghost use Rattle.registry_tables.specs.Effects.{InForm};
 
-use super::text::{done, grants_text, names_text};
+use super::rights;
+use super::text::{grants_text, names_text, number, word};
 use registry_names::{Fault, Name, Stop};
 use registry_rows::write;
 use registry_tables::{load_grants, load_team_users};
 use sqlite::{Alter, Transaction, params};
 use std::alloc::Global;
 
-/// A call over an organisation, which comes first, on its teams and users.
-#[derive(Clone, Copy, Debug)]
-pub enum TeamCall {
-    /// A statement puts a user.
-    User(&'static str),
-    /// A statement puts an organisation.
-    Organisation(&'static str),
-    /// A statement puts a user among its members.
-    Member(&'static str, &'static str),
-    /// A statement puts a team.
-    Team(&'static str, &'static str),
-    /// A statement puts a user in a team.
-    TeamMember(&'static str, &'static str, &'static str),
-    /// A statement keeps this number for what a team is granted on the package.
-    Grant(&'static str, &'static str, i64),
-    /// The users in a team.
-    Users(&'static str, &'static str),
-    /// What their teams are granted on the package.
-    Grants(&'static str, &'static str),
-}
-
-/// What a call answers.
+/// What a call answers: the users in a team of an organisation, or what a user's teams are granted on
+/// the package.
 pub fn told<S: Alter>(
     alloc: Global,
     tx: &mut Transaction<'_, S>,
     name: &Name,
-    call: TeamCall,
+    words: &[&str],
 ) -> Result<String, Stop>
     requires in_form { InForm S.Store tx.old }
     ensures same_reference { tx.new.conn.ghost_name ≡ tx.old.conn.ghost_name }
     ensures in_form { OnOk result (InForm S.Store tx.new) }
 {
-    match call {
-        TeamCall::Users(organisation, team) => users(alloc, tx, organisation, team),
-        TeamCall::Grants(organisation, user) => grants(alloc, tx, organisation, user, name),
-        _ => {
-            put(tx, name, call)?;
-            done(alloc)
-        }
+    let (first, second) = (word(words, 1), word(words, 2));
+    match word(words, 0) {
+        "users" => users(alloc, tx, first, second),
+        "grants" => grants(alloc, tx, first, second, name),
+        _ => rights::told(alloc, tx, name, words),
     }
 }
 
-// Makes a call that only writes.
-fn put<S: Alter>(tx: &mut Transaction<'_, S>, name: &Name, call: TeamCall) -> Result<(), Fault>
+/// Makes a call that only writes: a statement puts a user, an organisation, a user among its members, a
+/// team of it, or a user in its team, or keeps a number for what its team is granted on the package.
+pub fn put<S: Alter>(
+    alloc: Global,
+    tx: &mut Transaction<'_, S>,
+    name: &Name,
+    words: &[&str],
+) -> Result<(), Stop>
     requires in_form { InForm S.Store tx.old }
     ensures same_reference { tx.new.conn.ghost_name ≡ tx.old.conn.ghost_name }
     ensures in_form { OnOk result (InForm S.Store tx.new) }
 {
-    match call {
-        TeamCall::User(user) => put_user(tx, user),
-        TeamCall::Organisation(organisation) => put_organisation(tx, organisation),
-        TeamCall::Member(organisation, user) => put_member(tx, organisation, user),
-        TeamCall::Team(organisation, team) => put_team(tx, organisation, team),
-        TeamCall::TeamMember(organisation, team, user) => put_team_member(
-            tx,
-            organisation,
-            team,
-            user,
-        ),
-        TeamCall::Grant(organisation, team, number) => put_grant(
-            tx,
-            (organisation, team),
-            name,
-            number,
-        ),
-        _ => Ok(()),
+    let (first, second, third) = (word(words, 1), word(words, 2), word(words, 3));
+    match word(words, 0) {
+        "user" => Ok(put_user(tx, first)?),
+        "organisation" => Ok(put_organisation(tx, first)?),
+        "member" => Ok(put_member(tx, first, second)?),
+        "team" => Ok(put_team(tx, first, second)?),
+        "team-member" => Ok(put_team_member(tx, first, second, third)?),
+        "grant-number" => Ok(put_grant(tx, (first, second), name, number(third))?),
+        _ => rights::put(alloc, tx, name, words),
     }
 }
 

@@ -8,30 +8,32 @@ use registry_tables::LiveVersions;
 use registry_test_support::{ABC, body_of};
 use std::alloc::{AllocError, Global};
 
-/// The body of a publication.
-#[derive(Clone, Copy, Debug)]
-pub enum Body {
-    /// One of this version, whose manifest has its name and its version alone, with the archive
-    /// `abc`.
-    Plain(&'static str),
-    /// The same with an archive of the bytes `abc` so many times.
-    Archive(&'static str, usize),
-    /// This text.
-    Text(&'static str),
+/// A word, or an empty one where there are fewer.
+pub fn word<'a>(words: &[&'a str], place: usize) -> &'a str {
+    match words.get(place) {
+        Some(word) => word,
+        None => "",
+    }
 }
 
-/// The form of a package's body.
-pub fn form_of(alloc: Global, name: &str, body: Body) -> Result<PublishForm, Stop> {
-    let text = text_of(alloc, name, body)?;
+/// The number that a word spells, or -1.
+pub fn number(word: &str) -> i64 {
+    word.parse::<i64>().unwrap_or(-1)
+}
+
+/// The form of a package's body: of the version that is the first argument, whose manifest has its
+/// name and its version alone, with an archive of the bytes `abc` so many times as the third says, or
+/// once. The first may be the whole body, too.
+pub fn form_of(alloc: Global, name: &str, words: &[&str]) -> Result<PublishForm, Stop> {
+    let text = text_of(alloc, name, word(words, 1), word(words, 3))?;
     PublishForm::read(alloc, text.as_bytes())
 }
 
-fn text_of(alloc: Global, name: &str, body: Body) -> Result<String, AllocError> {
-    match body {
-        Body::Plain(version) => body_of(alloc, name, version, ABC),
-        Body::Archive(version, times) => archive_body(alloc, name, version, times),
-        Body::Text(text) => String::from_str(alloc, text),
+fn text_of(alloc: Global, name: &str, version: &str, times: &str) -> Result<String, AllocError> {
+    if version.starts_with('{') {
+        return String::from_str(alloc, version);
     }
+    archive_body(alloc, name, version, times.parse::<usize>().unwrap_or(1))
 }
 
 fn archive_body(
