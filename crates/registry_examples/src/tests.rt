@@ -10,4 +10,6 @@ mod both_ways;
 mod files;
 mod lies;
 mod lists;
+mod log;
 mod program;
+mod sent;

@@ -66,8 +66,8 @@ impl From<AllocError> for PackFault {
     }
 }
 
-// The member of one version, in one piece.
-fn member_string(alloc: Global, later: bool, row: VersionRow) -> Result<String, Fault>
+/// The member of one version, in one piece.
+pub(crate) fn member_string(alloc: Global, later: bool, row: VersionRow) -> Result<String, Fault>
     ensures ok { IfOk result (λ text. Adds (member_text later) (version_pair row)
         [] (string_bytes text)) }
     ensures err { IfErr result (IsFaultOf (version_pair row)) }
@@ -95,8 +95,9 @@ fn counted_row(alloc: Global, count: u64, later: bool, row: VersionRow) -> Resul
     ensures err { IfErr result (λ fault. (fault ≡ Fault.Memory) ⊎ ((p : Pair)
         → version_pair row ≡ Some p → 2 ^ 64 ≤ count + length (member_text later p))) }
 {
-    let member = member_string(alloc, later, row)?;
-    counted(count, member.as_str())
+    let member = row.into_member(alloc, later)?;
+    let key_end = counted(count, member.key.as_str())?;
+    counted(key_end, member.document.as_str())
 }
 
 /// How many bytes [`packument_text`](crate::packument_text) has of the rows that the source gives.
@@ -117,6 +118,8 @@ pub fn packument_len<S: VersionSource>(
     ensures taken { S.is_known source.new → OnOk result (S.rows source.new ≡ []) }
 
     ensures known { S.is_known source.new → S.is_known source.old }
+    ensures goes_on { OnOk result (S.stopped source.new ≡ None) }
+    ensures behind { S.leaves source.old source.new }
 {
     let mut count = opening_len(alloc, head)?;
     let mut later = false;
@@ -167,6 +170,8 @@ fn write_versions<W: ByteOut, S: VersionSource>(
         (version_pairs (S.rows source.old))) }
     ensures taken { S.is_known source.new → OnOk result (S.rows source.new ≡ []) }
     ensures known { S.is_known source.new → S.is_known source.old }
+    ensures goes_on { OnOk result (S.stopped source.new ≡ None) }
+    ensures behind { S.leaves source.old source.new }
 
     ensures counted { W.failures writer.new ≡ failures_after result (W.failures writer.old) }
     ensures told { result ≢ Err Write → W.is_unknown writer.new ≡ W.is_unknown writer.old }
@@ -207,6 +212,8 @@ pub fn write_packument<W: ByteOut, S: VersionSource>(
     ensures taken { S.is_known source.new → OnOk result (S.rows source.new ≡ []) }
 
     ensures known { S.is_known source.new → S.is_known source.old }
+    ensures goes_on { OnOk result (S.stopped source.new ≡ None) }
+    ensures behind { S.leaves source.old source.new }
 
     // Only a failed write is counted, and only it makes the bytes unknown, for good.
     ensures counted { W.failures writer.new ≡ failures_after result (W.failures writer.old) }

@@ -35,6 +35,10 @@ impl<S: VersionSource> VersionSource for Failing<S> {
 
     ghost ordered = { λ failing. S.ordered failing.source };
 
+    ghost leaves_itself = { λ _. tt };
+
+    ghost leaves_through = { λ _ _ _ _ _. tt };
+
     fn next(&mut self, alloc: Global) -> Result<Option<VersionRow>, Fault> {
         if self.failed {
             return Err(Fault::Database);
