@@ -9,6 +9,7 @@ mod LoadedFacts
 mod LookFacts
 mod MakingFacts
 mod OpenedFacts
+mod SendingFacts
 mod SettlingFacts
 mod CacheFacts
 pub mod AnswerFacts

@@ -23,7 +23,9 @@ mod policy;
 mod registry;
 mod reply;
 mod rows;
+mod sending;
 mod teams;
+mod token_user;
 mod withdrawals;
 
 pub use crate::open::{SCHEMA, Unopened};

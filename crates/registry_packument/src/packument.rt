@@ -1,6 +1,6 @@
 //! Packuments.
 
-ghost use Rattle.std.specs.Prelude.{◌≡◌, ◌+◌, [], Some, length, option_map, false, string_bytes, string_capacity, OnOk, IfOk, IfErr};
+ghost use Rattle.std.specs.Prelude.{◌≡◌, ◌+◌, [], Some, None, length, option_map, false, string_bytes, string_capacity, OnOk, IfOk, IfErr};
 ghost use Rattle.registry_packument.specs.ObjectTexts.{member_text};
 ghost use Rattle.registry_packument.specs.Packuments.{version_pair, version_pairs, versions_text, pack_text};
 ghost use Rattle.registry_packument.specs.Sources.{IsFaultFrom};
@@ -85,6 +85,8 @@ fn version_members<S: VersionSource>(
         (version_pairs (S.rows source.old))) }
     ensures taken { S.is_known source.new → OnOk result (S.rows source.new ≡ []) }
     ensures known { S.is_known source.new → S.is_known source.old }
+    ensures goes_on { OnOk result (S.stopped source.new ≡ None) }
+    ensures behind { S.leaves source.old source.new }
 {
     let mut members = Vec::new(alloc);
     let mut later = false;
@@ -166,6 +168,8 @@ pub fn packument_text<S: VersionSource>(
     ensures taken { S.is_known source.new → OnOk result (S.rows source.new ≡ []) }
 
     ensures known { S.is_known source.new → S.is_known source.old }
+    ensures goes_on { OnOk result (S.stopped source.new ≡ None) }
+    ensures behind { S.leaves source.old source.new }
 {
     let start = opening(alloc, head)?;
     let members = version_members(alloc, source)?;

@@ -137,13 +137,13 @@ impl ConnectionState {
                 let turned = self.answered(alloc, service, clock, &wanted);
                 self.put(turned)
             }
-            Ok(First::Bad(refusal)) => self.put(turn_away(refusal)),
+            Ok(First::Bad(refusal)) => self.put(noted(service, turn_away(refusal))),
             Ok(First::Unfinished) if !is_over => Progress::Waits,
             Ok(First::Unfinished) => match self.ending() {
                 Ending::Closed => Progress::Closed,
-                Ending::BadInput(refusal) => self.put(turn_away(refusal)),
+                Ending::BadInput(refusal) => self.put(noted(service, turn_away(refusal))),
             },
-            Err(_) => self.put(turn_starved()),
+            Err(_) => self.put(noted(service, turn_starved())),
         }
     }
 
@@ -185,7 +185,9 @@ impl ConnectionState {
     {
         let is_last = self.left == 1;
         self.left = self.left.saturating_sub(1);
-        turn(alloc, service, wanted, clock.now(), is_last)
+        let turned = turn(alloc, service, wanted, clock.now(), is_last);
+        service.note(Some(wanted), &turned);
+        turned
     }
 
     // The response of a turn is to be sent.
@@ -206,4 +208,13 @@ impl ConnectionState {
     {
         self.held.drop_first(alloc, used);
     }
+}
+
+// A turn that wasn't taken for a request, once the service has noted it.
+fn noted<D: Service>(service: &mut D, turned: Turned) -> Turned
+    ensures turned { result ≡ turned }
+    ensures service { service.new ≡ service.old }
+{
+    service.note(None, &turned);
+    turned
 }
