@@ -11,7 +11,7 @@ EVERY := 1
 JOBS := 1
 SECONDS := 600
 
-.PHONY: help try run build test check stories stops plants fmt npm front kill files older limits large soak starve fuzz bench compare examples kit
+.PHONY: help try run build test check stories stops plants fmt npm front beside log kill files older limits large soak starve fuzz bench compare examples kit
 
 help:
 	@echo 'Build:'
@@ -30,6 +30,8 @@ help:
 	@echo 'Try the built program out/registry:'
 	@echo '  make npm      publishes and installs with the stock npm client: a minute'
 	@echo '  make front    the same through nginx with TLS: it needs nginx, and yarn where it is there'
+	@echo '  make beside   runs commands beside a server, and kills, halts and stops it meanwhile: 4 minutes'
+	@echo '  make log      keeps a log of requests: moves it away, and fills its disk: half a minute'
 	@echo '  make kill     kills a server 500 times while versions are published: 6 minutes'
 	@echo '  make files    fills a disk, and opens files that hold no registry'
 	@echo '  make older    migrates files of older schemas, and kills that at any moment: two minutes'
@@ -74,6 +76,12 @@ npm: out/registry
 
 front: out/registry
 	@examples/front.sh out/registry
+
+beside: out/registry
+	@examples/beside.sh out/registry
+
+log: out/registry
+	@examples/log.sh out/registry
 
 kill: out/registry
 	@examples/kill.sh out/registry

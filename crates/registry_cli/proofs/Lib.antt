@@ -1,7 +1,10 @@
 pub mod ActionFacts
 pub mod ArgumentFacts
+pub mod AskedFacts
+pub mod ErrandFacts
 pub mod MomentFacts
 pub mod PrintFacts
 pub mod ReadingFacts
 pub mod RowFacts
+pub mod TokenFacts
 pub mod WholeFacts

@@ -16,7 +16,7 @@ use Rattle.registry_cli.specs.Lines.{value_in, parameters_of}
 use Rattle.registry_cli.specs.Subcommands.{subcommand, subcommands, with_rules, with_subcommands}
 use Rattle.registry_cli.specs.Tables.{row_of, rule, rule_of_parameter}
 use Rattle.registry_cli.specs.declared.subcommand.Need.{Need}
-use Rattle.registry_cli.specs.declared.subcommand.Need.TheVariants.{Required, Default, Number}
+use Rattle.registry_cli.specs.declared.subcommand.Need.TheVariants.{Required, Default, Number, Word}
 use Rattle.registry_cli.specs.declared.subcommand.Parameter.{Parameter}
 use Rattle.registry_cli.specs.declared.subcommand.Subcommand.{Subcommand}
 
@@ -54,6 +54,7 @@ id_of w = go w.need
     go Required = refl
     go (Default text) = refl
     go (Number name most text) = refl
+    go (Word name) = refl
 
 ids_of : (ws : List Parameter) → map (λ w. w.id) (map rule_of_parameter ws) ≡ map (λ w. w.id.now) ws
 ids_of [] = refl

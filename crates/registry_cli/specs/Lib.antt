@@ -1,7 +1,9 @@
 pub mod Asked
+pub mod Errands
 pub mod Lines
 pub mod Prints
 pub mod Readings
 pub mod Subcommands
 pub mod Tables
+pub mod Tokens
 pub mod Usages

@@ -28,6 +28,18 @@ printed (Doc text) = on_output (text ++ newline)
 printed (Bytes archive) = on_output archive
 printed (Refused refusal) = on_errors (codes "refused: " ++ refusal_text refusal ++ newline)
 
+-- ---- of a line that adds a token which was made: the token where it was added, and never else
+
+abbrev pub token_out : List ℕ → Reply → List ℕ
+token_out token Created = token ++ newline
+token_out token Done = token ++ newline
+token_out token reply = (printed reply).out
+
+abbrev pub printed_token : List ℕ → Reply → Printed
+printed_token token reply = record (printed reply) { out = token_out token reply }
+
+-- ---- where it is printed
+
 -- Over some calls a stream took this text, or a prefix of it.
 abbrev pub WritesSome : Option (List ℕ) → Option (List ℕ) → Bool → List ℕ → Type 0
 WritesSome old new unknown text = Writes old new unknown text ⊎ WritesPrefix old new unknown text

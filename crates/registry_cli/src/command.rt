@@ -4,11 +4,12 @@ ghost use Rattle.std.specs.Prelude.{◌≡◌, false, map, codes, IfOk};
 ghost use Rattle.clap.specs.Simple.{app_of, new_app, with_rule, with_subcommand};
 ghost use Rattle.clap.specs.Walk.{rule_of};
 ghost use Rattle.clap.specs.declared.builder.command.Command.TheViews.{out-Command};
+ghost use Rattle.registry_cli.specs.Errands.{house};
 ghost use Rattle.registry_cli.specs.Subcommands as spec;
 ghost use Rattle.registry_cli.specs.Subcommands.{bare, options, with_rules, with_subcommands};
 ghost use Rattle.registry_cli.specs.Tables.{row_of, rule_of_parameter};
 
-use crate::subcommand::{Need, Parameter, Subcommand, all};
+use crate::subcommand::{Need, Parameter, Subcommand, all, errands};
 use clap::builder::ValueParser;
 use clap::{Arg, ArgAction, Command};
 use std::alloc::{AllocError, Global};
@@ -19,7 +20,9 @@ const LAST_SECOND: i64 = 253_402_300_799;
 /// What the program is, with its version.
 const ABOUT: &str = "registry 0.1.0, a package registry for one house, in npm's manner";
 
-const EXAMPLE: &str = "Example: registry --db registry.db --operator user-add ann";
+/// What stands at the end of the help: an example, and the commands that ask for no request.
+const MORE: &str =
+    "Example: registry --db registry.db --operator user-add ann\n\nFor whoever runs it there are token-new, check, backup and stop, too: registry check --help";
 
 // The argument that an argument is.
 fn argument<'a>(alloc: Global, parameter: &Parameter) -> Arg<'a>
@@ -38,6 +41,7 @@ fn argument<'a>(alloc: Global, parameter: &Parameter) -> Arg<'a>
             .long(option)
             .value_parser(ValueParser::Signed(1, i64::from(greatest)))
             .default_value(default),
+        Need::Word { option } => argument.long(option).required(true),
     }
 }
 
@@ -152,7 +156,7 @@ fn bare<'a>(alloc: Global) -> Result<Command<'a>, AllocError>
         .subcommand_required(true)
         .disable_help_subcommand(true)
         .about(ABOUT)
-        .after_help(EXAMPLE)
+        .after_help(MORE)
         .bin_name("registry")
 }
 
@@ -163,10 +167,18 @@ fn with_options<'a>(alloc: Global) -> Result<Command<'a>, AllocError>
     with_moment(alloc, with_names(alloc, bare(alloc)?)?)
 }
 
-/// The whole command.
+/// The whole command of requests.
 pub(crate) fn registry<'a>(alloc: Global) -> Result<Command<'a>, AllocError>
     ensures app { IfOk result (λ c. app_of c ≡ spec.registry) }
     ensures local { IfOk result (λ c. (out-Command c).has_globals ≡ false) }
 {
     with_rows(alloc, with_options(alloc)?, all())
+}
+
+/// The command of errands.
+pub(crate) fn house<'a>(alloc: Global) -> Result<Command<'a>, AllocError>
+    ensures app { IfOk result (λ c. app_of c ≡ house) }
+    ensures local { IfOk result (λ c. (out-Command c).has_globals ≡ false) }
+{
+    with_rows(alloc, with_options(alloc)?, errands())
 }

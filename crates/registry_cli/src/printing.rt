@@ -2,7 +2,7 @@
 
 ghost use Rattle.std.specs.Prelude.{◌≡◌, ◌++◌, OnOk, OnErr, IfOk, codes, decimal, true};
 ghost use Rattle.registry_names.specs.ByteStreams.{Writes, WritesPrefix};
-ghost use Rattle.registry_cli.specs.Prints.{WritesSome, newline, printed};
+ghost use Rattle.registry_cli.specs.Prints.{WritesSome, newline, printed, printed_token, token_out};
 
 use itoa::Buffer;
 use registry_names::{ByteOut, WriteFailed, write_whole};
@@ -33,6 +33,45 @@ pub fn print_reply<O: ByteOut, E: ByteOut>(
     write_answer(reply, output)?;
     let _ = write_refusal(reply, errors);
     Ok(status_of(reply))
+}
+
+/// Prints the answer to a line that adds a token which was made, and gives the status with which the
+/// program ends.
+///
+/// The token and a newline go to the output where the token was added. Else it is printed nowhere:
+/// what [`print_reply`] prints of the reply is printed. No memory is taken. An error comes where a
+/// write on the output fails; the token may have been added then, and nobody has it.
+pub fn print_token<O: ByteOut, E: ByteOut>(
+    token: &str,
+    reply: &Reply,
+    output: &mut O,
+    errors: &mut E,
+) -> Result<u8, WriteFailed>
+    ensures status { IfOk result (λ status. status ≡ (printed_token token.now reply.now).status) }
+    ensures output { OnOk result (Writes (O.bytes output.old) (O.bytes output.new)
+        (O.is_unknown output.new) (printed_token token.now reply.now).out) }
+    ensures errors { OnOk result (WritesSome (E.bytes errors.old) (E.bytes errors.new)
+        (E.is_unknown errors.new) (printed_token token.now reply.now).err) }
+    ensures broken { OnErr result (WritesPrefix (O.bytes output.old) (O.bytes output.new)
+        (O.is_unknown output.new) (printed_token token.now reply.now).out) }
+    ensures silent { OnErr result (errors.new ≡ errors.old) }
+{
+    write_token(token, reply, output)?;
+    let _ = write_refusal(reply, errors);
+    Ok(status_of(reply))
+}
+
+// Writes the token where it was added, and else what of the answer goes to standard output.
+fn write_token<W: ByteOut>(token: &str, reply: &Reply, writer: &mut W) -> Result<(), WriteFailed>
+    ensures ok { OnOk result (Writes (W.bytes writer.old) (W.bytes writer.new)
+        (W.is_unknown writer.new) (token_out token.now reply.now)) }
+    ensures err { OnErr result (WritesPrefix (W.bytes writer.old) (W.bytes writer.new)
+        (W.is_unknown writer.new) (token_out token.now reply.now)) }
+{
+    match reply {
+        Reply::Created | Reply::Done => write_two(writer, token.as_bytes(), b"\n"),
+        _ => write_answer(reply, writer),
+    }
 }
 
 fn status_of(reply: &Reply) -> u8

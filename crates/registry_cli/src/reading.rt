@@ -41,7 +41,7 @@ pub fn line(alloc: Global, arguments: &[Text]) -> Result<Line, Usage>
 }
 
 // The texts as `clap` takes them.
-fn texts<'a>(alloc: Global, arguments: &'a [Text]) -> Result<Vec<&'a str>, AllocError>
+pub(crate) fn texts<'a>(alloc: Global, arguments: &'a [Text]) -> Result<Vec<&'a str>, AllocError>
     ensures { IfOk result (λ t. map (λ s. s.now) t.items ≡ arguments.now) }
 {
     let mut texts = Vec::new(alloc);
@@ -76,7 +76,7 @@ fn given<'a>(matches: &ArgMatches<'a>, id: &str) -> Option<&'a str>
 
 // The value of the argument with this name, and the empty text where it was left out.
 #[tactic(auto, using(crate::proofs::RowFacts::value_is))]
-fn value<'a>(matches: &ArgMatches<'a>, id: &str) -> &'a str
+pub(crate) fn value<'a>(matches: &ArgMatches<'a>, id: &str) -> &'a str
     ensures { result.now ≡ value_in (rows_of (found_of matches.now)) id.now }
 {
     match matches.get_str(id) {
@@ -113,7 +113,7 @@ fn who_asks(alloc: Global, user: Option<&str>, is_operator: bool) -> Result<Who,
     }
 }
 
-fn caller(alloc: Global, matches: &ArgMatches<'_>) -> Result<Who, Usage>
+pub(crate) fn caller(alloc: Global, matches: &ArgMatches<'_>) -> Result<Who, Usage>
     ensures ok { IfOk result (λ w. (w ≡ who_in (rows_of (found_of matches.now)))
         × (are_both_in (rows_of (found_of matches.now)) ≡ false)) }
     ensures err { IfErr result (λ u.
@@ -141,7 +141,7 @@ fn moment_of(text: Option<&str>) -> Option<Moment>
     }
 }
 
-fn at(matches: &ArgMatches<'_>) -> Option<Moment>
+pub(crate) fn at(matches: &ArgMatches<'_>) -> Option<Moment>
     ensures { result ≡ at_in (rows_of (found_of matches.now)) }
 {
     moment_of(given(matches, "SECONDS"))

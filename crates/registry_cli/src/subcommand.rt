@@ -2,6 +2,7 @@
 
 ghost use Rattle.std.specs.Prelude.{◌≡◌, find, map, option_map};
 ghost use Rattle.std.specs.Str.{bytes_eq};
+ghost use Rattle.registry_cli.specs.Errands.{errands};
 ghost use Rattle.registry_cli.specs.Subcommands.{subcommands};
 ghost use Rattle.registry_cli.specs.Tables.{row_of};
 
@@ -20,6 +21,11 @@ pub(crate) enum Need {
         greatest: u32,
         /// What it is where it is left out.
         default: &'static str,
+    },
+    /// It is an option, and has to be there.
+    Word {
+        /// The option's name, without its hyphens.
+        option: &'static str,
     },
 }
 
@@ -128,6 +134,12 @@ const SELECTOR: Parameter = Parameter {
 const MESSAGE: Parameter = Parameter {
     id: "MESSAGE",
     help: "At most 1,024 bytes; the empty text takes a deprecation back",
+    need: Need::Required,
+};
+
+const COPY: Parameter = Parameter {
+    id: "COPY",
+    help: "The path of the copy, where no file is yet",
     need: Need::Required,
 };
 
@@ -318,18 +330,64 @@ static SUBCOMMANDS: [Subcommand; 28] = [
         name: "serve",
         parameters: &[PORT, CONNECTIONS],
         about: "Serve npm over HTTP on 127.0.0.1: up to 512 connections at once, a request at a time",
-        example: "Example: registry serve --port 8080",
+        example: "Example: registry serve --port 8080\n\nWith --log FILE a line is written to the end of FILE for each request, too",
     },
 ];
 
-/// All subcommands.
+const LOG: Parameter = Parameter {
+    id: "LOG",
+    help: "The file to whose end a line is written for each request",
+    need: Need::Word { option: "log" },
+};
+
+static ERRANDS: [Subcommand; 5] = [
+    Subcommand {
+        name: "token-new",
+        parameters: &[USER],
+        about: "Make a token for a user, and print it once (the operator)",
+        example: "Example: registry --operator token-new ann",
+    },
+    Subcommand {
+        name: "check",
+        parameters: &[],
+        about: "Check that all that the file holds is in form",
+        example: "Example: registry --db registry.db check",
+    },
+    Subcommand {
+        name: "backup",
+        parameters: &[COPY],
+        about: "Copy the file, and check the copy",
+        example: "Example: registry --db registry.db backup copy.db",
+    },
+    Subcommand {
+        name: "stop",
+        parameters: &[],
+        about: "End the server that has the file, once what is under way is answered",
+        example: "Example: registry --db registry.db stop",
+    },
+    Subcommand {
+        name: "serve",
+        parameters: &[PORT, CONNECTIONS, LOG],
+        about: "Serve npm over HTTP, and keep a log of the requests",
+        example: "Example: registry serve --port 8080 --log requests.log",
+    },
+];
+
+/// All subcommands that ask for a request, and `serve`.
 pub(crate) fn all() -> &'static [Subcommand]
     ensures { map row_of result.now ≡ subcommands }
 {
     SUBCOMMANDS.as_slice()
 }
 
-/// The subcommand of this name, if there is one.
+/// The subcommands that ask for no request.
+pub(crate) fn errands() -> &'static [Subcommand]
+    ensures { map row_of result.now ≡ errands }
+{
+    ERRANDS.as_slice()
+}
+
+/// The subcommand of a request, or `serve`, of this name, if there is one.
 pub(crate) fn called(name: &str) -> Option<&'static Subcommand>
     ensures { option_map (λ row. row_of row.now) result
         ≡ find (λ row. bytes_eq row.0 name.now) subcommands }

@@ -9,6 +9,8 @@ mod LoadedFacts
 mod LookFacts
 mod MakingFacts
 mod OpenedFacts
+mod QueryFacts
+mod SendingFacts
 mod SettlingFacts
 mod CacheFacts
 pub mod AnswerFacts

@@ -8,3 +8,5 @@ pub mod Counting
 pub mod Lives
 pub mod Stops
 pub mod Early
+pub mod Sending
+pub mod TokenUsers

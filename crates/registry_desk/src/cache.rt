@@ -27,8 +27,8 @@ fn keep(cache: &mut TextCache, name: &Name, text: &SharedText)
     }
 }
 
-// Whether a text is kept under the name, which is the latest asked from now on.
-fn ask(cache: &mut TextCache, name: &Name) -> bool
+/// Whether a text is kept under the name, which is the latest asked from now on.
+pub(crate) fn ask(cache: &mut TextCache, name: &Name) -> bool
     ensures none { result ≡ false → kept cache.old name.now ≡ None }
     ensures asked { cache.new ≡ asked cache.old name.now }
 {

@@ -1,4 +1,5 @@
-//! The registry itself: each request is one transaction, whose reply is made before its commit.
+//! The registry itself: each request is one transaction, whose reply is made before its commit. Only
+//! the text of a packument is made after it, in two walks over the versions, where it isn't kept.
 //!
 //! A request that is refused changes nothing. A fault may come instead of any reply, and changes
 //! nothing as long as the registry is open. Where a fault of the disk has shut it, its last request
@@ -23,7 +24,10 @@ mod policy;
 mod registry;
 mod reply;
 mod rows;
+mod sending;
 mod teams;
+mod texts;
+mod token_user;
 mod withdrawals;
 
 pub use crate::open::{SCHEMA, Unopened};

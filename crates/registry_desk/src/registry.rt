@@ -1,6 +1,6 @@
 //! A registry over a connection to its tables.
 
-ghost use Rattle.std.specs.Prelude.{◌≡◌, false, IfErr, IfOk, IsTrue, OnErr, OnOk};
+ghost use Rattle.std.specs.Prelude.{◌≡◌, ◌≢◌, false, true, IfErr, IfOk, IsTrue, OnErr, OnOk};
 ghost use Rattle.sqlite.specs.Held.{state};
 ghost use Rattle.sqlite.specs.State.{HasCleanDisk, Survives};
 ghost use Rattle.sqlite.specs.Steps.{over_memory};
@@ -19,15 +19,21 @@ ghost use Rattle.registry_desk.specs.Promises as promises;
 ghost use Rattle.registry_desk.specs.Resting.{IsRegistryOf, Rests, end_stored};
 ghost use Rattle.registry_desk.specs.Adopted.{CanBeAdopted, IsUndone};
 ghost use Rattle.registry_desk.specs.Caches.{HasPackuments, KeepsAnswer, KeepsNoMore};
+ghost use Rattle.registry_desk.specs.Sending.{IsPackument, Sends, answers_as_apply};
+ghost use Rattle.registry_packument.specs.Sendings.{failures_after};
+ghost use Rattle.registry_packument.specs.declared.opener.Sent.TheVariants.{WriteFault};
 
 use crate::answer::answered_inside;
 use crate::cache::keep_reply;
+use crate::sending::sent;
+use crate::texts::queried;
 use registry_cache::TextCache;
 use registry_hidden::laws::unread_packages_are_unheard_of;
-use registry_names::Fault;
+use registry_names::{ByteOut, Fault};
+use registry_packument::{Opener, Sent};
 use registry_rows::{commit, fault_of};
 use registry_rules::laws::requests_are_in_form;
-use registry_rules::{Reply, Request};
+use registry_rules::{Action, Reply, Request};
 use registry_tables::create;
 use sqlite::{Alter, Connection, Error, ErrorCode, MemStore};
 use std::alloc::Global;
@@ -160,6 +166,51 @@ impl<S: Alter> Registry<S> {
         answered(alloc, &mut self.conn, &mut self.cache, request)
     }
 
+    /// Answers a query for a packument, and writes that to a stream: first what opens it by its
+    /// length, then its text. Unless the text is kept already, none of the whole is made, and of the
+    /// versions' documents one is held at a time. No text is kept that wasn't.
+    ///
+    /// It is one request that is answered: of the outcome holds all that is said of that of
+    /// [`apply`](Registry::apply). The outcome of a packument that was written whole is its text,
+    /// and so it is of one that a failed write broke off. The outcome of one that is broken is the
+    /// fault; then a prefix was written of what opens a document that might have been answered, and
+    /// of the document. A refusal is handed back, and nothing is written of it. Whatever is said,
+    /// nothing that is stored is changed.
+    ///
+    /// The query is decided in a transaction. Where the text isn't kept, the packument is counted
+    /// after it, in a walk over the versions, and written in a second one. What the second one gives
+    /// is never more than was counted, and where it is less, the packument is broken by `Database`.
+    pub fn send_packument<W: ByteOut, O: Opener>(
+        &mut self,
+        alloc: Global,
+        request: &Request,
+        writer: &mut W,
+        opener: &O,
+    ) -> Sent
+        requires asks { IsPackument request.now.what }
+        ensures sends { Sends (answers_as_apply S.Store) (O.opens opener.now) self.old request.now
+            result self.new (W.bytes writer.old) (W.bytes writer.new) (W.is_unknown writer.new) }
+        ensures stored { KeepsStored (state S.Store self.old) (state S.Store self.new) }
+
+        // Only a failed write is counted, and only it makes the bytes unknown, for good.
+        ensures counted { W.failures writer.new ≡ failures_after result (W.failures writer.old) }
+        ensures told { result ≢ WriteFault → W.is_unknown writer.new ≡ W.is_unknown writer.old }
+        ensures unknown { W.is_unknown writer.old ≡ true → W.is_unknown writer.new ≡ true }
+    {
+        match &request.what {
+            Action::Packument { package } => sent(
+                alloc,
+                &mut self.conn,
+                &mut self.cache,
+                request,
+                package,
+                writer,
+                opener,
+            ),
+            _ => unreachable!(),
+        }
+    }
+
     /// Answers requests in their order, as [`apply`](Registry::apply) does. Room for all outcomes
     /// is taken first: where that is refused, the answer is `Memory` and nothing was run.
     ///
@@ -287,9 +338,39 @@ fn seen_by(error: Error) -> Result<bool, Fault>
     }
 }
 
-// One transaction, which rolls back where `?` drops it. What is replied is kept after the commit,
-// and where a fault comes no text is kept that wasn't before.
+// The reply, which is kept if it is a packument. Where a fault comes no text is kept that wasn't
+// before.
 fn answered<S: Alter>(
+    alloc: Global,
+    conn: &mut Connection<S>,
+    cache: &mut TextCache,
+    request: &Request,
+) -> Result<Reply, Fault>
+    requires rests { Rests (state S.Store conn.old) }
+    requires right { HasPackuments (state S.Store conn.old) cache.old }
+    ensures rests { Rests (state S.Store conn.new) }
+    ensures right { HasPackuments (state S.Store conn.new) cache.new }
+    ensures limit { cache.new.limit ≡ cache.old.limit }
+    ensures answer { Answered (state S.Store conn.old) (state S.Store conn.new)
+        request.now result }
+    ensures served { Served (state S.Store conn.old) (state S.Store conn.new) result }
+    ensures opened { WasOpen (state S.Store conn.old) (state S.Store conn.new) }
+    ensures unchanged { Unchanged (state S.Store conn.old) (state S.Store conn.new)
+        request.now result }
+    ensures step { Stepped (state S.Store conn.old) (state S.Store conn.new) request.now result }
+    ensures survives { SurvivesOne (state S.Store conn.old) (state S.Store conn.new) request.now }
+    ensures no_more { OnErr result (KeepsNoMore cache.old cache.new) }
+    ensures kept { IfOk result (KeepsAnswer request.now.what cache.old cache.new) }
+{
+    match &request.what {
+        Action::Packument { package } => queried(alloc, conn, cache, request, package),
+        _ => transacted(alloc, conn, cache, request),
+    }
+}
+
+// The same in one transaction, which rolls back where `?` drops it. What is replied is kept after
+// the commit.
+fn transacted<S: Alter>(
     alloc: Global,
     conn: &mut Connection<S>,
     cache: &mut TextCache,

@@ -143,8 +143,8 @@ fn packument_rows<S: Alter>(
     }
 }
 
-// The text that is kept of a packument. None where it can't be shared.
-fn cached_text(cache: &TextCache, name: &Name) -> Option<SharedText>
+/// The text that is kept of a packument. None where it can't be shared.
+pub(crate) fn cached_text(cache: &TextCache, name: &Name) -> Option<SharedText>
     ensures { IfSome result (λ text. kept cache.now name.now ≡ Some text) }
 {
     cache.peek(name.text())?.share().ok()
@@ -162,7 +162,7 @@ fn stored_rows<S: Alter>(
 {
     let LiveVersions { versions, times } = load_versions(alloc, tx, name)?;
     let tags = load_tags(alloc, tx, name)?;
-    let times = load_times(alloc, tx, name, times)?;
+    let times = pack_times(alloc, tx, name, times)?;
     Ok(Rows::Packument {
         versions,
         tags,
@@ -170,8 +170,8 @@ fn stored_rows<S: Alter>(
     })
 }
 
-// The moments of a package of which a version was published, where its live versions are these.
-fn load_times<S: Alter>(
+/// The moments of a package of which a version was published, where its live versions are these.
+pub(crate) fn pack_times<S: Alter>(
     alloc: Global,
     tx: &mut Transaction<'_, S>,
     name: &Name,

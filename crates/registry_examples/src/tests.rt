@@ -10,4 +10,7 @@ mod both_ways;
 mod files;
 mod lies;
 mod lists;
+mod log;
 mod program;
+mod sent;
+mod served;

@@ -1,7 +1,6 @@
 -- Packages that a caller doesn't read.
-use Rattle.std.proofs.Common.{◌≡◌, ◌||◌, ◌∙◌, ℕ, Bool, true, false, Option, Some, None, Ok, Err, refl, sym, ap, true≢false}
+use Rattle.std.proofs.Common.{◌≡◌, ◌||◌, ◌∙◌, ℕ, Bool, true, false, Option, Some, Ok, refl, sym, ap, true≢false}
 use Rattle.std.specs.Option.{option_or}
-use Rattle.registry_names.specs.Maps.{at}
 use Rattle.registry_names.specs.Texts.{Text}
 use Rattle.registry_names.specs.declared.refusal.Refusal.{Refusal}
 use Rattle.registry_names.specs.declared.refusal.Refusal.TheVariants.{NotFound}
@@ -11,7 +10,6 @@ use Rattle.registry_access.specs.Levels.{is_owner_or_admin, reads}
 use Rattle.registry_access.specs.Policy.{where_found}
 use Rattle.registry_access.specs.Positions.{level_by, level_in, position_in}
 use Rattle.registry_access.specs.declared.caller.Caller.{Caller}
-use Rattle.registry_rules.specs.Callers.{caller_of}
 use Rattle.registry_rules.specs.Refusals.{refusal_by, refusal_for, unless_allowed}
 use Rattle.registry_rules.specs.State.{State}
 use Rattle.registry_rules.specs.declared.reply.Reply.{Reply}

@@ -1,5 +1,5 @@
 -- A look at a registry after a fault leaves all that is promised of the request.
-use Rattle.std.proofs.Common.{◌≡◌, ◌⊎◌, ◌∙◌, ◌+◌, ◌-◌, ◌^◌, ◌≤◌, min, Bool, Err, ap, arith, inl, inr, sym, subst}
+use Rattle.std.proofs.Common.{◌⊎◌, ◌∙◌, ◌≤◌, Bool, Err, ap, arith, inl, inr, sym, subst}
 use Rattle.sqlite.proofs.StateLemmas.{survives_then}
 use Rattle.sqlite.specs.State.{State as Shown, HasCleanDisk, Survives}
 use Rattle.sqlite_trees.specs.Tree.{Trees}

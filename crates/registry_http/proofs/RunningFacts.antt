@@ -1,5 +1,5 @@
 -- Turns are runs.
-use Rattle.std.proofs.Common.{◌≡◌, ◌⊎◌, ◌++◌, ◌∷◌, [], ℕ, List, map, Option, Bool, inl, inr, refl, sym, subst}
+use Rattle.std.proofs.Common.{◌≡◌, ◌++◌, ◌∷◌, [], ℕ, List, map, Option, Bool, inl, inr, refl, sym, subst}
 use Rattle.sqlite.specs.State.{State as Shown}
 use Rattle.registry_rules.proofs.SoundSteps.{nothing_sound}
 use Rattle.registry_rules.specs.Kept.{IsSound}

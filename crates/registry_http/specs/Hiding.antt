@@ -1,5 +1,5 @@
 -- What a package that a caller doesn't read looks like over HTTP.
-use Rattle.std.specs.Prelude.{◌≡◌, Bool, false, Option, Some, None, Ok}
+use Rattle.std.specs.Prelude.{◌≡◌, Bool, false, Some, None, Ok}
 use Rattle.registry_names.specs.Maps.{at}
 use Rattle.registry_names.specs.Texts.{Text}
 use Rattle.registry_access.specs.Levels.{reads}

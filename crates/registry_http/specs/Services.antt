@@ -1,5 +1,5 @@
 -- A registry as the service that connections ask, and the run that turns come to.
-use Rattle.std.specs.Prelude.{◌≡◌, ◌⊎◌, ◌++◌, ◌∷◌, [], ℕ, Bool, false, true, IfErr, List, map, Ok, Err, refl}
+use Rattle.std.specs.Prelude.{◌≡◌, ◌⊎◌, ◌++◌, ◌∷◌, [], Bool, false, true, IfErr, List, map, Ok, Err, refl}
 use Rattle.std.specs.Coded.{Coded, code_by, coded×, coded_bool}
 use Rattle.sqlite.specs.Held.{Held, held_code, state}
 use Rattle.sqlite.specs.State.{State as Shown, HasCleanDisk}
@@ -8,6 +8,8 @@ use Rattle.sqlite_disk.specs.Disk.{MoreFaults}
 use Rattle.registry_names.specs.declared.stop.Fault.{Fault}
 use Rattle.registry_names.specs.declared.stop.Fault.TheVariants.{Database}
 use Rattle.registry_names.specs.declared.stop.Stop.{Stop}
+use Rattle.registry_packument.specs.declared.opener.Sent.{Sent}
+use Rattle.registry_packument.specs.declared.opener.Sent.TheVariants.{Broken}
 use Rattle.registry_rules.specs.declared.request.Request.{Request}
 use Rattle.registry_tables.specs.Archives.{HoldsArchives}
 use Rattle.registry_tables.specs.Needs.{HoldsNeeds}
@@ -36,6 +38,10 @@ pub record Applies (old new : Shown) (r : Request) (o : Outcome) : Type 0 where
   pub form : KeepsForm old new r
   pub survives : SurvivesOne old new r
   pub stays : StaysSure new
+
+-- so it is of the connections at the entry and at the exit
+abbrev pub applies_over : {S : Type 0} → Ghosts S → Answering (Held S)
+applies_over store M r o N = Applies (state store M) (state store N) r o
 
 -- ---- a registry that is served
 
@@ -68,6 +74,15 @@ module _ {S : Type 0} (store : Ghosts S) where
   abbrev pub EndsByFault : Serving S → Serving S → Outcome → Type 0
   EndsByFault old new (Ok reply) = new.is_over ≡ old.is_over
   EndsByFault old new (Err fault) = EndsBy (shown store old) (shown store new) old.is_over new.is_over fault
+
+  -- the same of a packument that is sent
+  abbrev pub SendsIfShut : Serving S → Sent → Type 0
+  SendsIfShut new (Broken fault has_started) = EndsShut (shown store new) new.is_over fault
+  SendsIfShut new _ = Unit {0}
+
+  abbrev pub SendsByFault : Serving S → Serving S → Sent → Type 0
+  SendsByFault old new (Broken fault has_started) = EndsBy (shown store old) (shown store new) old.is_over new.is_over fault
+  SendsByFault old new _ = new.is_over ≡ old.is_over
 
 -- ---- the requests of turns
 

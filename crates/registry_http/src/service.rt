@@ -1,15 +1,21 @@
 //! A registry as the service that connections ask.
 
-ghost use Rattle.std.specs.Prelude.{◌≡◌, false, true};
+ghost use Rattle.std.specs.Prelude.{◌≡◌, ◌≢◌, false, true};
 ghost use Rattle.sqlite.specs.Held.{state};
 ghost use Rattle.sqlite.specs.State.{Survives};
 ghost use Rattle.registry_desk.specs.Promises.{KeepsStored, WasOpen};
-ghost use Rattle.registry_http.specs.Services.{Applies, EndsBy, EndsByFault, EndsIfShut, EndsShut, applied, shown};
+ghost use Rattle.registry_desk.specs.TokenUsers.{NamesUser};
+ghost use Rattle.registry_http.specs.Services.{Applies, EndsBy, EndsByFault, EndsIfShut, EndsShut, SendsByFault, SendsIfShut, applied, applies_over, shown};
+ghost use Rattle.registry_packument.specs.Sendings.{failures_after};
+ghost use Rattle.registry_packument.specs.declared.opener.Sent.TheVariants.{WriteFault};
+ghost use Rattle.registry_service.specs.Sendings.{IsPackument, Sends};
 
 use registry_desk::Registry;
-use registry_names::Fault;
+use registry_names::{ByteOut, Fault, Ident};
+use registry_packument::{Opener, Sent};
+use registry_publish::TokenDigest;
 use registry_rules::{Reply, Request};
-use registry_service::Service;
+use registry_service::{PackumentService, Service};
 use sqlite::Alter;
 use std::alloc::Global;
 use std::marker::Model;
@@ -52,6 +58,19 @@ impl<S: Alter> RegistryService<S> {
         }
     }
 
+    /// The user of the token with this digest, as `Registry::user_of` looks it up. None where no
+    /// token has it. Nothing that is stored is changed.
+    pub fn user_of(&mut self, alloc: Global, digest: &TokenDigest) -> Result<Option<Ident>, Fault>
+        ensures names { NamesUser (shown S.Store self.old) (shown S.Store self.new)
+            digest.now result }
+        ensures opened { WasOpen (shown S.Store self.old) (shown S.Store self.new) }
+        ensures stored { KeepsStored (shown S.Store self.old) (shown S.Store self.new) }
+        ensures survives { Survives (shown S.Store self.old) (shown S.Store self.new) (λ _. ⊥) }
+        ensures over { self.new.is_over ≡ self.old.is_over }
+    {
+        self.registry.user_of(alloc, digest)
+    }
+
     /// The registry itself. It takes no memory.
     pub fn into_registry(self) -> Registry<S>
         ensures { result ≡ self.registry }
@@ -89,6 +108,67 @@ impl<S: Alter> Service for RegistryService<S> {
     fn is_over(&self) -> bool {
         self.is_over
     }
+}
+
+impl<S: Alter> PackumentService for RegistryService<S> {
+    /// Answers a query for a packument, and writes that, as `Registry::send_packument` does. After
+    /// the fault `Database` it looks whether the registry is still open, as after that of an answer:
+    /// the service is over where it isn't.
+    fn send_packument<W: ByteOut, O: Opener>(
+        &mut self,
+        alloc: Global,
+        request: &Request,
+        writer: &mut W,
+        opener: &O,
+    ) -> Sent
+        requires { IsPackument request.now.what }
+        ensures sends { Sends (applied (shown S.Store)) (O.opens opener.now) self.old request.now
+            result self.new (W.bytes writer.old) (W.bytes writer.new) (W.is_unknown writer.new) }
+        ensures counted { W.failures writer.new ≡ failures_after result (W.failures writer.old) }
+        ensures told { result ≢ WriteFault → W.is_unknown writer.new ≡ W.is_unknown writer.old }
+        ensures unknown { W.is_unknown writer.old ≡ true → W.is_unknown writer.new ≡ true }
+        ensures shut { SendsIfShut S.Store self.new result }
+        ensures ends { SendsByFault S.Store self.old self.new result }
+        ensures latched { self.old.is_over ≡ true → self.new.is_over ≡ true }
+    {
+        match sent(alloc, &mut self.registry, request, writer, opener) {
+            Sent::Refused(refusal) => Sent::Refused(refusal),
+            Sent::Whole => Sent::Whole,
+            Sent::WriteFault => Sent::WriteFault,
+            Sent::Broken {
+                fault: Fault::Memory,
+                has_started,
+            } => Sent::Broken {
+                fault: Fault::Memory,
+                has_started,
+            },
+            Sent::Broken {
+                fault: Fault::Database,
+                has_started,
+            } => Sent::Broken {
+                fault: look(&mut self.registry, &mut self.is_over),
+                has_started,
+            },
+        }
+    }
+}
+
+// How a packument was sent, with all that is promised of it.
+fn sent<S: Alter, W: ByteOut, O: Opener>(
+    alloc: Global,
+    registry: &mut Registry<S>,
+    request: &Request,
+    writer: &mut W,
+    opener: &O,
+) -> Sent
+    requires asks { IsPackument request.now.what }
+    ensures sends { Sends (applies_over S.Store) (O.opens opener.now) registry.old request.now
+        result registry.new (W.bytes writer.old) (W.bytes writer.new) (W.is_unknown writer.new) }
+    ensures counted { W.failures writer.new ≡ failures_after result (W.failures writer.old) }
+    ensures told { result ≢ WriteFault → W.is_unknown writer.new ≡ W.is_unknown writer.old }
+    ensures unknown { W.is_unknown writer.old ≡ true → W.is_unknown writer.new ≡ true }
+{
+    registry.send_packument(alloc, request, writer, opener)
 }
 
 // The outcome of a request, with all that is promised of it.

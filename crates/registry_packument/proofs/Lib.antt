@@ -8,5 +8,6 @@ pub mod OrderFacts
 pub mod PackFacts
 pub mod PassingFacts
 pub mod QuotedFacts
+pub mod SendingFacts
 pub mod StreamFacts
 pub mod ValueFacts

@@ -1,4 +1,5 @@
 pub mod Calendar
+pub mod Counted
 pub mod Dates
 pub mod Documents
 pub mod Heads
@@ -8,6 +9,7 @@ pub mod Moments
 pub mod ObjectTexts
 pub mod Packuments
 pub mod Passing
+pub mod Sendings
 pub mod Sources
 pub mod Streams
 pub mod TextValues

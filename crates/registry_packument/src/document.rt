@@ -8,6 +8,7 @@ ghost use Rattle.json.specs.Tree.{json_tokens, HasNumbers, MembersHaveNumbers};
 ghost use Rattle.json.specs.Value.{value_view, members_view};
 ghost use Rattle.registry_names.specs.Texts.{text_cmp};
 ghost use Rattle.registry_packument.specs.Documents.{manifest_members, members_in, written_members, members_without, placed, deprecated_text, document_text};
+ghost use Rattle.registry_packument.specs.Documents as documents;
 ghost use Rattle.registry_packument.specs.Writing.{IsFaultOf};
 
 use crate::manifest::is_manifest;
@@ -111,6 +112,19 @@ fn deprecated(alloc: Global, manifest: &str, message: &str) -> Result<String, Fa
     Ok(text_of(alloc, &Value::Object(members))?)
 }
 
+/// The document of a version whose manifest is known to be one. Where the message is empty it is the
+/// manifest, which isn't read.
+pub(crate) fn documented(alloc: Global, manifest: Text, message: &str) -> Result<Text, Fault>
+    ensures ok { IfOk result (λ text. text ≡ documents.documented manifest message.now) }
+    ensures err { IfErr result (IsFaultOf (manifest_members manifest)) }
+{
+    if message.is_empty() {
+        return Ok(manifest);
+    }
+    let text = deprecated(alloc, manifest.as_str(), message)?;
+    Ok(Text::from(text))
+}
+
 /// The document of a version, made of its manifest, which it is itself where the message is empty.
 pub(crate) fn document_of(alloc: Global, manifest: Text, message: &str) -> Result<Text, Fault>
     ensures ok { IfOk result (λ text. document_text manifest message.now ≡ Some text) }
@@ -119,11 +133,7 @@ pub(crate) fn document_of(alloc: Global, manifest: Text, message: &str) -> Resul
     if !is_manifest(alloc, manifest.as_str())? {
         return Err(Fault::Database);
     }
-    if message.is_empty() {
-        return Ok(manifest);
-    }
-    let text = deprecated(alloc, manifest.as_str(), message)?;
-    Ok(Text::from(text))
+    documented(alloc, manifest, message)
 }
 
 /// The document of a version: the manifest itself where the message is empty; else the manifest as

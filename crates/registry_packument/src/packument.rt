@@ -1,13 +1,14 @@
 //! Packuments.
 
-ghost use Rattle.std.specs.Prelude.{◌≡◌, ◌+◌, [], Some, length, option_map, false, string_bytes, string_capacity, OnOk, IfOk, IfErr};
+ghost use Rattle.std.specs.Prelude.{◌≡◌, ◌+◌, [], Some, None, length, option_map, false, string_bytes, string_capacity, OnOk, IfOk, IfErr};
+ghost use Rattle.registry_packument.specs.Counted.{row_text};
 ghost use Rattle.registry_packument.specs.ObjectTexts.{member_text};
 ghost use Rattle.registry_packument.specs.Packuments.{version_pair, version_pairs, versions_text, pack_text};
 ghost use Rattle.registry_packument.specs.Sources.{IsFaultFrom};
 ghost use Rattle.registry_packument.specs.Writing.{Adds, IsFaultOf};
 ghost use Rattle.registry_packument.specs.Members.{member_bytes, text_of_members};
 
-use crate::document::document_of;
+use crate::document::{document_of, documented};
 use crate::head::PackHead;
 use crate::json_text::push_key;
 use crate::opening::opening;
@@ -62,6 +63,25 @@ impl VersionRow {
             document,
         })
     }
+
+    /// The version's member in one piece, where its manifest is known to be one. Without a message the
+    /// manifest isn't read.
+    pub(crate) fn into_known_member(self, alloc: Global, later: bool) -> Result<String, Fault>
+        ensures { IfOk result (λ text. string_bytes text ≡ row_text later self) }
+    {
+        let VersionRow {
+            version,
+            manifest,
+            message,
+        } = self;
+        let document = documented(alloc, manifest, message.as_str())?;
+        let key_len = version.as_str().len().saturating_add(KEY_MARKS);
+        let room = key_len.saturating_add(document.as_str().len());
+        let mut text = String::with_capacity(alloc, room)?;
+        push_key(alloc, &mut text, later, version.as_str())?;
+        text.push_str(document.as_str())?;
+        Ok(text)
+    }
 }
 
 /// The member of one version in a packument, in two parts.
@@ -85,6 +105,8 @@ fn version_members<S: VersionSource>(
         (version_pairs (S.rows source.old))) }
     ensures taken { S.is_known source.new → OnOk result (S.rows source.new ≡ []) }
     ensures known { S.is_known source.new → S.is_known source.old }
+    ensures goes_on { OnOk result (S.stopped source.new ≡ None) }
+    ensures behind { S.leaves source.old source.new }
 {
     let mut members = Vec::new(alloc);
     let mut later = false;
@@ -166,6 +188,8 @@ pub fn packument_text<S: VersionSource>(
     ensures taken { S.is_known source.new → OnOk result (S.rows source.new ≡ []) }
 
     ensures known { S.is_known source.new → S.is_known source.old }
+    ensures goes_on { OnOk result (S.stopped source.new ≡ None) }
+    ensures behind { S.leaves source.old source.new }
 {
     let start = opening(alloc, head)?;
     let members = version_members(alloc, source)?;

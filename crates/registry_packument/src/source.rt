@@ -29,6 +29,9 @@ pub trait VersionSource {
     // How many rows it gives at most, also where they aren't known.
     ghost most: { Self → ℕ };
 
+    // What stands behind the source is left so by what is read from it.
+    ghost leaves: { Self → Self → Type 0 } = { λ _ _. ⊤ };
+
     /// The next version. None where none is left.
     ///
     /// After a fault it answers that fault again, and it stops at a fault alone.
@@ -39,10 +42,17 @@ pub trait VersionSource {
         ensures ends { IfOk result (λ row. OnSome row (most self.new < most self.old)) }
         ensures stops { IfErr result (λ fault. stopped self.new ≡ Some fault) }
         ensures goes_on { IfOk result (λ _. stopped self.new ≡ None) }
-        ensures again { IfSome (stopped self.old) (λ fault. result ≡ Err fault) };
+        ensures again { IfSome (stopped self.old) (λ fault. result ≡ Err fault) }
+        ensures behind { leaves self.old self.new };
 
     // The rows are in byte order of their versions, each once.
     ghost ordered: { (source : Self) → IsInOrder (rows source) };
+
+    // Where nothing is read, what stands behind it is as it was.
+    ghost leaves_itself: { (source : Self) → leaves source source };
+
+    // What is left by one reading after another is left by both.
+    ghost leaves_through: { (a b c : Self) → leaves a b → leaves b c → leaves a c };
 }
 
 /// Versions in memory, given one after the other.
@@ -89,6 +99,10 @@ impl VersionSource for VersionRows {
     ghost most = { λ source. length source.left.items };
 
     ghost ordered = { λ source. source.ordered };
+
+    ghost leaves_itself = { λ _. tt };
+
+    ghost leaves_through = { λ _ _ _ _ _. tt };
 
     fn next(&mut self, _alloc: Global) -> Result<Option<VersionRow>, Fault> {
         Ok(self.left.pop_front())

@@ -66,8 +66,8 @@ impl From<AllocError> for PackFault {
     }
 }
 
-// The member of one version, in one piece.
-fn member_string(alloc: Global, later: bool, row: VersionRow) -> Result<String, Fault>
+/// The member of one version, in one piece.
+pub(crate) fn member_string(alloc: Global, later: bool, row: VersionRow) -> Result<String, Fault>
     ensures ok { IfOk result (λ text. Adds (member_text later) (version_pair row)
         [] (string_bytes text)) }
     ensures err { IfErr result (IsFaultOf (version_pair row)) }
@@ -117,6 +117,8 @@ pub fn packument_len<S: VersionSource>(
     ensures taken { S.is_known source.new → OnOk result (S.rows source.new ≡ []) }
 
     ensures known { S.is_known source.new → S.is_known source.old }
+    ensures goes_on { OnOk result (S.stopped source.new ≡ None) }
+    ensures behind { S.leaves source.old source.new }
 {
     let mut count = opening_len(alloc, head)?;
     let mut later = false;
@@ -167,6 +169,8 @@ fn write_versions<W: ByteOut, S: VersionSource>(
         (version_pairs (S.rows source.old))) }
     ensures taken { S.is_known source.new → OnOk result (S.rows source.new ≡ []) }
     ensures known { S.is_known source.new → S.is_known source.old }
+    ensures goes_on { OnOk result (S.stopped source.new ≡ None) }
+    ensures behind { S.leaves source.old source.new }
 
     ensures counted { W.failures writer.new ≡ failures_after result (W.failures writer.old) }
     ensures told { result ≢ Err Write → W.is_unknown writer.new ≡ W.is_unknown writer.old }
@@ -207,6 +211,8 @@ pub fn write_packument<W: ByteOut, S: VersionSource>(
     ensures taken { S.is_known source.new → OnOk result (S.rows source.new ≡ []) }
 
     ensures known { S.is_known source.new → S.is_known source.old }
+    ensures goes_on { OnOk result (S.stopped source.new ≡ None) }
+    ensures behind { S.leaves source.old source.new }
 
     // Only a failed write is counted, and only it makes the bytes unknown, for good.
     ensures counted { W.failures writer.new ≡ failures_after result (W.failures writer.old) }

@@ -3,12 +3,15 @@
 ghost use Rattle.std.specs.Prelude.{◌≡◌, false};
 ghost use Rattle.registry_cli.specs.Lines.{IsWhole, asks_to_serve};
 
+use crate::asking::{Answer, Question, answer_to};
+use crate::beside::print_sent;
 use crate::ending::{Ending, Failure};
+use crate::errands::run_errand;
 use crate::moment::read_moment;
 use crate::registries::Registries;
 use crate::run::MOST_READ;
 use crate::serving::serve;
-use registry_cli::{Line, action_of, line, print_reply};
+use registry_cli::{Line, Usage, action_of, errand_of, line, print_reply};
 use registry_names::{ByteOut, Fault, FromRead, Moment, ReadStop, Text, read_whole};
 use registry_rules::Request;
 use std::alloc::Global;
@@ -19,8 +22,9 @@ use std::io::ErrorKind;
 /// it is refused.
 ///
 /// The moment is read first, where the arguments say none, then the file of a publish, then the
-/// texts in their order, and last the registry is asked. Arguments that ask to serve are answered
-/// once the last connection has ended.
+/// texts in their order, and last the registry is asked. Where another process has its file and is a
+/// server, that is asked instead. Arguments that ask to serve are answered once the last connection
+/// has ended. Where they mean no line they may name an errand.
 pub fn answer_command<R: Registries, O: ByteOut, E: ByteOut>(
     rt: &HostRuntime,
     alloc: Global,
@@ -29,11 +33,44 @@ pub fn answer_command<R: Registries, O: ByteOut, E: ByteOut>(
     output: &mut O,
     errors: &mut E,
 ) -> Result<u8, Ending> {
-    let line = line(alloc, arguments)?;
+    match line(alloc, arguments) {
+        Ok(line) => answer_line(rt, alloc, registries, &line, arguments, output, errors),
+        Err(usage) => answer_errand(rt, alloc, registries, arguments, usage, output, errors),
+    }
+}
+
+fn answer_line<R: Registries, O: ByteOut, E: ByteOut>(
+    rt: &HostRuntime,
+    alloc: Global,
+    registries: &mut R,
+    line: &Line,
+    arguments: &[Text],
+    output: &mut O,
+    errors: &mut E,
+) -> Result<u8, Ending>
+    requires whole { IsWhole line.now.what }
+{
     if line.asks_to_serve() {
-        serve(rt, alloc, &line, output, errors)
+        serve(rt, alloc, line, None, output, errors)
     } else {
-        print_answer(rt, alloc, registries, &line, output, errors)
+        print_answer(rt, alloc, registries, line, arguments, output, errors)
+    }
+}
+
+// Arguments that mean no line, and what is to be said of them where they name no errand.
+fn answer_errand<R: Registries, O: ByteOut, E: ByteOut>(
+    rt: &HostRuntime,
+    alloc: Global,
+    registries: &mut R,
+    arguments: &[Text],
+    usage: Usage,
+    output: &mut O,
+    errors: &mut E,
+) -> Result<u8, Ending> {
+    match errand_of(alloc, arguments) {
+        Ok(Some(errand)) => run_errand(rt, alloc, registries, errand, output, errors),
+        Ok(None) => Err(Ending::from(usage)),
+        Err(usage) => Err(Ending::from(usage)),
     }
 }
 
@@ -44,25 +81,34 @@ fn print_answer<R: Registries, O: ByteOut, E: ByteOut>(
     alloc: Global,
     registries: &mut R,
     line: &Line,
+    arguments: &[Text],
     output: &mut O,
     errors: &mut E,
 ) -> Result<u8, Ending>
     requires whole { IsWhole line.now.what }
     requires asks { asks_to_serve line.now.what ≡ false }
 {
-    let request = request(rt, alloc, line)?;
-    let reply = registries.reply(rt, alloc, line.db.as_str(), &request)?;
-    Ok(print_reply(&reply, output, errors)?)
+    let body = body_of(rt, alloc, line)?;
+    let request = request(rt, alloc, line, &body)?;
+    let question = Question {
+        path: line.db.as_str(),
+        request: &request,
+        arguments,
+        body: &body,
+    };
+    match answer_to(rt, alloc, registries, question)? {
+        Answer::Reply(reply) => Ok(print_reply(&reply, output, errors)?),
+        Answer::Sent(bytes) => print_sent(alloc, &bytes, output, errors),
+    }
 }
 
-// What a line asks for, and when.
-fn request(rt: &HostRuntime, alloc: Global, line: &Line) -> Result<Request, Ending>
+/// What a line asks for, with the bytes of the file that it names, and when.
+pub fn request(rt: &HostRuntime, alloc: Global, line: &Line, body: &[u8]) -> Result<Request, Ending>
     requires whole { IsWhole line.now.what }
     requires asks { asks_to_serve line.now.what ≡ false }
 {
     let at = asked_at(rt, line)?;
-    let body = body(rt, alloc, line)?;
-    let (who, what) = action_of(alloc, line, &body)?;
+    let (who, what) = action_of(alloc, line, body)?;
     Ok(Request { at, who, what })
 }
 
@@ -78,7 +124,7 @@ fn asked_at(rt: &HostRuntime, line: &Line) -> Result<Moment, Ending> {
 }
 
 // The bytes of the file that a line names. Without a file there are none.
-fn body(rt: &HostRuntime, alloc: Global, line: &Line) -> Result<Vec<u8>, Ending> {
+fn body_of(rt: &HostRuntime, alloc: Global, line: &Line) -> Result<Vec<u8>, Ending> {
     match line.file() {
         Some(path) => file_bytes(rt, alloc, path),
         None => Ok(Vec::new(alloc)),

@@ -28,19 +28,54 @@ pub enum Failure {
     Opening(Obstacle),
     /// The disk of the registry's file, which is shut for it.
     Shut,
-    /// Standard input, the machine's clock, or the port where connections are to come in.
+    /// A server of the registry's file.
+    Server(Trouble),
+    /// Standard input, the machine's clock or its randomness, or the port where connections are to
+    /// come in.
     Read,
     /// A file that the arguments name.
     File,
+    /// The copy that the arguments name.
+    Backup(Snag),
     /// Standard output.
     Write,
+}
+
+/// Why nothing comes of a server of the registry's file.
+#[derive(Clone, Copy)]
+pub enum Trouble {
+    /// There is none.
+    NoServer,
+    /// It gave no answer, and what was asked may be done.
+    Unanswered,
+    /// It let itself not be held: another command holds it, or it is halted.
+    Unheld,
+    /// It went on, or ended, before all was copied.
+    WentOn,
+}
+
+/// Why there is no copy.
+#[derive(Clone, Copy)]
+pub enum Snag {
+    /// A file has its name already, or the name of its log or of its part.
+    Taken,
+    /// The disk is full.
+    Full,
+    /// It can't be written.
+    Unwritable,
+    /// What was written doesn't open.
+    Unreadable,
 }
 
 /// Why the registry's file can't be opened.
 #[derive(Clone, Copy)]
 pub enum Obstacle {
+    /// It isn't there or is empty, and a registry is to be in it.
+    Missing,
     /// Another process has it.
     Busy,
+    /// Another process has it, and commands can't reach that.
+    Barred,
     /// It, or its log, can't be opened or written.
     Unreachable,
     /// The disk is full.

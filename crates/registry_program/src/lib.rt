@@ -1,16 +1,26 @@
 //! The registry as a program, over any byte streams: `main` calls it, and so do the stories.
 #![tactic(auto)]
 
+mod asking;
+mod beside;
+mod checking;
+mod checking_beside;
 mod commands;
+mod copying;
 mod ending;
+mod errands;
+mod held;
+mod logging;
 mod moment;
 mod opening;
 mod publication;
 mod registries;
 mod run;
 mod serving;
+mod stopping;
 
-pub use crate::ending::{Ending, Failure, Obstacle};
+pub use crate::copying::write_copy;
+pub use crate::ending::{Ending, Failure, Obstacle, Snag, Trouble};
 pub use crate::opening::let_go;
 pub use crate::registries::{InFiles, Registries, reply_of};
 pub use crate::run::{program, program_over, report};

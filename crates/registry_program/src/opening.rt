@@ -5,9 +5,12 @@ use registry_desk::{Registry, SCHEMA};
 use registry_migration::older_schema;
 use registry_names::Fault;
 use sqlite::types::ValueRef;
-use sqlite::{Alter, Connection, Error, ErrorCode, File, FileStore};
+use sqlite::{Alter, Connection, Error, ErrorCode, File, FileStore, Unknown};
 use sqlite_disk::Disk;
+use sqlite_std_file::OpenError;
 use std::alloc::Global;
+use std::fs;
+use std::io::ErrorKind;
 
 /// The registry in the file at the path.
 pub fn open(rt: &HostRuntime, path: &str) -> Result<Registry<FileStore<File>>, Ending> {
@@ -18,14 +21,53 @@ pub fn open(rt: &HostRuntime, path: &str) -> Result<Registry<FileStore<File>>, E
     }
 }
 
+/// A file that isn't empty is at the path. An open would make a registry of none, or of an empty one.
+pub fn require_file(rt: &HostRuntime, path: &str) -> Result<(), Ending> {
+    match fs::metadata(rt, path) {
+        Ok(found) if found.len() == 0 => Err(missing()),
+        Err(error) if error.kind() == ErrorKind::NotFound => Err(missing()),
+        _ => Ok(()),
+    }
+}
+
+/// Whether another process has the registry's file at the path, which is there. Nothing of it is
+/// read.
+pub fn is_taken(rt: &HostRuntime, path: &str) -> Result<bool, Ending> {
+    require_file(rt, path)?;
+    match sqlite_std_file::open(rt, path, Unknown) {
+        Ok(_files) => Ok(false),
+        Err(error) => match open_obstacle(error) {
+            Some(Obstacle::Busy) => Ok(true),
+            Some(obstacle) => Err(Ending::Fault(Failure::Opening(obstacle))),
+            None => Err(Ending::from(Fault::Memory)),
+        },
+    }
+}
+
+/// What keeps the files from being opened. None where it is want of memory.
+pub fn open_obstacle(error: OpenError) -> Option<Obstacle> {
+    match error {
+        OpenError::OutOfMemory => None,
+        OpenError::Io(error) if error.kind() == ErrorKind::OutOfMemory => None,
+        OpenError::Io(_) => Some(Obstacle::Unreachable),
+        OpenError::Busy => Some(Obstacle::Busy),
+        OpenError::HotJournal => Some(Obstacle::Foreign),
+    }
+}
+
+fn missing() -> Ending {
+    Ending::Fault(Failure::Opening(Obstacle::Missing))
+}
+
 /// Lets go of a registry's files. Its log isn't copied into the database file: the next open does
 /// what is to be done.
 pub fn let_go<D: Disk + Drop>(registry: Registry<FileStore<D>>) {
     close(registry.release());
 }
 
+/// Lets go of a connection's files, as [`let_go`] does.
 // The store's own `close` leaves only the files to be dropped, and none of what is built on them.
-fn close<D: Disk + Drop>(conn: Connection<FileStore<D>>) {
+pub fn close<D: Disk + Drop>(conn: Connection<FileStore<D>>) {
     drop(conn.into_store().close());
 }
 
@@ -41,9 +83,9 @@ fn obstacle(rt: &HostRuntime, path: &str) -> Obstacle {
     }
 }
 
-// What keeps an open database from being a registry. One that has nothing yet is a registry's that
-// couldn't be written.
-fn obstacle_in<S: Alter>(alloc: Global, conn: &mut Connection<S>) -> Obstacle {
+/// What keeps an open database from being a registry. One that has nothing yet is a registry's that
+/// couldn't be written.
+pub fn obstacle_in<S: Alter>(alloc: Global, conn: &mut Connection<S>) -> Obstacle {
     if has_nothing(conn) {
         Obstacle::Unreachable
     } else if is_newer(conn) {
@@ -78,7 +120,8 @@ fn is_older<S: Alter>(alloc: Global, conn: &Connection<S>) -> bool {
     matches!(older_schema(alloc, conn.schema()), Ok(Some(_)))
 }
 
-fn obstacle_of(error: Error) -> Obstacle {
+/// What keeps a database that gives this error from being opened.
+pub fn obstacle_of(error: Error) -> Obstacle {
     match error {
         Error::SqliteFailure(ErrorCode::DatabaseBusy) => Obstacle::Busy,
         Error::SqliteFailure(ErrorCode::DiskFull) => Obstacle::Full,

@@ -1,7 +1,7 @@
 //! What the program does, over any byte streams.
 
 use crate::commands::answer_command;
-use crate::ending::{Ending, Failure, Obstacle};
+use crate::ending::{Ending, Failure, Obstacle, Snag, Trouble};
 use crate::publication::packument_of;
 use crate::registries::{InFiles, Registries};
 use registry_names::{BODY_LIMIT, ByteIn, ByteOut, Fault, Text, read_whole, write_whole};
@@ -23,10 +23,11 @@ const SHUT: &str = "the disk failed while the registry was served";
 /// The status is 0 where this is done. Otherwise nothing goes to the output, and the errors say
 /// why:
 ///
-/// - 1: `refused: ` and the refusal;
+/// - 1: `refused: ` and the refusal, or a line for each thing that a check finds to be wrong;
 /// - 2: what is wrong with the arguments, or the help that they ask for;
 /// - 3: `fault: ` and what failed, with a second line that gives the reason where the registry's
-///   file can't be opened, or its disk fails while it is served.
+///   file can't be opened, its disk fails while it is served, its server gives no answer, or a copy
+///   of it can't be made.
 pub fn program<I: ByteIn, O: ByteOut, E: ByteOut>(
     rt: &HostRuntime,
     alloc: Global,
@@ -76,7 +77,7 @@ pub fn report<E: ByteOut>(errors: &mut E, ending: &Ending) -> u8 {
 }
 
 // Prints a text after another, and a newline where it doesn't end in one.
-fn print_line<E: ByteOut>(errors: &mut E, front: &str, text: &str) {
+pub(crate) fn print_line<E: ByteOut>(errors: &mut E, front: &str, text: &str) {
     let end = if text.ends_with('\n') { "" } else { "\n" };
     for text in [front, text, end] {
         let _ = write_whole(errors, text.as_bytes());
@@ -86,9 +87,9 @@ fn print_line<E: ByteOut>(errors: &mut E, front: &str, text: &str) {
 fn failure_text(failure: Failure) -> &'static str {
     match failure {
         Failure::Registry(fault) => fault.text(),
-        Failure::Opening(_) | Failure::Shut => Fault::Database.text(),
+        Failure::Opening(_) | Failure::Shut | Failure::Server(_) => Fault::Database.text(),
         Failure::Read => "Read",
-        Failure::File => "File",
+        Failure::File | Failure::Backup(_) => "File",
         Failure::Write => "Write",
     }
 }
@@ -98,18 +99,41 @@ fn reason(ending: &Ending) -> Option<&'static str> {
     match ending {
         Ending::Fault(Failure::Opening(obstacle)) => Some(obstacle_text(*obstacle)),
         Ending::Fault(Failure::Shut) => Some(SHUT),
+        Ending::Fault(Failure::Server(trouble)) => Some(trouble_text(*trouble)),
+        Ending::Fault(Failure::Backup(snag)) => Some(snag_text(*snag)),
         _ => None,
     }
 }
 
-fn obstacle_text(obstacle: Obstacle) -> &'static str {
+pub(crate) fn obstacle_text(obstacle: Obstacle) -> &'static str {
     match obstacle {
+        Obstacle::Missing => "the registry's file isn't there or is empty",
         Obstacle::Busy => "another process has the registry's file",
+        Obstacle::Barred => "another process has the registry's file, and commands can't reach it",
         Obstacle::Unreachable => "the registry's file can't be opened or written",
         Obstacle::Full => "the disk is full",
         Obstacle::Foreign => "the file holds no registry, or was changed by another hand",
         Obstacle::Newer => "a newer program wrote the registry's file",
         Obstacle::Older => "the registry's file has an older schema and can't be migrated",
+    }
+}
+
+fn trouble_text(trouble: Trouble) -> &'static str {
+    match trouble {
+        Trouble::NoServer => "no server has the registry's file",
+        Trouble::Unanswered => "the registry's server gave no answer: what was asked may be done",
+        Trouble::Unheld =>
+            "the registry's server can't be held: another command holds it, or it is halted",
+        Trouble::WentOn => "the registry's server went on, or ended, before all was copied",
+    }
+}
+
+fn snag_text(snag: Snag) -> &'static str {
+    match snag {
+        Snag::Taken => "a file has the name of the copy, or that name and -wal, -part or -part-wal",
+        Snag::Full => "the disk is full",
+        Snag::Unwritable => "the copy can't be written",
+        Snag::Unreadable => "the copy doesn't open",
     }
 }
 

@@ -1,89 +1,239 @@
 //! Serving the registry in a file over HTTP.
 
+use crate::copying::unclosed;
 use crate::ending::{Ending, Failure};
+use crate::logging::{LogFile, MachineClock, may_log};
 use crate::moment::read_moment;
-use crate::opening::{let_go, open};
+use crate::opening::open;
 use registry_cli::Line;
 use registry_desk::Registry;
+use registry_guests::{Door, close};
 use registry_http::RegistryService;
-use registry_names::{ByteOut, Text, write_whole};
+use registry_log::{LineSink, Log, LogClock, LoggedService};
+use registry_names::{ByteOut, Moment, Text, write_whole};
 use registry_server::{Ended, Server};
-use sqlite::{Alter, FileStore};
+use sqlite::{Alter, FileStore, Files};
 use sqlite_disk::Disk;
 use std::alloc::Global;
+use std::io;
+use std::io::ErrorKind;
 
 /// What is said of a port or of connections that are no number.
 const NO_NUMBER: &str = "error: --port and --connections take whole numbers";
 
-/// What is said where a server ends.
+/// What is said of a log that would be kept in what is no file, or in one of the registry's.
+const NO_LOG: &str = "error: --log takes a file that isn't one of the registry's";
+
+/// What is said where a server ends since enough connections came.
 const ENOUGH: &str = "ended: as many connections came as --connections says\n";
 
-/// Where connections come in, and how many.
+/// What is said where a server ends since a command asked for it.
+const STOPPED: &str = "ended: a command told it to stop\n";
+
+/// What is said of a door that stays shut.
+const SHUT_DOOR: &str = "no command beside this server is answered: ";
+
+/// Where connections come in, and how many, the path beside which commands do, and that of a log of
+/// requests, if one is kept.
 #[derive(Clone, Copy)]
-struct Entrance {
+struct Entrance<'a> {
     port: u16,
     connections: u64,
+    path: &'a str,
+    log: Option<&'a str>,
 }
 
-impl Entrance {
-    // What the arguments of `serve` say: its name, the port and the connections.
-    fn of(arguments: &[Text]) -> Option<Entrance> {
+impl<'a> Entrance<'a> {
+    // What a line says that asks to serve: after the name `serve` the port and the connections.
+    fn of(line: &'a Line, log: Option<&'a str>) -> Option<Entrance<'a>> {
+        let arguments = line.what.as_slice();
         let port = arguments.get(1)?.as_str().parse::<u16>().ok()?;
         let connections = arguments.get(2)?.as_str().parse::<u64>().ok()?;
-        Some(Entrance { port, connections })
+        let path = line.db.as_str();
+        Some(Entrance {
+            port,
+            connections,
+            path,
+            log,
+        })
     }
 }
 
 /// Serves the registry in the line's file to as many connections as it says, and answers the exit
 /// status, 0, once all have ended; the errors then say why it ends. The greatest number is that of
 /// no count: then it serves all that come. Where it listens is printed on the output before the
-/// first one is accepted. A registry that a fault of its disk has shut is a fault.
-pub fn serve<O: ByteOut, E: ByteOut>(
+/// first one is accepted. Commands beside it are answered, too, and one of them may end it: then its
+/// log is copied into its file, and last of all that command hears of it. A registry that a fault of
+/// its disk has shut is a fault, and so is a log that can't be copied.
+///
+/// Where the path of a log of requests is given, a line is put there for each request, and one for
+/// the begin and the end. A log that can't be written stops nothing. One of the registry's own files,
+/// or what is no file, is wrong.
+pub fn serve<'a, O: ByteOut, E: ByteOut>(
     rt: &HostRuntime,
     alloc: Global,
-    line: &Line,
+    line: &'a Line,
+    log: Option<&'a str>,
     output: &mut O,
     errors: &mut E,
 ) -> Result<u8, Ending> {
-    let Some(entrance) = Entrance::of(line.what.as_slice()) else {
+    let Some(entrance) = Entrance::of(line, log) else {
         return Err(Ending::Wrong(NO_NUMBER));
     };
-    let ended = match open(rt, line.db.as_str()) {
-        Ok(registry) => serve_registry(rt, alloc, entrance, registry, output)?,
-        Err(ending) => return Err(ending),
+    let log = log_at(rt, alloc, entrance.log)?;
+    // Who asked for the end is behind the door until it is dropped: at the end of this function.
+    let mut door = Door::shut(alloc)?;
+    let ended = match open(rt, entrance.path) {
+        Ok(registry) => {
+            serve_registry(
+                rt, alloc, entrance, log, registry, &mut door, output, errors,
+            )
+        }
+        Err(ending) => Err(ending),
     };
-    end(ended, errors)
+    end(ended?, errors)
 }
 
-// Serves a registry, and lets go of it.
-fn serve_registry<D: Disk + Drop, O: ByteOut>(
+// The log at the path, if one is to be kept.
+fn log_at(
     rt: &HostRuntime,
     alloc: Global,
-    entrance: Entrance,
+    path: Option<&str>,
+) -> Result<Option<Log<MachineClock, LogFile>>, Ending> {
+    let Some(path) = path else {
+        return Ok(None);
+    };
+    let Some(at) = read_moment(rt) else {
+        return Err(Ending::Fault(Failure::Read));
+    };
+    let clock = MachineClock::new(*rt, at)?;
+    let file = LogFile::at(*rt, Text::from_str(alloc, path)?);
+    Ok(Some(Log::new(alloc, clock, file)?))
+}
+
+// Serves a registry, and lets go of it. The door is taken away as long as its files are locked, so
+// that no other server has one there.
+fn serve_registry<D: Disk + Drop, K: LogClock + Drop, W: LineSink + Drop, O: ByteOut, E: ByteOut>(
+    rt: &HostRuntime,
+    alloc: Global,
+    entrance: Entrance<'_>,
+    log: Option<Log<K, W>>,
     registry: Registry<FileStore<D>>,
+    door: &mut Door,
     output: &mut O,
+    errors: &mut E,
 ) -> Result<Ended, Ending> {
-    let mut service = RegistryService::new(registry);
-    let ended = serve_at(rt, alloc, entrance, &mut service, output);
-    let_go(service.into_registry());
-    ended
+    let mut service = LoggedService::new(RegistryService::new(registry), log);
+    let ended = serve_at(rt, alloc, entrance, &mut service, door, output, errors);
+    let left = leave(service.into_inner().into_registry(), &ended);
+    if door.is_open() {
+        let _ = close(rt, alloc, entrance.path);
+    }
+    match left {
+        Ok(files) => {
+            drop(files);
+            ended
+        }
+        Err(ending) => Err(ending),
+    }
+}
+
+// Gives the files of a registry that was served, which are locked until they are dropped. After a
+// stop its log is copied into its file, which is a fault where it fails; else the next open does
+// what is to be done.
+fn leave<D: Disk + Drop>(
+    registry: Registry<FileStore<D>>,
+    ended: &Result<Ended, Ending>,
+) -> Result<Files<D>, Ending> {
+    let conn = registry.release();
+    if !matches!(ended, Ok(Ended::Stopped)) {
+        return Ok(conn.into_store().close());
+    }
+    match conn.close_files() {
+        Ok(files) => Ok(files),
+        Err((error, store)) => {
+            drop(store.close());
+            Err(unclosed(error))
+        }
+    }
 }
 
 // Serves with the service, from the moment on that it is now. The clock is read before anything is
 // printed.
-fn serve_at<S: Alter, O: ByteOut>(
+fn serve_at<S: Alter, K: LogClock, W: LineSink, O: ByteOut, E: ByteOut>(
     rt: &HostRuntime,
     alloc: Global,
-    entrance: Entrance,
-    service: &mut RegistryService<S>,
+    entrance: Entrance<'_>,
+    service: &mut LoggedService<S, K, W>,
+    door: &mut Door,
     output: &mut O,
+    errors: &mut E,
 ) -> Result<Ended, Ending> {
     let Some(at) = read_moment(rt) else {
         return Err(Ending::Fault(Failure::Read));
     };
+    require_log(rt, alloc, entrance)?;
     let server = Server::bind(rt, alloc, entrance.port, entrance.connections)?;
-    announce(alloc, &server, output)?;
-    Ok(server.run(rt, alloc, at, service)?)
+    if let Err(error) = door.open(rt, alloc, server.registry(), entrance.path) {
+        warn(&error, errors);
+    }
+    match announce(alloc, &server, output) {
+        Ok(()) => run(rt, alloc, server, at, service, door),
+        Err(ending) => Err(ending),
+    }
+}
+
+// A log, if one is to be kept, isn't to be written into the registry's own files.
+fn require_log(rt: &HostRuntime, alloc: Global, entrance: Entrance<'_>) -> Result<(), Ending> {
+    let Some(log) = entrance.log else {
+        return Ok(());
+    };
+    if may_log(rt, alloc, log, entrance.path)? {
+        Ok(())
+    } else {
+        Err(Ending::Wrong(NO_LOG))
+    }
+}
+
+// Runs a server, and says in its log when it begins and ends, and why.
+fn run<S: Alter, K: LogClock, W: LineSink>(
+    rt: &HostRuntime,
+    alloc: Global,
+    server: Server,
+    at: Moment,
+    service: &mut LoggedService<S, K, W>,
+    door: &mut Door,
+) -> Result<Ended, Ending> {
+    service.say("begun");
+    let ended = server.run_beside(rt, alloc, at, service, door);
+    let said = match &ended {
+        Ok(ended) => end_text(*ended),
+        Err(_) => "ended: a fault",
+    };
+    service.say(said);
+    Ok(ended?)
+}
+
+// What the log says of why a server ended.
+fn end_text(ended: Ended) -> &'static str {
+    match ended {
+        Ended::Enough => "ended: as many connections came as --connections says",
+        Ended::Stopped => "ended: a command told it to stop",
+        Ended::ServiceOver => "ended: the disk failed",
+    }
+}
+
+// Says that commands beside the server aren't answered, and why.
+fn warn<E: ByteOut>(error: &io::Error, errors: &mut E) {
+    let why = match error.kind() {
+        ErrorKind::PermissionDenied =>
+            "its folder isn't one that the file's owner alone may enter\n",
+        ErrorKind::InvalidInput => "the path is too long for a socket\n",
+        _ => "its socket can't be made\n",
+    };
+    for text in [SHUT_DOOR, why] {
+        let _ = write_whole(errors, text.as_bytes());
+    }
 }
 
 // What a server that ended so leaves: the exit status, or the fault of its disk.
@@ -91,6 +241,10 @@ fn end<E: ByteOut>(ended: Ended, errors: &mut E) -> Result<u8, Ending> {
     match ended {
         Ended::Enough => {
             let _ = write_whole(errors, ENOUGH.as_bytes());
+            Ok(0)
+        }
+        Ended::Stopped => {
+            let _ = write_whole(errors, STOPPED.as_bytes());
             Ok(0)
         }
         Ended::ServiceOver => Err(Ending::Fault(Failure::Shut)),

@@ -1,5 +1,6 @@
 -- How many bodies are read of a crowd, and how much is held.
 use Rattle.std.proofs.Common.{◌≡◌, ◌≢◌, ◌<◌, ◌≤◌, ◌⊎◌, ◌+◌, ◌*◌, ◌++◌, ◌∷◌, ◌∙◌, [], ℕ, zero, suc, Bool, true, false, List, Option, None, Some, All, IsSome, cond, length, map, max, nat_lt, replicate, sum_by, refl, ap, subst, sym, inl, inr, arith, le_trans, length-append, add-mul, suc-mul, mul-le-mul_right, ◌&&◌, not, if◌then◌else◌}
+use Rattle.std.specs.Prelude.{is_some}
 use Rattle.std.proofs.lemmas.Bool.{and_parts, false≢true, leb-false, ltb-false, ltb-true}
 use Rattle.std.proofs.lemmas.List.{length-replicate}
 use Rattle.std.proofs.lemmas.List.Elements.{All-cons, All-head, All-map, All-replicate, All-tail, All-weaker}
@@ -16,7 +17,7 @@ use Rattle.registry_service.specs.Turns.{Answering}
 use Rattle.registry_server.specs.ConnectionStates.{Pending, TakesNone}
 use Rattle.registry_server.specs.Connections.{Keeps, LeavesLittle, MayReceive, OpenConnection, ReceivesLean, TakesOne, Visits, body_least, has_body, has_body_in}
 use Rattle.registry_server.specs.Phases.{is_late}
-use Rattle.registry_server.specs.Pools.{AllHoldLittle, ChoosesIf, EndsLeaveFew, EndsLeaveLittle, FewChosen, HoldLittle, HoldLittleMore, HoldsLittleMore, HoldsLittleRest, HoldsOneRequest, IdleEndsLeaveFew, IdleEndsLeaveLittle, NewConnectionsLeaveFew, NewConnectionsLeaveLittle, NewPoolHoldsLittle, NewPoolReadsFew, RoundsHoldLittleMore, RoundsLeaveLittle, RoundsReadFew, ServersHoldLittle, UnreadHoldLittle, VisitsAll, VisitsIf, VisitsThere, WakesLeaveFew, WakesLeaveLittle, WhoWaitsHasBegun, added_at_most, after_visit, answered_with, at_place, body_with, chosen, chosen_of, counted_at, emptied, emptied_of, free, has_body_at, has_room, held_at, held_before, held_limit, held_with, in_time, is_answered_at, is_crowd, is_held_back, is_read, kept_at, new_at, place_count, read_count, read_together, settled, unread_at, waiting_with, woken}
+use Rattle.registry_server.specs.Pools.{AllHoldLittle, AllIdleEndsLeaveFew, AllIdleEndsLeaveLittle, ChoosesIf, EndsLeaveFew, EndsLeaveLittle, FewChosen, HoldLittle, HoldLittleMore, HoldsLittleMore, HoldsLittleRest, HoldsOneRequest, IdleEndsLeaveFew, IdleEndsLeaveLittle, NewConnectionsLeaveFew, NewConnectionsLeaveLittle, NewPoolHoldsLittle, NewPoolReadsFew, RoundsHoldLittleMore, RoundsLeaveLittle, RoundsReadFew, ServersHoldLittle, UnreadHoldLittle, VisitsAll, VisitsIf, VisitsThere, WakesLeaveFew, WakesLeaveLittle, WhoWaitsHasBegun, added_at_most, after_visit, answered_with, at_place, body_with, chosen, chosen_of, counted_at, emptied, emptied_of, free, has_body_at, has_room, held_at, held_before, held_limit, held_with, idle_in, in_time, is_answered_at, is_crowd, is_held_back, kept_at, new_at, place_count, read_count, read_together, settled, unless_idle, unread_at, waiting_with, woken}
 use Rattle.registry_server.specs.declared.connection.Visit.{Visit}
 use Rattle.registry_server.specs.declared.connection.Visit.TheVariants.{Again, Rests, Over}
 use Rattle.registry_server.specs.declared.phase.Stage.{Stage}
@@ -165,6 +166,9 @@ module _ (S : Type 0) where
   pub idle-ends-leave-few : IdleEndsLeaveFew S
   idle-ends-leave-few old new found few ends = subst FewChosen (sym ends.places) (emptied-few old ends.which few)
 
+  pub all-idle-ends-leave-few : AllIdleEndsLeaveFew S
+  all-idle-ends-leave-few places few = omega (arith, few, map-sum (chosen_count {S = S}) chosen_count unless_idle (λ (p : Place S). omega arith) places)
+
   pub ends-leave-few : EndsLeaveFew S
   ends-leave-few now places few = omega (arith, few, map-sum (chosen_count {S = S}) chosen_count (kept_at now) (λ (p : Place S). omega arith) places)
 
@@ -173,14 +177,14 @@ module _ (S : Type 0) where
 
 -- ---- the visits of a round
 
-module _ {S : Type 0} (received sent : S → Option (List ℕ)) (must_wait has_more is_ended is_broken : S → Bool) {D : Type 0} (answers : Answering D) (over : D → Bool) where
+module _ {S : Type 0} (received sent : S → Option (List ℕ)) (has_none is_full has_more is_ended is_broken : S → Bool) {D : Type 0} (answers : Answering D) (over : D → Bool) where
   after-few : (v : Visit) (p : Place S) (d : OpenConnection S) (n : ℕ) → length d.state.held ≤ n → held_at (after_visit v p d) ≤ n
   after-few Again p d n few = few
   after-few Rests p d n few = few
   after-few Over p d n few = omega arith
 
   there-few : (now most : ℕ) (p : Place S) (o : Option (OpenConnection S)) (q : Place S) (M N : D) (r r2 : Option (List ℕ)) → p.connection ≡ o
-      → VisitsThere received sent must_wait has_more is_ended is_broken answers now most p o q M N r r2 → held_at q ≤ held_at p + most
+      → VisitsThere received sent has_none is_full has_more is_ended is_broken answers now most p o q M N r r2 → held_at q ≤ held_at p + most
   there-few now most p None q M N r r2 at v = let none = ap held_at v.place in omega (arith, none)
   there-few now most p (Some c) q M N r r2 at v =
       let few = after-few v.visit p v.connection _ (visit-few received sent answers now most c v.connection M N r r2 v.visits) in
@@ -192,7 +196,7 @@ module _ {S : Type 0} (received sent : S → Option (List ℕ)) (must_wait has_m
   same-few crowd most p q same = record { few = omega (arith, same); none = λ back. same }
 
   visited-few : (b held crowd : Bool) (now most : ℕ) (p q : Place S) (M N : D) (r r2 : Option (List ℕ)) → is_held_back crowd p ≡ held
-      → VisitsIf received sent must_wait has_more is_ended is_broken answers b held now most p q M N r r2 → HoldsLittleMore crowd most p q
+      → VisitsIf received sent has_none is_full has_more is_ended is_broken answers b held now most p q M N r r2 → HoldsLittleMore crowd most p q
   visited-few true true crowd now most p q M N r r2 is v = same-few crowd most p q (ap held_at v.place ∙ waiting-same now p.connection)
   visited-few true false crowd now most p q M N r r2 is v = record {
     few = there-few now most p p.connection q M N r r2 refl v;
@@ -201,14 +205,14 @@ module _ {S : Type 0} (received sent : S → Option (List ℕ)) (must_wait has_m
   visited-few false held crowd now most p q M N r r2 is v = same-few crowd most p q (ap held_at v.place)
 
   all-few : (crowd : Bool) (now most : ℕ) (ps qs : List (Place S)) (M N : D) (r r2 : Option (List ℕ))
-      → VisitsAll received sent must_wait has_more is_ended is_broken answers over crowd now most ps qs M N r r2 → HoldLittleMore crowd most ps qs
+      → VisitsAll received sent has_none is_full has_more is_ended is_broken answers over crowd now most ps qs M N r r2 → HoldLittleMore crowd most ps qs
   all-few crowd now most [] [] M N r r2 v = tt
   all-few crowd now most (p ∷ ps) (q ∷ qs) M N r r2 v =
       (visited-few (p.is_ready && not (over M)) (is_held_back crowd p) crowd now most p q M v.0 r v.1 refl v.2, all-few crowd now most ps qs v.0 N v.1 r2 v.3)
   all-few crowd now most [] (q ∷ qs) M N r r2 v = absurd v
   all-few crowd now most (p ∷ ps) [] M N r r2 v = absurd v
 
-  pub rounds-hold-little-more : RoundsHoldLittleMore received sent must_wait has_more is_ended is_broken answers over
+  pub rounds-hold-little-more : RoundsHoldLittleMore received sent has_none is_full has_more is_ended is_broken answers over
   rounds-hold-little-more now most old new M N r r2 round = all-few (is_crowd old) now most round.looked new M N r r2 round.visits
 
   after-same : (v : Visit) (p : Place S) (d : OpenConnection S) → (after_visit v p d).is_chosen ≡ p.is_chosen
@@ -217,18 +221,18 @@ module _ {S : Type 0} (received sent : S → Option (List ℕ)) (must_wait has_m
   after-same Over p d = refl
 
   there-same : (now most : ℕ) (p : Place S) (o : Option (OpenConnection S)) (q : Place S) (M N : D) (r r2 : Option (List ℕ))
-      → VisitsThere received sent must_wait has_more is_ended is_broken answers now most p o q M N r r2 → q.is_chosen ≡ p.is_chosen
+      → VisitsThere received sent has_none is_full has_more is_ended is_broken answers now most p o q M N r r2 → q.is_chosen ≡ p.is_chosen
   there-same now most p None q M N r r2 v = ap (λ (x : Place S). x.is_chosen) v.place
   there-same now most p (Some c) q M N r r2 v = ap (λ (x : Place S). x.is_chosen) v.place ∙ after-same v.visit p v.connection
 
   visited-same : (b held : Bool) (now most : ℕ) (p q : Place S) (M N : D) (r r2 : Option (List ℕ))
-      → VisitsIf received sent must_wait has_more is_ended is_broken answers b held now most p q M N r r2 → q.is_chosen ≡ p.is_chosen
+      → VisitsIf received sent has_none is_full has_more is_ended is_broken answers b held now most p q M N r r2 → q.is_chosen ≡ p.is_chosen
   visited-same true true now most p q M N r r2 v = ap (λ (x : Place S). x.is_chosen) v.place
   visited-same true false now most p q M N r r2 v = there-same now most p p.connection q M N r r2 v
   visited-same false held now most p q M N r r2 v = ap (λ (x : Place S). x.is_chosen) v.place
 
   all-chosen : (crowd : Bool) (now most : ℕ) (ps qs : List (Place S)) (M N : D) (r r2 : Option (List ℕ))
-      → VisitsAll received sent must_wait has_more is_ended is_broken answers over crowd now most ps qs M N r r2 → sum_by chosen_count qs ≡ sum_by chosen_count ps
+      → VisitsAll received sent has_none is_full has_more is_ended is_broken answers over crowd now most ps qs M N r r2 → sum_by chosen_count qs ≡ sum_by chosen_count ps
   all-chosen crowd now most [] [] M N r r2 v = refl
   all-chosen crowd now most (p ∷ ps) (q ∷ qs) M N r r2 v =
       let same : chosen_count q ≡ chosen_count p = ap {B = ℕ} (λ (b : Bool). cond b 1 0) (visited-same (p.is_ready && not (over M)) (is_held_back crowd p) now most p q M v.0 r v.1 v.2) in
@@ -237,10 +241,10 @@ module _ {S : Type 0} (received sent : S → Option (List ℕ)) (must_wait has_m
   all-chosen crowd now most (p ∷ ps) [] M N r r2 v = absurd v
 
   visited-few-chosen : (crowd : Bool) (now most : ℕ) (ps qs : List (Place S)) (M N : D) (r r2 : Option (List ℕ)) → FewChosen ps
-      → VisitsAll received sent must_wait has_more is_ended is_broken answers over crowd now most ps qs M N r r2 → FewChosen qs
+      → VisitsAll received sent has_none is_full has_more is_ended is_broken answers over crowd now most ps qs M N r r2 → FewChosen qs
   visited-few-chosen crowd now most ps qs M N r r2 few v = omega (arith, few, all-chosen crowd now most ps qs M N r r2 v)
 
-  pub rounds-read-few : RoundsReadFew received sent must_wait has_more is_ended is_broken answers over
+  pub rounds-read-few : RoundsReadFew received sent has_none is_full has_more is_ended is_broken answers over
   rounds-read-few now most old new M N r r2 few round =
       let looked = looked-few (is_crowd old && has_room old) (is_crowd old) old round.looked refl round.looks few in
       (looked, visited-few-chosen (is_crowd old) now most round.looked new M N r r2 looked round.visits)
@@ -358,11 +362,23 @@ waiting-little : {S : Type 0} (most now : ℕ) (o : Option (OpenConnection S)) �
 waiting-little most now None little = little
 waiting-little most now (Some c) little = little
 
+-- where nothing is begun the connection may be gone
+left-held : {S : Type 0} (b : Bool) (o : Option (OpenConnection S)) → held_with (if b then None else o) ≤ held_with o
+left-held true o = omega arith
+left-held false o = omega arith
+
+left-little : {S : Type 0} (most : ℕ) (b : Bool) (o : Option (OpenConnection S)) → LittleRest most o → LittleRest most (if b then None else o)
+left-little most true o little = λ is. absurd (false≢true is)
+left-little most false o little = little
+
 above : (a b c : ℕ) → a ≤ c → a ≤ b + c
 above a b c few = omega (arith, few)
 
 kept-held : {S : Type 0} (now : ℕ) (p : Place S) → held_at (kept_at now p) ≤ held_at p
 kept-held now p = in-time-held now p.connection
+
+unless-idle-held : {S : Type 0} (p : Place S) → held_at (unless_idle p) ≤ held_at p
+unless-idle-held p = left-held (is_some (idle_in p)) p.connection
 
 chosen-of-counts : {S : Type 0} (most : ℕ) (places : List (Place S)) (next : Option ℕ) → sum_by (counted_at most) (chosen_of places next) ≤ sum_by (counted_at most) places
 chosen-of-counts {S} most places None = omega arith
@@ -409,7 +425,7 @@ few-counted false after before most least few = omega (arith, few)
 bounded : (a b limit n m : ℕ) → a ≤ b + n * m → b < limit → a ≤ limit + n * m
 bounded a b limit n m few low = omega (arith, few, low)
 
-module _ {S : Type 0} (received sent : S → Option (List ℕ)) (must_wait has_more is_ended is_broken : S → Bool) {D : Type 0} (answers : Answering D) (over : D → Bool) where
+module _ {S : Type 0} (received sent : S → Option (List ℕ)) (has_none is_full has_more is_ended is_broken : S → Bool) {D : Type 0} (answers : Answering D) (over : D → Bool) where
   after-counts : (most : ℕ) (v : Visit) (p : Place S) (d : OpenConnection S) (before : ℕ) → (p.is_chosen ≡ false → max (length d.state.held) (held_before most) ≤ max before (held_before most))
       → counted_at most (after_visit v p d) ≤ (if p.is_chosen then held_before most else max before (held_before most))
   after-counts most Again p d before less = counts-less p.is_chosen (length d.state.held) before (held_before most) less
@@ -417,7 +433,7 @@ module _ {S : Type 0} (received sent : S → Option (List ℕ)) (must_wait has_m
   after-counts most Over p d before less = counts-less p.is_chosen 0 before (held_before most) (λ none. omega arith)
 
   there-counts : (now most : ℕ) (p : Place S) (o : Option (OpenConnection S)) (q : Place S) (M N : D) (r r2 : Option (List ℕ)) → p.connection ≡ o → is_held_back true p ≡ false
-      → VisitsThere received sent must_wait has_more is_ended is_broken answers now most p o q M N r r2 → counted_at most q ≤ counted_at most p
+      → VisitsThere received sent has_none is_full has_more is_ended is_broken answers now most p o q M N r r2 → counted_at most q ≤ counted_at most p
   there-counts now most p None q M N r r2 at is v = subst (λ (x : Place S). counted_at most x ≤ counted_at most p) (sym v.place)
       (counts-less p.is_chosen 0 (held_at p) (held_before most) (λ none. omega arith))
   there-counts now most p (Some c) q M N r r2 at is v =
@@ -431,13 +447,13 @@ module _ {S : Type 0} (received sent : S → Option (List ℕ)) (must_wait has_m
 
   -- in a crowd no place counts more
   visited-counts : (b held : Bool) (now most : ℕ) (p q : Place S) (M N : D) (r r2 : Option (List ℕ)) → is_held_back true p ≡ held
-      → VisitsIf received sent must_wait has_more is_ended is_broken answers b held now most p q M N r r2 → counted_at most q ≤ counted_at most p
+      → VisitsIf received sent has_none is_full has_more is_ended is_broken answers b held now most p q M N r r2 → counted_at most q ≤ counted_at most p
   visited-counts true true now most p q M N r r2 is v = omega (arith, waits-counts now most p q v.place)
   visited-counts true false now most p q M N r r2 is v = there-counts now most p p.connection q M N r r2 refl is v
   visited-counts false held now most p q M N r r2 is v = omega (arith, ap (counted_at most) v.place)
 
   all-counts : (now most : ℕ) (ps qs : List (Place S)) (M N : D) (r r2 : Option (List ℕ))
-      → VisitsAll received sent must_wait has_more is_ended is_broken answers over true now most ps qs M N r r2 → sum_by (counted_at most) qs ≤ sum_by (counted_at most) ps
+      → VisitsAll received sent has_none is_full has_more is_ended is_broken answers over true now most ps qs M N r r2 → sum_by (counted_at most) qs ≤ sum_by (counted_at most) ps
   all-counts now most [] [] M N r r2 v = omega arith
   all-counts now most (p ∷ ps) (q ∷ qs) M N r r2 v =
       let one = visited-counts (p.is_ready && not (over M)) (is_held_back true p) now most p q M v.0 r v.1 refl v.2 in
@@ -447,7 +463,7 @@ module _ {S : Type 0} (received sent : S → Option (List ℕ)) (must_wait has_m
   all-counts now most (p ∷ ps) [] M N r r2 v = absurd v
 
   all-length : (crowd : Bool) (now most : ℕ) (ps qs : List (Place S)) (M N : D) (r r2 : Option (List ℕ))
-      → VisitsAll received sent must_wait has_more is_ended is_broken answers over crowd now most ps qs M N r r2 → length qs ≡ length ps
+      → VisitsAll received sent has_none is_full has_more is_ended is_broken answers over crowd now most ps qs M N r r2 → length qs ≡ length ps
   all-length crowd now most [] [] M N r r2 v = refl
   all-length crowd now most (p ∷ ps) (q ∷ qs) M N r r2 v = omega (arith, all-length crowd now most ps qs v.0 N v.1 r2 v.3)
   all-length crowd now most [] (q ∷ qs) M N r r2 v = absurd v
@@ -455,11 +471,11 @@ module _ {S : Type 0} (received sent : S → Option (List ℕ)) (must_wait has_m
 
   -- each place counts little more than what was held there
   all-added : (crowd : Bool) (now most : ℕ) (ps qs : List (Place S)) (M N : D) (r r2 : Option (List ℕ))
-      → VisitsAll received sent must_wait has_more is_ended is_broken answers over crowd now most ps qs M N r r2
+      → VisitsAll received sent has_none is_full has_more is_ended is_broken answers over crowd now most ps qs M N r r2
       → sum_by (counted_at most) qs ≤ sum_by held_at ps + length ps * added_at_most most
   all-added crowd now most [] [] M N r r2 v = omega arith
   all-added crowd now most (p ∷ ps) (q ∷ qs) M N r r2 v =
-      let few = visited-few received sent must_wait has_more is_ended is_broken answers over (p.is_ready && not (over M)) (is_held_back crowd p) crowd now most p q M v.0 r v.1 refl v.2 in
+      let few = visited-few received sent has_none is_full has_more is_ended is_broken answers over (p.is_ready && not (over M)) (is_held_back crowd p) crowd now most p q M v.0 r v.1 refl v.2 in
       let one : counted_at most q ≤ held_at p + added_at_most most = few-counted q.is_chosen (held_at q) (held_at p) most (held_before most) few.few in
       let rest = all-added crowd now most ps qs v.0 N v.1 r2 v.3 in
       let step = many-step (counted_at most q) (sum_by (counted_at most) qs) (held_at p) (sum_by held_at ps) (length ps) (added_at_most most) one rest in
@@ -469,23 +485,23 @@ module _ {S : Type 0} (received sent : S → Option (List ℕ)) (must_wait has_m
   all-added crowd now most (p ∷ ps) [] M N r r2 v = absurd v
 
   there-request : (now most : ℕ) (p : Place S) (o : Option (OpenConnection S)) (q : Place S) (M N : D) (r r2 : Option (List ℕ)) → p.connection ≡ o
-      → VisitsThere received sent must_wait has_more is_ended is_broken answers now most p o q M N r r2 → HoldsOneRequest most p → HoldsOneRequest most q
+      → VisitsThere received sent has_none is_full has_more is_ended is_broken answers now most p o q M N r r2 → HoldsOneRequest most p → HoldsOneRequest most q
   there-request now most p None q M N r r2 at v h = let none = ap held_at v.place in omega (arith, none)
   there-request now most p (Some c) q M N r r2 at v h =
       let grows = visit-grows received sent answers now most c v.connection M N r r2 v.visits in
       let was = ap held_with at in
       let few = grows-request c.phase.stage most (length c.state.held) (length v.connection.state.held) grows (omega (arith, was, h)) in
       let here = ap held_at v.place in
-      omega (arith, here, after-few received sent must_wait has_more is_ended is_broken answers over v.visit p v.connection (request_limit + most) few)
+      omega (arith, here, after-few received sent has_none is_full has_more is_ended is_broken answers over v.visit p v.connection (request_limit + most) few)
 
   visited-request : (b held : Bool) (now most : ℕ) (p q : Place S) (M N : D) (r r2 : Option (List ℕ))
-      → VisitsIf received sent must_wait has_more is_ended is_broken answers b held now most p q M N r r2 → HoldsOneRequest most p → HoldsOneRequest most q
+      → VisitsIf received sent has_none is_full has_more is_ended is_broken answers b held now most p q M N r r2 → HoldsOneRequest most p → HoldsOneRequest most q
   visited-request true true now most p q M N r r2 v h = let here = ap held_at v.place ∙ waiting-same now p.connection in omega (arith, here, h)
   visited-request true false now most p q M N r r2 v h = there-request now most p p.connection q M N r r2 refl v h
   visited-request false held now most p q M N r r2 v h = let here = ap held_at v.place in omega (arith, here, h)
 
   all-request : (crowd : Bool) (now most : ℕ) (ps qs : List (Place S)) (M N : D) (r r2 : Option (List ℕ)) → All (HoldsOneRequest most) ps
-      → VisitsAll received sent must_wait has_more is_ended is_broken answers over crowd now most ps qs M N r r2 → All (HoldsOneRequest most) qs
+      → VisitsAll received sent has_none is_full has_more is_ended is_broken answers over crowd now most ps qs M N r r2 → All (HoldsOneRequest most) qs
   all-request crowd now most [] [] M N r r2 h v = h
   all-request crowd now most (p ∷ ps) (q ∷ qs) M N r r2 h v = All-cons (HoldsOneRequest most) q qs
       (visited-request (p.is_ready && not (over M)) (is_held_back crowd p) now most p q M v.0 r v.1 v.2 (All-head (HoldsOneRequest most) p ps h))
@@ -499,20 +515,20 @@ module _ {S : Type 0} (received sent : S → Option (List ℕ)) (must_wait has_m
   after-little most Over p d little = λ is. absurd (false≢true is)
 
   there-little : (now most : ℕ) (p : Place S) (o : Option (OpenConnection S)) (q : Place S) (M N : D) (r r2 : Option (List ℕ)) → p.connection ≡ o
-      → VisitsThere received sent must_wait has_more is_ended is_broken answers now most p o q M N r r2 → HoldsLittleRest most p → HoldsLittleRest most q
+      → VisitsThere received sent has_none is_full has_more is_ended is_broken answers now most p o q M N r r2 → HoldsLittleRest most p → HoldsLittleRest most q
   there-little now most p None q M N r r2 at v h = subst (HoldsLittleRest most) (sym v.place) (λ is. absurd (false≢true is))
   there-little now most p (Some c) q M N r r2 at v h =
       let before : LeavesLittle most c = subst (LittleRest most) at h in
       subst (HoldsLittleRest most) (sym v.place) (after-little most v.visit p v.connection (λ goes. v.leaves goes before))
 
   visited-little : (b held : Bool) (now most : ℕ) (p q : Place S) (M N : D) (r r2 : Option (List ℕ))
-      → VisitsIf received sent must_wait has_more is_ended is_broken answers b held now most p q M N r r2 → HoldsLittleRest most p → HoldsLittleRest most q
+      → VisitsIf received sent has_none is_full has_more is_ended is_broken answers b held now most p q M N r r2 → HoldsLittleRest most p → HoldsLittleRest most q
   visited-little true true now most p q M N r r2 v h = subst (HoldsLittleRest most) (sym v.place) (waiting-little most now p.connection h)
   visited-little true false now most p q M N r r2 v h = there-little now most p p.connection q M N r r2 refl v h
   visited-little false held now most p q M N r r2 v h = subst (HoldsLittleRest most) (sym v.place) h
 
   all-little : (crowd : Bool) (now most : ℕ) (ps qs : List (Place S)) (M N : D) (r r2 : Option (List ℕ)) → All (HoldsLittleRest most) ps
-      → VisitsAll received sent must_wait has_more is_ended is_broken answers over crowd now most ps qs M N r r2 → All (HoldsLittleRest most) qs
+      → VisitsAll received sent has_none is_full has_more is_ended is_broken answers over crowd now most ps qs M N r r2 → All (HoldsLittleRest most) qs
   all-little crowd now most [] [] M N r r2 h v = h
   all-little crowd now most (p ∷ ps) (q ∷ qs) M N r r2 h v = All-cons (HoldsLittleRest most) q qs
       (visited-little (p.is_ready && not (over M)) (is_held_back crowd p) now most p q M v.0 r v.1 v.2 (All-head (HoldsLittleRest most) p ps h))
@@ -522,7 +538,7 @@ module _ {S : Type 0} (received sent : S → Option (List ℕ)) (must_wait has_m
 
   round-counts : (b : Bool) (now most : ℕ) (old looked new : List (Place S)) (M N : D) (r r2 : Option (List ℕ)) → is_crowd old ≡ b
       → ChoosesIf (b && has_room old) (map settled old) looked
-      → VisitsAll received sent must_wait has_more is_ended is_broken answers over b now most looked new M N r r2
+      → VisitsAll received sent has_none is_full has_more is_ended is_broken answers over b now most looked new M N r r2
       → length old ≡ place_count → All (HoldsLittleRest most) old → sum_by (counted_at most) old ≤ held_limit + place_count * added_at_most most → sum_by (counted_at most) new ≤ held_limit + place_count * added_at_most most
   round-counts true now most old looked new M N r r2 is looks v count little h =
       let each = All-weaker (HoldsLittleRest {S = S} most) (λ (p : Place S). counted_at most (settled p) ≤ counted_at most p)
@@ -540,7 +556,7 @@ module _ {S : Type 0} (received sent : S → Option (List ℕ)) (must_wait has_m
       subst (λ (n : ℕ). sum_by (counted_at most) new ≤ held_limit + n * added_at_most most) size
       (bounded (sum_by (counted_at most) new) (sum_by held_at looked) held_limit (length looked) (added_at_most most) added (omega (arith, held, low)))
 
-  pub rounds-leave-little : RoundsLeaveLittle received sent must_wait has_more is_ended is_broken answers over
+  pub rounds-leave-little : RoundsLeaveLittle received sent has_none is_full has_more is_ended is_broken answers over
   rounds-leave-little now most old new M N r r2 h round =
       let size : length new ≡ length old = all-length (is_crowd old) now most round.looked new M N r r2 round.visits
       ∙ looked-length (is_crowd old && has_room old) (map settled old) round.looked round.looks ∙ map-length settled old in
@@ -551,7 +567,7 @@ module _ {S : Type 0} (received sent : S → Option (List ℕ)) (must_wait has_m
       (settled-each (HoldsLittleRest {S = S} most) (λ (p : Place S) few. few) old h.rest) in
       record {
         size = size ∙ h.size;
-        few = (rounds-read-few received sent must_wait has_more is_ended is_broken answers over now most old new M N r r2 h.few round).1;
+        few = (rounds-read-few received sent has_none is_full has_more is_ended is_broken answers over now most old new M N r r2 h.few round).1;
         each = all-request (is_crowd old) now most round.looked new M N r r2 each round.visits;
         rest = all-little (is_crowd old) now most round.looked new M N r r2 rest round.visits;
         counted = round-counts (is_crowd old) now most old round.looked new M N r r2 refl round.looks round.visits h.size h.rest h.counted;
@@ -572,6 +588,9 @@ at-little most change places k less keeps rests few h = record {
 
 kept-counts : {S : Type 0} (most now : ℕ) (p : Place S) → counted_at most (kept_at now p) ≤ counted_at most p
 kept-counts most now p = counts-less p.is_chosen (held_at (kept_at now p)) (held_at p) (held_before most) (λ none. omega (arith, kept-held now p))
+
+unless-idle-counts : {S : Type 0} (most : ℕ) (p : Place S) → counted_at most (unless_idle p) ≤ counted_at most p
+unless-idle-counts most p = counts-less p.is_chosen (held_at (unless_idle p)) (held_at p) (held_before most) (λ none. omega (arith, unless-idle-held p))
 
 replicated-count : (S : Type 0) (n most : ℕ) → sum_by (counted_at {S = S} most) (replicate n free) ≤ held_limit + n * added_at_most most
 replicated-count S n most =
@@ -606,6 +625,17 @@ module _ (S : Type 0) where
 
   pub idle-ends-leave-little : IdleEndsLeaveLittle S
   idle-ends-leave-little most old new found h ends = subst (HoldLittle most) (sym ends.places) (emptied-little most old ends.which h)
+
+  pub all-idle-ends-leave-little : AllIdleEndsLeaveLittle S
+  all-idle-ends-leave-little most places h = record {
+    size = map-length unless_idle places ∙ h.size;
+    few = all-idle-ends-leave-few S places h.few;
+    each = All-map (HoldsOneRequest {S = S} most) unless_idle places
+        (All-weaker (HoldsOneRequest {S = S} most) (λ (p : Place S). HoldsOneRequest most (unless_idle p)) (λ (p : Place S) few. omega (arith, few, unless-idle-held p)) places h.each);
+    rest = All-map (HoldsLittleRest {S = S} most) unless_idle places
+        (All-weaker (HoldsLittleRest {S = S} most) (λ (p : Place S). HoldsLittleRest most (unless_idle p)) (λ (p : Place S) few. left-little most (is_some (idle_in p)) p.connection few) places h.rest);
+    counted = le_trans (map-sum (counted_at {S = S} most) (counted_at most) unless_idle (unless-idle-counts most) places) h.counted;
+  }
 
   pub ends-leave-little : EndsLeaveLittle S
   ends-leave-little most now places h = record {

@@ -1,5 +1,5 @@
 mod PoolFacts
-mod SocketFacts
+pub mod SocketFacts
 mod StateFacts
 mod VisitFacts
 mod WorldFacts

@@ -7,7 +7,7 @@ use Rattle.std.proofs.lemmas.Option.{slice_get_read}
 use Rattle.std.proofs.lemmas.List.{drop-drop, drop-set-lt, get_or-drop, take_more, take_more_set}
 use Rattle.registry_service.specs.Turns.{Answering}
 use Rattle.registry_server.specs.Pools.{ChoosesIf, ChoosesNext, EndsIdle, IsEarliestOf, IsFirstOfEarliest, LooksAtBodies, VisitsAll, VisitsAt, VisitsIf, VisitsThere, after_visit, at_place, body_with, chosen, earlier, emptied, has_body_at, has_room, held_at, held_limit, idle_at, idle_in, idle_times, is_busy, is_crowd, is_due, is_held_back, read_count, read_together, settled, waiting_at, waiting_times, waits_since, waits_since_at, with_connection}
-use Rattle.registry_server.specs.Connections.{IsDone, IsLost, LeavesLittle, OpenConnection, Visits, has_body, has_body_in}
+use Rattle.registry_server.specs.Connections.{IsDone, IsLost, LeavesLittle, OpenConnection, Visits, has_body, has_body_in, must_wait}
 use Rattle.registry_server.specs.declared.connection.Visit.{Visit}
 use Rattle.registry_server.specs.declared.connection.Visit.TheVariants.{Again, Rests, Over}
 use Rattle.registry_server.specs.declared.phase.Stage.{Stage}
@@ -166,48 +166,48 @@ body-there p c at is = sym (ap body_with at) ∙ is
 
 -- ---- the visits of the places, one after the other
 
-module _ {S : Type 0} (received sent : S → Option (List ℕ)) (must_wait has_more is_ended is_broken : S → Bool) {D : Type 0} (answers : Answering D) (over : D → Bool) where
+module _ {S : Type 0} (received sent : S → Option (List ℕ)) (has_none is_full has_more is_ended is_broken : S → Bool) {D : Type 0} (answers : Answering D) (over : D → Bool) where
   -- no connection is to be visited there, or the service is over
-  pub visits-none : (crowd : Bool) (now most : ℕ) (p : Place S) (M : D) (r : Option (List ℕ)) → (p.is_ready && not (over M)) ≡ false → VisitsAt received sent must_wait has_more is_ended is_broken answers over crowd now most p p M M r r
-  visits-none crowd now most p M r is = subst (λ (b : Bool). VisitsIf received sent must_wait has_more is_ended is_broken answers b (is_held_back crowd p) now most p p M M r r) (sym is) (record { place = refl; service = refl; unasked = refl })
+  pub visits-none : (crowd : Bool) (now most : ℕ) (p : Place S) (M : D) (r : Option (List ℕ)) → (p.is_ready && not (over M)) ≡ false → VisitsAt received sent has_none is_full has_more is_ended is_broken answers over crowd now most p p M M r r
+  visits-none crowd now most p M r is = subst (λ (b : Bool). VisitsIf received sent has_none is_full has_more is_ended is_broken answers b (is_held_back crowd p) now most p p M M r r) (sym is) (record { place = refl; service = refl; unasked = refl })
 
   -- the connection there is held back
   pub visits-waits : (crowd : Bool) (now most : ℕ) (p q : Place S) (M : D) (r : Option (List ℕ)) → (p.is_ready && not (over M)) ≡ true → is_held_back crowd p ≡ true → q ≡ waiting_at now p
-      → VisitsAt received sent must_wait has_more is_ended is_broken answers over crowd now most p q M M r r
+      → VisitsAt received sent has_none is_full has_more is_ended is_broken answers over crowd now most p q M M r r
   visits-waits crowd now most p q M r is held waits =
-      subst (λ (b : Bool). VisitsIf received sent must_wait has_more is_ended is_broken answers b (is_held_back crowd p) now most p q M M r r) (sym is)
-      (subst (λ (b : Bool). VisitsIf received sent must_wait has_more is_ended is_broken answers true b now most p q M M r r) (sym held)
+      subst (λ (b : Bool). VisitsIf received sent has_none is_full has_more is_ended is_broken answers b (is_held_back crowd p) now most p q M M r r) (sym is)
+      (subst (λ (b : Bool). VisitsIf received sent has_none is_full has_more is_ended is_broken answers true b now most p q M M r r) (sym held)
       (record { place = waits; service = refl; unasked = refl }))
 
   there : (crowd : Bool) (now most : ℕ) (p q : Place S) (M N : D) (r r2 : Option (List ℕ)) (c : Option (OpenConnection S)) → (p.is_ready && not (over M)) ≡ true → is_held_back crowd p ≡ false → p.connection ≡ c
-      → VisitsThere received sent must_wait has_more is_ended is_broken answers now most p c q M N r r2 → VisitsAt received sent must_wait has_more is_ended is_broken answers over crowd now most p q M N r r2
+      → VisitsThere received sent has_none is_full has_more is_ended is_broken answers now most p c q M N r r2 → VisitsAt received sent has_none is_full has_more is_ended is_broken answers over crowd now most p q M N r r2
   there crowd now most p q M N r r2 c is held at visits =
-      subst (λ (b : Bool). VisitsIf received sent must_wait has_more is_ended is_broken answers b (is_held_back crowd p) now most p q M N r r2) (sym is)
-      (subst (λ (b : Bool). VisitsIf received sent must_wait has_more is_ended is_broken answers true b now most p q M N r r2) (sym held)
-      (subst (λ (o : Option (OpenConnection S)). VisitsThere received sent must_wait has_more is_ended is_broken answers now most p o q M N r r2) (sym at) visits))
+      subst (λ (b : Bool). VisitsIf received sent has_none is_full has_more is_ended is_broken answers b (is_held_back crowd p) now most p q M N r r2) (sym is)
+      (subst (λ (b : Bool). VisitsIf received sent has_none is_full has_more is_ended is_broken answers true b now most p q M N r r2) (sym held)
+      (subst (λ (o : Option (OpenConnection S)). VisitsThere received sent has_none is_full has_more is_ended is_broken answers now most p o q M N r r2) (sym at) visits))
 
   -- nobody is there
   pub visits-free : (crowd : Bool) (now most : ℕ) (p : Place S) (M : D) (r : Option (List ℕ)) → (p.is_ready && not (over M)) ≡ true → is_held_back crowd p ≡ false → p.connection ≡ None
-      → VisitsAt received sent must_wait has_more is_ended is_broken answers over crowd now most p (with_connection p p.connection false) M M r r
+      → VisitsAt received sent has_none is_full has_more is_ended is_broken answers over crowd now most p (with_connection p p.connection false) M M r r
   visits-free crowd now most p M r is held at = there crowd now most p (with_connection p p.connection false) M M r r None is held at
       (record { place = ap (λ (o : Option (OpenConnection S)). with_connection p o false) at; service = refl; unasked = refl })
 
   -- a connection is there, and was visited
   pub visits-there : (crowd : Bool) (now most : ℕ) (p : Place S) (c d : OpenConnection S) (v : Visit) (M N : D) (r r2 : Option (List ℕ)) → (p.is_ready && not (over M)) ≡ true → is_held_back crowd p ≡ false → p.connection ≡ Some c
-      → Visits received sent answers now most c d M N r r2 → (v ≡ Rests → d.phase.stage ≢ Next) → (v ≡ Rests → must_wait d.socket ≡ true)
+      → Visits received sent answers now most c d M N r r2 → (v ≡ Rests → d.phase.stage ≢ Next) → (v ≡ Rests → must_wait has_none is_full d ≡ true)
       → (v ≡ Again → d.phase.stage ≡ Begun → has_more d.socket ≡ true) → (v ≡ Over → IsLost is_ended is_broken d) → (IsDone c.state → d.is_over ≡ true → v ≡ Over) → (v ≢ Over → LeavesLittle most c → LeavesLittle most d)
-      → VisitsAt received sent must_wait has_more is_ended is_broken answers over crowd now most p (after_visit v p d) M N r r2
+      → VisitsAt received sent has_none is_full has_more is_ended is_broken answers over crowd now most p (after_visit v p d) M N r r2
   visits-there crowd now most p c d v M N r r2 is held at visits rests waits more over ends leaves = there crowd now most p (after_visit v p d) M N r r2 (Some c) is held at
       (record { connection = d; visits = visits; visit = v; place = refl; rests = rests; waits = waits; more = more; over = over; ends = ends; leaves = leaves })
 
   visits-more : (crowd : Bool) (now most : ℕ) (ps qs : List (Place S)) (p q : Place S) (M m N : D) (r r1 r2 : Option (List ℕ))
-      → VisitsAll received sent must_wait has_more is_ended is_broken answers over crowd now most ps qs M m r r1 → VisitsAt received sent must_wait has_more is_ended is_broken answers over crowd now most p q m N r1 r2
-      → VisitsAll received sent must_wait has_more is_ended is_broken answers over crowd now most (ps ++ p ∷ []) (qs ++ q ∷ []) M N r r2
+      → VisitsAll received sent has_none is_full has_more is_ended is_broken answers over crowd now most ps qs M m r r1 → VisitsAt received sent has_none is_full has_more is_ended is_broken answers over crowd now most p q m N r1 r2
+      → VisitsAll received sent has_none is_full has_more is_ended is_broken answers over crowd now most (ps ++ p ∷ []) (qs ++ q ∷ []) M N r r2
   visits-more crowd now most [] [] p q M m N r r1 r2 all one = (
     N,
     r2,
-    subst (λ (d : D). VisitsAt received sent must_wait has_more is_ended is_broken answers over crowd now most p q d N r r2) all.0
-        (subst (λ (x : Option (List ℕ)). VisitsAt received sent must_wait has_more is_ended is_broken answers over crowd now most p q m N x r2) all.1 one),
+    subst (λ (d : D). VisitsAt received sent has_none is_full has_more is_ended is_broken answers over crowd now most p q d N r r2) all.0
+        (subst (λ (x : Option (List ℕ)). VisitsAt received sent has_none is_full has_more is_ended is_broken answers over crowd now most p q m N x r2) all.1 one),
     (refl, refl),
   )
   visits-more crowd now most (a ∷ ps) (b ∷ qs) p q M m N r r1 r2 all one = (all.0, all.1, all.2, visits-more crowd now most ps qs p q all.0 m N all.1 r1 r2 all.3 one)
@@ -217,9 +217,9 @@ module _ {S : Type 0} (received sent : S → Option (List ℕ)) (must_wait has_m
   -- one more place was visited
   pub visits-step : (crowd : Bool) (now most : ℕ) (old items : List (Place S)) (i : ℕ) (p q : Place S) (M m N : D) (r r1 r2 : Option (List ℕ))
       → i < length old → length items ≡ length old → drop i items ≡ drop i old → p ≡ get_or items i p
-      → VisitsAll received sent must_wait has_more is_ended is_broken answers over crowd now most (take i old) (take i items) M m r r1
-      → VisitsAt received sent must_wait has_more is_ended is_broken answers over crowd now most p q m N r1 r2
-      → VisitsAll received sent must_wait has_more is_ended is_broken answers over crowd now most (take (i + 1) old) (take (i + 1) (set items i q)) M N r r2
+      → VisitsAll received sent has_none is_full has_more is_ended is_broken answers over crowd now most (take i old) (take i items) M m r r1
+      → VisitsAt received sent has_none is_full has_more is_ended is_broken answers over crowd now most p q m N r1 r2
+      → VisitsAll received sent has_none is_full has_more is_ended is_broken answers over crowd now most (take (i + 1) old) (take (i + 1) (set items i q)) M N r r2
   visits-step crowd now most old items i p q M m N r r1 r2 within len rest is all one =
       let none : i + 0 ≡ i = omega arith in
       let first : get_or (drop i items) 0 p ≡ get_or items i p = get_or-drop i items 0 p ∙ ap (λ (n : ℕ). get_or items n p) none in
@@ -227,8 +227,8 @@ module _ {S : Type 0} (received sent : S → Option (List ℕ)) (must_wait has_m
       let here : p ≡ get_or old i p = is ∙ sym first ∙ ap (λ (l : List (Place S)). get_or l 0 p) rest ∙ second in
       let before : take (i + 1) old ≡ take i old ++ p ∷ [] = take_more old i p within ∙ ap (λ (x : Place S). take i old ++ x ∷ []) (sym here) in
       let after : take (i + 1) (set items i q) ≡ take i items ++ q ∷ [] = take_more_set items i q (omega (arith, within, len)) in
-      subst (λ (l : List (Place S)). VisitsAll received sent must_wait has_more is_ended is_broken answers over crowd now most l (take (i + 1) (set items i q)) M N r r2) (sym before)
-      (subst (λ (l : List (Place S)). VisitsAll received sent must_wait has_more is_ended is_broken answers over crowd now most (take i old ++ p ∷ []) l M N r r2) (sym after)
+      subst (λ (l : List (Place S)). VisitsAll received sent has_none is_full has_more is_ended is_broken answers over crowd now most l (take (i + 1) (set items i q)) M N r r2) (sym before)
+      (subst (λ (l : List (Place S)). VisitsAll received sent has_none is_full has_more is_ended is_broken answers over crowd now most (take i old ++ p ∷ []) l M N r r2) (sym after)
       (visits-more crowd now most (take i old) (take i items) p q M m N r r1 r2 all one))
 
 -- the places that weren't visited yet are as they were

@@ -1,14 +1,14 @@
 -- Whom a new connection ends.
 use Rattle.std.proofs.Common.{◌≡◌, ◌∷◌, ◌∙◌, [], ℕ, zero, suc, Bool, true, false, List, Option, None, Some, get_or, is_none, length, refl, ap, subst, sym, if◌then◌else◌, ◌&&◌, not}
-use Rattle.std.specs.Prelude.{All, MatchOption, map, position, slice_get}
+use Rattle.std.specs.Prelude.{All, MatchOption, is_some, map, position, slice_get}
 use Rattle.std.proofs.lemmas.Bool.{false≢true}
 use Rattle.std.proofs.lemmas.List.Elements.{All-cons, All-head, All-map, All-replicate, All-tail, All-weaker}
 use Rattle.std.proofs.lemmas.List.Quantifiers.{position-Some}
 use Rattle.std.proofs.lemmas.Option.{get_or_from_slice_get, slice_get_within}
 use Rattle.registry_service.specs.Turns.{Answering}
-use Rattle.registry_server.specs.Connections.{OpenConnection, waiting}
+use Rattle.registry_server.specs.Connections.{OpenConnection, must_wait, must_wait_in, waiting}
 use Rattle.registry_server.specs.Phases.{idle_from, is_late}
-use Rattle.registry_server.specs.Pools.{ChoosesIf, EndsLeaveRest, IdleEndsLeaveRest, IsAtRest, IsFirstOfEarliest, NewConnectionsLeaveRest, NewPoolRests, NewcomersEndIdle, VisitsAll, VisitsIf, VisitsLeaveRest, VisitsThere, WakesLeaveRest, WantOfRoomEndsIdle, after_visit, at_place, chosen, chosen_of, emptied, emptied_of, free, has_room, idle_at, idle_times, idle_with, in_time, is_crowd, is_free, is_held_back, kept_at, new_at, place_count, settled, waiting_at, waiting_with, woken}
+use Rattle.registry_server.specs.Pools.{AllIdleEndsLeaveRest, ChoosesIf, EndsLeaveRest, IdleEndsLeaveRest, IsAtRest, IsFirstOfEarliest, IsUnderWay, NewConnectionsLeaveRest, NewPoolRests, NewcomersEndIdle, StopsEndIdle, StopsLeaveUnderWay, VisitsAll, VisitsIf, VisitsLeaveRest, VisitsThere, WakesLeaveRest, WantOfRoomEndsIdle, after_visit, at_place, chosen, chosen_of, emptied, emptied_of, free, has_room, idle_at, idle_in, idle_times, idle_with, in_time, is_crowd, is_free, is_held_back, kept_at, new_at, place_count, settled, unless_idle, waiting_at, waiting_with, woken}
 use Rattle.registry_server.specs.declared.connection.Visit.{Visit}
 use Rattle.registry_server.specs.declared.connection.Visit.TheVariants.{Again, Rests, Over}
 use Rattle.registry_server.specs.declared.phase.Stage.{Stage}
@@ -25,21 +25,25 @@ idle-stage Next since t is = none-some t is
 idle-stage Sends since t is = none-some t is
 idle-stage Drains since t is = none-some t is
 
-module _ {S : Type 0} (must_wait : S → Bool) where
+module _ {S : Type 0} (has_none is_full : S → Bool) where
+  -- where nothing is begun it waits until something comes
+  idle-waits : (c : OpenConnection S) → c.phase.stage ≡ Idle → must_wait has_none is_full c ≡ true → has_none c.socket ≡ true
+  idle-waits c idle waits = sym (ap (λ (s : Stage). must_wait_in s (has_none c.socket) (is_full c.socket)) idle) ∙ waits
+
   -- no connection is there
-  rest-free : IsAtRest must_wait free
+  rest-free : IsAtRest has_none is_full free
   rest-free c ready at = none-some c at
 
   -- it is to be visited
-  rest-ready : (p : Place S) → p.is_ready ≡ true → IsAtRest must_wait p
+  rest-ready : (p : Place S) → p.is_ready ≡ true → IsAtRest has_none is_full p
   rest-ready p is c ready at = absurd (false≢true (sym ready ∙ is))
 
-  at-rest : (change : Place S → Place S) (places : List (Place S)) (k : ℕ) → ((p : Place S) → IsAtRest must_wait (change p))
-      → All (IsAtRest must_wait) places → All (IsAtRest must_wait) (at_place change places k)
+  at-rest : (change : Place S → Place S) (places : List (Place S)) (k : ℕ) → ((p : Place S) → IsAtRest has_none is_full (change p))
+      → All (IsAtRest has_none is_full) places → All (IsAtRest has_none is_full) (at_place change places k)
   at-rest change [] k rests h = h
-  at-rest change (p ∷ places) zero rests h = All-cons (IsAtRest must_wait) (change p) places (rests p) (All-tail (IsAtRest must_wait) p places h)
-  at-rest change (p ∷ places) (suc k) rests h = All-cons (IsAtRest must_wait) p (at_place change places k)
-      (All-head (IsAtRest must_wait) p places h) (at-rest change places k rests (All-tail (IsAtRest must_wait) p places h))
+  at-rest change (p ∷ places) zero rests h = All-cons (IsAtRest has_none is_full) (change p) places (rests p) (All-tail (IsAtRest has_none is_full) p places h)
+  at-rest change (p ∷ places) (suc k) rests h = All-cons (IsAtRest has_none is_full) p (at_place change places k)
+      (All-head (IsAtRest has_none is_full) p places h) (at-rest change places k rests (All-tail (IsAtRest has_none is_full) p places h))
 
   kept-if : (b : Bool) (d c : OpenConnection S) → (if b then None else Some d) ≡ Some c → Some d ≡ Some c
   kept-if true d c is = none-some c is
@@ -49,65 +53,76 @@ module _ {S : Type 0} (must_wait : S → Bool) where
   was-there now None c is = none-some c is
   was-there now (Some d) c is = kept-if (is_late d.phase now) d c is
 
-  kept-rest : (now : ℕ) (p : Place S) → IsAtRest must_wait p → IsAtRest must_wait (kept_at now p)
+  kept-rest : (now : ℕ) (p : Place S) → IsAtRest has_none is_full p → IsAtRest has_none is_full (kept_at now p)
   kept-rest now p h c ready at = h c ready (was-there now p.connection c at)
 
-  pub new-pool-rests : NewPoolRests must_wait
-  new-pool-rests = All-replicate (IsAtRest must_wait) place_count free rest-free
+  pub new-pool-rests : NewPoolRests has_none is_full
+  new-pool-rests = All-replicate (IsAtRest has_none is_full) place_count free rest-free
 
-  pub new-connections-leave-rest : NewConnectionsLeaveRest must_wait
+  pub new-connections-leave-rest : NewConnectionsLeaveRest has_none is_full
   new-connections-leave-rest now socket places k h = at-rest (λ p. new_at now socket) places k (λ p. rest-ready (new_at now socket) refl) h
 
-  pub wakes-leave-rest : WakesLeaveRest must_wait
+  pub wakes-leave-rest : WakesLeaveRest has_none is_full
   wakes-leave-rest places k h = at-rest woken places k (λ p. rest-ready (woken p) refl) h
 
-  emptied-rest : (p : Place S) → IsAtRest must_wait (emptied p)
+  emptied-rest : (p : Place S) → IsAtRest has_none is_full (emptied p)
   emptied-rest p c ready at = none-some c at
 
-  emptied-at-rest : (old : List (Place S)) (which : Option ℕ) → All (IsAtRest must_wait) old → All (IsAtRest must_wait) (emptied_of old which)
+  emptied-at-rest : (old : List (Place S)) (which : Option ℕ) → All (IsAtRest has_none is_full) old → All (IsAtRest has_none is_full) (emptied_of old which)
   emptied-at-rest old None h = h
   emptied-at-rest old (Some k) h = at-rest emptied old k emptied-rest h
 
-  pub idle-ends-leave-rest : IdleEndsLeaveRest must_wait
-  idle-ends-leave-rest old new found h ends = subst (All (IsAtRest must_wait)) (sym ends.places) (emptied-at-rest old ends.which h)
+  pub idle-ends-leave-rest : IdleEndsLeaveRest has_none is_full
+  idle-ends-leave-rest old new found h ends = subst (All (IsAtRest has_none is_full)) (sym ends.places) (emptied-at-rest old ends.which h)
 
-  pub ends-leave-rest : EndsLeaveRest must_wait
-  ends-leave-rest now places h = All-map (IsAtRest must_wait) (kept_at now) places
-      (All-weaker (IsAtRest must_wait) (λ p. IsAtRest must_wait (kept_at now p)) (kept-rest now) places h)
+  left-if : (b : Bool) (o : Option (OpenConnection S)) (c : OpenConnection S) → (if b then None else o) ≡ Some c → o ≡ Some c
+  left-if true o c is = none-some c is
+  left-if false o c is = is
+
+  left-rest : (p : Place S) → IsAtRest has_none is_full p → IsAtRest has_none is_full (unless_idle p)
+  left-rest p h c ready at = h c ready (left-if (is_some (idle_in p)) p.connection c at)
+
+  pub all-idle-ends-leave-rest : AllIdleEndsLeaveRest has_none is_full
+  all-idle-ends-leave-rest places h = All-map (IsAtRest has_none is_full) unless_idle places
+      (All-weaker (IsAtRest has_none is_full) (λ p. IsAtRest has_none is_full (unless_idle p)) left-rest places h)
+
+  pub ends-leave-rest : EndsLeaveRest has_none is_full
+  ends-leave-rest now places h = All-map (IsAtRest has_none is_full) (kept_at now) places
+      (All-weaker (IsAtRest has_none is_full) (λ p. IsAtRest has_none is_full (kept_at now p)) (kept-rest now) places h)
 
   -- after a visit
-  after-rest : (v : Visit) (p : Place S) (d : OpenConnection S) → (v ≡ Rests → must_wait d.socket ≡ true) → IsAtRest must_wait (after_visit v p d)
+  after-rest : (v : Visit) (p : Place S) (d : OpenConnection S) → (v ≡ Rests → must_wait has_none is_full d ≡ true) → IsAtRest has_none is_full (after_visit v p d)
   after-rest Again p d waits c ready at = absurd (false≢true (sym ready))
-  after-rest Rests p d waits c ready at = let same : d ≡ c = cc in subst (λ (x : OpenConnection S). must_wait x.socket ≡ true) same (waits refl)
+  after-rest Rests p d waits c ready at = let same : d ≡ c = cc in subst (λ (x : OpenConnection S). must_wait has_none is_full x ≡ true) same (waits refl)
   after-rest Over p d waits c ready at = none-some c at
 
   -- one that is held back
-  waiting-rest : (now : ℕ) (p : Place S) (o : Option (OpenConnection S)) → p.connection ≡ o → IsAtRest must_wait p → (c : OpenConnection S) → p.is_ready ≡ false → waiting_with now o ≡ Some c → must_wait c.socket ≡ true
+  waiting-rest : (now : ℕ) (p : Place S) (o : Option (OpenConnection S)) → p.connection ≡ o → IsAtRest has_none is_full p → (c : OpenConnection S) → p.is_ready ≡ false → waiting_with now o ≡ Some c → must_wait has_none is_full c ≡ true
   waiting-rest now p None is h c ready at = none-some c at
-  waiting-rest now p (Some d) is h c ready at = let same : waiting now d ≡ c = cc in subst (λ (x : OpenConnection S). must_wait x.socket ≡ true) same (h d ready is)
+  waiting-rest now p (Some d) is h c ready at = let same : waiting now d ≡ c = cc in subst (λ (x : OpenConnection S). must_wait has_none is_full x ≡ true) same (h d ready is)
 
-  pub waiting-at-rest : (now : ℕ) (p : Place S) → IsAtRest must_wait p → IsAtRest must_wait (waiting_at now p)
+  pub waiting-at-rest : (now : ℕ) (p : Place S) → IsAtRest has_none is_full p → IsAtRest has_none is_full (waiting_at now p)
   waiting-at-rest now p h c ready at = waiting-rest now p p.connection refl h c ready at
 
   -- bodies stay chosen, or they don't
-  settled-rest : (places : List (Place S)) → All (IsAtRest must_wait) places → All (IsAtRest must_wait) (map settled places)
-  settled-rest places h = All-map (IsAtRest must_wait) settled places
-      (All-weaker (IsAtRest must_wait) (λ p. IsAtRest must_wait (settled p)) (λ p rests c ready at. rests c ready at) places h)
+  settled-rest : (places : List (Place S)) → All (IsAtRest has_none is_full) places → All (IsAtRest has_none is_full) (map settled places)
+  settled-rest places h = All-map (IsAtRest has_none is_full) settled places
+      (All-weaker (IsAtRest has_none is_full) (λ p. IsAtRest has_none is_full (settled p)) (λ p rests c ready at. rests c ready at) places h)
 
-  chosen-at-rest : (places : List (Place S)) (k : ℕ) → All (IsAtRest must_wait) places → All (IsAtRest must_wait) (at_place chosen places k)
+  chosen-at-rest : (places : List (Place S)) (k : ℕ) → All (IsAtRest has_none is_full) places → All (IsAtRest has_none is_full) (at_place chosen places k)
   chosen-at-rest [] k h = h
-  chosen-at-rest (p ∷ places) zero h = All-cons (IsAtRest must_wait) (chosen p) places
-      (λ c ready at. All-head (IsAtRest must_wait) p places h c ready at) (All-tail (IsAtRest must_wait) p places h)
-  chosen-at-rest (p ∷ places) (suc k) h = All-cons (IsAtRest must_wait) p (at_place chosen places k)
-      (All-head (IsAtRest must_wait) p places h) (chosen-at-rest places k (All-tail (IsAtRest must_wait) p places h))
+  chosen-at-rest (p ∷ places) zero h = All-cons (IsAtRest has_none is_full) (chosen p) places
+      (λ c ready at. All-head (IsAtRest has_none is_full) p places h c ready at) (All-tail (IsAtRest has_none is_full) p places h)
+  chosen-at-rest (p ∷ places) (suc k) h = All-cons (IsAtRest has_none is_full) p (at_place chosen places k)
+      (All-head (IsAtRest has_none is_full) p places h) (chosen-at-rest places k (All-tail (IsAtRest has_none is_full) p places h))
 
-  chosen-rest : (places : List (Place S)) (next : Option ℕ) → All (IsAtRest must_wait) places → All (IsAtRest must_wait) (chosen_of places next)
+  chosen-rest : (places : List (Place S)) (next : Option ℕ) → All (IsAtRest has_none is_full) places → All (IsAtRest has_none is_full) (chosen_of places next)
   chosen-rest places None h = h
   chosen-rest places (Some k) h = chosen-at-rest places k h
 
-  looked-rest : (b : Bool) (old new : List (Place S)) → ChoosesIf b old new → All (IsAtRest must_wait) old → All (IsAtRest must_wait) new
-  looked-rest true old new chooses h = subst (All (IsAtRest must_wait)) (sym chooses.places) (chosen-rest old chooses.next h)
-  looked-rest false old new same h = subst (All (IsAtRest must_wait)) (sym same) h
+  looked-rest : (b : Bool) (old new : List (Place S)) → ChoosesIf b old new → All (IsAtRest has_none is_full) old → All (IsAtRest has_none is_full) new
+  looked-rest true old new chooses h = subst (All (IsAtRest has_none is_full)) (sym chooses.places) (chosen-rest old chooses.next h)
+  looked-rest false old new same h = subst (All (IsAtRest has_none is_full)) (sym same) h
 
   idle-if : (b : Bool) (o : Option (OpenConnection S)) (c : OpenConnection S) (t : ℕ) → o ≡ Some c → (if b then None else idle_with o) ≡ Some t → (b ≡ false) × (c.phase.stage ≡ Idle)
   idle-if true o c t at is = none-some t is
@@ -123,11 +138,11 @@ module _ {S : Type 0} (must_wait : S → Bool) where
       let gone : is_free p ≡ true = ap is_free (sym here) ∙ empty in
       absurd (false≢true (sym (ap (λ (m : Option (OpenConnection S)). is_none m) at) ∙ gone))
 
-  pub newcomers-end-idle : NewcomersEndIdle must_wait
+  pub newcomers-end-idle : NewcomersEndIdle has_none is_full
   newcomers-end-idle places k p c rests place there at =
       let idle = ends-idle places k p c (position is_free places) there at refl place in
-      let rest : IsAtRest must_wait p = subst (IsAtRest must_wait) (get_or_from_slice_get places k p p there) (rests k p (slice_get_within places k p there)) in
-      (idle.0, rest c idle.0 at, idle.1)
+      let rest : IsAtRest has_none is_full p = subst (IsAtRest has_none is_full) (get_or_from_slice_get places k p p there) (rests k p (slice_get_within places k p there)) in
+      (idle.0, idle-waits c idle.1 (rest c idle.0 at), idle.1)
 
   idle-first : (places : List (Place S)) (which : Option ℕ) (k : ℕ) (p : Place S) (c : OpenConnection S) → IsFirstOfEarliest (idle_times places) (length places) which → which ≡ Some k
       → slice_get places k ≡ Some p → p.connection ≡ Some c → (p.is_ready ≡ false) × (c.phase.stage ≡ Idle)
@@ -136,33 +151,58 @@ module _ {S : Type 0} (must_wait : S → Bool) where
       let one : j ≡ k = cc in
       idle-if p.is_ready p.connection c first.0 at (sym (ap idle_at there) ∙ ap (idle_times places) (sym one) ∙ first.2)
 
-  pub want-of-room-ends-idle : WantOfRoomEndsIdle must_wait
+  pub want-of-room-ends-idle : WantOfRoomEndsIdle has_none is_full
   want-of-room-ends-idle old new found ends k p c rests is there at =
       let idle = idle-first old ends.which k p c ends.first is there at in
-      let rest : IsAtRest must_wait p = subst (IsAtRest must_wait) (get_or_from_slice_get old k p p there) (rests k p (slice_get_within old k p there)) in
-      (idle.0, rest c idle.0 at, idle.1)
+      let rest : IsAtRest has_none is_full p = subst (IsAtRest has_none is_full) (get_or_from_slice_get old k p p there) (rests k p (slice_get_within old k p there)) in
+      (idle.0, idle-waits c idle.1 (rest c idle.0 at), idle.1)
 
-module _ {S : Type 0} (received sent : S → Option (List ℕ)) (must_wait has_more is_ended is_broken : S → Bool) {D : Type 0} (answers : Answering D) (over : D → Bool) where
+  -- a connection was there, and isn't any more
+  was-idle : (o : Option ℕ) (there : Option (OpenConnection S)) (c : OpenConnection S) → there ≡ Some c → (if is_some o then None else there) ≡ None → (t : ℕ) × (o ≡ Some t)
+  was-idle None there c at is = none-some c (sym is ∙ at)
+  was-idle (Some t) there c at is = (t, refl)
+
+  pub stops-end-idle : StopsEndIdle has_none is_full
+  stops-end-idle p c rests at is =
+      let was = was-idle (idle_in p) p.connection c at is in
+      let idle = idle-if p.is_ready p.connection c was.0 at was.1 in
+      (idle.0, idle-waits c idle.1 (rests c idle.0 at), idle.1)
+
+-- none is left on which nothing is begun
+left-idle : {S : Type 0} (o : Option (OpenConnection S)) (t : Option ℕ) → idle_with o ≡ t → idle_with (if is_some t then None else o) ≡ None
+left-idle o None is = is
+left-idle o (Some t) is = refl
+
+left-under-way : {S : Type 0} (ready : Bool) (o : Option (OpenConnection S))
+    → (if ready then None else idle_with (if is_some (if ready then None else idle_with o) then None else o)) ≡ None
+left-under-way true o = refl
+left-under-way false o = left-idle o (idle_with o) refl
+
+pub stops-leave-under-way : (S : Type 0) → StopsLeaveUnderWay S
+stops-leave-under-way S places = All-map (IsUnderWay {S = S}) unless_idle places
+    (λ k d lt. left-under-way (get_or places k d).is_ready (get_or places k d).connection)
+
+module _ {S : Type 0} (received sent : S → Option (List ℕ)) (has_none is_full has_more is_ended is_broken : S → Bool) {D : Type 0} (answers : Answering D) (over : D → Bool) where
   there-rests : (now most : ℕ) (p : Place S) (o : Option (OpenConnection S)) (q : Place S) (M N : D) (r r2 : Option (List ℕ))
-      → VisitsThere received sent must_wait has_more is_ended is_broken answers now most p o q M N r r2 → IsAtRest must_wait q
-  there-rests now most p None q M N r r2 v = subst (IsAtRest must_wait) (sym v.place) (λ c ready at. none-some c at)
-  there-rests now most p (Some c) q M N r r2 v = subst (IsAtRest must_wait) (sym v.place) (after-rest must_wait v.visit p v.connection v.waits)
+      → VisitsThere received sent has_none is_full has_more is_ended is_broken answers now most p o q M N r r2 → IsAtRest has_none is_full q
+  there-rests now most p None q M N r r2 v = subst (IsAtRest has_none is_full) (sym v.place) (λ c ready at. none-some c at)
+  there-rests now most p (Some c) q M N r r2 v = subst (IsAtRest has_none is_full) (sym v.place) (after-rest has_none is_full v.visit p v.connection v.waits)
 
-  visited-rests : (b held : Bool) (now most : ℕ) (p q : Place S) (M N : D) (r r2 : Option (List ℕ)) → IsAtRest must_wait p
-      → VisitsIf received sent must_wait has_more is_ended is_broken answers b held now most p q M N r r2 → IsAtRest must_wait q
-  visited-rests true true now most p q M N r r2 h v = subst (IsAtRest must_wait) (sym v.place) (waiting-at-rest must_wait now p h)
+  visited-rests : (b held : Bool) (now most : ℕ) (p q : Place S) (M N : D) (r r2 : Option (List ℕ)) → IsAtRest has_none is_full p
+      → VisitsIf received sent has_none is_full has_more is_ended is_broken answers b held now most p q M N r r2 → IsAtRest has_none is_full q
+  visited-rests true true now most p q M N r r2 h v = subst (IsAtRest has_none is_full) (sym v.place) (waiting-at-rest has_none is_full now p h)
   visited-rests true false now most p q M N r r2 h v = there-rests now most p p.connection q M N r r2 v
-  visited-rests false held now most p q M N r r2 h v = subst (IsAtRest must_wait) (sym v.place) h
+  visited-rests false held now most p q M N r r2 h v = subst (IsAtRest has_none is_full) (sym v.place) h
 
-  visited-rest : (crowd : Bool) (now most : ℕ) (ps qs : List (Place S)) (M N : D) (r r2 : Option (List ℕ)) → All (IsAtRest must_wait) ps
-      → VisitsAll received sent must_wait has_more is_ended is_broken answers over crowd now most ps qs M N r r2 → All (IsAtRest must_wait) qs
+  visited-rest : (crowd : Bool) (now most : ℕ) (ps qs : List (Place S)) (M N : D) (r r2 : Option (List ℕ)) → All (IsAtRest has_none is_full) ps
+      → VisitsAll received sent has_none is_full has_more is_ended is_broken answers over crowd now most ps qs M N r r2 → All (IsAtRest has_none is_full) qs
   visited-rest crowd now most [] [] M N r r2 h v = h
-  visited-rest crowd now most (p ∷ ps) (q ∷ qs) M N r r2 h v = All-cons (IsAtRest must_wait) q qs
-      (visited-rests (p.is_ready && not (over M)) (is_held_back crowd p) now most p q M v.0 r v.1 (All-head (IsAtRest must_wait) p ps h) v.2)
-      (visited-rest crowd now most ps qs v.0 N v.1 r2 (All-tail (IsAtRest must_wait) p ps h) v.3)
+  visited-rest crowd now most (p ∷ ps) (q ∷ qs) M N r r2 h v = All-cons (IsAtRest has_none is_full) q qs
+      (visited-rests (p.is_ready && not (over M)) (is_held_back crowd p) now most p q M v.0 r v.1 (All-head (IsAtRest has_none is_full) p ps h) v.2)
+      (visited-rest crowd now most ps qs v.0 N v.1 r2 (All-tail (IsAtRest has_none is_full) p ps h) v.3)
   visited-rest crowd now most [] (q ∷ qs) M N r r2 h v = absurd v
   visited-rest crowd now most (p ∷ ps) [] M N r r2 h v = absurd v
 
-  pub visits-leave-rest : VisitsLeaveRest received sent must_wait has_more is_ended is_broken answers over
+  pub visits-leave-rest : VisitsLeaveRest received sent has_none is_full has_more is_ended is_broken answers over
   visits-leave-rest now most old new M N r r2 h round = visited-rest (is_crowd old) now most round.looked new M N r r2
-      (looked-rest must_wait (is_crowd old && has_room old) (map settled old) round.looked round.looks (settled-rest must_wait old h)) round.visits
+      (looked-rest has_none is_full (is_crowd old && has_room old) (map settled old) round.looked round.looks (settled-rest has_none is_full old h)) round.visits

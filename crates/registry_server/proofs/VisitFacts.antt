@@ -7,7 +7,7 @@ use Rattle.registry_wire.specs.Spelling.{IsUnfinished}
 use Rattle.registry_service.specs.Turns.{Answering}
 use Rattle.registry_service.specs.declared.turning.End.{End}
 use Rattle.registry_server.specs.ConnectionStates.{IsStarved, MayTakeTurn, Pending, TakesNone, holding, sending}
-use Rattle.registry_server.specs.Connections.{AnswersOnce, Drops, Keeps, MayReceive, OpenConnection, Receives, SendsDue, StarvesOnce, TakesOne, Visits}
+use Rattle.registry_server.specs.Connections.{AnswersOnce, Drops, Keeps, MayReceive, OpenConnection, Receives, SendsDue, StarvesOnce, TakesOne, Visits, must_wait_in}
 use Rattle.registry_server.specs.Phases.{LookedAt, SentAt, receives, takes_turns}
 use Rattle.registry_server.specs.Sockets.{moved}
 use Rattle.registry_server.specs.declared.phase.Phase.{Phase}
@@ -70,6 +70,14 @@ may-drop Begun p is all_sent some = absurd (cc)
 may-drop Next p is all_sent some = absurd (cc)
 may-drop Sends p is all_sent some = absurd (cc)
 may-drop Drains p is all_sent some = (all_sent, some)
+
+-- where no response is due it waits until more comes
+pub waits-for-more : (s : Stage) (none full : Bool) → takes_turns s ≡ true → none ≡ true → must_wait_in s none full ≡ true
+waits-for-more Idle none full turning is = is
+waits-for-more Begun none full turning is = is
+waits-for-more Next none full turning is = is
+waits-for-more Sends none full turning is = absurd (false≢true turning)
+waits-for-more Drains none full turning is = absurd (false≢true turning)
 
 nothing-kept : (p due : Pending) (over : Bool) → Keeps [] p over p due
 nothing-kept p due over = elim (ends-or-not p.ends) [ inl none ↦ inl (none, none-held p, λ _. refl) | inr some ↦ inr (refl, inl some) ]

@@ -38,6 +38,19 @@ pub record IsInOrder (stage : Stage) (p : Pending) : Type 0 where
 abbrev pub stage_after : Pending → Stage
 stage_after p = if is_some p.ends then Drains else (if length p.held == 0 then Idle else Next)
 
+-- What a connection waits for at a stage: while a response is due that its socket takes some of it, and
+-- else that its socket gives something. So it has to wait where that is full, or has none.
+abbrev pub must_wait_in : Stage → Bool → Bool → Bool
+must_wait_in Idle has_none is_full = has_none
+must_wait_in Begun has_none is_full = has_none
+must_wait_in Next has_none is_full = has_none
+must_wait_in Sends has_none is_full = is_full
+must_wait_in Drains has_none is_full = has_none
+
+-- a connection has to wait
+abbrev pub must_wait : {S : Type 0} → (S → Bool) → (S → Bool) → OpenConnection S → Bool
+must_wait has_none is_full c = must_wait_in c.phase.stage (has_none c.socket) (is_full c.socket)
+
 -- where more bytes are held of a request that isn't whole than a head may have, a body is under way
 abbrev pub body_least : ℕ
 body_least = head_limit

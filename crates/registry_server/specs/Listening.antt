@@ -1,5 +1,9 @@
--- How many more connections are to come in.
-use Rattle.std.specs.Prelude.{ℕ, ◌-◌, max, nat_lt, Bool, true, Option, Some, None, if◌then◌else◌}
+-- Where connections come in, and how many more are to.
+use Rattle.std.specs.Prelude.{ℕ, ◌-◌, ◌∷◌, [], List, max, nat_lt, Bool, true, Option, Some, None, if◌then◌else◌}
+
+-- the octets of the address 127.0.0.1
+abbrev pub loopback : List ℕ
+loopback = 127 ∷ 0 ∷ 0 ∷ 1 ∷ []
 
 -- the number from which on connections aren't counted
 abbrev pub uncounted : ℕ

@@ -4,14 +4,14 @@ use Rattle.std.specs.List.{list_any}
 use Rattle.registry_wire.specs.Spelling.{request_limit}
 use Rattle.registry_service.specs.Turns.{Answering}
 use Rattle.registry_server.specs.ConnectionStates.{fresh}
-use Rattle.registry_server.specs.Connections.{IsDone, IsLost, LeavesLittle, OpenConnection, Visits, body_least, body_since, connected, has_body, is_answered, waiting}
+use Rattle.registry_server.specs.Connections.{IsDone, IsLost, LeavesLittle, OpenConnection, Visits, body_least, body_since, connected, has_body, is_answered, must_wait, waiting}
 use Rattle.registry_server.specs.Phases.{first_phase, idle_since, is_late}
 use Rattle.registry_server.specs.declared.connection.Visit.{Visit}
 use Rattle.registry_server.specs.declared.connection.Visit.TheVariants.{Again, Rests, Over}
 use Rattle.registry_server.specs.declared.phase.Stage.TheVariants.{Begun, Idle, Next}
 use Rattle.registry_server.specs.declared.pool.Place.{Place}
 use Rattle.registry_server.specs.declared.server.Ended.{Ended}
-use Rattle.registry_server.specs.declared.server.Ended.TheVariants.{Enough, ServiceOver}
+use Rattle.registry_server.specs.declared.server.Ended.TheVariants.{Enough, ServiceOver, Stopped}
 
 -- the most connections that are open at once
 abbrev pub place_count : ℕ
@@ -115,6 +115,16 @@ pub record EndsIdle {S : Type 0} (old new : List (Place S)) (was : Bool) : Type 
   pub first : IsFirstOfEarliest (idle_times old) (length old) which
   pub places : new ≡ emptied_of old which
   pub found : was ≡ is_some which
+
+-- ---- where a server is to end
+
+-- the connection there ends where nothing is begun on it and it isn't to be visited
+abbrev pub unless_idle : {S : Type 0} → Place S → Place S
+unless_idle p = with_connection p (if is_some (idle_in p) then None else p.connection) p.is_ready
+
+-- something is begun there, or it is to be visited, or nobody is there
+abbrev pub IsUnderWay : {S : Type 0} → Place S → Type 0
+IsUnderWay p = idle_in p ≡ None
 
 -- ---- which bodies are read of a crowd
 
@@ -245,19 +255,19 @@ after_visit Again p c = with_connection p (Some c) true
 after_visit Rests p c = with_connection p (Some c) false
 after_visit Over p c = with_connection p None false
 
-module _ {S : Type 0} (received sent : S → Option (List ℕ)) (must_wait has_more is_ended is_broken : S → Bool) {D : Type 0} (answers : Answering D) where
-  -- A connection was visited: it goes on at once, rests, or ends. It rests only where its socket has
-  -- to wait, and what is held of a next request was looked at. Within a request it goes on only where
-  -- its socket may have more. It ends where the other side sends no more and all was answered and sent
-  -- before, and else only where it is broken. Where it goes on after an answer little is held, if it
-  -- was so before.
+module _ {S : Type 0} (received sent : S → Option (List ℕ)) (has_none is_full has_more is_ended is_broken : S → Bool) {D : Type 0} (answers : Answering D) where
+  -- A connection was visited: it goes on at once, rests, or ends. It rests only where its socket takes
+  -- nothing of a response that is due, or where none is due and its socket gives nothing; and what is
+  -- held of a next request was looked at. Within a request it goes on only where its socket may have
+  -- more. It ends where the other side sends no more and all was answered and sent before, and else
+  -- only where it is broken. Where it goes on after an answer little is held, if it was so before.
   pub record VisitsOne (now most : ℕ) (at : Place S) (old : OpenConnection S) (new : Place S) (M N : D) (readings readings2 : Option (List ℕ)) : Type 0 where
     pub connection : OpenConnection S
     pub visits : Visits received sent answers now most old connection M N readings readings2
     pub visit : Visit
     pub place : new ≡ after_visit visit at connection
     pub rests : visit ≡ Rests → connection.phase.stage ≢ Next
-    pub waits : visit ≡ Rests → must_wait connection.socket ≡ true
+    pub waits : visit ≡ Rests → must_wait has_none is_full connection ≡ true
     pub more : visit ≡ Again → connection.phase.stage ≡ Begun → has_more connection.socket ≡ true
     pub over : visit ≡ Over → IsLost is_ended is_broken connection
     pub ends : IsDone old.state → connection.is_over ≡ true → visit ≡ Over
@@ -280,11 +290,11 @@ module _ {S : Type 0} (received sent : S → Option (List ℕ)) (must_wait has_m
   VisitsIf true false now most old new M N readings readings2 = VisitsThere now most old old.connection new M N readings readings2
   VisitsIf false held now most old new M N readings readings2 = VisitsNone old new M N readings readings2
 
-module _ {S : Type 0} (received sent : S → Option (List ℕ)) (must_wait has_more is_ended is_broken : S → Bool) {D : Type 0} (answers : Answering D) (over : D → Bool) where
+module _ {S : Type 0} (received sent : S → Option (List ℕ)) (has_none is_full has_more is_ended is_broken : S → Bool) {D : Type 0} (answers : Answering D) (over : D → Bool) where
   -- a place is visited where it is to be and isn't held back, unless the service is over
   abbrev pub VisitsAt : Bool → ℕ → ℕ → Place S → Place S → D → D → Option (List ℕ) → Option (List ℕ) → Type 0
   VisitsAt crowd now most old new M N readings readings2 =
-      VisitsIf received sent must_wait has_more is_ended is_broken answers (old.is_ready && not (over M)) (is_held_back crowd old) now most old new M N readings readings2
+      VisitsIf received sent has_none is_full has_more is_ended is_broken answers (old.is_ready && not (over M)) (is_held_back crowd old) now most old new M N readings readings2
 
   -- Each connection that is to be visited and isn't held back is visited, once, in the order of their
   -- places, and no other is. After the visit in which the service is over none is. Of each so many
@@ -342,21 +352,25 @@ EndsLeaveFew S = (now : ℕ) (places : List (Place S)) → FewChosen places → 
 abbrev pub IdleEndsLeaveFew : Type 0 → Type 0
 IdleEndsLeaveFew S = (old new : List (Place S)) (found : Bool) → FewChosen old → EndsIdle old new found → FewChosen new
 
+-- and once each ended on which nothing was begun
+abbrev pub AllIdleEndsLeaveFew : Type 0 → Type 0
+AllIdleEndsLeaveFew S = (places : List (Place S)) → FewChosen places → FewChosen (map unless_idle places)
+
 -- who is held back has begun a request that isn't whole
 abbrev pub WhoWaitsHasBegun : Type 0 → Type 0
 WhoWaitsHasBegun S = (crowd : Bool) (p : Place S) (c : OpenConnection S) → is_held_back crowd p ≡ true → p.connection ≡ Some c → c.phase.stage ≡ Begun
 
-module _ {S : Type 0} (received sent : S → Option (List ℕ)) (must_wait has_more is_ended is_broken : S → Bool) {D : Type 0} (answers : Answering D) (over : D → Bool) where
+module _ {S : Type 0} (received sent : S → Option (List ℕ)) (has_none is_full has_more is_ended is_broken : S → Bool) {D : Type 0} (answers : Answering D) (over : D → Bool) where
   -- and in a round, also once it is looked which bodies are read
   abbrev pub RoundsReadFew : Type 0
   RoundsReadFew = (now most : ℕ) (old new : List (Place S)) (M N : D) (readings readings2 : Option (List ℕ)) → FewChosen old
-      → (round : VisitsRound received sent must_wait has_more is_ended is_broken answers over now most old new M N readings readings2) → FewChosen round.looked × FewChosen new
+      → (round : VisitsRound received sent has_none is_full has_more is_ended is_broken answers over now most old new M N readings readings2) → FewChosen round.looked × FewChosen new
 
   -- A round leaves at each place no more than so many bytes beside those that were held before, and
   -- no more at those of connections that are held back.
   abbrev pub RoundsHoldLittleMore : Type 0
   RoundsHoldLittleMore = (now most : ℕ) (old new : List (Place S)) (M N : D) (readings readings2 : Option (List ℕ))
-      → (round : VisitsRound received sent must_wait has_more is_ended is_broken answers over now most old new M N readings readings2) → HoldLittleMore (is_crowd old) most round.looked new
+      → (round : VisitsRound received sent has_none is_full has_more is_ended is_broken answers over now most old new M N readings readings2) → HoldLittleMore (is_crowd old) most round.looked new
 
 -- ---- how much is held after any number of rounds
 
@@ -411,11 +425,15 @@ EndsLeaveLittle S = (most now : ℕ) (places : List (Place S)) → HoldLittle mo
 abbrev pub IdleEndsLeaveLittle : Type 0 → Type 0
 IdleEndsLeaveLittle S = (most : ℕ) (old new : List (Place S)) (found : Bool) → HoldLittle most old → EndsIdle old new found → HoldLittle most new
 
-module _ {S : Type 0} (received sent : S → Option (List ℕ)) (must_wait has_more is_ended is_broken : S → Bool) {D : Type 0} (answers : Answering D) (over : D → Bool) where
+-- once each ended on which nothing was begun
+abbrev pub AllIdleEndsLeaveLittle : Type 0 → Type 0
+AllIdleEndsLeaveLittle S = (most : ℕ) (places : List (Place S)) → HoldLittle most places → HoldLittle most (map unless_idle places)
+
+module _ {S : Type 0} (received sent : S → Option (List ℕ)) (has_none is_full has_more is_ended is_broken : S → Bool) {D : Type 0} (answers : Answering D) (over : D → Bool) where
   -- and after a round
   abbrev pub RoundsLeaveLittle : Type 0
   RoundsLeaveLittle = (now most : ℕ) (old new : List (Place S)) (M N : D) (readings readings2 : Option (List ℕ)) → HoldLittle most old
-      → VisitsRound received sent must_wait has_more is_ended is_broken answers over now most old new M N readings readings2 → HoldLittle most new
+      → VisitsRound received sent has_none is_full has_more is_ended is_broken answers over now most old new M N readings readings2 → HoldLittle most new
 
 -- what is held at a place whose body isn't chosen
 abbrev pub unread_at : {S : Type 0} → Place S → ℕ
@@ -436,53 +454,66 @@ ServersHoldLittle S = (places : List (Place S)) → HoldLittle 16_384 places →
 
 -- ---- whom a new connection ends
 
--- A connection that isn't to be visited rests: its socket had to wait when it was asked last.
-abbrev pub IsAtRest : {S : Type 0} → (S → Bool) → Place S → Type 0
-IsAtRest {S} must_wait p = (c : OpenConnection S) → p.is_ready ≡ false → p.connection ≡ Some c → must_wait c.socket ≡ true
+-- A connection that isn't to be visited rests: its socket took nothing of a response when it was asked
+-- last, or gave nothing where none was due.
+abbrev pub IsAtRest : {S : Type 0} → (S → Bool) → (S → Bool) → Place S → Type 0
+IsAtRest {S} has_none is_full p = (c : OpenConnection S) → p.is_ready ≡ false → p.connection ≡ Some c → must_wait has_none is_full c ≡ true
 
 -- so it is in a new pool
-abbrev pub NewPoolRests : {S : Type 0} → (S → Bool) → Type 0
-NewPoolRests must_wait = All (IsAtRest must_wait) (replicate place_count free)
+abbrev pub NewPoolRests : {S : Type 0} → (S → Bool) → (S → Bool) → Type 0
+NewPoolRests has_none is_full = All (IsAtRest has_none is_full) (replicate place_count free)
 
 -- and still once a connection came in
-abbrev pub NewConnectionsLeaveRest : {S : Type 0} → (S → Bool) → Type 0
-NewConnectionsLeaveRest {S} must_wait = (now : ℕ) (socket : S) (places : List (Place S)) (k : ℕ)
-    → All (IsAtRest must_wait) places → All (IsAtRest must_wait) (at_place (λ _. new_at now socket) places k)
+abbrev pub NewConnectionsLeaveRest : {S : Type 0} → (S → Bool) → (S → Bool) → Type 0
+NewConnectionsLeaveRest {S} has_none is_full = (now : ℕ) (socket : S) (places : List (Place S)) (k : ℕ)
+    → All (IsAtRest has_none is_full) places → All (IsAtRest has_none is_full) (at_place (λ _. new_at now socket) places k)
 
 -- once one is to be visited
-abbrev pub WakesLeaveRest : {S : Type 0} → (S → Bool) → Type 0
-WakesLeaveRest {S} must_wait = (places : List (Place S)) (k : ℕ) → All (IsAtRest must_wait) places → All (IsAtRest must_wait) (at_place woken places k)
+abbrev pub WakesLeaveRest : {S : Type 0} → (S → Bool) → (S → Bool) → Type 0
+WakesLeaveRest {S} has_none is_full = (places : List (Place S)) (k : ℕ) → All (IsAtRest has_none is_full) places → All (IsAtRest has_none is_full) (at_place woken places k)
 
 -- once those ended whose time is up
-abbrev pub EndsLeaveRest : {S : Type 0} → (S → Bool) → Type 0
-EndsLeaveRest {S} must_wait = (now : ℕ) (places : List (Place S)) → All (IsAtRest must_wait) places → All (IsAtRest must_wait) (map (kept_at now) places)
+abbrev pub EndsLeaveRest : {S : Type 0} → (S → Bool) → (S → Bool) → Type 0
+EndsLeaveRest {S} has_none is_full = (now : ℕ) (places : List (Place S)) → All (IsAtRest has_none is_full) places → All (IsAtRest has_none is_full) (map (kept_at now) places)
 
 -- once one ended for want of room
-abbrev pub IdleEndsLeaveRest : {S : Type 0} → (S → Bool) → Type 0
-IdleEndsLeaveRest {S} must_wait = (old new : List (Place S)) (found : Bool) → All (IsAtRest must_wait) old → EndsIdle old new found → All (IsAtRest must_wait) new
+abbrev pub IdleEndsLeaveRest : {S : Type 0} → (S → Bool) → (S → Bool) → Type 0
+IdleEndsLeaveRest {S} has_none is_full = (old new : List (Place S)) (found : Bool) → All (IsAtRest has_none is_full) old → EndsIdle old new found → All (IsAtRest has_none is_full) new
 
-module _ {S : Type 0} (received sent : S → Option (List ℕ)) (must_wait has_more is_ended is_broken : S → Bool) {D : Type 0} (answers : Answering D) (over : D → Bool) where
+-- once each ended on which nothing was begun
+abbrev pub AllIdleEndsLeaveRest : {S : Type 0} → (S → Bool) → (S → Bool) → Type 0
+AllIdleEndsLeaveRest {S} has_none is_full = (places : List (Place S)) → All (IsAtRest has_none is_full) places → All (IsAtRest has_none is_full) (map unless_idle places)
+
+module _ {S : Type 0} (received sent : S → Option (List ℕ)) (has_none is_full has_more is_ended is_broken : S → Bool) {D : Type 0} (answers : Answering D) (over : D → Bool) where
   -- and after visits
   abbrev pub VisitsLeaveRest : Type 0
-  VisitsLeaveRest = (now most : ℕ) (old new : List (Place S)) (M N : D) (readings readings2 : Option (List ℕ)) → All (IsAtRest must_wait) old
-      → VisitsRound received sent must_wait has_more is_ended is_broken answers over now most old new M N readings readings2 → All (IsAtRest must_wait) new
+  VisitsLeaveRest = (now most : ℕ) (old new : List (Place S)) (M N : D) (readings readings2 : Option (List ℕ)) → All (IsAtRest has_none is_full) old
+      → VisitsRound received sent has_none is_full has_more is_ended is_broken answers over now most old new M N readings readings2 → All (IsAtRest has_none is_full) new
 
--- A new connection ends no other but one that isn't to be visited, whose socket had to wait when it
+-- A new connection ends no other but one that isn't to be visited, whose socket gave nothing when it
 -- was asked last, and on which nothing is begun.
-abbrev pub NewcomersEndIdle : {S : Type 0} → (S → Bool) → Type 0
-NewcomersEndIdle {S} must_wait = (places : List (Place S)) (k : ℕ) (p : Place S) (c : OpenConnection S)
-    → All (IsAtRest must_wait) places → IsPlaceFor places (Some k) → slice_get places k ≡ Some p → p.connection ≡ Some c
-    → (p.is_ready ≡ false) × (must_wait c.socket ≡ true) × (c.phase.stage ≡ Idle)
+abbrev pub NewcomersEndIdle : {S : Type 0} → (S → Bool) → (S → Bool) → Type 0
+NewcomersEndIdle {S} has_none is_full = (places : List (Place S)) (k : ℕ) (p : Place S) (c : OpenConnection S)
+    → All (IsAtRest has_none is_full) places → IsPlaceFor places (Some k) → slice_get places k ≡ Some p → p.connection ≡ Some c
+    → (p.is_ready ≡ false) × (has_none c.socket ≡ true) × (c.phase.stage ≡ Idle)
 
 -- And no more does one that ends for want of room.
-abbrev pub WantOfRoomEndsIdle : {S : Type 0} → (S → Bool) → Type 0
-WantOfRoomEndsIdle {S} must_wait = (old new : List (Place S)) (found : Bool) (ends : EndsIdle old new found) (k : ℕ) (p : Place S) (c : OpenConnection S)
-    → All (IsAtRest must_wait) old → ends.which ≡ Some k → slice_get old k ≡ Some p → p.connection ≡ Some c
-    → (p.is_ready ≡ false) × (must_wait c.socket ≡ true) × (c.phase.stage ≡ Idle)
+abbrev pub WantOfRoomEndsIdle : {S : Type 0} → (S → Bool) → (S → Bool) → Type 0
+WantOfRoomEndsIdle {S} has_none is_full = (old new : List (Place S)) (found : Bool) (ends : EndsIdle old new found) (k : ℕ) (p : Place S) (c : OpenConnection S)
+    → All (IsAtRest has_none is_full) old → ends.which ≡ Some k → slice_get old k ≡ Some p → p.connection ≡ Some c
+    → (p.is_ready ≡ false) × (has_none c.socket ≡ true) × (c.phase.stage ≡ Idle)
+
+-- And no more does one that ends where a server is to end: then none is left that isn't under way.
+abbrev pub StopsEndIdle : {S : Type 0} → (S → Bool) → (S → Bool) → Type 0
+StopsEndIdle {S} has_none is_full = (p : Place S) (c : OpenConnection S) → IsAtRest has_none is_full p → p.connection ≡ Some c → (unless_idle p).connection ≡ None
+    → (p.is_ready ≡ false) × (has_none c.socket ≡ true) × (c.phase.stage ≡ Idle)
+
+abbrev pub StopsLeaveUnderWay : Type 0 → Type 0
+StopsLeaveUnderWay S = (places : List (Place S)) → All IsUnderWay (map (unless_idle {S = S}) places)
 
 -- ---- why a server ends
 
--- because the service is over, or else because as many connections as were to come in have come, and
--- all have ended
-abbrev pub why_ended : Bool → Ended
-why_ended over = if over then ServiceOver else Enough
+-- because the service is over; or else because it was to end, and all that was under way has ended;
+-- or else because as many connections as were to come in have come, and all have ended
+abbrev pub why_ended : Bool → Bool → Ended
+why_ended over stops = if over then ServiceOver else (if stops then Stopped else Enough)

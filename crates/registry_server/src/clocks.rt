@@ -1,6 +1,7 @@
 //! The clocks of a server. One that can't be read gives its last reading again.
 
-ghost use Rattle.std.specs.Prelude.{◌≡◌, ◌≤◌, ◌+◌};
+ghost use Rattle.std.specs.Prelude.{◌≡◌, ◌≤◌, ◌+◌, ◌-◌, ◌/◌, ◌^◌, min};
+ghost use Rattle.std.specs.Time.{instant_nanos};
 
 use registry_names::Moment;
 use registry_service::Clock;
@@ -67,18 +68,35 @@ impl<'a, R: time::Clock> Timer<'a, R> {
         }
     }
 
-    /// A round is over, which counts for no more than `most`. What its time is now.
+    /// A round is over, which counts for no more than `most`. What its time is now. Where the clock
+    /// can't be read no time passes, and the next reading makes up for it.
     pub fn pass(&mut self, most: u64) -> u64
         ensures last { self.new.last ≡ result }
         ensures forward { self.old.last ≤ result }
         ensures few { result ≤ self.old.last + most }
     {
-        if let Ok(passed) = self.start.elapsed(self.source) {
-            let read = u64::try_from(passed.as_millis()).unwrap_or(u64::MAX);
-            let took = read.saturating_sub(self.read);
-            self.read = read;
-            self.last = self.last.saturating_add(took.min(most));
+        if let Ok(now) = Instant::now(self.source) {
+            self.count(millis_between(self.start, now), most);
         }
         self.last
     }
+
+    // So many milliseconds have passed since the start. Those that weren't counted yet count, and no
+    // more of them than `most`.
+    fn count(&mut self, read: u64, most: u64)
+        ensures read { self.new.read ≡ read }
+        ensures last { self.new.last ≡ min (self.old.last + min (read - self.old.read) most) (2 ^ 64 - 1) }
+        ensures forward { self.old.last ≤ self.new.last }
+    {
+        let took = read.saturating_sub(self.read);
+        self.read = read;
+        self.last = self.last.saturating_add(took.min(most));
+    }
+}
+
+// How many whole milliseconds lie between two readings, and the greatest number where they are more.
+fn millis_between(earlier: Instant, later: Instant) -> u64
+    ensures { result ≡ min ((instant_nanos later - instant_nanos earlier) / 1_000_000) (2 ^ 64 - 1) }
+{
+    u64::try_from(later.duration_since(earlier).as_millis()).unwrap_or(u64::MAX)
 }

@@ -3,7 +3,7 @@
 ghost use Rattle.std.specs.Prelude.{◌≡◌, ◌≢◌, [], true, false, IfOk, IsSome, OnOk, OnErr, length};
 ghost use Rattle.registry_wire.specs.Spelling.{IsUnfinished};
 ghost use Rattle.registry_server.specs.ConnectionStates.{Does, MayTakeTurn, fresh};
-ghost use Rattle.registry_server.specs.Connections.{AnswersOnce, Drops, IsDone, IsLost, LeavesLittle, LeavesRest, Receives, SendsDue, StarvesOnce, Visits, body_since, connected, has_body, is_answered, stage_after, waiting};
+ghost use Rattle.registry_server.specs.Connections.{AnswersOnce, Drops, IsDone, IsLost, LeavesLittle, LeavesRest, Receives, SendsDue, StarvesOnce, Visits, body_since, connected, has_body, is_answered, must_wait, stage_after, waiting};
 ghost use Rattle.registry_server.specs.Phases as phases;
 ghost use Rattle.registry_server.specs.declared.connection.Visit.TheVariants as visits;
 ghost use Rattle.registry_server.specs.declared.phase.Stage.TheVariants as stages;
@@ -141,7 +141,7 @@ impl<S: Socket> Connection<S> {
         ensures visits { Visits S.received S.sent D.answers now (length buffer.old) self.old self.new
             service.old service.new (C.readings clock.old) (C.readings clock.new) }
         ensures rests { result ≡ visits.Rests → self.new.phase.stage ≢ stages.Next }
-        ensures waits { result ≡ visits.Rests → S.must_wait self.new.socket ≡ true }
+        ensures waits { result ≡ visits.Rests → must_wait S.has_none S.is_full self.new ≡ true }
         ensures more { result ≡ visits.Again → self.new.phase.stage ≡ stages.Begun → S.has_more self.new.socket ≡ true }
         ensures over { result ≡ visits.Over → IsLost S.is_ended S.is_broken self.new }
         ensures ends { IsDone self.old.state → self.new.is_over ≡ true → result ≡ visits.Over }
@@ -153,7 +153,7 @@ impl<S: Socket> Connection<S> {
                 Ok(Flow::Moved(_) | Flow::Ended) => self.answer(alloc, service, clock, now),
                 Ok(Flow::Waits) => Visit::Rests,
                 Ok(Flow::Broken) => Visit::Over,
-                Err(_) => self.starve(now),
+                Err(_) => self.starve(service, now),
             },
             Stage::Next => self.answer(alloc, service, clock, now),
             Stage::Sends => self.send(now),
@@ -174,7 +174,7 @@ impl<S: Socket> Connection<S> {
         ensures lost { OnErr result (Receives S.received S.sent now (length buffer.old) self.old self.new false) }
         ensures stage { phases.takes_turns self.new.phase.stage ≡ true }
         ensures quiet { IfOk result (λ flow. flow ≡ flows.Waits → phases.receives self.new.phase.stage ≡ true) }
-        ensures must_wait { IfOk result (λ flow. flow ≡ flows.Waits → S.must_wait self.new.socket ≡ true) }
+        ensures none { IfOk result (λ flow. flow ≡ flows.Waits → S.has_none self.new.socket ≡ true) }
         ensures goes_on { IfOk result (λ flow. flow ≡ flows.Waits → self.new.is_over ≡ false) }
         ensures ended { OnOk result (self.new.is_over ≡ true → self.new.state ≡ self.old.state) }
         ensures not_ended { OnErr result (self.new.is_over ≡ false) }
@@ -208,7 +208,7 @@ impl<S: Socket> Connection<S> {
         ensures answers { AnswersOnce S.received S.sent D.answers now self.old self.new
             service.old service.new (C.readings clock.old) (C.readings clock.new) }
         ensures rests { result ≡ visits.Rests → self.new.phase.stage ≢ stages.Next }
-        ensures waits { result ≡ visits.Rests → S.must_wait self.new.socket ≡ true }
+        ensures waits { result ≡ visits.Rests → must_wait S.has_none S.is_full self.new ≡ true }
         ensures more { result ≡ visits.Again → self.new.phase.stage ≡ stages.Begun → S.has_more self.new.socket ≡ true }
         ensures over { result ≡ visits.Over → IsLost S.is_ended S.is_broken self.new }
         ensures ends { self.old.is_over ≡ true → self.old.state.held ≡ [] → result ≡ visits.Over }
@@ -228,7 +228,7 @@ impl<S: Socket> Connection<S> {
         ensures received { S.received self.new.socket ≡ S.received self.old.socket }
         ensures over { self.new.is_over ≡ self.old.is_over }
         ensures phase { self.new.phase ≡ self.old.phase }
-        ensures waits { result ≡ visits.Rests → S.must_wait self.new.socket ≡ true }
+        ensures waits { result ≡ visits.Rests → S.has_none self.new.socket ≡ true }
         ensures more { result ≡ visits.Again → S.has_more self.new.socket ≡ true }
         ensures lost { result ≡ visits.Over → S.is_broken self.new.socket ≡ true }
     {
@@ -255,6 +255,7 @@ impl<S: Socket> Connection<S> {
         ensures looked { result ≢ progress.Answered → phases.LookedAt now self.old.phase self.new.phase }
         ensures waits { result ≡ progress.Waits → is_answered self.new ≡ false }
         ensures rests { result ≡ progress.Waits → self.new.phase.stage ≢ stages.Next }
+        ensures turning { result ≡ progress.Waits → phases.takes_turns self.new.phase.stage ≡ true }
         ensures closes { self.old.is_over ≡ true → self.old.state.held ≡ [] → result ≡ progress.Closed }
         ensures lost { result ≡ progress.Closed → S.is_ended self.new.socket ≡ true }
         ensures socket { self.new.socket ≡ self.old.socket }
@@ -270,15 +271,16 @@ impl<S: Socket> Connection<S> {
     }
 
     // Answers that there was no memory for what came.
-    fn starve(&mut self, now: u64) -> Visit
+    fn starve<D: Service>(&mut self, service: &mut D, now: u64) -> Visit
+        ensures service { service.new ≡ service.old }
         ensures starves { StarvesOnce S.received S.sent now self.old self.new }
         ensures rests { result ≡ visits.Rests → self.new.phase.stage ≢ stages.Next }
-        ensures waits { result ≡ visits.Rests → S.must_wait self.new.socket ≡ true }
+        ensures waits { result ≡ visits.Rests → must_wait S.has_none S.is_full self.new ≡ true }
         ensures more { self.new.phase.stage ≢ stages.Begun }
         ensures over { result ≡ visits.Over → IsLost S.is_ended S.is_broken self.new }
     {
         self.phase.enter(Stage::Sends, now);
-        self.state.starve();
+        self.state.starve(service);
         self.send(now)
     }
 
@@ -289,7 +291,7 @@ impl<S: Socket> Connection<S> {
         ensures more { self.new.phase.stage ≢ stages.Begun }
         ensures sends { SendsDue S.received S.sent now self.old self.new }
         ensures rests { result ≡ visits.Rests → self.new.phase.stage ≢ stages.Next }
-        ensures waits { result ≡ visits.Rests → S.must_wait self.new.socket ≡ true }
+        ensures waits { result ≡ visits.Rests → must_wait S.has_none S.is_full self.new ≡ true }
         ensures over { result ≡ visits.Over → IsLost S.is_ended S.is_broken self.new }
     {
         let (head, body) = self.state.outgoing().parts();
@@ -333,7 +335,7 @@ impl<S: Socket> Connection<S> {
         ensures all_sent { self.old.state.outgoing ≡ [] }
         ensures ended { IsSome self.old.state.ends }
         ensures stage { self.new.phase.stage ≡ stages.Drains }
-        ensures waits { result ≡ visits.Rests → S.must_wait self.new.socket ≡ true }
+        ensures waits { result ≡ visits.Rests → must_wait S.has_none S.is_full self.new ≡ true }
         ensures over { result ≡ visits.Over → IsLost S.is_ended S.is_broken self.new }
         ensures over_ends { self.new.is_over ≡ true → result ≡ visits.Over }
     {

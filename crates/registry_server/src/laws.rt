@@ -1,7 +1,7 @@
 //! Laws of connections. Each is the contract of a function that does nothing.
 
 ghost use Rattle.registry_server.specs.Phases.{BytesGive, EnteredEndsInTime, NeverGiveMore, NewPhasesEndInTime, PaidEndsInTime, ResponseTimePasses, StagesGiveNone, WaitedEndsInTime, WaitsGiveNone};
-ghost use Rattle.registry_server.specs.Pools.{AllHoldLittle, EndsLeaveFew, EndsLeaveLittle, EndsLeaveRest, IdleEndsLeaveFew, IdleEndsLeaveLittle, IdleEndsLeaveRest, NewConnectionsLeaveFew, NewConnectionsLeaveLittle, NewConnectionsLeaveRest, NewPoolHoldsLittle, NewPoolReadsFew, NewPoolRests, NewcomersEndIdle, RoundsHoldLittleMore, RoundsLeaveLittle, RoundsReadFew, ServersHoldLittle, UnreadHoldLittle, VisitsLeaveRest, WakesLeaveFew, WakesLeaveLittle, WakesLeaveRest, WantOfRoomEndsIdle, WhoWaitsHasBegun};
+ghost use Rattle.registry_server.specs.Pools.{AllHoldLittle, AllIdleEndsLeaveFew, AllIdleEndsLeaveLittle, AllIdleEndsLeaveRest, EndsLeaveFew, EndsLeaveLittle, EndsLeaveRest, IdleEndsLeaveFew, IdleEndsLeaveLittle, IdleEndsLeaveRest, NewConnectionsLeaveFew, NewConnectionsLeaveLittle, NewConnectionsLeaveRest, NewPoolHoldsLittle, NewPoolReadsFew, NewPoolRests, NewcomersEndIdle, RoundsHoldLittleMore, RoundsLeaveLittle, RoundsReadFew, ServersHoldLittle, StopsEndIdle, StopsLeaveUnderWay, UnreadHoldLittle, VisitsLeaveRest, WakesLeaveFew, WakesLeaveLittle, WakesLeaveRest, WantOfRoomEndsIdle, WhoWaitsHasBegun};
 ghost use Rattle.registry_server.specs.Worlds.{Begins, Comes, Sends, Shuts, Starves, TakesTurns, VisitsLead};
 
 use crate::socket::Socket;
@@ -50,19 +50,24 @@ pub fn requests_end_in_time()
 {}
 
 /// No new connection ends one that is to be visited. Each connection that isn't rests: its socket
-/// had to wait when it was asked last. So it is in a new pool, and new connections, wakes, ends and
-/// visits leave it so. And a new connection takes the place of another one only where that rests
-/// and nothing is begun on it (`ended`), and so it is where one ends as the system has no descriptor
-/// left (`lacks`).
+/// took nothing of a response when it was asked last, or gave nothing where none was due. So it is in
+/// a new pool, and new connections, wakes, ends and visits leave it so. And a new connection takes the
+/// place of another one only where nothing is begun on that and its socket gave nothing (`ended`), and
+/// so it is where one ends as the system has no descriptor left (`lacks`), or as the server is to end
+/// (`stops`). Then each connection that is left is under way: something is begun on it, or it is to
+/// be visited (`left`).
 pub fn newcomers_end_idle_connections<S: Socket, D: Service>()
-    ensures begins { NewPoolRests S.must_wait }
-    ensures comes { NewConnectionsLeaveRest S.must_wait }
-    ensures wakes { WakesLeaveRest S.must_wait }
-    ensures late { EndsLeaveRest S.must_wait }
-    ensures room { IdleEndsLeaveRest S.must_wait }
-    ensures visits { VisitsLeaveRest S.received S.sent S.must_wait S.has_more S.is_ended S.is_broken D.answers D.over }
-    ensures ended { NewcomersEndIdle S.must_wait }
-    ensures lacks { WantOfRoomEndsIdle S.must_wait }
+    ensures begins { NewPoolRests S.has_none S.is_full }
+    ensures comes { NewConnectionsLeaveRest S.has_none S.is_full }
+    ensures wakes { WakesLeaveRest S.has_none S.is_full }
+    ensures late { EndsLeaveRest S.has_none S.is_full }
+    ensures room { IdleEndsLeaveRest S.has_none S.is_full }
+    ensures idle { AllIdleEndsLeaveRest S.has_none S.is_full }
+    ensures visits { VisitsLeaveRest S.received S.sent S.has_none S.is_full S.has_more S.is_ended S.is_broken D.answers D.over }
+    ensures ended { NewcomersEndIdle S.has_none S.is_full }
+    ensures lacks { WantOfRoomEndsIdle S.has_none S.is_full }
+    ensures stops { StopsEndIdle S.has_none S.is_full }
+    ensures left { StopsLeaveUnderWay S }
 {}
 
 /// A crowd holds little more after a round than before it: a connection holds no more bytes than one
@@ -75,8 +80,9 @@ pub fn a_crowd_holds_little_more<S: Socket, D: Service>()
     ensures wakes { WakesLeaveFew S }
     ensures late { EndsLeaveFew S }
     ensures room { IdleEndsLeaveFew S }
-    ensures rounds { RoundsReadFew S.received S.sent S.must_wait S.has_more S.is_ended S.is_broken D.answers D.over }
-    ensures few { RoundsHoldLittleMore S.received S.sent S.must_wait S.has_more S.is_ended S.is_broken D.answers D.over }
+    ensures idle { AllIdleEndsLeaveFew S }
+    ensures rounds { RoundsReadFew S.received S.sent S.has_none S.is_full S.has_more S.is_ended S.is_broken D.answers D.over }
+    ensures few { RoundsHoldLittleMore S.received S.sent S.has_none S.is_full S.has_more S.is_ended S.is_broken D.answers D.over }
     ensures waits { WhoWaitsHasBegun S }
 {}
 
@@ -92,7 +98,8 @@ pub fn connections_hold_little<S: Socket, D: Service>()
     ensures wakes { WakesLeaveLittle S }
     ensures late { EndsLeaveLittle S }
     ensures room { IdleEndsLeaveLittle S }
-    ensures rounds { RoundsLeaveLittle S.received S.sent S.must_wait S.has_more S.is_ended S.is_broken D.answers D.over }
+    ensures idle { AllIdleEndsLeaveLittle S }
+    ensures rounds { RoundsLeaveLittle S.received S.sent S.has_none S.is_full S.has_more S.is_ended S.is_broken D.answers D.over }
     ensures unread { UnreadHoldLittle S }
     ensures all { AllHoldLittle S }
     ensures servers { ServersHoldLittle S }

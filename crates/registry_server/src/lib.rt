@@ -13,6 +13,7 @@
 
 mod clocks;
 mod connection;
+mod guests;
 pub mod laws;
 mod listener;
 mod outgoing;
@@ -23,6 +24,7 @@ mod socket;
 mod state;
 
 pub use crate::connection::{BODY_LEAST, Connection, Visit};
+pub use crate::guests::{FIRST_GUEST, GUEST_TOKENS, Guests, NoGuests};
 pub use crate::listener::UNCOUNTED;
 pub use crate::outgoing::Outgoing;
 pub use crate::phase::{

@@ -1,8 +1,10 @@
 //! Where connections come in.
 
-ghost use Rattle.std.specs.Prelude.{◌≡◌, ◌&&◌, true, not, IfOk, IfSome, IfNone, OnErr};
+ghost use Rattle.std.specs.Prelude.{◌≡◌, ◌&&◌, Some, true, not, IfOk, IfSome, IfNone, OnErr};
+ghost use Rattle.std.specs.Net.Addr.{IsV4And, ipv4_octets};
+ghost use Rattle.std.specs.Net.Socket.{socket_ip, socket_port};
 ghost use Rattle.registry_server.specs.Listening as spec;
-ghost use Rattle.registry_server.specs.Listening.{counted, expecting, lets_in, one_less};
+ghost use Rattle.registry_server.specs.Listening.{counted, expecting, lets_in, loopback, one_less};
 
 use mio::net::{TcpListener, TcpStream};
 use mio::{Interest, Registry, Token};
@@ -24,7 +26,7 @@ const NONE_IN_SYSTEM: i32 = 23;
 pub struct NoDescriptor;
 
 /// A port of 127.0.0.1, and how many more connections are to come in, where they are counted. It is
-/// closed once the last was taken.
+/// closed once the last was taken, or it was shut.
 #[derive(Drop)]
 pub struct Listener {
     listener: Option<TcpListener>,
@@ -56,7 +58,7 @@ impl Listener {
     ) -> io::Result<Listener>
         ensures { IfOk result (λ l. l ≡ expecting (counted count) true) }
     {
-        let mut listener = TcpListener::bind(rt, SocketAddr::from((Ipv4Addr::LOCALHOST, port)))?;
+        let mut listener = TcpListener::bind(rt, address(port))?;
         registry.register(&mut listener, token, Interest::READABLE)?;
         Ok(Listener {
             listener: Some(listener),
@@ -87,7 +89,15 @@ impl Listener {
         self.is_asked && self.listener.is_some()
     }
 
-    /// Whether the last connection has come in.
+    /// Nobody comes in any more.
+    pub fn shut(&mut self)
+        ensures { self.new ≡ expecting (Some 0) self.old.is_asked }
+    {
+        self.listener = None;
+        self.left = Some(0);
+    }
+
+    /// Whether nobody comes in any more.
     pub fn is_shut(&self) -> bool
         ensures { result ≡ not (lets_in self.now.left) }
     {
@@ -129,6 +139,14 @@ impl Listener {
             self.listener = None;
         }
     }
+}
+
+// Where a server listens: 127.0.0.1, which nobody reaches over a network, and this port.
+fn address(port: u16) -> SocketAddr
+    ensures ip { IsV4And (socket_ip result) (λ ip. ipv4_octets ip ≡ loopback) }
+    ensures port { socket_port result ≡ port }
+{
+    SocketAddr::from((Ipv4Addr::LOCALHOST, port))
 }
 
 // Whether a call of the system failed as no descriptor is left.

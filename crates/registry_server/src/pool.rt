@@ -147,7 +147,7 @@ impl<S: Socket> Place<S> {
         now: u64,
         is_crowd: bool,
     )
-        ensures { VisitsAt S.received S.sent S.must_wait S.has_more S.is_ended S.is_broken D.answers D.over
+        ensures { VisitsAt S.received S.sent S.has_none S.is_full S.has_more S.is_ended S.is_broken D.answers D.over
             is_crowd now (length buffer.old) self.old self.new
             service.old service.new (C.readings clock.old) (C.readings clock.new) }
     {
@@ -166,6 +166,15 @@ impl<S: Socket> Place<S> {
             Visit::Again => self.is_ready = true,
             Visit::Rests => {}
             Visit::Over => self.connection = None,
+        }
+    }
+
+    // Ends the connection if nothing is begun on it and it isn't to be visited.
+    fn end_idle(&mut self)
+        ensures { self.new ≡ spec.unless_idle self.old }
+    {
+        if self.idle_since().is_some() {
+            self.connection = None;
         }
     }
 
@@ -262,6 +271,16 @@ impl<S: Socket> ConnectionPool<S> {
         }
     }
 
+    /// Each connection ends on which nothing is begun, of those that aren't to be visited, and no
+    /// other.
+    pub fn end_idle_all(&mut self)
+        ensures { self.new.places.items ≡ map spec.unless_idle self.old.places.items }
+    {
+        for place in self.places.iter_mut() {
+            place.end_idle();
+        }
+    }
+
     // The first free place.
     fn free_place(&self) -> Option<usize>
         ensures { result ≡ position spec.is_free self.now.places.items }
@@ -310,7 +329,7 @@ impl<S: Socket> ConnectionPool<S> {
         buffer: &mut [u8],
         now: u64,
     )
-        ensures { VisitsRound S.received S.sent S.must_wait S.has_more S.is_ended S.is_broken D.answers D.over
+        ensures { VisitsRound S.received S.sent S.has_none S.is_full S.has_more S.is_ended S.is_broken D.answers D.over
             now (length buffer.old) self.old.places.items self.new.places.items service.old service.new
             (C.readings clock.old) (C.readings clock.new) }
     {
@@ -328,7 +347,7 @@ impl<S: Socket> ConnectionPool<S> {
         now: u64,
         is_crowd: bool,
     )
-        ensures { VisitsAll S.received S.sent S.must_wait S.has_more S.is_ended S.is_broken D.answers D.over
+        ensures { VisitsAll S.received S.sent S.has_none S.is_full S.has_more S.is_ended S.is_broken D.answers D.over
             is_crowd now (length buffer.old) self.old.places.items self.new.places.items
             service.old service.new (C.readings clock.old) (C.readings clock.new) }
     {

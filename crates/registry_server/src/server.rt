@@ -1,15 +1,18 @@
 //! The loop over all connections.
 
-ghost use Rattle.std.specs.Prelude.{◌≡◌, ◌≤◌, IfOk, if◌then◌else◌};
+ghost use Rattle.std.specs.Prelude.{◌≡◌, ◌≤◌, All, true, false, IfOk, OnOk, if◌then◌else◌};
+ghost use Rattle.registry_server.specs.Listening.{lets_in};
 ghost use Rattle.registry_server.specs.Pools as spec;
+ghost use Rattle.registry_server.specs.Pools.{IsUnderWay};
 
 use crate::clocks::{Timer, WallClock};
+use crate::guests::{FIRST_GUEST, GUEST_TOKENS, Guests, NoGuests};
 use crate::listener::{Listener, NoDescriptor};
 use crate::pool::{CONNECTION_COUNT, ConnectionPool};
 use mio::net::TcpStream;
-use mio::{Events, Interest, Poll, Token};
+use mio::{Events, Interest, Poll, Registry, Token};
 use registry_names::Moment;
-use registry_service::Service;
+use registry_service::{Clock, Service};
 use std::alloc::Global;
 use std::net::Net;
 use std::time::{Duration, Instant};
@@ -18,8 +21,8 @@ use std::{io, time};
 /// The token of the listener. Those of connections are their places.
 const LISTENER: Token = Token(CONNECTION_COUNT);
 
-/// The most events of one wait: one of each connection, and one of the listener.
-const EVENT_COUNT: usize = CONNECTION_COUNT + 1;
+/// The most events of one wait: one of each connection, one of the listener, and those of guests.
+const EVENT_COUNT: usize = FIRST_GUEST + GUEST_TOKENS;
 
 /// The most bytes of one read.
 const BUFFER_LEN: usize = 16_384;
@@ -37,6 +40,8 @@ pub enum Ended {
     Enough,
     /// The service is over.
     ServiceOver,
+    /// It was to end, and all that was under way has ended.
+    Stopped,
 }
 
 /// A port of 127.0.0.1, and the connections that came in there.
@@ -67,6 +72,11 @@ impl Server {
         })
     }
 
+    /// Where guests register.
+    pub fn registry(&self) -> &Registry {
+        self.poll.registry()
+    }
+
     /// The port at which it listens.
     pub fn port(&self) -> io::Result<u16> {
         self.listener.port()
@@ -79,33 +89,121 @@ impl Server {
     /// error comes where the time of the server can't be read at first, or the system can't be asked
     /// what is ready.
     pub fn run<R: time::Clock, D: Service>(
-        mut self,
+        self,
         rt: &R,
         alloc: Global,
         at: Moment,
         service: &mut D,
     ) -> io::Result<Ended>
-        ensures { IfOk result (λ ended. ended ≡ spec.why_ended (D.over service.new)) }
+        ensures { IfOk result (λ ended. ended ≡ spec.why_ended (D.over service.new) false) }
     {
-        let mut timer = Timer::new(rt, Instant::now(rt)?);
+        self.run_beside(rt, alloc, at, service, &mut NoGuests)
+    }
+
+    /// Serves as [`run`](Server::run) does, and looks after guests once in each round, after the
+    /// connections. Where connections are counted it goes on until no guest is there, either.
+    ///
+    /// While guests hold the server nobody is visited or let in, and no time of connections passes.
+    /// Where they stop it, it lets nobody in any more, ends the connections on which nothing is begun,
+    /// answers what is under way, and ends once nobody is there.
+    pub fn run_beside<R: time::Clock, D: Service, G: Guests>(
+        mut self,
+        rt: &R,
+        alloc: Global,
+        at: Moment,
+        service: &mut D,
+        guests: &mut G,
+    ) -> io::Result<Ended>
+        ensures { IfOk result (λ ended. ended ≡ spec.why_ended (D.over service.new) (G.stops guests.new)) }
+    {
+        let start = Instant::now(rt)?;
+        // One goes on while the server is held, and one doesn't.
+        let mut attending = Timer::new(rt, start);
+        let mut serving = Timer::new(rt, start);
         let mut clock = WallClock::new(rt, at);
         let mut buffer = [0; BUFFER_LEN];
         for _ in 0..u64::MAX {
-            let patience = self.patience();
-            self.look(patience)?;
-            let now = timer.pass(patience + ROUND_TIME);
-            self.pool
-                .visit_all(alloc, service, &mut clock, &mut buffer, now);
-            if service.is_over() {
-                break;
-            }
-            self.end_late(now);
-            self.let_in(alloc, now)?;
-            if self.listener.is_shut() && self.pool.is_empty() {
+            let most = self.attend(&mut attending, guests)?;
+            let now = serving.pass(most);
+            if !self.serve(alloc, service, &mut clock, &mut buffer, guests, now)? {
                 break;
             }
         }
-        Ok(why_ended(service.is_over()))
+        Ok(why_ended(service.is_over(), guests.stops()))
+    }
+
+    // Waits until something is ready, and goes on with who holds or stops the server. So many
+    // milliseconds of the round count for the others: none where it was held, or is.
+    fn attend<R: time::Clock, G: Guests>(
+        &mut self,
+        timer: &mut Timer<'_, R>,
+        guests: &mut G,
+    ) -> io::Result<u64>
+        ensures was_held { G.holds guests.old ≡ true → IfOk result (λ most. most ≡ 0) }
+        ensures is_held { G.holds guests.new ≡ true → IfOk result (λ most. most ≡ 0) }
+    {
+        let was_held = guests.holds();
+        let patience = if guests.is_busy() {
+            0
+        } else if was_held {
+            LOOK_TIME
+        } else {
+            self.patience()
+        };
+        self.look(patience, guests)?;
+        let most = patience + ROUND_TIME;
+        guests.attend(self.poll.registry(), timer.pass(most));
+        if was_held || guests.holds() {
+            Ok(0)
+        } else {
+            Ok(most)
+        }
+    }
+
+    // Visits who is to be visited, ends who is late, and lets in who is there. Where the server is held
+    // it does nothing. Whether it goes on.
+    fn serve<D: Service, C: Clock, G: Guests>(
+        &mut self,
+        alloc: Global,
+        service: &mut D,
+        clock: &mut C,
+        buffer: &mut [u8],
+        guests: &mut G,
+        now: u64,
+    ) -> io::Result<bool>
+        ensures held { G.holds guests.old ≡ true → self.new.pool.places.items ≡ self.old.pool.places.items }
+        ensures held_guests { G.holds guests.old ≡ true → guests.new ≡ guests.old }
+        ensures held_service { G.holds guests.old ≡ true → service.new ≡ service.old }
+        ensures held_clock { G.holds guests.old ≡ true → C.readings clock.new ≡ C.readings clock.old }
+        ensures held_listener { G.holds guests.old ≡ true → self.new.listener ≡ self.old.listener }
+    {
+        if guests.holds() {
+            return Ok(true);
+        }
+        self.pool.visit_all(alloc, service, clock, buffer, now);
+        guests.visit(alloc, service, clock, buffer, self.poll.registry(), now);
+        service.rest();
+        if service.is_over() {
+            return Ok(false);
+        }
+        self.end_late(now);
+        if guests.stops() {
+            self.stop(guests)?;
+        }
+        self.let_in(alloc, now, guests)?;
+        Ok(!self.listener.is_shut() || !self.pool.is_empty() || !guests.is_empty())
+    }
+
+    // Lets nobody in any more, and ends the connections on which nothing is begun. It is looked first
+    // on which of them something has come, so that none of these ends.
+    fn stop<G: Guests>(&mut self, guests: &mut G) -> io::Result<()>
+        ensures shut { OnOk result (lets_in self.new.listener.left ≡ false) }
+        ensures under_way { OnOk result (All IsUnderWay self.new.pool.places.items) }
+    {
+        self.look(0, guests)?;
+        self.listener.shut();
+        self.pool.end_idle_all();
+        Ok(())
     }
 
     // How many milliseconds to wait for what is ready: none while a connection may go on.
@@ -117,14 +215,17 @@ impl Server {
     }
 
     // Waits for so many milliseconds until something is ready. What is ready is to be visited.
-    fn look(&mut self, patience: u64) -> io::Result<()> {
+    fn look<G: Guests>(&mut self, patience: u64, guests: &mut G) -> io::Result<()> {
         self.poll
             .poll(&mut self.events, Some(Duration::from_millis(patience)))?;
         for event in self.events.iter() {
-            if event.token() == LISTENER {
+            let token = event.token();
+            if token == LISTENER {
                 self.listener.ask();
+            } else if token.0 < FIRST_GUEST {
+                self.pool.wake(token.0);
             } else {
-                self.pool.wake(event.token().0);
+                guests.wake(token.0 - FIRST_GUEST);
             }
         }
         Ok(())
@@ -132,12 +233,12 @@ impl Server {
 
     // Lets in who is there. Where every place is taken it is looked first on which connections
     // something has come, so that none of these ends for a new one.
-    fn let_in(&mut self, alloc: Global, now: u64) -> io::Result<()> {
+    fn let_in<G: Guests>(&mut self, alloc: Global, now: u64, guests: &mut G) -> io::Result<()> {
         if self.listener.is_asked() {
             if self.pool.is_full() {
-                self.look(0)?;
+                self.look(0, guests)?;
             }
-            self.admit(alloc, now)?;
+            self.admit(alloc, now, guests)?;
         }
         Ok(())
     }
@@ -145,7 +246,7 @@ impl Server {
     // Lets in who is there, as long as there are places. Where the system has no descriptor left for
     // one, the connection ends on which nothing was begun for longest. If that gives none for it
     // either, it is tried again in the next round.
-    fn admit(&mut self, alloc: Global, now: u64) -> io::Result<()> {
+    fn admit<G: Guests>(&mut self, alloc: Global, now: u64, guests: &mut G) -> io::Result<()> {
         let mut may_end = true;
         for _ in 0..2 * CONNECTION_COUNT {
             if !self.listener.is_asked() {
@@ -161,7 +262,7 @@ impl Server {
                 }
                 Ok(None) => return Ok(()),
                 Err(NoDescriptor) => {
-                    if !may_end || !self.end_idle()? {
+                    if !may_end || !self.end_idle(guests)? {
                         return Ok(());
                     }
                     may_end = false;
@@ -173,8 +274,8 @@ impl Server {
 
     // Ends the connection on which nothing was begun for longest, and says whether there is one. It is
     // looked first on which connections something has come, so that none of these ends.
-    fn end_idle(&mut self) -> io::Result<bool> {
-        self.look(0)?;
+    fn end_idle<G: Guests>(&mut self, guests: &mut G) -> io::Result<bool> {
+        self.look(0, guests)?;
         Ok(self.pool.end_idle())
     }
 
@@ -198,12 +299,14 @@ impl Server {
     }
 }
 
-// Why a server ended, by a service that is over or isn't.
-fn why_ended(is_over: bool) -> Ended
-    ensures { result ≡ spec.why_ended is_over }
+// Why a server ended, by a service that is over or isn't, and guests who stopped it or didn't.
+fn why_ended(is_over: bool, is_stopped: bool) -> Ended
+    ensures { result ≡ spec.why_ended is_over is_stopped }
 {
     if is_over {
         Ended::ServiceOver
+    } else if is_stopped {
+        Ended::Stopped
     } else {
         Ended::Enough
     }

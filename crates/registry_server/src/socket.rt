@@ -35,8 +35,11 @@ pub trait Socket: Drop {
     // The bytes that it took to send so far, where they are known.
     ghost sent: { Self → Option (List ℕ) };
 
-    // Whether it may have nothing to give or take now.
-    ghost must_wait: { Self → Bool };
+    // Whether it may have nothing to give now.
+    ghost has_none: { Self → Bool };
+
+    // Whether it may take nothing to send now.
+    ghost is_full: { Self → Bool };
 
     // Whether it may have something to give now.
     ghost has_more: { Self → Bool };
@@ -53,7 +56,7 @@ pub trait Socket: Drop {
         ensures received { received self.new
             ≡ append_known (received self.old) (moved result buffer.new) }
         ensures sent { sent self.new ≡ sent self.old }
-        ensures waits { result ≡ Waits → must_wait self.new ≡ true }
+        ensures waits { result ≡ Waits → has_none self.new ≡ true }
         ensures ended { result ≡ Ended → is_ended self.new ≡ true }
         ensures still_ended { is_ended self.old ≡ true → is_ended self.new ≡ true }
         ensures broken { result ≡ Broken → is_broken self.new ≡ true };
@@ -62,7 +65,7 @@ pub trait Socket: Drop {
     fn look(&mut self) -> Flow
         ensures received { received self.new ≡ received self.old }
         ensures sent { sent self.new ≡ sent self.old }
-        ensures waits { result ≡ Waits → must_wait self.new ≡ true }
+        ensures waits { result ≡ Waits → has_none self.new ≡ true }
         ensures more { result ≢ Waits → has_more self.new ≡ true }
         ensures still_ended { is_ended self.old ≡ true → is_ended self.new ≡ true }
         ensures broken { result ≡ Broken → is_broken self.new ≡ true };
@@ -73,7 +76,7 @@ pub trait Socket: Drop {
         ensures sent { sent self.new
             ≡ append_known (sent self.old) (moved result (head.now ++ body.now)) }
         ensures received { received self.new ≡ received self.old }
-        ensures waits { result ≡ Waits → must_wait self.new ≡ true }
+        ensures waits { result ≡ Waits → is_full self.new ≡ true }
         ensures goes_on { result ≢ Ended }
         ensures still_ended { is_ended self.old ≡ true → is_ended self.new ≡ true }
         ensures broken { result ≡ Broken → is_broken self.new ≡ true };
@@ -93,7 +96,9 @@ impl Socket for TcpStream {
 
     ghost sent = { λ _. None };
 
-    ghost must_wait = { λ _. true };
+    ghost has_none = { λ _. true };
+
+    ghost is_full = { λ _. true };
 
     ghost has_more = { λ _. true };
 

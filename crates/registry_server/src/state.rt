@@ -137,21 +137,22 @@ impl ConnectionState {
                 let turned = self.answered(alloc, service, clock, &wanted);
                 self.put(turned)
             }
-            Ok(First::Bad(refusal)) => self.put(turn_away(refusal)),
+            Ok(First::Bad(refusal)) => self.put(noted(service, turn_away(refusal))),
             Ok(First::Unfinished) if !is_over => Progress::Waits,
             Ok(First::Unfinished) => match self.ending() {
                 Ending::Closed => Progress::Closed,
-                Ending::BadInput(refusal) => self.put(turn_away(refusal)),
+                Ending::BadInput(refusal) => self.put(noted(service, turn_away(refusal))),
             },
-            Err(_) => self.put(turn_starved()),
+            Err(_) => self.put(noted(service, turn_starved())),
         }
     }
 
     /// There was no memory to hold what came: this is answered, and the connection ends.
-    pub fn starve(&mut self)
-        ensures { IsStarved self.old self.new }
+    pub fn starve<D: Service>(&mut self, service: &mut D)
+        ensures starves { IsStarved self.old self.new }
+        ensures service { service.new ≡ service.old }
     {
-        let _answered = self.put(turn_starved());
+        let _answered = self.put(noted(service, turn_starved()));
     }
 
     // What the bytes that are held say of the first request.
@@ -185,7 +186,9 @@ impl ConnectionState {
     {
         let is_last = self.left == 1;
         self.left = self.left.saturating_sub(1);
-        turn(alloc, service, wanted, clock.now(), is_last)
+        let turned = turn(alloc, service, wanted, clock.now(), is_last);
+        service.note(Some(wanted), &turned);
+        turned
     }
 
     // The response of a turn is to be sent.
@@ -206,4 +209,13 @@ impl ConnectionState {
     {
         self.held.drop_first(alloc, used);
     }
+}
+
+// A turn that wasn't taken for a request, once the service has noted it.
+fn noted<D: Service>(service: &mut D, turned: Turned) -> Turned
+    ensures turned { result ≡ turned }
+    ensures service { service.new ≡ service.old }
+{
+    service.note(None, &turned);
+    turned
 }

@@ -2,8 +2,9 @@
 use Rattle.std.proofs.Common.{◌≡◌, ◌≢◌, ◌≤◌, ◌<◌, ◌+◌, ◌==◌, ◌++◌, ◌∷◌, ◌⊎◌, ◌∙◌, [], ℕ, Bool, true, false, List, length, Option, Some, None, Ok, Err, refl, sym, ap, subst, inl, inr, append_assoc, append-nil, arith, length-append, is_some, if◌then◌else◌}
 use Rattle.std.specs.Int.{from_bool}
 use Rattle.std.proofs.lemmas.Bool.{eqb-false}
-use Rattle.registry_names.specs.ByteStreams.{Writes, WritesPrefix}
+use Rattle.registry_names.specs.ByteStreams.{Writes}
 use Rattle.registry_names.specs.declared.refusal.Refusal.{Refusal}
+use Rattle.registry_names.specs.declared.stop.Fault.{Fault}
 use Rattle.registry_names.proofs.ByteStreamFacts.{Reads-append, Reads-nothing, Writes-append, Writes-nothing}
 use Rattle.registry_wire.specs.Reading.{ReadsWhileUnfinished, TakenOf}
 use Rattle.registry_wire.specs.Spelling.{EndsWith, IsBad}
@@ -11,13 +12,14 @@ use Rattle.registry_wire.specs.declared.first.Ending.TheVariants as ending
 use Rattle.registry_wire.proofs.RequestFacts.{request-more, bad-more}
 use Rattle.registry_service.specs.HttpAnswers.{AnswersSo, Outcome, answer_bytes, response_to}
 use Rattle.registry_service.specs.Courses.{AtEndOf, Course, EndsAs, EndsUnasked, Follow, Gave, GoOn, GoesTo, IsServed, ReadsFor, ReadsOn, Rests, Side, Took, count_of, moments, requests, taken_for, written}
-use Rattle.registry_service.specs.Servings.{bytes_of}
+use Rattle.registry_service.specs.Responses.{MayBegin, turn_of}
 use Rattle.registry_service.specs.Turns.{Answering, Cause, IsTurn, IsTurnFor, Turn, bad_input, end_of, is_request, no_memory, request}
 use Rattle.registry_service.specs.declared.answer.Answer.{Answer}
+use Rattle.registry_service.specs.declared.responding.Responded.{Responded}
+use Rattle.registry_service.specs.declared.responding.Responded.TheVariants.{Whole, BrokenOff, CutShort}
 use Rattle.registry_service.specs.declared.serving.Served.{Served}
 use Rattle.registry_service.specs.declared.turning.End.{End}
 use Rattle.registry_service.specs.declared.turning.End.TheVariants.{Closed, Limit, BadInput, ReadFault, WriteFault, Faulted}
-use Rattle.registry_service.specs.declared.turning.Turned.{Turned}
 
 -- ---- bytes that come later
 
@@ -94,11 +96,11 @@ number_of false = refl
 counts-as : (b : Bool) (c : Cause) (k : ℕ) → k ≡ from_bool b → b ≡ is_request c → k ≡ count_of c
 counts-as b c k one same = one ∙ ap from_bool same ∙ number_of (is_request c)
 
-counts-more : (n k size older : ℕ) (turned : Turned) (c : Cause) → n ≡ size → older ≡ size → k ≡ from_bool turned.is_request → turned.is_request ≡ is_request c → n + k ≡ older + count_of c
-counts-more n k size older turned c e f one same = let one = counts-as turned.is_request c k one same in omega (arith, e, f, one)
+counts-more : (n k size older : ℕ) (counts : Bool) (c : Cause) → n ≡ size → older ≡ size → k ≡ from_bool counts → counts ≡ is_request c → n + k ≡ older + count_of c
+counts-more n k size older counts c e f one same = let one = counts-as counts c k one same in omega (arith, e, f, one)
 
-one-more : (k : ℕ) (turned : Turned) (c : Cause) → is_request c ≡ true → k ≡ from_bool turned.is_request → turned.is_request ≡ is_request c → k ≡ 1
-one-more k turned c is one same = counts-as turned.is_request c k one same ∙ count-one c is
+one-more : (k : ℕ) (counts : Bool) (c : Cause) → is_request c ≡ true → k ≡ from_bool counts → counts ≡ is_request c → k ≡ 1
+one-more k counts c is one same = counts-as counts c k one same ∙ count-one c is
 
 below : (n k : ℕ) → n < 1000 → k ≡ 1 → n + 1 ≢ 1000 → n + k < 1000
 below n k few one other = omega (arith, few, one, other)
@@ -176,10 +178,6 @@ module _ {D : Type 0} (answers : Answering D) where
   took-open M (t ∷ ts) N came held AtEnd follow on took =
       (took.0, took.1, taken-open took.0 held AtEnd t.cause (on-request t.cause follow.0 _ t.outcome t.ended N follow.2 on.0) took.2)
 
-  -- the turn that was taken
-  abbrev pub turn_of : (mid new : Side D) (last : Bool) (turned : Turned) → GoesTo answers mid new last turned → Turn
-  turn_of mid new last turned goes = record { cause = goes.cause; outcome = goes.turns.outcome; ended = turned.end }
-
   -- turns for which no more was read than their requests needed
   pub record Led (old new : Side D) (ts : List Turn) : Type 0 where
     pub course : Course answers old new ts
@@ -199,9 +197,13 @@ module _ {D : Type 0} (answers : Answering D) where
         lean = lean;
       }
 
-  pub course-on : (old mid new : Side D) (ts : List Turn) (last : Bool) (turned : Turned) → Led old mid ts → GoOn ts → (mid.unknown ≡ true → new.unknown ≡ true)
-      → last ≡ (length ts + 1 == 1000) → (goes : GoesTo answers mid new last turned) → Led old new (turn_of mid new last turned goes ∷ ts)
-  course-on old mid new ts last turned led on stays is_last goes =
+  -- the turn that was taken
+  abbrev taken_turn : (mid new : Side D) (last : Bool) (out out2 : Option (List ℕ)) (out_unknown : Bool) (responded : Responded) → GoesTo answers mid new last out out2 out_unknown responded → Turn
+  taken_turn mid new last out out2 out_unknown responded goes = turn_of goes.cause goes.responds.outcome goes.responds.ended
+
+  course-on : (old mid new : Side D) (ts : List Turn) (last : Bool) (out out2 : Option (List ℕ)) (out_unknown : Bool) (responded : Responded) → Led old mid ts → GoOn ts → (mid.unknown ≡ true → new.unknown ≡ true)
+      → last ≡ (length ts + 1 == 1000) → (goes : GoesTo answers mid new last out out2 out_unknown responded) → Led old new (taken_turn mid new last out out2 out_unknown responded goes ∷ ts)
+  course-on old mid new ts last out out2 out_unknown responded led on stays is_last goes =
       let c = led.course in
       record {
         course = record {
@@ -213,7 +215,7 @@ module _ {D : Type 0} (answers : Answering D) where
                 (took-more (old.held ++ c.got) goes.got ts mid.held (took-open old.service ts mid.service (old.held ++ c.got) mid.held _ c.follow on c.took)),
             goes.took,
           );
-          follow = (mid.service, c.follow, subst (λ (b : Bool). IsTurn answers mid.service b (turn_of mid new last turned goes) new.service) is_last goes.turns.is_turn);
+          follow = (mid.service, c.follow, subst (λ (b : Bool). IsTurn answers mid.service b (taken_turn mid new last out out2 out_unknown responded goes) new.service) is_last goes.responds.is_turn);
           asked = gave-on old.readings mid.readings new.readings (moments ts) _ c.asked goes.asked;
         };
         lean = reads-on old mid ts led goes.got on goes.lean;
@@ -274,34 +276,36 @@ module _ {D : Type 0} (answers : Answering D) where
       })
 
   -- one more turn, of which all is written, and by which the connection ends
-  pub end-on : (old mid new : Side D) (out out2 out3 : Option (List ℕ)) (out_unknown mute2 : Bool) (n k : ℕ) (last : Bool) (turned : Turned) (e : End) → Going old mid out out2 out_unknown n
-      → (mid.unknown ≡ true → new.unknown ≡ true) → (out_unknown ≡ true → mute2 ≡ true) → last ≡ (n + 1 == 1000) → GoesTo answers mid new last turned → Writes out2 out3 mute2 (bytes_of turned)
-      → k ≡ from_bool turned.is_request → turned.end ≡ Some e → IsServed answers old new out out3 mute2 (served (n + k) e)
-  end-on old mid new out out2 out3 out_unknown mute2 n k last turned e going stays still is_last goes wrote one ended =
+  pub end-on : (old mid new : Side D) (out out2 out3 : Option (List ℕ)) (out_unknown mute2 : Bool) (n k : ℕ) (last : Bool) (ended : Option End) (counts : Bool) (e : End) → Going old mid out out2 out_unknown n
+      → (mid.unknown ≡ true → new.unknown ≡ true) → (out_unknown ≡ true → mute2 ≡ true) → last ≡ (n + 1 == 1000) → GoesTo answers mid new last out2 out3 mute2 (Whole ended counts)
+      → k ≡ from_bool counts → ended ≡ Some e → IsServed answers old new out out3 mute2 (served (n + k) e)
+  end-on old mid new out out2 out3 out_unknown mute2 n k last ended counts e going stays still is_last goes one is =
       let ts = going.turns in
-      let t = turn_of mid new last turned goes in
+      let t = taken_turn mid new last out2 out3 mute2 (Whole ended counts) goes in
       let place = is_last ∙ ap (λ (n : ℕ). n + 1 == 1000) going.count in
-      let led = course-on old mid new ts last turned going.led going.go_on stays place goes in
+      let led = course-on old mid new ts last out2 out3 mute2 (Whole ended counts) going.led going.go_on stays place goes in
+      let comes = goes.responds.comes in
+      let shut : t.ended ≡ Some e = sym comes.1 ∙ is in
       inl (record {
         turns = t ∷ ts;
         course = led.course;
-        lean = inl ((ended, going.go_on), led.lean);
-        wrote = Writes-append going.wrote (subst (λ (bs : List ℕ). Writes out2 out3 mute2 bs) (bytes-same goes.turns.outcome turned.answer (is_some turned.end) goes.turns.answer) wrote) still;
-        ends = ends-as new t ts e mid.service last new.service goes.turns.is_turn ended going.go_on;
-        count = counts-more n k (length ts) (requests ts) turned goes.cause going.count (requests-all old.service ts mid.service going.led.course.follow going.go_on) one goes.turns.counts;
+        lean = inl ((shut, going.go_on), led.lean);
+        wrote = Writes-append going.wrote comes.0 still;
+        ends = ends-as new t ts e mid.service last new.service goes.responds.is_turn shut going.go_on;
+        count = counts-more n k (length ts) (requests ts) counts goes.cause going.count (requests-all old.service ts mid.service going.led.course.follow going.go_on) one comes.2;
       })
 
   -- one more turn, of which not all is written
-  pub break-on : (old mid new : Side D) (out out2 out3 : Option (List ℕ)) (out_unknown mute2 : Bool) (n : ℕ) (last : Bool) (turned : Turned) → Going old mid out out2 out_unknown n
-      → (mid.unknown ≡ true → new.unknown ≡ true) → (out_unknown ≡ true → mute2 ≡ true) → last ≡ (n + 1 == 1000) → GoesTo answers mid new last turned → WritesPrefix out2 out3 mute2 (bytes_of turned)
+  pub break-on : (old mid new : Side D) (out out2 out3 : Option (List ℕ)) (out_unknown mute2 : Bool) (n : ℕ) (last : Bool) → Going old mid out out2 out_unknown n
+      → (mid.unknown ≡ true → new.unknown ≡ true) → (out_unknown ≡ true → mute2 ≡ true) → last ≡ (n + 1 == 1000) → GoesTo answers mid new last out2 out3 mute2 BrokenOff
       → IsServed answers old new out out3 mute2 (served n WriteFault)
-  break-on old mid new out out2 out3 out_unknown mute2 n last turned going stays still is_last goes wrote =
+  break-on old mid new out out2 out3 out_unknown mute2 n last going stays still is_last goes =
       let ts = going.turns in
       let place = is_last ∙ ap (λ (n : ℕ). n + 1 == 1000) going.count in
-      let led = course-on old mid new ts last turned going.led going.go_on stays place goes in
-      let part = subst (λ (bs : List ℕ). WritesPrefix out2 out3 mute2 bs) (bytes-same goes.turns.outcome turned.answer (is_some turned.end) goes.turns.answer) wrote in
-      inr (record {
-        newest = turn_of mid new last turned goes;
+      let led = course-on old mid new ts last out2 out3 mute2 BrokenOff going.led going.go_on stays place goes in
+      let part = goes.responds.comes in
+      inr (inl (record {
+        newest = taken_turn mid new last out2 out3 mute2 BrokenOff goes;
         older = ts;
         course = led.course;
         lean = led.lean;
@@ -311,30 +315,63 @@ module _ {D : Type 0} (answers : Answering D) where
         wrote = Writes-append going.wrote part.wrote still;
         ends = refl;
         count = going.count ∙ sym (requests-all old.service ts mid.service going.led.course.follow going.go_on);
-      })
+      }))
+
+  -- one more turn, which a fault cut short in the midst of a packument
+  pub cut-on : (old mid new : Side D) (out out2 out3 : Option (List ℕ)) (out_unknown mute2 : Bool) (n : ℕ) (last : Bool) (fault : Fault) → Going old mid out out2 out_unknown n
+      → (mid.unknown ≡ true → new.unknown ≡ true) → (out_unknown ≡ true → mute2 ≡ true) → last ≡ (n + 1 == 1000) → GoesTo answers mid new last out2 out3 mute2 (CutShort fault)
+      → IsServed answers old new out out3 mute2 (served n (Faulted fault))
+  unfolding course-on
+  cut-on old mid new out out2 out3 out_unknown mute2 n last fault going stays still is_last goes =
+      let ts = going.turns in
+      let place = is_last ∙ ap (λ (n : ℕ). n + 1 == 1000) going.count in
+      let led = course-on old mid new ts last out2 out3 mute2 (CutShort fault) going.led going.go_on stays place goes in
+      let comes = goes.responds.comes in
+      let begun = comes.1.0 in
+      let part = comes.1.2 in
+      inr (inr (record {
+        newest = taken_turn mid new last out2 out3 mute2 (CutShort fault) goes;
+        older = ts;
+        course = led.course;
+        lean = led.lean;
+        go_on = going.go_on;
+        fault = fault;
+        is_fault = comes.0;
+        begun = begun;
+        may_begin = subst (λ (b : Bool). MayBegin answers mid.service b goes.cause begun) place comes.1.1;
+        sent = part.count;
+        some = part.some;
+        is_within = part.is_within;
+        wrote = Writes-append going.wrote part.wrote still;
+        ends = refl;
+        count = going.count ∙ sym (requests-all old.service ts mid.service going.led.course.follow going.go_on);
+      }))
 
   -- one more turn, of which all is written, and the connection goes on
-  pub go-on : (old mid new : Side D) (out out2 out3 : Option (List ℕ)) (out_unknown mute2 : Bool) (n k : ℕ) (last : Bool) (turned : Turned) → Going old mid out out2 out_unknown n
-      → (mid.unknown ≡ true → new.unknown ≡ true) → (out_unknown ≡ true → mute2 ≡ true) → last ≡ (n + 1 == 1000) → GoesTo answers mid new last turned → Writes out2 out3 mute2 (bytes_of turned)
-      → k ≡ from_bool turned.is_request → turned.end ≡ None → Going old new out out3 mute2 (n + k) × (k ≡ 1) × (last ≡ false)
-  go-on old mid new out out2 out3 out_unknown mute2 n k last turned going stays still is_last goes wrote one ended =
+  pub go-on : (old mid new : Side D) (out out2 out3 : Option (List ℕ)) (out_unknown mute2 : Bool) (n k : ℕ) (last : Bool) (ended : Option End) (counts : Bool) → Going old mid out out2 out_unknown n
+      → (mid.unknown ≡ true → new.unknown ≡ true) → (out_unknown ≡ true → mute2 ≡ true) → last ≡ (n + 1 == 1000) → GoesTo answers mid new last out2 out3 mute2 (Whole ended counts)
+      → k ≡ from_bool counts → ended ≡ None → Going old new out out3 mute2 (n + k) × (k ≡ 1) × (last ≡ false)
+  go-on old mid new out out2 out3 out_unknown mute2 n k last ended counts going stays still is_last goes one is =
       let ts = going.turns in
-      let t = turn_of mid new last turned goes in
+      let t = taken_turn mid new last out2 out3 mute2 (Whole ended counts) goes in
       let place = is_last ∙ ap (λ (n : ℕ). n + 1 == 1000) going.count in
-      let led = course-on old mid new ts last turned going.led going.go_on stays place goes in
-      let single = one-more k turned goes.cause (on-request goes.cause mid.service last goes.turns.outcome turned.end new.service goes.turns.is_turn ended) one goes.turns.counts in (
+      let led = course-on old mid new ts last out2 out3 mute2 (Whole ended counts) going.led going.go_on stays place goes in
+      let comes = goes.responds.comes in
+      let open_still : t.ended ≡ None = sym comes.1 ∙ is in
+      let single = one-more k counts goes.cause (on-request goes.cause mid.service last goes.responds.outcome t.ended new.service goes.responds.is_turn open_still) one comes.2 in (
         record {
           turns = t ∷ ts;
           led = led;
-          go_on = (ended, going.go_on);
-          wrote = Writes-append going.wrote (subst (λ (bs : List ℕ). Writes out2 out3 mute2 bs) (bytes-same goes.turns.outcome turned.answer (is_some turned.end) goes.turns.answer) wrote) still;
+          go_on = (open_still, going.go_on);
+          wrote = Writes-append going.wrote comes.0 still;
           count = omega (arith, going.count, single);
         },
         single,
-        on-not_last goes.cause mid.service last goes.turns.outcome turned.end new.service goes.turns.is_turn ended,
+        on-not_last goes.cause mid.service last goes.responds.outcome t.ended new.service goes.responds.is_turn open_still,
       )
 
-  -- a turn never ends a connection as a failed read does
-  pub ended-unread : (mid new : Side D) (last : Bool) (turned : Turned) (e : End) → GoesTo answers mid new last turned → turned.end ≡ Some e → ¬ (e ≡ ReadFault)
-  ended-unread mid new last turned e goes ended same =
-      not-read_fault goes.cause mid.service last goes.turns.outcome turned.end new.service goes.turns.is_turn (ended ∙ ap (λ (e : End). Some e) same)
+  -- a turn whose response was written whole never ends a connection as a failed read does
+  pub ended-unread : (mid new : Side D) (last : Bool) (out out2 : Option (List ℕ)) (out_unknown : Bool) (ended : Option End) (counts : Bool) (e : End) → GoesTo answers mid new last out out2 out_unknown (Whole ended counts)
+      → ended ≡ Some e → ¬ (e ≡ ReadFault)
+  ended-unread mid new last out out2 out_unknown ended counts e goes is same =
+      not-read_fault goes.cause mid.service last goes.responds.outcome goes.responds.ended new.service goes.responds.is_turn (sym goes.responds.comes.1 ∙ is ∙ ap (λ (e : End). Some e) same)

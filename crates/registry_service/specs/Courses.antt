@@ -1,8 +1,9 @@
 -- The turns of one connection, one after the other: what they take, what they write, and how it
 -- ends.
-use Rattle.std.specs.Prelude.{◌≡◌, ◌≤◌, ◌<◌, ◌+◌, ◌==◌, ◌++◌, ◌∷◌, ◌⊎◌, [], ℕ, Bool, false, List, length, take, Option, Some, None, if◌then◌else◌}
+use Rattle.std.specs.Prelude.{◌≡◌, ◌≤◌, ◌<◌, ◌+◌, ◌==◌, ◌++◌, ◌∷◌, ◌⊎◌, [], ℕ, Bool, false, List, length, take, Option, Some, None, Err, if◌then◌else◌}
 use Rattle.std.specs.Io.KnownBytes.{IsAtEnd}
 use Rattle.registry_names.specs.ByteStreams.{Reads, RisesBetween, Writes}
+use Rattle.registry_names.specs.declared.stop.Fault.{Fault}
 use Rattle.registry_names.specs.declared.stop.Fault.TheVariants.{Memory}
 use Rattle.registry_wire.specs.Inboxes.{failures_admitted}
 use Rattle.registry_wire.specs.Reading.{CountsInterrupted, ReadsWhileUnfinished, TakenOf}
@@ -10,11 +11,12 @@ use Rattle.registry_wire.specs.Spelling.{EndsWith, IsUnfinished}
 use Rattle.registry_wire.specs.declared.first.Ending.TheVariants as ending
 use Rattle.registry_wire.specs.declared.inbox.Taken.{Taken}
 use Rattle.registry_wire.specs.declared.inbox.Taken.TheVariants as taken
-use Rattle.registry_service.specs.Turns.{Answering, Cause, IsTurn, Turn, Turns, bad_input, is_request, no_memory, request, request_limit, response_of}
+use Rattle.registry_service.specs.Responses.{MayBegin, Responds}
+use Rattle.registry_service.specs.Turns.{Answering, Cause, IsTurn, Turn, bad_input, is_request, no_memory, request, request_limit, response_of}
+use Rattle.registry_service.specs.declared.responding.Responded.{Responded}
 use Rattle.registry_service.specs.declared.serving.Served.{Served}
 use Rattle.registry_service.specs.declared.turning.End.{End}
 use Rattle.registry_service.specs.declared.turning.End.TheVariants.{Closed, Limit, BadInput, ReadFault, WriteFault, Faulted}
-use Rattle.registry_service.specs.declared.turning.Turned.{Turned}
 
 -- ---- lists of turns, the newest first
 
@@ -149,14 +151,14 @@ module _ {D : Type 0} (answers : Answering D) where
     pub follow : Follow old.service ts new.service
     pub asked : Gave old.readings new.readings (moments ts)
 
-  -- one more turn
-  pub record GoesTo (old new : Side D) (last : Bool) (t : Turned) : Type 0 where
+  -- one more turn, and what came of its response
+  pub record GoesTo (old new : Side D) (last : Bool) (out out2 : Option (List ℕ)) (out_unknown : Bool) (responded : Responded) : Type 0 where
     pub cause : Cause
     pub got : List ℕ
     pub gave : Reads old.left new.left new.unknown got
     pub lean : ReadsWhileUnfinished old.held got
     pub took : TakenOf (old.held ++ got) new.held (AtEndOf new) (taken_for cause)
-    pub turns : Turns answers old.service cause last t new.service
+    pub responds : Responds answers old.service cause last new.service out out2 out_unknown responded
     pub asked : Gave old.readings new.readings (moment_of cause)
 
   -- no turn
@@ -194,5 +196,25 @@ module _ {D : Type 0} (answers : Answering D) where
     pub ends : s.end ≡ WriteFault
     pub count : s.requests ≡ requests older
 
+  -- A fault came in the midst of a packument: the older responses were written whole, and of the
+  -- newest, which was begun as that of the packument, a part, of a byte at least. The outcome of this
+  -- turn is the fault; nothing was written of it, and after it nothing was asked or read.
+  pub record IsCutShort (old new : Side D) (out out2 : Option (List ℕ)) (out_unknown : Bool) (s : Served) : Type 0 where
+    pub newest : Turn
+    pub older : List Turn
+    pub course : Course old new (newest ∷ older)
+    pub lean : ReadsFor old.held (newest ∷ older) course.got
+    pub go_on : GoOn older
+    pub fault : Fault
+    pub is_fault : newest.outcome ≡ Err fault
+    pub begun : Turn
+    pub may_begin : MayBegin answers course.follow.0 (length older + 1 == request_limit) newest.cause begun
+    pub sent : ℕ
+    pub some : 0 < sent
+    pub is_within : sent < length (response_of begun)
+    pub wrote : Writes out out2 out_unknown (written older ++ take sent (response_of begun))
+    pub ends : s.end ≡ Faulted fault
+    pub count : s.requests ≡ requests older
+
   abbrev pub IsServed : Side D → Side D → Option (List ℕ) → Option (List ℕ) → Bool → Served → Type 0
-  IsServed old new out out2 out_unknown s = Completes old new out out2 out_unknown s ⊎ BreaksOff old new out out2 out_unknown s
+  IsServed old new out out2 out_unknown s = Completes old new out out2 out_unknown s ⊎ (BreaksOff old new out out2 out_unknown s ⊎ IsCutShort old new out out2 out_unknown s)

@@ -53,6 +53,11 @@ body_of (Err fault) = error_text (fault_text fault)
 abbrev pub response_to : Outcome → Bool → List ℕ
 response_to o closes = head_bytes (status_of o) (kind_of o) (length (body_of o)) closes ++ body_of o
 
+-- the head of the response that is a document of so many bytes, after which the connection ends or
+-- not
+abbrev pub document_head : Bool → ℕ → List ℕ
+document_head closes len = head_bytes 200 content.Json len closes
+
 -- ---- the answer, which holds its body
 
 abbrev pub body_bytes : Body → List ℕ

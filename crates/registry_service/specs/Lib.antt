@@ -7,5 +7,7 @@ pub mod Histories
 pub mod Laws
 pub mod Readings
 pub mod Requests
+pub mod Responses
+pub mod Sendings
 pub mod Servings
 pub mod Turns

@@ -10,14 +10,18 @@ mod answer;
 mod body;
 mod caller;
 mod from_path;
+mod heading;
 pub mod laws;
 mod path_values;
 mod request;
+mod responding;
+mod sending;
 mod serving;
 mod turning;
 
 pub use crate::answer::{Answer, Body};
 pub use crate::request::request_of;
+pub use crate::sending::PackumentService;
 pub use crate::serving::{Clock, Served, serve};
 pub use crate::turning::{
     End, REQUESTS_PER_CONNECTION, Service, Turned, turn, turn_away, turn_starved,

@@ -1,16 +1,15 @@
 //! One connection, request after request.
 
-ghost use Rattle.std.specs.Prelude.{◌≡◌, ◌≤◌, ◌∷◌, [], ℕ, List, Option, true, MatchResult, OnOk, OnErr};
-ghost use Rattle.registry_names.specs.ByteStreams.{Writes, WritesPrefix, failures_after};
+ghost use Rattle.std.specs.Prelude.{◌≡◌, ◌≤◌, ◌∷◌, [], ℕ, List, Option, true, IfOk, MatchResult, OnErr};
 ghost use Rattle.registry_wire.specs.Reading.{CountsInterrupted};
 ghost use Rattle.registry_service.specs.Courses.{Gave, GoesTo, IsServed, ReadsFail, Rests, side};
-ghost use Rattle.registry_service.specs.Servings.{bytes_of, written_failures};
+ghost use Rattle.registry_service.specs.Servings.{response_failures, written_failures};
 
-use crate::turning::{
-    End, REQUESTS_PER_CONNECTION, Service, Turned, turn, turn_away, turn_starved,
-};
-use registry_names::{ByteIn, ByteOut, Fault, Moment, WriteFailed};
-use registry_wire::{Inbox, Taken, write_response};
+use crate::responding::{Responded, respond, take_turn};
+use crate::sending::PackumentService;
+use crate::turning::{End, REQUESTS_PER_CONNECTION, turn_away, turn_starved};
+use registry_names::{ByteIn, ByteOut, Moment};
+use registry_wire::{Inbox, Taken};
 use std::alloc::Global;
 
 /// The clock that gives the moment of a request.
@@ -32,12 +31,15 @@ pub struct Served {
 }
 
 /// Serves a connection until it ends: takes its requests one after the other, each of them as a
-/// [`turn`], and writes their responses. What comes that is no request is answered, too, and so is
-/// want of memory while a request is read.
+/// [`turn`](crate::turn), and writes their responses. What comes that is no request is answered,
+/// too, and so is want of memory while a request is read.
+///
+/// A packument is sent as it is made. Where a fault comes behind its first byte the response stays
+/// cut short: the fault ends the connection, and nothing is written of it.
 ///
 /// The clock is asked once for each whole request. Nothing more is read after a turn that ends the
 /// connection, and after a failed write the service is asked nothing more, either.
-pub fn serve<D: Service, R: ByteIn, W: ByteOut, C: Clock>(
+pub fn serve<D: PackumentService, R: ByteIn, W: ByteOut, C: Clock>(
     alloc: Global,
     service: &mut D,
     inbox: &mut Inbox<R>,
@@ -62,77 +64,75 @@ pub fn serve<D: Service, R: ByteIn, W: ByteOut, C: Clock>(
     let mut requests = 0;
     'turns: loop {
         let is_last = requests + 1 == REQUESTS_PER_CONNECTION;
-        let turned = match next_turn(alloc, service, inbox, clock, is_last) {
-            Ok(turned) => turned,
-            Err(end) => return Served { requests, end },
-        };
-        match send(&turned, writer) {
-            Ok(()) => {}
-            Err(_) => {
+        match next_turn(alloc, service, inbox, writer, clock, is_last) {
+            Ok(Responded::Whole { end, is_request }) => {
+                requests += u32::from(is_request);
+                match end {
+                    Some(end) => return Served { requests, end },
+                    None => {}
+                }
+            }
+            Ok(Responded::BrokenOff) => {
                 return Served {
                     requests,
                     end: End::WriteFault,
                 };
             }
-        }
-        requests += u32::from(turned.is_request);
-        match turned.end {
-            Some(end) => return Served { requests, end },
-            None => {}
+            Ok(Responded::CutShort(fault)) => {
+                return Served {
+                    requests,
+                    end: End::Faulted(fault),
+                };
+            }
+            Err(end) => return Served { requests, end },
         }
     }
 }
 
-// The next turn of a connection, whose response isn't written yet; or how the connection ends
-// without one.
-fn next_turn<D: Service, R: ByteIn, C: Clock>(
+// The next turn of a connection, with what came of its response; or how the connection ends without
+// one.
+fn next_turn<D: PackumentService, R: ByteIn, W: ByteOut, C: Clock>(
     alloc: Global,
     service: &mut D,
     inbox: &mut Inbox<R>,
+    writer: &mut W,
     clock: &mut C,
     is_last: bool,
-) -> Result<Turned, End>
+) -> Result<Responded, End>
     ensures turns { MatchResult result
         (GoesTo D.answers
         (side service.old inbox.old.held (R.bytes inbox.old.reader)
         (R.is_unknown inbox.old.reader) (C.readings clock.old))
         (side service.new inbox.new.held (R.bytes inbox.new.reader)
         (R.is_unknown inbox.new.reader) (C.readings clock.new))
-        is_last)
+        is_last (W.bytes writer.old) (W.bytes writer.new) (W.is_unknown writer.new))
         (Rests D.answers
         (side service.old inbox.old.held (R.bytes inbox.old.reader)
         (R.is_unknown inbox.old.reader) (C.readings clock.old))
         (side service.new inbox.new.held (R.bytes inbox.new.reader)
         (R.is_unknown inbox.new.reader) (C.readings clock.new))) }
+    ensures unasked { OnErr result (writer.new ≡ writer.old) }
+
     ensures counted { MatchResult result
         (λ _. CountsInterrupted inbox.old.interruptions inbox.new.interruptions
         (R.failures inbox.old.reader) (R.failures inbox.new.reader))
         (λ end. ReadsFail end
         inbox.old.interruptions inbox.new.interruptions
         (R.failures inbox.old.reader) (R.failures inbox.new.reader)) }
-    ensures unknown { R.is_unknown inbox.old.reader ≡ true → R.is_unknown inbox.new.reader ≡ true }
+    ensures written { IfOk result (λ responded. W.failures writer.new
+        ≡ response_failures responded (W.failures writer.old)) }
+
+    ensures unread { R.is_unknown inbox.old.reader ≡ true → R.is_unknown inbox.new.reader ≡ true }
+    ensures unknown { W.is_unknown writer.old ≡ true → W.is_unknown writer.new ≡ true }
 {
     match inbox.read_request(alloc) {
         Taken::Whole(wanted) => {
             let at = clock.now();
-            Ok(turn(alloc, service, &wanted, at, is_last))
+            Ok(take_turn(alloc, service, &wanted, at, is_last, writer))
         }
-        Taken::Bad(refusal) => Ok(turn_away(refusal)),
-        Taken::Faulted(_) => Ok(turn_starved()),
+        Taken::Bad(refusal) => Ok(respond(&turn_away(refusal), writer)),
+        Taken::Faulted(_) => Ok(respond(&turn_starved(), writer)),
         Taken::Closed => Err(End::Closed),
         Taken::ReadFault => Err(End::ReadFault),
     }
-}
-
-// Writes the response of a turn.
-fn send<W: ByteOut>(turned: &Turned, writer: &mut W) -> Result<(), WriteFailed>
-    ensures ok { OnOk result (Writes (W.bytes writer.old) (W.bytes writer.new)
-        (W.is_unknown writer.new) (bytes_of turned.now)) }
-    ensures err { OnErr result (WritesPrefix (W.bytes writer.old) (W.bytes writer.new)
-        (W.is_unknown writer.new) (bytes_of turned.now)) }
-    ensures counted { W.failures writer.new ≡ failures_after result (W.failures writer.old) }
-    ensures unknown { W.is_unknown writer.old ≡ true → W.is_unknown writer.new ≡ true }
-{
-    let response = turned.answer.response(turned.end.is_some());
-    write_response(&response, writer)
 }

@@ -1,9 +1,10 @@
 //! One turn of a connection.
 
-ghost use Rattle.std.specs.Prelude.{◌≡◌, Bool, true, Result};
+ghost use Rattle.std.specs.Prelude.{◌≡◌, Bool, true, Ok, Result};
 ghost use Rattle.registry_names.specs.declared.stop.Fault.{Fault};
 ghost use Rattle.registry_rules.specs.declared.reply.Reply.{Reply};
 ghost use Rattle.registry_rules.specs.declared.request.Request.{Request};
+ghost use Rattle.registry_service.specs.Servings.{IsTurnWith};
 ghost use Rattle.registry_service.specs.Turns as spec;
 ghost use Rattle.registry_service.specs.Turns.{IsAnswered, Turns, bad_input, no_memory, request};
 
@@ -32,6 +33,17 @@ pub trait Service {
     /// Whether it is over: nothing more is to be asked of it.
     fn is_over(&self) -> bool
         ensures { result ≡ over self.now };
+
+    /// A turn was taken: for this request, or for what is none or could not be read. Nothing that
+    /// contracts see of the service is changed. One that keeps a log says here what was answered.
+    fn note(&mut self, _wanted: Option<&Wanted>, _turned: &Turned)
+        ensures { self.new ≡ self.old }
+    {}
+
+    /// A round of turns is over. Nothing that contracts see of the service is changed.
+    fn rest(&mut self)
+        ensures { self.new ≡ self.old }
+    {}
 }
 
 /// How a connection ends.
@@ -80,8 +92,17 @@ fn answered<D: Service>(
 {
     match request_of(alloc, wanted, at) {
         Ok(request) => service.answer(alloc, &request),
-        Err(Stop::Refused(refusal)) => Ok(Reply::Refused(refusal)),
-        Err(Stop::Fault(fault)) => Err(fault),
+        Err(stop) => stopped(stop),
+    }
+}
+
+/// What is answered where a request isn't in form.
+pub(crate) fn stopped(stop: Stop) -> Result<Reply, Fault>
+    ensures { result ≡ spec.stopped stop }
+{
+    match stop {
+        Stop::Refused(refusal) => Ok(Reply::Refused(refusal)),
+        Stop::Fault(fault) => Err(fault),
     }
 }
 
@@ -90,15 +111,32 @@ fn end_of(outcome: &Result<Reply, Fault>, is_last: bool, closes: bool) -> Option
 {
     match outcome {
         Err(fault) => Some(End::Faulted(*fault)),
-        Ok(_) => {
-            if is_last {
-                Some(End::Limit)
-            } else if closes {
-                Some(End::Closed)
-            } else {
-                None
-            }
-        }
+        Ok(_) => end_after_reply(is_last, closes),
+    }
+}
+
+/// How the connection ends after a request that met no fault, if it does.
+pub(crate) fn end_after_reply(is_last: bool, closes: bool) -> Option<End>
+    ensures { (reply : Reply) → result ≡ spec.end_of (Ok reply) is_last closes }
+{
+    if is_last {
+        Some(End::Limit)
+    } else if closes {
+        Some(End::Closed)
+    } else {
+        None
+    }
+}
+
+/// The turn of a request that has this outcome.
+pub(crate) fn turn_with(outcome: Result<Reply, Fault>, is_last: bool, closes: bool) -> Turned
+    ensures { IsTurnWith outcome is_last closes result }
+{
+    let end = end_of(&outcome, is_last, closes);
+    Turned {
+        answer: Answer::of(outcome),
+        end,
+        is_request: true,
     }
 }
 
@@ -117,12 +155,7 @@ pub fn turn<D: Service>(
     ensures { Turns D.answers service.old (request wanted.now at) is_last result service.new }
 {
     let outcome = answered(alloc, service, wanted, at);
-    let end = end_of(&outcome, is_last, wanted.closes);
-    Turned {
-        answer: Answer::of(outcome),
-        end,
-        is_request: true,
-    }
+    turn_with(outcome, is_last, wanted.closes)
 }
 
 /// The turn of what is no request: it is answered, and the connection ends. It takes no memory.

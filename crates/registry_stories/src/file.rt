@@ -8,6 +8,9 @@ use crate::story::{Story, stories_of};
 use std::alloc::Global;
 use std::fs;
 
+/// The file that stories name for a copy of the registry.
+const COPY: &str = "copy.db";
+
 /// Runs the stories of a file, and prints how many it has. Answers whether each came out as it
 /// should; those that didn't are reported on standard error.
 pub fn run_file(rt: &HostRuntime, alloc: Global, path: &str) -> Result<bool, Stop> {
@@ -86,8 +89,9 @@ fn empty(rt: &HostRuntime, alloc: Global, story: &Story<'_>) -> Result<StoryRegi
     }
 }
 
-// Removes the registry's file and its log.
+// Removes the registry's file and its log, and a copy of it.
 fn forget(rt: &HostRuntime) {
-    let _ = fs::remove_file(rt, DB);
-    let _ = fs::remove_file(rt, "registry.db-wal");
+    for name in [DB, "registry.db-wal", COPY, "copy.db-wal"] {
+        let _ = fs::remove_file(rt, name);
+    }
 }

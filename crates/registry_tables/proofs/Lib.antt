@@ -38,4 +38,6 @@ pub mod TeamMemberFacts
 pub mod TokenFacts
 pub mod UserFacts
 pub mod VersionFacts
+pub mod WalkFacts
+pub mod WalkSourceFacts
 pub mod WithdrawalFacts

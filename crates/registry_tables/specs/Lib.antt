@@ -11,4 +11,7 @@ pub mod Opening
 pub mod Schema
 pub mod Spelled
 pub mod Teams
+pub mod WalkLaws
+pub mod Walking
+pub mod Walks
 pub mod Withdrawals

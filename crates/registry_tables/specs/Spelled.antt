@@ -70,9 +70,16 @@ row_entry v = (v.version, (v.manifest, v.message))
 abbrev pub published : Release → ℕ
 published r = r.at
 
--- a version, and when it was published, which comes fourth
+-- a version, and when it was published, which stands in this place
+abbrev pub time_in : ℕ → Row → Text × ℕ
+time_in place r = (text_in (column r 0), number_in (column r place))
+
+-- the same where it comes fourth, and where it comes second
 abbrev pub time_spelled : Row → Text × ℕ
-time_spelled r = (text_in (column r 0), number_in (column r 3))
+time_spelled = time_in 3
+
+abbrev pub second_time_spelled : Row → Text × ℕ
+second_time_spelled = time_in 1
 
 -- a version, and nothing of it
 abbrev pub version_spelled : Row → Text × Unit {0}

@@ -32,6 +32,7 @@ mod texts;
 mod tokens;
 mod users;
 mod versions;
+mod walk;
 mod withdrawals;
 
 pub use crate::access::load_access;
@@ -58,5 +59,6 @@ pub use crate::tokens::load_token_user;
 pub use crate::users::has_user;
 pub use crate::versions::{
     DocumentRow, LiveVersions, has_live, has_version, load_document, load_live, load_published,
-    load_versions, put_version,
+    load_times, load_versions, put_version,
 };
+pub use crate::walk::{LiveRows, VersionWalk, walk_versions};

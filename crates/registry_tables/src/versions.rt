@@ -12,7 +12,7 @@ ghost use Rattle.registry_tables.specs.Changes.{IsFree, IsNew, is_unspent, row_o
 ghost use Rattle.registry_tables.specs.Contents.{live_of, registry_of};
 ghost use Rattle.registry_tables.specs.Effects.{InForm, Makes, OnlyWhere, Loads};
 ghost use Rattle.registry_packument.specs.Heads.{time_entry};
-ghost use Rattle.registry_tables.specs.Spelled.{document, document_entry, document_spelled, published, row_entry, row_spelled, time_spelled};
+ghost use Rattle.registry_tables.specs.Spelled.{document, document_entry, document_spelled, published, row_entry, row_spelled, second_time_spelled, time_in, time_spelled};
 ghost use Rattle.registry_tables.specs.Withdrawals.{with_message};
 
 use crate::archives::put_archive;
@@ -135,6 +135,10 @@ pub struct LiveVersions {
     pub times: Vec<VersionTime>,
 }
 
+/// What asks for the live versions of a package, with all of this.
+pub(crate) const LIVE_VERSIONS: &str =
+    "SELECT version, manifest, deprecated, published FROM versions WHERE package = ?1 ORDER BY version";
+
 /// The live versions of a package, with their manifests, their messages and the moments of their
 /// publication. One statement reads them all.
 pub fn load_versions<S: Alter>(
@@ -151,12 +155,28 @@ pub fn load_versions<S: Alter>(
         (λ live c. map time_entry live.times.items
         ≡ map (seen published) (of (live_of c) name.now)) }
 {
+    let rows = read(tx, LIVE_VERSIONS, params![name.text()])?;
+    live_in(alloc, &rows)
+}
+
+/// The moments at which the live versions of a package were published, each with its version, in byte
+/// order of their texts. Their manifests aren't read.
+pub fn load_times<S: Alter>(
+    alloc: Global,
+    tx: &mut Transaction<'_, S>,
+    name: &Name,
+) -> Result<Vec<VersionTime>, Fault>
+    requires in_form { InForm S.Store tx.old }
+    ensures stays { Stays S.Store tx.old tx.new }
+    ensures loads { Loads S.Store tx.old tx.new result (λ times c.
+        map time_entry times.items ≡ map (seen published) (of (live_of c) name.now)) }
+{
     let rows = read(
         tx,
-        "SELECT version, manifest, deprecated, published FROM versions WHERE package = ?1 ORDER BY version",
+        "SELECT version, published FROM versions WHERE package = ?1 ORDER BY version",
         params![name.text()],
     )?;
-    live_in(alloc, &rows)
+    values_of_rows::<TimeRow>(alloc, &rows)
 }
 
 // The versions that the rows spell.
@@ -278,8 +298,8 @@ pub(crate) fn put_message<S: Alter>(
     )
 }
 
-// A version, its manifest and its message.
-struct ListedVersion;
+/// A version, its manifest and its message.
+pub(crate) struct ListedVersion;
 
 impl RowKind for ListedVersion {
     type Value = VersionRow;
@@ -315,14 +335,38 @@ impl RowKind for ListedTime {
     ghost spelled = { time_spelled };
 
     fn read(row: &Row) -> Result<VersionTime, Error> {
-        let version: String = row.get(0)?;
-        match Moment::new(row.get(3)?) {
-            Some(published) => Ok(VersionTime {
-                version: Text::from(version),
-                published,
-            }),
-            None => Err(Error::IntegralValueOutOfRange(3)),
-        }
+        time_at(row, 3)
+    }
+}
+
+// A version, and the moment of its publication, which comes second.
+struct TimeRow;
+
+impl RowKind for TimeRow {
+    type Value = VersionTime;
+
+    ghost Seen = { Bytes × ℕ };
+
+    ghost seen = { time_entry };
+
+    ghost spelled = { second_time_spelled };
+
+    fn read(row: &Row) -> Result<VersionTime, Error> {
+        time_at(row, 1)
+    }
+}
+
+// The version that a row begins with, and the moment of its publication, which stands in this place.
+fn time_at(row: &Row, place: usize) -> Result<VersionTime, Error>
+    ensures { IfOk result (λ time. time_entry time ≡ time_in place row.now) }
+{
+    let version: String = row.get(0)?;
+    match Moment::new(row.get(place)?) {
+        Some(published) => Ok(VersionTime {
+            version: Text::from(version),
+            published,
+        }),
+        None => Err(Error::IntegralValueOutOfRange(place)),
     }
 }
 

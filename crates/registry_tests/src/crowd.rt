@@ -76,7 +76,9 @@ impl Socket for Client {
 
     ghost sent = { λ _. None };
 
-    ghost must_wait = { λ _. true };
+    ghost has_none = { λ _. true };
+
+    ghost is_full = { λ _. true };
 
     ghost has_more = { λ _. true };
 
@@ -289,4 +291,23 @@ fn one_ends_for_want_of_room(rt: HostRuntime) {
     same(&rt, "the next", crowd.pool.end_idle(), true);
     same(&rt, "its place", &crowd.pool.place(), &Some(2));
     same(&rt, "no other", crowd.pool.end_idle(), false);
+}
+
+// Where a server is to end each connection ends on which nothing is begun, and none that is to be
+// visited or has begun a request.
+#[test]
+fn idle_connections_end_at_a_stop(rt: HostRuntime) {
+    let alloc = rt.alloc();
+    let mut crowd = Crowd::new(&rt, alloc);
+    for number in 0..3 {
+        crowd.pool.add(alloc, number, Client::silent(), 0);
+    }
+    crowd.pool.add(alloc, 3, Client::new(1), 0);
+    crowd.visit(alloc, 0, 3);
+    crowd.pool.wake(1);
+    crowd.pool.end_idle_all();
+    for number in [0, 2, 4] {
+        same(&rt, "a place", &crowd.pool.place(), &Some(number));
+        crowd.pool.add(alloc, number, Client::silent(), 0);
+    }
 }

@@ -14,6 +14,10 @@ mod crowd;
 #[cfg(test)]
 mod ends;
 #[cfg(test)]
+mod errands;
+#[cfg(test)]
+mod guests;
+#[cfg(test)]
 mod names;
 #[cfg(test)]
 mod outcome;
@@ -37,5 +41,7 @@ mod server;
 mod talk;
 #[cfg(test)]
 mod texts;
+#[cfg(test)]
+mod tokens;
 #[cfg(test)]
 mod wire;

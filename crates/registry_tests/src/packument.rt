@@ -2,6 +2,7 @@
 
 mod manifests;
 mod moments;
+mod sending;
 mod stream;
 
 use crate::outcome::same;

@@ -130,6 +130,17 @@ fn a_connection_is_served_over_loopback(rt: HostRuntime) {
     hears(&rt, rt.alloc(), "served", &mut caller, TAGS_OUT);
 }
 
+// A server is there at 127.0.0.1, and at no other address.
+#[test]
+fn a_server_listens_at_one_address(rt: HostRuntime) {
+    let server = Server::bind(&rt, rt.alloc(), 0, 1).expect(&rt, "a server");
+    let port = server.port().expect(&rt, "a port");
+    for (last, is_there) in [(1, true), (2, false)] {
+        let address = SocketAddr::from((Ipv4Addr::new(127, 0, 0, last), port));
+        same(&rt, "a connection", rt.connect(address).is_ok(), is_there);
+    }
+}
+
 #[test]
 fn a_server_answers_over_loopback(rt: HostRuntime) {
     let alloc = rt.alloc();

@@ -3,4 +3,5 @@
 mod answers;
 pub mod connections;
 mod ends;
+mod packuments;
 mod source;

@@ -1,8 +1,11 @@
-//! The program over streams that fail. Its modules have clients over loopback, and the moments of
-//! what is asked.
+//! The program over streams that fail. Its modules have a check that finds something, copies, tokens
+//! that are made, clients over loopback, and the moments of what is asked.
 
+mod checks;
+mod copies;
 mod moments;
 mod serving;
+mod tokens;
 
 use registry_names::{FromRead, Text, ToWrite};
 use registry_program::{Ending, Failure, program, report};

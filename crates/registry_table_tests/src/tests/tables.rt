@@ -6,6 +6,7 @@ mod rights;
 mod schema;
 mod teams;
 mod text;
+mod walks;
 
 use call::{Call, Case, End, all_come_out};
 use registry_access::Grant::{ReadOnly, ReadWrite};
@@ -17,6 +18,7 @@ use rights::RightCall::{
 use std::test::Fail;
 use teams::TeamCall::{Grant, Grants, Member, Organisation, Team, TeamMember, User, Users};
 use text::Body;
+use walks::{Walk, all_give};
 
 #[test]
 fn versions_come_back(rt: HostRuntime) -> Result<(), Fail> {
@@ -46,6 +48,11 @@ fn rights_stand_as_they_were_put(rt: HostRuntime) -> Result<(), Fail> {
 #[test]
 fn calls_put_rows_that_fit(rt: HostRuntime) -> Result<(), Fail> {
     all_come_out(rt.alloc(), &ROWS)
+}
+
+#[test]
+fn walks_give_the_live_versions(rt: HostRuntime) -> Result<(), Fail> {
+    all_give(rt.alloc(), &WALKS)
 }
 
 /// The body of `kit` 1.0.0 that names `pad` with one range in two members, and `kid` with two.
@@ -133,6 +140,50 @@ static VERSIONS: [Case; 6] = [
             ("kit", Call::Status, "none"),
         ],
         end: End::Fault("kit", Call::Publish(Body::Plain("1.0.0"), 1)),
+    },
+];
+
+// Walks over versions.
+static WALKS: [Walk; 2] = [
+    Walk {
+        put: Case {
+            shows: "a walk gives the live versions in byte order, and so does the next one",
+            calls: &[
+                ("kit", Call::NewStatus(Status::Public), "done"),
+                ("kit", Call::Add(Body::Plain("1.9.0"), 1), "done"),
+                ("kit", Call::Add(Body::Plain("2.0.0-beta"), 2), "done"),
+                ("kit", Call::Add(Body::Plain("1.10.0"), 3), "done"),
+                ("kit", Call::Deprecate("1.9.0", "old"), "done"),
+                ("kit", Call::Times, " 1.10.0=3 1.9.0=1 2.0.0-beta=2"),
+                ("kid", Call::Times, ""),
+            ],
+            end: End::Nothing,
+        },
+        gives: &[
+            (
+                "kit",
+                r#" 1.10.0 {"name":"kit","version":"1.10.0"} [] 1.9.0 {"name":"kit","version":"1.9.0"} [old] 2.0.0-beta {"name":"kit","version":"2.0.0-beta"} []"#,
+            ),
+            ("kid", ""),
+            (
+                "kit",
+                r#" 1.10.0 {"name":"kit","version":"1.10.0"} [] 1.9.0 {"name":"kit","version":"1.9.0"} [old] 2.0.0-beta {"name":"kit","version":"2.0.0-beta"} []"#,
+            ),
+        ],
+    },
+    Walk {
+        put: Case {
+            shows: "a walk gives no version that was withdrawn",
+            calls: &[
+                ("kit", Call::NewStatus(Status::Public), "done"),
+                ("kit", Call::Add(Body::Plain("1.0.0"), 1), "done"),
+                ("kit", Call::Add(Body::Plain("1.1.0"), 1), "done"),
+                ("kit", Call::Retire("1.0.0"), "done"),
+                ("kit", Call::Times, " 1.1.0=1"),
+            ],
+            end: End::Nothing,
+        },
+        gives: &[("kit", r#" 1.1.0 {"name":"kit","version":"1.1.0"} []"#)],
     },
 ];
 

@@ -17,10 +17,10 @@ use std::process::Abort;
 
 /// A source that answers so many calls of another, and then with a fault.
 #[derive(Drop)]
-struct Failing<S> {
-    source: S,
-    answers: u32,
-    failed: bool,
+pub(super) struct Failing<S> {
+    pub(super) source: S,
+    pub(super) answers: u32,
+    pub(super) failed: bool,
 }
 
 impl<S: VersionSource> VersionSource for Failing<S> {
@@ -34,6 +34,10 @@ impl<S: VersionSource> VersionSource for Failing<S> {
     ghost most = { λ failing. S.most failing.source };
 
     ghost ordered = { λ failing. S.ordered failing.source };
+
+    ghost leaves_itself = { λ _. tt };
+
+    ghost leaves_through = { λ _ _ _ _ _. tt };
 
     fn next(&mut self, alloc: Global) -> Result<Option<VersionRow>, Fault> {
         if self.failed {
@@ -51,9 +55,9 @@ impl<S: VersionSource> VersionSource for Failing<S> {
 
 /// A writer that takes so many bytes, and then fails.
 #[derive(Drop)]
-struct Narrow {
-    taken: Vec<u8>,
-    room: usize,
+pub(super) struct Narrow {
+    pub(super) taken: Vec<u8>,
+    pub(super) room: usize,
 }
 
 impl Write for Narrow {

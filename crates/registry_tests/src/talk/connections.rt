@@ -6,9 +6,10 @@ use crate::outcome::same;
 use crate::parts::{around, as_text, repeated};
 use crate::wire::reader::{Drip, Faltering, Narrow};
 use registry_cache::SharedText;
-use registry_names::{ByteIn, Fault, FromRead, Moment, Refusal, ToWrite};
+use registry_names::{ByteIn, ByteOut, Fault, FromRead, Moment, Refusal, ToWrite};
+use registry_packument::{Opener, Sent};
 use registry_rules::{Action, Credential, Reply, Request};
-use registry_service::{Clock, End, Served, Service, serve};
+use registry_service::{Clock, End, PackumentService, Served, Service, serve};
 use registry_wire::Inbox;
 use std::alloc::Global;
 use std::io::ErrorKind;
@@ -39,6 +40,24 @@ impl Service for FixedTags {
 
     fn is_over(&self) -> bool {
         false
+    }
+}
+
+impl PackumentService for FixedTags {
+    fn send_packument<W: ByteOut, O: Opener>(
+        &mut self,
+        _alloc: Global,
+        request: &Request,
+        _writer: &mut W,
+        _opener: &O,
+    ) -> Sent {
+        match self.asked.push(request.at.seconds()) {
+            Ok(()) => Sent::Refused(Refusal::NotFound),
+            Err(_) => Sent::Broken {
+                fault: Fault::Memory,
+                has_started: false,
+            },
+        }
     }
 }
 

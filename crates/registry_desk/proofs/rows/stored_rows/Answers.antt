@@ -14,26 +14,26 @@ use Rattle.registry_desk.proofs.rows.stored_rows.Goals as goal
 pub load_tags-requires : goal.load_tags-requires
 load_tags-requires g c = record { in_form = λ clean on. (c.in_ok-versions.ensures.versions clean).0.ready }
 
-pub load_times-requires : goal.load_times-requires
-load_times-requires g c = record { in_form = λ clean on. (c.in_ok-tags.ensures.loads clean).0.ready }
+pub pack_times-requires : goal.pack_times-requires
+pack_times-requires g c = record { in_form = λ clean on. (c.in_ok-tags.ensures.loads clean).0.ready }
 
 pub returns-in_err-tags-clause-stays : goal.returns-in_err-tags-clause-stays
 returns-in_err-tags-clause-stays g c = stays_then g.S.Store c.args.tx.now c.load_versions.new.tx c.load_tags.new.tx c.load_versions.ensures.stays c.load_tags.ensures.stays
 
 pub returns-in_err-times-clause-stays : goal.returns-in_err-times-clause-stays
 returns-in_err-times-clause-stays g c =
-    three_stay g.S.Store c.args.tx.now c.load_versions.new.tx c.load_tags.new.tx c.load_times.new.tx c.load_versions.ensures.stays c.load_tags.ensures.stays c.load_times.ensures.stays
+    three_stay g.S.Store c.args.tx.now c.load_versions.new.tx c.load_tags.new.tx c.pack_times.new.tx c.load_versions.ensures.stays c.load_tags.ensures.stays c.pack_times.ensures.stays
 
 pub returns-clause-stays : goal.returns-clause-stays
 returns-clause-stays g c =
-    three_stay g.S.Store c.args.tx.now c.load_versions.new.tx c.load_tags.new.tx c.load_times.new.tx c.load_versions.ensures.stays c.load_tags.ensures.stays c.load_times.ensures.stays
+    three_stay g.S.Store c.args.tx.now c.load_versions.new.tx c.load_tags.new.tx c.pack_times.new.tx c.load_versions.ensures.stays c.load_tags.ensures.stays c.pack_times.ensures.stays
 
 pub returns-clause-loads : goal.returns-clause-loads
 returns-clause-loads g c clean =
     let was = shown g.S.Store c.args.tx.now in
     let one = shown g.S.Store c.load_versions.new.tx in
     let two = shown g.S.Store c.load_tags.new.tx in
-    let clean_two : HasCleanDisk two = omega (arith, c.load_times.ensures.stays.survives.clean, clean) in
+    let clean_two : HasCleanDisk two = omega (arith, c.pack_times.ensures.stays.survives.clean, clean) in
     let clean_one : HasCleanDisk one = omega (arith, c.load_tags.ensures.stays.survives.clean, clean_two) in
     let versions = c.in_ok-versions.ensures.versions clean_one in
     let live = c.in_ok-versions.ensures.times clean_one in
@@ -41,7 +41,7 @@ returns-clause-loads g c clean =
     let times = c.in_ok-times.ensures.loads clean in
     let to_two = reads_then schema was one two versions.0 tags.0 in
     let still = live.1 ∙ ap (λ (d : Database). map (seen published) (of (live_of (contents d.trees)) c.args.name.now)) (sym to_two.same) in (
-      reads_then schema was two (shown g.S.Store c.load_times.new.tx) to_two times.0,
+      reads_then schema was two (shown g.S.Store c.pack_times.new.tx) to_two times.0,
       λ who. (
         versions.1,
         (

@@ -11,6 +11,7 @@ pub versions-init : goal.versions-init
 versions-init g c = record {
   known = λ known. known;
   made = λ known. members_none _ (version_pairs (g.S.VersionSource.rows c.args.source.now)) c.new-members.ensures.items;
+  kept = g.met.S.VersionSource.leaves_itself c.args.source.now;
 }
 
 pub versions-preserved : goal.versions-preserved
@@ -22,6 +23,7 @@ versions-preserved g c =
       made = λ known.
           row_step _ _ c.versions.later c.in-Some.row (g.S.VersionSource.rows c.versions.source) (g.S.VersionSource.rows c.next.new.self) _ (rw c.in-Some.is at (c.in_ok-row.ensures.gives known))
           (c.versions.invariant.made (c.in_ok-row.ensures.known known)) more;
+      kept = g.met.S.VersionSource.leaves_through c.args.source.now c.versions.source c.next.new.self c.versions.invariant.kept c.in_ok-row.ensures.behind;
     }
 
 pub returns-in_err-member-clause-err : goal.returns-in_err-member-clause-err

@@ -12,6 +12,7 @@ invariant-versions g l = record {
   made : g.S.VersionSource.is_known l.source
       → whole_of (flat_map member_bytes l.members.items) l.later (version_pairs (g.S.VersionSource.rows l.source))
       ≡ option_map (versions_text false) (version_pairs (g.S.VersionSource.rows l.fn.source));
+  kept : g.S.VersionSource.leaves l.fn.source l.source;
 }
 
 abbrev pub decreases-versions : goal.decreases-versions

@@ -12,6 +12,7 @@ pub versions-init : goal.versions-init
 versions-init g c = record {
   known = λ known. known;
   counted = λ known. with_left-start c.args.head.now (g.S.VersionSource.rows c.args.source.now) c.in_ok-count.count c.in_ok-count.ensures.ok;
+  kept = g.met.S.VersionSource.leaves_itself c.args.source.now;
 }
 
 pub versions-preserved : goal.versions-preserved
@@ -21,6 +22,7 @@ versions-preserved g c = record {
       with_left-step (whole_len c.args.head.now (g.S.VersionSource.rows c.args.source.now)) c.versions.count _ c.versions.later c.in-Some.row
       (g.S.VersionSource.rows c.versions.source) (g.S.VersionSource.rows c.next.new.self) (rw c.in-Some.is at (c.in_ok-row.ensures.gives known))
       (c.versions.invariant.counted (c.in_ok-row.ensures.known known)) c.in_ok-count-2.ensures.ok;
+  kept = g.met.S.VersionSource.leaves_through c.args.source.now c.versions.source c.next.new.self c.versions.invariant.kept c.in_ok-row.ensures.behind;
 }
 
 pub returns-in_err-count-2-clause-err : goal.returns-in_err-count-2-clause-err

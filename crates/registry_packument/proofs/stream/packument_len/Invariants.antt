@@ -8,6 +8,7 @@ invariant-versions g l = record {
   -- the whole is what is counted, and then the rows that are left
   counted : g.S.VersionSource.is_known l.source
       → with_left l.count l.later (g.S.VersionSource.rows l.source) ≡ whole_len l.head (g.S.VersionSource.rows l.fn.source);
+  kept : g.S.VersionSource.leaves l.fn.source l.source;
 }
 
 abbrev pub decreases-versions : goal.decreases-versions

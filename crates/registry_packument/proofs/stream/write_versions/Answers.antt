@@ -34,6 +34,7 @@ versions-preserved g c =
           c.versions.invariant.documents (c.in_ok-row.ensures.known known) ∙ is_some-next row old left gives c.in_ok-write_version.ensures.whole;
       failures = cc (c.in_ok-write_version.ensures.counted);
       still_unknown = cc (c.in_ok-write_version.ensures.told (λ e. cc));
+      kept = g.met.S.VersionSource.leaves_through c.args.source.now c.versions.source c.next.new.self c.versions.invariant.kept c.in_ok-row.ensures.behind;
     }
 
 pub returns-in_err-write_whole-clause-err : goal.returns-in_err-write_whole-clause-err

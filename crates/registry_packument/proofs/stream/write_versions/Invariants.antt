@@ -13,6 +13,7 @@ invariant-versions g l = record {
       → is_some (version_pairs (g.S.VersionSource.rows l.fn.source)) ≡ is_some (version_pairs (g.S.VersionSource.rows l.source));
   failures : g.W.ByteOut.failures l.writer ≡ g.W.ByteOut.failures l.fn.writer;
   still_unknown : g.W.ByteOut.is_unknown l.writer ≡ g.W.ByteOut.is_unknown l.fn.writer;
+  kept : g.S.VersionSource.leaves l.fn.source l.source;
 }
 
 abbrev pub decreases-versions : goal.decreases-versions

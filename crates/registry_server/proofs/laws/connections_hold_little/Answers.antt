@@ -1,4 +1,4 @@
-use Rattle.registry_server.proofs.HeldFacts.{all-hold-little, ends-leave-little, idle-ends-leave-little, new-connections-leave-little, new-pool-holds-little, rounds-leave-little, servers-hold-little, unread-hold-little, wakes-leave-little}
+use Rattle.registry_server.proofs.HeldFacts.{all-hold-little, all-idle-ends-leave-little, ends-leave-little, idle-ends-leave-little, new-connections-leave-little, new-pool-holds-little, rounds-leave-little, servers-hold-little, unread-hold-little, wakes-leave-little}
 use Rattle.registry_server.proofs.laws.connections_hold_little.Goals as goal
 
 pub returns-clause-begins : goal.returns-clause-begins
@@ -17,7 +17,7 @@ pub returns-clause-room : goal.returns-clause-room
 returns-clause-room g c = idle-ends-leave-little g.row.S.Denot
 
 pub returns-clause-rounds : goal.returns-clause-rounds
-returns-clause-rounds g c = rounds-leave-little g.S.Socket.received g.S.Socket.sent g.S.Socket.must_wait g.S.Socket.has_more g.S.Socket.is_ended g.S.Socket.is_broken g.D.Service.answers g.D.Service.over
+returns-clause-rounds g c = rounds-leave-little g.S.Socket.received g.S.Socket.sent g.S.Socket.has_none g.S.Socket.is_full g.S.Socket.has_more g.S.Socket.is_ended g.S.Socket.is_broken g.D.Service.answers g.D.Service.over
 
 pub returns-clause-unread : goal.returns-clause-unread
 returns-clause-unread g c = unread-hold-little g.row.S.Denot
@@ -27,3 +27,6 @@ returns-clause-all g c = all-hold-little g.row.S.Denot
 
 pub returns-clause-servers : goal.returns-clause-servers
 returns-clause-servers g c = servers-hold-little g.row.S.Denot
+
+pub returns-clause-idle : goal.returns-clause-idle
+returns-clause-idle g c = all-idle-ends-leave-little g.row.S.Denot

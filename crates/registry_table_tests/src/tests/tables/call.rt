@@ -8,14 +8,15 @@ ghost use Rattle.registry_tables.specs.Effects.{InForm};
 use super::rights::{self, RightCall};
 use super::teams::{self, TeamCall};
 use super::text::{
-    Body, archive_text, done, form_of, push_word, status_text, tags_text, versions_text, word_text,
+    Body, archive_text, done, form_of, push_word, status_text, tags_text, times_text,
+    versions_text, word_text,
 };
-use registry_names::{Fault, Moment, Name, Status, Stop, Ver};
+use registry_names::{Fault, Message, Moment, Name, Status, Stop, Ver};
 use registry_rows::write;
 use registry_rules::Change;
 use registry_tables::{
     create, has_live, has_tag, has_version, is_spent, load_archive, load_status, load_tags,
-    load_versions, make, put_version,
+    load_times, load_versions, make, put_version,
 };
 use registry_test_support::{otherwise, same};
 use sqlite::{Alter, Connection, Row, Transaction, params};
@@ -53,6 +54,10 @@ pub enum Call {
     Publish(Body, i64),
     /// A statement has the version withdrawn.
     Withdrawn(&'static str),
+    /// The live version, published at second 1, is withdrawn at second 2.
+    Retire(&'static str),
+    /// The version gets this message of deprecation.
+    Deprecate(&'static str, &'static str),
     /// A new tag is to name the version.
     NewTag(&'static str, &'static str),
     /// A tag that exists is to name the version.
@@ -74,6 +79,8 @@ pub enum Call {
     /// Its versions, each with its manifest and its message, and then each with the second of its
     /// publication.
     Versions,
+    /// Its versions, each with the second of its publication.
+    Times,
     /// The length of the version's archive, and its last bytes.
     Archive(&'static str),
     /// A call over the teams that may be granted something on it.
@@ -122,7 +129,12 @@ fn comes_out_inside<S: Alter>(
     ends(alloc, tx, case)
 }
 
-fn all_tell<S: Alter>(alloc: Global, tx: &mut Transaction<'_, S>, case: &Case) -> Result<(), Fail>
+/// Makes the calls, each of which answers what the case says.
+pub fn all_tell<S: Alter>(
+    alloc: Global,
+    tx: &mut Transaction<'_, S>,
+    case: &Case,
+) -> Result<(), Fail>
     requires in_form { InForm S.Store tx.old }
     ensures same_reference { tx.new.conn.ghost_name ≡ tx.old.conn.ghost_name }
     ensures in_form { OnOk result (InForm S.Store tx.new) }
@@ -222,6 +234,7 @@ fn told_of<S: Alter>(
         Call::HasTag(tag) => word_text(alloc, has_tag(tx, name, tag)?),
         Call::Tags => tags_text(alloc, &load_tags(alloc, tx, name)?),
         Call::Versions => versions_text(alloc, &load_versions(alloc, tx, name)?),
+        Call::Times => times_text(alloc, &load_times(alloc, tx, name)?),
         Call::Archive(version) => archive_text(alloc, &load_archive(tx, name, version)?),
         Call::Teams(call) => teams::told(alloc, tx, name, call),
         Call::Rights(call) => rights::told(alloc, tx, name, call),
@@ -250,6 +263,8 @@ fn put<S: Alter>(
         Call::Add(body, at) => add(alloc, tx, package, body, at),
         Call::Publish(body, at) => publish(alloc, tx, package, body, at),
         Call::Withdrawn(version) => Ok(withdraw(tx, package, version)?),
+        Call::Retire(version) => retire(alloc, tx, package, version),
+        Call::Deprecate(version, message) => deprecate(alloc, tx, package, (version, message)),
         Call::NewTag(tag, version) => put_tag(alloc, tx, package, (tag, version), false),
         Call::MovedTag(tag, version) => put_tag(alloc, tx, package, (tag, version), true),
         Call::DropTag(tag) => made(tx, &Change::DropTag { package, tag }),
@@ -352,6 +367,52 @@ fn withdraw<S: Alter>(
         tx,
         "INSERT INTO spent VALUES (?1, ?2, 1, 2)",
         params![package.text(), version],
+    )
+}
+
+fn retire<S: Alter>(
+    alloc: Global,
+    tx: &mut Transaction<'_, S>,
+    package: &Name,
+    version: &str,
+) -> Result<(), Stop>
+    requires in_form { InForm S.Store tx.old }
+    ensures same_reference { tx.new.conn.ghost_name ≡ tx.old.conn.ghost_name }
+    ensures in_form { OnOk result (InForm S.Store tx.new) }
+{
+    let version = Ver::parse(alloc, version)?;
+    let published = Moment::clamped(1);
+    let withdrawn = Moment::clamped(2);
+    made(
+        tx,
+        &Change::RetireVersion {
+            package,
+            version: &version,
+            published: &published,
+            withdrawn: &withdrawn,
+        },
+    )
+}
+
+fn deprecate<S: Alter>(
+    alloc: Global,
+    tx: &mut Transaction<'_, S>,
+    package: &Name,
+    told: (&str, &str),
+) -> Result<(), Stop>
+    requires in_form { InForm S.Store tx.old }
+    ensures same_reference { tx.new.conn.ghost_name ≡ tx.old.conn.ghost_name }
+    ensures in_form { OnOk result (InForm S.Store tx.new) }
+{
+    let version = Ver::parse(alloc, told.0)?;
+    let message = Message::parse(alloc, told.1)?;
+    made(
+        tx,
+        &Change::PutDeprecation {
+            package,
+            version: &version,
+            message: &message,
+        },
     )
 }
 

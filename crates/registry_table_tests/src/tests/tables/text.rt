@@ -97,6 +97,13 @@ pub fn versions_text(alloc: Global, live: &LiveVersions) -> Result<String, Stop>
     Ok(text)
 }
 
+/// Each version with the second of its publication, after a space.
+pub fn times_text(alloc: Global, times: &[VersionTime]) -> Result<String, Stop> {
+    let mut text = String::new(alloc);
+    push_times(alloc, &mut text, times)?;
+    Ok(text)
+}
+
 fn push_versions(text: &mut String, rows: &[VersionRow]) -> Result<(), AllocError> {
     for row in rows {
         push_version(text, row)?;
@@ -116,7 +123,8 @@ fn push_times(alloc: Global, text: &mut String, times: &[VersionTime]) -> Result
     Ok(())
 }
 
-fn push_version(text: &mut String, row: &VersionRow) -> Result<(), AllocError> {
+/// A version with its manifest and its message in brackets, after a space.
+pub fn push_version(text: &mut String, row: &VersionRow) -> Result<(), AllocError> {
     push_word(text, row.version.as_str())?;
     push_word(text, row.manifest.as_str())?;
     text.push_str(" [")?;

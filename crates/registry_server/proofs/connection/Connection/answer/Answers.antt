@@ -1,8 +1,8 @@
 use Rattle.std.proofs.Common.{◌∙◌, length, ap, inl, refl, subst}
 use Rattle.std.specs.Io.KnownBytes.{append_known}
-use Rattle.registry_server.specs.Phases.{SentAt}
+use Rattle.registry_server.specs.Phases.{SentAt, takes_turns}
 use Rattle.registry_server.specs.declared.phase.Phase.{Phase}
-use Rattle.registry_server.proofs.VisitFacts.{answered-looked, answered-none}
+use Rattle.registry_server.proofs.VisitFacts.{answered-looked, answered-none, waits-for-more}
 use Rattle.registry_server.proofs.connection.Connection.answer.Goals as goal
 
 pub returns-in-Waits-clause-answers : goal.returns-in-Waits-clause-answers
@@ -31,3 +31,7 @@ returns-in-Answered-clause-answers g c =
       sends = s.state;
       over = s.over ∙ c.take_turn.ensures.over;
     }
+
+pub returns-in-Waits-clause-waits : goal.returns-in-Waits-clause-waits
+returns-in-Waits-clause-waits g c rests =
+    waits-for-more _ _ _ (ap (λ (p : Phase). takes_turns p.stage) c.look.ensures.phase ∙ c.in-Waits.ensures.turning refl) (c.look.ensures.waits rests)

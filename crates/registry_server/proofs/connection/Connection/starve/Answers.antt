@@ -9,7 +9,7 @@ returns-clause-starves g c =
     subst (λ (old : OpenConnection g.row.S.Denot). StarvesOnce g.S.Socket.received g.S.Socket.sent c.args.now old c.send.new.self) c.self.view_is
     (record {
       due = c.starve.new.self;
-      starved = c.starve.ensures;
+      starved = c.starve.ensures.starves;
       put = c.send.ensures.sends.put;
       took = c.send.ensures.sends.took;
       unread = c.send.ensures.sends.unread;

@@ -2,7 +2,7 @@ use Rattle.std.proofs.Common.{◌∙◌, ap, rules, sym}
 use Rattle.std.proofs.lemmas.Bool.{false≢true}
 use Rattle.registry_server.specs.Phases.{receives}
 use Rattle.registry_server.proofs.RemainderFacts.{little-answered, little-drained, little-received, little-sent, little-starved, little-turned}
-use Rattle.registry_server.proofs.VisitFacts.{visit-answered, visit-dropped, visit-received, visit-sent, visit-starved, visit-turned}
+use Rattle.registry_server.proofs.VisitFacts.{visit-answered, visit-dropped, visit-received, visit-sent, visit-starved, visit-turned, waits-for-more}
 use Rattle.registry_server.proofs.connection.Connection.visit.Goals as goal
 
 pub returns-in-Ok-Waits-clause-visits : goal.returns-in-Ok-Waits-clause-visits
@@ -15,7 +15,8 @@ returns-in-Ok-Broken-clause-visits g c =
 
 pub returns-in-Err-clause-visits : goal.returns-in-Err-clause-visits
 returns-in-Err-clause-visits g c =
-    visit-starved g.S.Socket.received g.S.Socket.sent g.D.Service.answers _ _ _ _ _ _ _ c.in-Err.ensures.lost c.in-Err.ensures.may c.in-Err.ensures.waits c.in-Err.ensures.receiving c.in-Err.ensures.idle c.in-Err.ensures.turning c.starve.ensures.starves
+    rw c.starve.ensures.service
+    (visit-starved g.S.Socket.received g.S.Socket.sent g.D.Service.answers _ _ _ _ _ _ _ c.in-Err.ensures.lost c.in-Err.ensures.may c.in-Err.ensures.waits c.in-Err.ensures.receiving c.in-Err.ensures.idle c.in-Err.ensures.turning c.starve.ensures.starves)
 
 pub returns-in-Next-clause-visits : goal.returns-in-Next-clause-visits
 returns-in-Next-clause-visits g c =
@@ -35,6 +36,9 @@ returns-in-Ok-Moved-clause-visits g c =
 
 pub returns-in-Ok-Waits-clause-rests : goal.returns-in-Ok-Waits-clause-rests
 returns-in-Ok-Waits-clause-rests g c rests next = absurd (false≢true (ap receives (sym next) ∙ c.in-Ok-Waits.ensures.quiet (search rules)))
+
+pub returns-in-Ok-Waits-clause-waits : goal.returns-in-Ok-Waits-clause-waits
+returns-in-Ok-Waits-clause-waits g c rests = waits-for-more _ _ _ c.in-Ok-Waits.ensures.stage (c.in-Ok-Waits.ensures.none (search rules))
 
 pub returns-in-Ok-Waits-clause-leaves : goal.returns-in-Ok-Waits-clause-leaves
 returns-in-Ok-Waits-clause-leaves g c = λ goes before. little-received _ c.receive.new.self (c.in-Ok-Waits.ensures.quiet (search rules))

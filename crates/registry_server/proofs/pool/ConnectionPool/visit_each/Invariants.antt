@@ -7,6 +7,6 @@ invariant-loop-place g l =
     let socket = g.S.Socket in
     let old = l.fn.self.places.items in
     record {
-      visited : VisitsAll socket.received socket.sent socket.must_wait socket.has_more socket.is_ended socket.is_broken g.D.Service.answers g.D.Service.over l.is_crowd l.now (length l.fn.buffer) (take l.place-index old) (take l.place-index l.place-items) l.fn.service l.service (g.C.Clock.readings l.fn.clock) (g.C.Clock.readings l.clock);
+      visited : VisitsAll socket.received socket.sent socket.has_none socket.is_full socket.has_more socket.is_ended socket.is_broken g.D.Service.answers g.D.Service.over l.is_crowd l.now (length l.fn.buffer) (take l.place-index old) (take l.place-index l.place-items) l.fn.service l.service (g.C.Clock.readings l.fn.clock) (g.C.Clock.readings l.clock);
       rest : drop l.place-index l.place-items ≡ drop l.place-index old;
     }

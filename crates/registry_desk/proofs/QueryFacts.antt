@@ -1,0 +1,82 @@
+-- A query for a packument that is answered as one text: its reply is the machine's, and changes
+-- nothing that is stored.
+use Rattle.std.proofs.Common.{◌≡◌, ◌∙◌, ℕ, false, List, [], Option, Some, Ok, Err, Result, IfOk, OnOk, IsTrue, refl, sym, ap, subst, subst₂}
+use Rattle.sqlite.proofs.StateLemmas.{survives_weaker}
+use Rattle.sqlite.specs.State.{State as Shown, HasCleanDisk}
+use Rattle.registry_names.specs.Texts.{Text}
+use Rattle.registry_packument.specs.Counted.{Takes}
+use Rattle.registry_packument.specs.declared.opener.Sent.{Sent}
+use Rattle.registry_packument.specs.declared.opener.Sent.TheVariants.{Whole}
+use Rattle.registry_rules.specs.Actions.{is_command}
+use Rattle.registry_rules.specs.State.{State}
+use Rattle.registry_rules.specs.declared.reply.Reply.{Reply}
+use Rattle.registry_rules.specs.declared.reply.Reply.TheVariants.{Doc}
+use Rattle.registry_rules.specs.declared.request.Action.{Action}
+use Rattle.registry_rules.specs.declared.request.Action.TheVariants.{Packument}
+use Rattle.registry_rules.specs.declared.request.Request.{Request}
+use Rattle.registry_tables.specs.Effects.{registry_in, stored}
+use Rattle.registry_history.specs.Answers.{answer, packument_in}
+use Rattle.registry_history.specs.Runs.{Outcome}
+use Rattle.registry_desk.specs.Promises.{Stepped, SurvivesOne, Unchanged}
+use Rattle.registry_desk.specs.Sending.{IsFrom, IsMadeOf, IsOrigin, IsShownBy, LeavesAll, ShowsAlone}
+use Rattle.registry_desk.specs.declared.sending.Origin.{Origin}
+use Rattle.registry_desk.specs.declared.sending.Origin.TheVariants as origin
+use Rattle.registry_desk.proofs.SendingFacts.{packument_from, query_settles, query_stays}
+
+-- ---- the text
+
+-- bytes into which a packument was sent whole, and nothing before it, are its text
+text_taken : (IsText : Text → Type 0) (old : Option (List ℕ)) (new : List ℕ) (sent : Sent) → sent ≡ Whole → old ≡ Some [] → Takes (λ _. []) IsText old (Some new) false sent → IsText new
+text_taken IsText old new sent whole empty takes =
+    let it : Takes (λ _. []) IsText (Some []) (Some new) false Whole = subst₂ (λ (o : Option (List ℕ)) (s : Sent). Takes (λ _. []) IsText o (Some new) false s) empty whole takes in
+    subst IsText (sym (it.1.1.told refl)) it.1.0
+
+pub taken_whole : {E : Type 0} (IsText : Text → Type 0) (old : Option (List ℕ)) (new : List ℕ) (sent : Sent) (result : Result Text E) → OnOk result (sent ≡ Whole)
+    → IfOk result (λ text. text ≡ new) → old ≡ Some [] → Takes (λ _. []) IsText old (Some new) false sent → IfOk result IsText
+taken_whole IsText old new sent (Ok text) whole is empty takes = subst IsText (sym is) (text_taken IsText old new sent whole empty takes)
+taken_whole IsText old new sent (Err fault) whole is empty takes = tt
+
+-- ---- the reply
+
+pub shown_is_from : (from : Origin) (S : State) (p : Text) → IsShownBy from S p → IsFrom from S p
+shown_is_from (origin.Refused why) S p shown = tt
+shown_is_from (origin.Kept text) S p shown = shown
+shown_is_from (origin.Stored head) S p shown = shown
+
+-- it is the machine's
+pub made_told : (given : Reply) (from : Origin) (S : State) (r : Request) (p : Text) → IsMadeOf given from S p → IsOrigin from S r p → given ≡ answer S r
+made_told given (origin.Refused why) S r p made is = made ∙ sym is
+made_told given (origin.Kept text) S r p made is = made ∙ sym is
+made_told given (origin.Stored head) S r p made is = made.1 ∙ ap Doc (packument_from S p head made.0 is.1 made.2) ∙ sym is.0
+
+-- it shows the packument of the package
+pub made_shows : (given : Reply) (from : Origin) (S : State) (p : Text) → IsMadeOf given from S p → IsFrom from S p → ShowsAlone S p given
+made_shows given (origin.Refused why) S p made is text h = cc
+made_shows given (origin.Kept found) S p made is text h =
+    let same : found ≡ text = cc in
+    sym same ∙ is
+made_shows given (origin.Stored head) S p made is text h =
+    let same : made.0 ≡ text = cc (made.1) in
+    sym same ∙ packument_from S p head made.0 is made.2
+
+-- ---- nothing that is stored is changed
+
+module _ (old new : Shown) (r : Request) (query : is_command r.what ≡ false) (left : LeavesAll old new) where
+  pub query_unchanged : (o : Outcome) → Unchanged old new r o
+  query_unchanged o clean on none = left.same clean on
+
+  pub query_steps : (o : Outcome) → Stepped old new r o
+  query_steps o sound clean on = left.same clean on ∙ sym (query_stays r query (stored old) o)
+
+  pub query_survives : SurvivesOne old new r
+  query_survives = survives_weaker old new _ _ (λ clean db it. (it.0, λ sound. (it.1.0, it.1.1 ∙ sym (query_settles r query (stored old))))) left.survives
+
+-- ---- what is kept of the reply
+
+named : (p q : Text) → Packument p ≡ Packument q → p ≡ q
+named p q e = cc
+
+pub alone_shows : (S T : State) (what : Action) (name : Text) (given : Reply) → T ≡ S → what ≡ Packument name → ShowsAlone S name given
+    → (p text : Text) → what ≡ Packument p → given ≡ Doc text → text ≡ packument_in T p
+alone_shows S T what name given same asks shows p text again h =
+    shows text h ∙ ap (packument_in S) (named name p (sym asks ∙ again)) ∙ ap (λ (U : State). packument_in U p) (sym same)

@@ -1,0 +1,372 @@
+-- What a packument that is sent comes to: it is a query that is answered, and leaves all as it was.
+use Rattle.std.proofs.Common.{◌≡◌, ◌⊎◌, ◌∙◌, ◌&&◌, arith, inl, inr, ℕ, Bool, true, false, if◌then◌else◌, List, [], map, Option, Some, None, Ok, Err, unwrap_or, IsTrue, refl, sym, ap, subst}
+use Rattle.sqlite.proofs.Callers.{survives_begin}
+use Rattle.sqlite.proofs.InsideLemmas.{keeps_then}
+use Rattle.sqlite.proofs.StateLemmas.{survives_then, survives_weaker}
+use Rattle.sqlite.specs.Effect.{Database}
+use Rattle.sqlite.specs.Held.{Held, state}
+use Rattle.sqlite.specs.State.{State as Shown, HasCleanDisk, IsRolledBack, KeepsCommit, Survives}
+use Rattle.sqlite_trees.specs.Tree.{Trees}
+use Rattle.sqlite_trees.specs.View.{doubt}
+use Rattle.sqlite_trees.specs.declared.store.Store.{Ghosts}
+use Rattle.registry_names.specs.Maps.{of, seen}
+use Rattle.registry_names.specs.Texts.{Text}
+use Rattle.registry_names.specs.declared.refusal.Refusal.{Refusal}
+use Rattle.registry_names.specs.declared.stop.Fault.{Fault}
+use Rattle.registry_names.proofs.ByteStreamFacts.{Writes-nothing}
+use Rattle.registry_cache.specs.Caches.{Cache, asked}
+use Rattle.registry_cache.proofs.CacheFacts.{kept-asked}
+use Rattle.registry_access.specs.declared.caller.Caller.{Caller}
+use Rattle.registry_packument.specs.Counted.{IsUnbroken, Takes}
+use Rattle.registry_packument.specs.Heads.{HeadParts}
+use Rattle.registry_packument.specs.Packuments.{pack_text}
+use Rattle.registry_packument.specs.declared.opener.Sent.{Sent}
+use Rattle.registry_packument.specs.declared.packument.VersionRow.{VersionRow}
+use Rattle.registry_packument.specs.declared.opener.Sent.TheVariants.{Refused, Whole, WriteFault, Broken}
+use Rattle.registry_rows.specs.Frames.{IsCommitted}
+use Rattle.registry_rows.specs.Ready.{Reads}
+use Rattle.registry_rules.specs.Actions.{is_command}
+use Rattle.registry_rules.specs.Callers.{caller_of}
+use Rattle.registry_rules.specs.Effects.{step}
+use Rattle.registry_rules.specs.Facts.{AboutTells}
+use Rattle.registry_rules.specs.Kept.{IsKept, IsSound}
+use Rattle.registry_rules.specs.Refusals.{refusal}
+use Rattle.registry_rules.specs.State.{State}
+use Rattle.registry_rules.specs.declared.facts.About.{About}
+use Rattle.registry_rules.specs.declared.reply.Reply.TheVariants as reply
+use Rattle.registry_rules.specs.declared.reply.Reply.TheVariants.{Doc}
+use Rattle.registry_rules.specs.declared.request.Action.{Action}
+use Rattle.registry_rules.specs.declared.request.Action.TheVariants.{Packument}
+use Rattle.registry_rules.specs.declared.request.Request.{Request}
+use Rattle.registry_tables.specs.Archives.{HoldsArchives}
+use Rattle.registry_tables.specs.Contents.{Contents, contents, live_of, registry_of}
+use Rattle.registry_tables.specs.Effects.{IsAsBefore, registry_in, stored}
+use Rattle.registry_tables.specs.Needs.{HoldsNeeds}
+use Rattle.registry_tables.specs.Schema.{schema}
+use Rattle.registry_tables.specs.Spelled.{document, row_entry}
+use Rattle.registry_tables.specs.Teams.{AreTeamsSound, GrantsInScope}
+use Rattle.registry_tables.specs.Walks.{IsLeftAlone}
+use Rattle.registry_history.specs.Answers as answers
+use Rattle.registry_history.specs.Answers.{answer, packument_in, reply_to}
+use Rattle.registry_history.specs.History.{Entry}
+use Rattle.registry_history.specs.Runs.{IsAnswer, Outcome, accepts, enters, entered, grown, next}
+use Rattle.registry_history.specs.Says.{Says}
+use Rattle.registry_history.proofs.RunFacts.{history_says}
+use Rattle.registry_hidden.specs.Laws.{RepliesAreAlike}
+use Rattle.registry_desk.specs.Caches.{HasPackuments, KeepsNoMore}
+use Rattle.registry_desk.specs.Lives.{HasAnswered}
+use Rattle.registry_desk.specs.Promises.{Answered, HoldsReferences, HoldsSoundFor, Served}
+use Rattle.registry_desk.specs.Resting.{IsRegistryOf, Rests, next_stored, settled_by, stepped}
+use Rattle.registry_desk.specs.Sending.{AnswersAsApply, IsOrigin, IsShownBy, LeavesAll, MayAnswer, Sends, SentAreAsked, answers_as_apply, head_in, versions_in}
+use Rattle.registry_desk.specs.declared.sending.Origin.{Origin}
+use Rattle.registry_desk.specs.declared.sending.Origin.TheVariants as origin
+use Rattle.registry_desk.proofs.AnswerFacts.{unrefused, versions_are}
+use Rattle.registry_desk.proofs.CacheFacts.{right_unchanged}
+use Rattle.registry_desk.proofs.CommitFacts.{commit_rests, ready_again, registry_left, rests_sure, undone_open, undone_rests, undone_stored}
+use Rattle.registry_desk.proofs.SettlingFacts.{settled_next}
+use Rattle.registry_desk.proofs.StoredFacts.{refers_for_one}
+
+-- ---- reading, where a part may need no statement
+
+pub before_reads : (a b c : Shown) → IsAsBefore a b → Reads schema b c → Reads schema a c
+before_reads a b c before reads = record {
+  was_open = before.committed.was_open reads.was_open;
+  ready = reads.ready;
+  same = reads.same ∙ before.same;
+  mode = reads.mode ∙ before.mode;
+  committed = keeps_then a b c before.committed reads.committed;
+}
+
+pub reads_before : (a b c : Shown) → Reads schema a b → IsAsBefore b c → Reads schema a c
+reads_before a b c reads before = record {
+  was_open = reads.was_open;
+  ready = before.ready reads.ready;
+  same = before.same ∙ reads.same;
+  mode = before.mode ∙ reads.mode;
+  committed = keeps_then a b c reads.committed before.committed;
+}
+
+-- ---- what a packument comes from
+
+-- what was found of the package decides the query
+pub asked_tells : (was one : Shown) → one.now ≡ was.now → (about : About) (who : Caller) (what : Action) (p : Text) → what ≡ Packument p
+    → (AreTeamsSound (stored one) → AboutTells about (registry_in one) who (Packument p)) → AreTeamsSound (stored was) → AboutTells about (registry_in was) who what
+asked_tells was one same about who what p asks told sound =
+    subst (λ (w : Action). AboutTells about (registry_in was) who w) (sym asks)
+    (subst (λ (d : Database). AboutTells about (registry_of (contents d.trees)) who (Packument p)) same (told (subst (λ (d : Database). AreTeamsSound (contents d.trees)) (sym same) sound)))
+
+-- the answer to a query that nothing refuses
+pub packument_answer : (S : State) (r : Request) (p : Text) (who : Caller) → r.what ≡ Packument p → refusal S r ≡ None → Some who ≡ caller_of S r.who → answer S r ≡ Doc (packument_in S p)
+packument_answer S r p who asks none known =
+    unrefused S r none ∙ ap (λ (o : Option Caller). reply_to S o r.what) (sym known) ∙ ap (answers.reply S who) asks
+
+pub origin_is : (from : Origin) (S : State) (r : Request) (p : Text) → answer S r ≡ Doc (packument_in S p) → IsShownBy from S p → IsOrigin from S r p
+origin_is (origin.Refused why) S r p told shown = absurd shown
+origin_is (origin.Kept text) S r p told shown = told ∙ ap Doc (sym shown)
+origin_is (origin.Stored head) S r p told shown = (told, shown)
+
+-- the text that is made of what is stored is the packument
+pub packument_from : (S : State) (p : Text) (head : HeadParts) (text : Text) → head ≡ head_in S p → pack_text head (versions_in S p) ≡ Some text → text ≡ packument_in S p
+packument_from S p head text is written =
+    sym (ap (λ (o : Option Text). unwrap_or o []) (ap (λ (h : HeadParts). pack_text h (versions_in S p)) (sym is) ∙ written))
+
+-- ---- a query enters nothing
+
+module _ (r : Request) (query : is_command r.what ≡ false) where
+  never_enters : (o : Outcome) → enters r o ≡ false
+  never_enters o = ap (λ b. b && accepts o) query
+
+  pub query_stays : (c : Contents) (o : Outcome) → next_stored r o c ≡ c
+  query_stays c o = ap (λ b. if b then stepped r c else c) (never_enters o)
+
+  query_next : (S : State) (o : Outcome) → next S r o ≡ S
+  query_next S o = ap (λ b. if b then step S r else S) (never_enters o)
+
+  query_grown : (h : List Entry) (S : State) (o : Outcome) → grown h S r o ≡ h
+  query_grown h S o = ap (λ b. if b then entered (caller_of S r.who) r h else h) (never_enters o)
+
+  pub query_settles : (c : Contents) → settled_by r c ≡ c
+  query_settles c = settled_next c r (answer (registry_of c) r) refl ∙ query_stays c (Ok (answer (registry_of c) r))
+
+same_answer : (S T : State) (r : Request) (o : Outcome) → answer S r ≡ answer T r → IsAnswer S r o → IsAnswer T r o
+same_answer S T r (Ok a) same is = is ∙ same
+same_answer S T r (Err f) same is = tt
+
+-- a query that leaves all that was stored is answered as `apply` answers it
+module _ {S : Type 0} (store : Ghosts S) (old : Shown) (h : Held S) (settled : (db : Trees) → IsTrue (state store h).is_open → (state store h).may_leave db → db ≡ (state store h).committed.trees)
+    (replies : RepliesAreAlike) (r : Request) (query : is_command r.what ≡ false) (left : LeavesAll old (state store h)) where
+  pub answered_as : (o : Outcome) → Answered old (state store h) r o → Served old (state store h) o → AnswersAsApply old (state store h) r o
+  answered_as o told served =
+      let new = state store h in
+      let state_stays = λ (clean : HasCleanDisk new) (on : IsTrue new.is_open). ap registry_of (left.same clean on) in
+      record {
+        answer = told;
+        served = served;
+        opened = left.opened;
+        unchanged = λ clean on none. left.same clean on;
+        step = λ sound clean on. left.same clean on ∙ sym (query_stays r query (stored old) o);
+        moves = λ sound clean on. state_stays clean on ∙ sym (query_next r query (registry_in old) o);
+        history = λ needs clean on g legal is.
+            subst (λ (k : List Entry). Says k (registry_in new)) (sym (query_grown r query g (registry_in old) o))
+            (subst (Says g) (sym is ∙ sym (state_stays clean on)) (history_says g legal));
+        hidden = λ needs clean g legal is p stranger quiet.
+            let refers = subst (λ (T : State). IsSound T.access) (sym is) (history_says g legal).sound in
+            same_answer _ _ r o (replies g p r legal stranger quiet) (subst (λ (T : State). IsAnswer T r o) is (told (refers_for_one r old refers needs) clean));
+        grants = λ sound clean on holds. subst GrantsInScope (sym (left.same clean on)) holds;
+        needs = λ sound clean on holds. subst HoldsNeeds (sym (left.same clean on)) holds;
+        refers = λ sound clean on holds. subst HoldsReferences (sym (left.same clean on)) holds;
+        archives = λ sound clean on holds. subst HoldsArchives (sym (left.same clean on)) holds;
+        form = λ needs clean on kept. subst IsKept (sym (state_stays clean on)) kept;
+        survives = survives_weaker old new _ _ (λ clean db it. (it.0, λ sound. (it.1.0, it.1.1 ∙ sym (query_settles r query (stored old))))) left.survives;
+        stays = λ clean on. rests_sure store h (λ db. settled db on) left.rests clean on;
+      }
+
+-- ---- walks, after a query
+
+module _ (mid new : Shown) (rests : Rests mid) (left : IsLeftAlone mid new) where
+  clean_before : HasCleanDisk new → HasCleanDisk mid
+  clean_before clean = omega (arith, left.survives.clean, clean)
+
+  seen_again : HasCleanDisk new → IsTrue new.is_open → new.now ≡ mid.now
+  seen_again clean on = left.same clean on (rests.settled (clean_before clean) (left.opened clean on))
+
+  pub walk_stored : HasCleanDisk new → IsTrue new.is_open → stored new ≡ stored mid
+  walk_stored clean on = ap (λ (d : Database). contents d.trees) (seen_again clean on)
+
+  pub walk_rests : Rests new
+  walk_rests = record {
+    idle = left.idle rests.idle;
+    in_form = λ clean on. ready_again mid new (seen_again clean on) (rests.in_form (clean_before clean) (left.opened clean on));
+    settled = λ clean on. seen_again clean on ∙ rests.settled (clean_before clean) (left.opened clean on) ∙ sym (left.committed clean on);
+  }
+
+  pub walk_leaves : (old : Shown) → LeavesAll old mid → LeavesAll old new
+  walk_leaves old all = record {
+    rests = walk_rests;
+    opened = λ clean on. all.opened (clean_before clean) (left.opened clean on);
+    same = λ clean on. walk_stored clean on ∙ all.same (clean_before clean) (left.opened clean on);
+    survives = survives_then old mid new _ _ _ (λ _ _ it. it) (λ _ _ none. absurd none) all.survives left.survives;
+  }
+
+-- ---- how it was sent
+
+sends_by : {D : Type 0} (A : D → Request → Outcome → D → Type 0) (opens : ℕ → List ℕ) (M N : D) (r : Request) (a b : Option (List ℕ)) (s : Bool) (IsText : Text → Type 0) (sent : Sent)
+    → (IsUnbroken sent → (text : Text) → IsText text → A M r (Ok (Doc text)) N) → ((fault : Fault) → A M r (Err fault) N) → ((text : Text) → IsText text → MayAnswer A M r text)
+    → Takes opens IsText a b s sent → Sends A opens M r sent N a b s
+sends_by A opens M N r a b s IsText (Refused why) whole fails may takes = absurd takes
+sends_by A opens M N r a b s IsText Whole whole fails may takes = (takes.0, whole tt takes.0 takes.1.0, takes.1.1)
+sends_by A opens M N r a b s IsText WriteFault whole fails may takes = (takes.0, whole tt takes.0 takes.1.0, takes.1.1)
+sends_by A opens M N r a b s IsText (Broken fault false) whole fails may takes = (fails fault, takes)
+sends_by A opens M N r a b s IsText (Broken fault true) whole fails may takes = (fails fault, (takes.0, may takes.0 takes.1.0, takes.1.1))
+
+is_clean : (b : Bool) → (doubt b ≡ 0) ⊎ (doubt b ≡ 0 → ⊥)
+unfolding doubt
+is_clean true = inl refl
+is_clean false = inr (λ e. absurd (omega (arith, e)))
+
+module _ {S : Type 0} (store : Ghosts S) (settled : (h : Held S) (db : Trees) → IsTrue (state store h).is_open → (state store h).may_leave db → db ≡ (state store h).committed.trees)
+    (replies : RepliesAreAlike) (opens : ℕ → List ℕ) (M mid : Held S) (r : Request) (p : Text) (asks : r.what ≡ Packument p) (all : LeavesAll (state store M) (state store mid)) where
+  query : is_command r.what ≡ false
+  query = ap is_command asks
+
+  on_both : (HasCleanDisk (state store mid) → IsTrue (state store mid).is_open) → HasCleanDisk (state store mid) → IsTrue (state store M).is_open × IsTrue (state store mid).is_open
+  on_both open_still clean = (all.opened clean (open_still clean), open_still clean)
+
+  pub fault_sends : (fault : Fault) (a : Option (List ℕ)) (s : Bool) → Sends (answers_as_apply store) opens M r (Broken fault false) mid a a s
+  fault_sends fault a s = (answered_as store (state store M) mid (settled mid) replies r query all (Err fault) (λ _ _. tt) (λ _. tt), Writes-nothing a s)
+
+  module _ (open_still : HasCleanDisk (state store mid) → IsTrue (state store mid).is_open) where
+    pub refused_sends : (why : Refusal) → (HoldsSoundFor r (state store M) → HasCleanDisk (state store mid) → answer (registry_in (state store M)) r ≡ reply.Refused why) → (a : Option (List ℕ)) (s : Bool)
+        → Sends (answers_as_apply store) opens M r (Refused why) mid a a s
+    refused_sends why told a s =
+        (answered_as store (state store M) mid (settled mid) replies r query all (Ok (reply.Refused why)) (λ sound clean. sym (told sound clean)) (λ clean. on_both open_still clean), Writes-nothing a s)
+
+    -- a document, which the registry answers
+    as_document : (text : Text) → (HoldsSoundFor r (state store M) → HasCleanDisk (state store mid) → Doc text ≡ answer (registry_in (state store M)) r) → answers_as_apply store M r (Ok (Doc text)) mid
+    as_document text told = answered_as store (state store M) mid (settled mid) replies r query all (Ok (Doc text)) told (λ clean. on_both open_still clean)
+
+    pub kept_sends : (text : Text) → (HoldsSoundFor r (state store M) → HasCleanDisk (state store mid) → answer (registry_in (state store M)) r ≡ Doc text) → (a b : Option (List ℕ)) (s : Bool) (sent : Sent)
+        → Takes opens (λ bytes. bytes ≡ text) a b s sent → Sends (answers_as_apply store) opens M r sent mid a b s
+    kept_sends text told a b s sent takes =
+        let whole = λ (bytes : Text) (is : bytes ≡ text). as_document bytes (λ sound clean. ap Doc is ∙ sym (told sound clean)) in
+        sends_by (answers_as_apply store) opens M mid r a b s (λ bytes. bytes ≡ text) sent (λ _. whole)
+        (λ fault. answered_as store (state store M) mid (settled mid) replies r query all (Err fault) (λ _ _. tt) (λ _. tt)) (λ bytes is. (mid, whole bytes is)) takes
+
+    module _ (head : HeadParts) (told : HoldsSoundFor r (state store M) → HasCleanDisk (state store mid) → (answer (registry_in (state store M)) r ≡ Doc (packument_in (registry_in (state store M)) p)) × (head ≡ head_in (registry_in (state store M)) p)) where
+      -- the text that is made of what is stored is the answer
+      made : (text : Text) → pack_text head (versions_in (registry_in (state store mid)) p) ≡ Some text → HoldsSoundFor r (state store M) → HasCleanDisk (state store mid) → Doc text ≡ answer (registry_in (state store M)) r
+      made text written sound clean =
+          let it = told sound clean in
+          let stays : registry_in (state store mid) ≡ registry_in (state store M) = ap registry_of (all.same clean (open_still clean)) in
+          ap Doc (packument_from (registry_in (state store M)) p head text it.1 (subst (λ (T : State). pack_text head (versions_in T p) ≡ Some text) stays written)) ∙ sym it.0
+
+      pub stored_sends : (N : Held S) → IsLeftAlone (state store mid) (state store N) → (a b : Option (List ℕ)) (s : Bool) (sent : Sent)
+          → (HasCleanDisk (state store N) → IsUnbroken sent → IsTrue (state store N).is_open)
+          → Takes opens (λ text. HasCleanDisk (state store N) → pack_text head (versions_in (registry_in (state store mid)) p) ≡ Some text) a b s sent
+          → Sends (answers_as_apply store) opens M r sent N a b s
+      stored_sends N left a b s sent unshut takes =
+          let whole = walk_leaves (state store mid) (state store N) all.rests left (state store M) all in
+          let before = λ (clean : HasCleanDisk (state store N)). clean_before (state store mid) (state store N) all.rests left clean in
+          sends_by (answers_as_apply store) opens M N r a b s (λ text. HasCleanDisk (state store N) → pack_text head (versions_in (registry_in (state store mid)) p) ≡ Some text) sent
+          (λ unbroken text written. answered_as store (state store M) N (settled N) replies r query whole (Ok (Doc text)) (λ sound clean. made text (written clean) sound (before clean))
+          (λ clean. (whole.opened clean (unshut clean unbroken), unshut clean unbroken)))
+          (λ fault. answered_as store (state store M) N (settled N) replies r query whole (Err fault) (λ _ _. tt) (λ _. tt))
+          (λ text written. elim (is_clean (state store N).is_clean) [
+            | inl clean ↦ (mid, as_document text (λ sound were. made text (written clean) sound were))
+            | inr unclean ↦ (N, answered_as store (state store M) N (settled N) replies r query whole (Ok (Doc text)) (λ sound clean. absurd (unclean clean)) (λ clean. absurd (unclean clean)))
+          ])
+          takes
+
+-- ---- a query in a transaction of its own
+
+module _ {S : Type 0} (store : Ghosts S) (old : Held S) (mid new : Shown) (rests : Rests (state store old)) (ended : new.in_transaction ≡ false) where
+  abbrev pub begun : Shown
+  begun = state store (record old { in_transaction = true })
+
+  module _ (reads : HasCleanDisk mid → Reads schema begun mid) (first : Survives begun mid (λ _. ⊥)) (last : Survives mid new (λ db. db ≡ mid.now.trees)) where
+    were : HasCleanDisk new → HasCleanDisk mid
+    were clean = omega (arith, last.clean, clean)
+
+    -- a crash leaves what was stored
+    read_survives : Survives (state store old) new (λ db. IsTrue (state store old).is_open × IsRegistryOf db (stored (state store old)))
+    read_survives =
+        survives_then (state store old) mid new _ _ _ (λ _ _ none. absurd none)
+        (λ clean db is.
+        let it = reads (were clean) in
+        (it.was_open, registry_left mid db _ it.ready is (ap (λ (d : Database). contents d.trees) it.same)))
+        (survives_begin store old mid _ first) last
+
+    -- it was committed
+    pub committed_all : (HasCleanDisk new → IsCommitted mid new) → LeavesAll (state store old) new
+    committed_all ok = record {
+      rests = commit_rests (stored mid) mid new ended (λ clean. let it = reads (were clean) in record { holds = refl; ready = it.ready; mode = it.mode }) (λ clean. (ok clean).1);
+      opened = λ clean on. (reads (were clean)).was_open;
+      same = λ clean on. ap (λ (d : Database). contents d.trees) ((ok clean).1.now_is ∙ (reads (were clean)).same);
+      survives = read_survives;
+    }
+
+    -- it couldn't be committed
+    pub uncommitted_all : (HasCleanDisk new → IsRolledBack mid new) → LeavesAll (state store old) new
+    uncommitted_all back =
+        let before = λ (clean : HasCleanDisk new). (let clean_old : HasCleanDisk (state store old) = omega (arith, first.clean, were clean) in clean_old) in
+        let keeps = λ (clean : HasCleanDisk new). (let k = (reads (were clean)).committed in let whole : KeepsCommit (state store old) mid = record { was_open = k.was_open; committed = k.committed } in whole) in
+        record {
+          rests = undone_rests (state store old) mid new rests ended (λ clean. (before clean, keeps clean, back clean));
+          opened = λ clean on. undone_open (state store old) mid new (keeps clean) (back clean) on;
+          same = λ clean on. undone_stored (state store old) mid new rests (before clean) (keeps clean) (back clean) on;
+          survives = read_survives;
+        }
+
+-- it was broken off
+pub dropped_all : {S : Type 0} (store : Ghosts S) (old : Held S) (mid new : Shown) → Rests (state store old) → new.in_transaction ≡ false
+    → Survives (state store (record old { in_transaction = true })) mid (λ _. ⊥) → (HasCleanDisk mid → KeepsCommit (state store old) mid) → Survives mid new (λ _. ⊥) → (HasCleanDisk new → IsRolledBack mid new)
+    → LeavesAll (state store old) new
+dropped_all store old mid new rests ended first keeps last back =
+    let were = λ (clean : HasCleanDisk new). (let clean_mid : HasCleanDisk mid = omega (arith, last.clean, clean) in clean_mid) in
+    let before = λ (clean : HasCleanDisk new). (let clean_old : HasCleanDisk (state store old) = omega (arith, first.clean, were clean) in clean_old) in
+    record {
+      rests = undone_rests (state store old) mid new rests ended (λ clean. (before clean, keeps (were clean), back clean));
+      opened = λ clean on. undone_open (state store old) mid new (keeps (were clean)) (back clean) on;
+      same = λ clean on. undone_stored (state store old) mid new rests (before clean) (keeps (were clean)) (back clean) on;
+      survives = survives_then (state store old) mid new _ _ _ (λ _ _ none. absurd none) (λ _ _ none. absurd none) (survives_begin store old mid _ first) last;
+    }
+
+-- ---- the texts that are kept
+
+-- what was kept is the packument of what is still stored
+pub right_left : (old new : Shown) (was is_now : Cache) → LeavesAll old new → KeepsNoMore was is_now → HasPackuments old was → HasPackuments new is_now
+right_left old new was is_now left keeps right =
+    right_unchanged old new was is_now (λ clean on. (omega (arith, left.survives.clean, clean), left.opened clean on, left.same clean on)) keeps right
+
+-- a text that is asked for is the latest asked, and nothing else is kept than was
+pub asked_no_more : (s : Cache) (name : Text) → KeepsNoMore s (asked s name)
+asked_no_more s name = record { limit = refl; before = λ p text h. sym (kept-asked s name p) ∙ h }
+
+-- ---- what was written of a walk, where its text is known only as long as the disk is clean
+
+-- of an unclean disk it is some text of the counted length
+pub takes_as : (opens : ℕ → List ℕ) (IsText IsSo : Text → Type 0) (a b : Option (List ℕ)) (s : Bool) (sent : Sent)
+    → ((text : Text) → IsText text → IsSo text) → Takes opens IsText a b s sent → Takes opens IsSo a b s sent
+takes_as opens IsText IsSo a b s (Refused why) so takes = takes
+takes_as opens IsText IsSo a b s Whole so takes = (takes.0, (so takes.0 takes.1.0, takes.1.1))
+takes_as opens IsText IsSo a b s WriteFault so takes = (takes.0, (so takes.0 takes.1.0, takes.1.1))
+takes_as opens IsText IsSo a b s (Broken fault false) so takes = takes
+takes_as opens IsText IsSo a b s (Broken fault true) so takes = (takes.0, (so takes.0 takes.1.0, takes.1.1))
+
+pub takes_if_clean : (opens : ℕ → List ℕ) (known framed : Text → Type 0) (shows : Shown) (a b : Option (List ℕ)) (s : Bool) (sent : Sent)
+    → (HasCleanDisk shows → Takes opens known a b s sent) → Takes opens framed a b s sent → Takes opens (λ text. HasCleanDisk shows → known text) a b s sent
+takes_if_clean opens known framed shows a b s sent takes frames = elim (is_clean shows.is_clean) [
+  | inl clean ↦ takes_as opens known (λ text. HasCleanDisk shows → known text) a b s sent (λ text is _. is) (takes clean)
+  | inr unclean ↦ takes_as opens framed (λ text. HasCleanDisk shows → known text) a b s sent (λ text _ clean. absurd (unclean clean)) frames
+]
+
+-- ---- the rows of a walk
+
+-- those that a walk has left at first are the versions of the package
+pub walk_rows : (s : Shown) (p : Text) (rows : List VersionRow) → map row_entry rows ≡ map (seen document) (of (live_of (stored s)) p) → rows ≡ versions_in (registry_in s) p
+walk_rows s p rows e = versions_are (registry_in s) p rows e
+
+-- ---- a packument that was sent was asked
+
+asked_as : (old new : Shown) (r : Request) (o : Outcome) → AnswersAsApply old new r o → HasAnswered old new r o
+asked_as old new r o a = record {
+  answer = a.answer;
+  served = a.served;
+  opened = a.opened;
+  step = a.step;
+  moves = a.moves;
+  grants = a.grants;
+  needs = a.needs;
+  refers = a.refers;
+  archives = a.archives;
+  form = a.form;
+  survives = a.survives;
+  stays = a.stays;
+}
+
+pub sent_are_asked : {S : Type 0} (store : Ghosts S) → SentAreAsked store
+sent_are_asked store opens M N r (Refused why) a b s it = (Ok (reply.Refused why), asked_as _ _ r _ it.0)
+sent_are_asked store opens M N r Whole a b s it = (Ok (Doc it.0), asked_as _ _ r _ it.1)
+sent_are_asked store opens M N r WriteFault a b s it = (Ok (Doc it.0), asked_as _ _ r _ it.1)
+sent_are_asked store opens M N r (Broken fault false) a b s it = (Err fault, asked_as _ _ r _ it.0)
+sent_are_asked store opens M N r (Broken fault true) a b s it = (Err fault, asked_as _ _ r _ it.0)

@@ -1,0 +1,102 @@
+use Rattle.std.proofs.Common.{◌≡◌, ◌∙◌, arith, subst, sym, Some, None}
+use Rattle.std.proofs.lemmas.Result.{IfOk-weaker}
+use Rattle.sqlite.specs.Effect.{Database}
+use Rattle.sqlite.specs.State.{HasCleanDisk}
+use Rattle.registry_names.specs.declared.refusal.Refusal.TheVariants.{NoCaller}
+use Rattle.registry_rules.specs.Callers.{caller_of}
+use Rattle.registry_rules.specs.Facts.{AboutTells}
+use Rattle.registry_rules.specs.Refusals.{refusal}
+use Rattle.registry_tables.specs.Contents.{contents, registry_of}
+use Rattle.registry_tables.specs.Effects.{shown, stored_in}
+use Rattle.registry_desk.specs.Caches.{ArePackuments}
+use Rattle.registry_desk.specs.Sending.{IsShownBy}
+use Rattle.registry_desk.proofs.AnswerFacts.{known_stands, nobody_is_refused, refused}
+use Rattle.registry_desk.proofs.QueryFacts.{shown_is_from}
+use Rattle.registry_desk.proofs.SendingFacts.{asked_tells, before_reads, origin_is, packument_answer, reads_before}
+use Rattle.registry_desk.proofs.sending.find_origin.Goals as goal
+
+pub seen_package-requires : goal.seen_package-requires
+seen_package-requires g c = record {
+  in_form = λ clean on.
+      let before = (c.in_ok-caller.ensures.knows clean).0 in
+      before.ready (c.requires.in_form (omega (arith, c.load_caller.ensures.stays.survives.clean, clean)) (before.committed.was_open on));
+}
+
+pub shown_from-requires : goal.shown_from-requires
+shown_from-requires g c = record { in_form = λ clean on. (c.in_ok-about.ensures.packument clean).0.ready }
+
+-- ---- nobody asks
+
+pub returns-in_default-clause-loads : goal.returns-in_default-clause-loads
+returns-in_default-clause-loads g c clean =
+    let S = registry_of (stored_in g.S.Store c.args.tx.now) in
+    let it = c.in_ok-caller.ensures.knows clean in
+    (c.in_ok-caller.ensures.nobody clean c.in_default.is, λ sound right. refused S c.args.request.now NoCaller (nobody_is_refused S c.args.request.now (sym c.in_default.is ∙ it.1)))
+
+-- ---- the policy refuses it, or not
+
+pub returns-in-Some-refusal_of-clause-loads : goal.returns-in-Some-refusal_of-clause-loads
+returns-in-Some-refusal_of-clause-loads g c clean =
+    let was = shown g.S.Store c.args.tx.now in
+    let one = shown g.S.Store c.load_caller.new.tx in
+    let new = shown g.S.Store c.seen_package.new.tx in
+    let r = c.args.request.now in
+    let S = registry_of (contents was.now.trees) in
+    let were : HasCleanDisk one = omega (arith, c.seen_package.ensures.stays.survives.clean, clean) in
+    let before = c.in_ok-caller.ensures.knows were in
+    let about = c.in_ok-about.ensures.packument clean in
+    let known : Some c.in-Some.caller ≡ caller_of S r.who = sym c.in-Some.is ∙ before.1 in (
+      before_reads was one new before.0 about.0,
+      λ sound right.
+          let tells : AboutTells c.in_ok-about.about S c.in-Some.caller r.what = asked_tells was one before.0.same c.in_ok-about.about c.in-Some.caller r.what c.args.name.now c.requires.asks about.1 sound in
+          refused S r c.in-Some-refusal_of.refusal (sym (c.refusal_of.ensures S (known_stands S c.in-Some.caller c.in_ok-about.about r known tells)) ∙ c.in-Some-refusal_of.is),
+    )
+
+pub returns-clause-loads : goal.returns-clause-loads
+returns-clause-loads g c clean =
+    let was = shown g.S.Store c.args.tx.now in
+    let one = shown g.S.Store c.load_caller.new.tx in
+    let mid = shown g.S.Store c.seen_package.new.tx in
+    let new = shown g.S.Store c.shown_from.new.tx in
+    let r = c.args.request.now in
+    let p = c.args.name.now in
+    let S = registry_of (contents was.now.trees) in
+    let clean_mid : HasCleanDisk mid = omega (arith, c.shown_from.ensures.stays.survives.clean, clean) in
+    let were : HasCleanDisk one = omega (arith, c.seen_package.ensures.stays.survives.clean, clean_mid) in
+    let before = c.in_ok-caller.ensures.knows were in
+    let about = c.in_ok-about.ensures.packument clean_mid in
+    let known : Some c.in-Some.caller ≡ caller_of S r.who = sym c.in-Some.is ∙ before.1 in
+    let reads = before_reads was one mid before.0 about.0 in
+    IfOk-weaker c.shown_from.result _ _
+    (λ from it. (
+      reads_before was mid new reads it.0,
+      λ sound right.
+          let tells : AboutTells c.in_ok-about.about S c.in-Some.caller r.what = asked_tells was one before.0.same c.in_ok-about.about c.in-Some.caller r.what p c.requires.asks about.1 sound in
+          let none : refusal S r ≡ None = sym (c.refusal_of.ensures S (known_stands S c.in-Some.caller c.in_ok-about.about r known tells)) ∙ c.in-None.is in
+          origin_is from S r p (packument_answer S r p c.in-Some.caller c.requires.asks none known)
+          (subst (λ (d : Database). IsShownBy from (registry_of (contents d.trees)) p) reads.same (it.1 (subst (λ (d : Database). ArePackuments (contents d.trees) c.args.cache.now) (sym reads.same) right))),
+    ))
+    (c.shown_from.ensures.knows clean)
+
+-- ---- what it comes from, whatever is granted
+
+pub returns-in_default-clause-shows : goal.returns-in_default-clause-shows
+returns-in_default-clause-shows g c clean are = tt
+
+pub returns-in-Some-refusal_of-clause-shows : goal.returns-in-Some-refusal_of-clause-shows
+returns-in-Some-refusal_of-clause-shows g c clean are = tt
+
+pub returns-clause-shows : goal.returns-clause-shows
+returns-clause-shows g c clean =
+    let was = shown g.S.Store c.args.tx.now in
+    let one = shown g.S.Store c.load_caller.new.tx in
+    let mid = shown g.S.Store c.seen_package.new.tx in
+    let new = shown g.S.Store c.shown_from.new.tx in
+    let p = c.args.name.now in
+    let clean_mid : HasCleanDisk mid = omega (arith, c.shown_from.ensures.stays.survives.clean, clean) in
+    let were : HasCleanDisk one = omega (arith, c.seen_package.ensures.stays.survives.clean, clean_mid) in
+    let reads = before_reads was one mid (c.in_ok-caller.ensures.knows were).0 (c.in_ok-about.ensures.packument clean_mid).0 in
+    IfOk-weaker c.shown_from.result _ _
+    (λ from it are. shown_is_from from (registry_of (contents was.now.trees)) p
+    (subst (λ (d : Database). IsShownBy from (registry_of (contents d.trees)) p) reads.same (it.1 (subst (λ (d : Database). ArePackuments (contents d.trees) c.args.cache.now) (sym reads.same) are))))
+    (c.shown_from.ensures.knows clean)

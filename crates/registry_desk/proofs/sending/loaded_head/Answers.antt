@@ -1,0 +1,48 @@
+use Rattle.std.proofs.Common.{◌∙◌, arith, ap, subst, sym, map}
+use Rattle.std.proofs.lemmas.Result.{IfOk-weaker}
+use Rattle.sqlite.specs.Effect.{Database}
+use Rattle.sqlite.specs.State.{HasCleanDisk}
+use Rattle.registry_names.specs.Maps.{of, seen}
+use Rattle.registry_rows.proofs.QuietFacts.{stays_then, reads_then}
+use Rattle.registry_tables.specs.Contents.{contents, live_of, registry_of}
+use Rattle.registry_tables.specs.Effects.{shown}
+use Rattle.registry_tables.specs.Schema.{schema}
+use Rattle.registry_tables.specs.Spelled.{published}
+use Rattle.registry_desk.specs.Found.{AreTimesOf}
+use Rattle.registry_desk.proofs.LoadedFacts.{three_stay}
+use Rattle.registry_desk.proofs.sending.loaded_head.Goals as goal
+
+pub load_times-requires : goal.load_times-requires
+load_times-requires g c = record { in_form = λ clean on. (c.in_ok-tags.ensures.loads clean).0.ready }
+
+pub pack_times-requires : goal.pack_times-requires
+pack_times-requires g c = record { in_form = λ clean on. (c.in_ok-live.ensures.loads clean).0.ready }
+
+pub returns-in_err-live-clause-stays : goal.returns-in_err-live-clause-stays
+returns-in_err-live-clause-stays g c = stays_then g.S.Store c.args.tx.now c.load_tags.new.tx c.load_times.new.tx c.load_tags.ensures.stays c.load_times.ensures.stays
+
+pub returns-in_err-times-clause-stays : goal.returns-in_err-times-clause-stays
+returns-in_err-times-clause-stays g c =
+    three_stay g.S.Store c.args.tx.now c.load_tags.new.tx c.load_times.new.tx c.pack_times.new.tx c.load_tags.ensures.stays c.load_times.ensures.stays c.pack_times.ensures.stays
+
+pub returns-clause-stays : goal.returns-clause-stays
+returns-clause-stays g c =
+    three_stay g.S.Store c.args.tx.now c.load_tags.new.tx c.load_times.new.tx c.pack_times.new.tx c.load_tags.ensures.stays c.load_times.ensures.stays c.pack_times.ensures.stays
+
+pub returns-clause-loads : goal.returns-clause-loads
+returns-clause-loads g c clean =
+    let was = shown g.S.Store c.args.tx.now in
+    let one = shown g.S.Store c.load_tags.new.tx in
+    let two = shown g.S.Store c.load_times.new.tx in
+    let clean_two : HasCleanDisk two = omega (arith, c.pack_times.ensures.stays.survives.clean, clean) in
+    let clean_one : HasCleanDisk one = omega (arith, c.load_times.ensures.stays.survives.clean, clean_two) in
+    let tags = c.in_ok-tags.ensures.loads clean_one in
+    let live = c.in_ok-live.ensures.loads clean_two in
+    let times = c.in_ok-times.ensures.loads clean in
+    let to_two = reads_then schema was one two tags.0 live.0 in
+    let S = registry_of (contents was.now.trees) in
+    let timed = subst (λ (d : Database). AreTimesOf c.in_ok-times.times (registry_of (contents d.trees)) c.args.name.now) to_two.same
+    (times.1 (live.1 ∙ ap (λ (d : Database). map (seen published) (of (live_of (contents d.trees)) c.args.name.now)) (tags.0.same ∙ sym to_two.same))) in
+    IfOk-weaker c.head_of.result _ _
+    (λ head is. (reads_then schema was two (shown g.S.Store c.pack_times.new.tx) to_two times.0, is S tags.1 timed))
+    c.head_of.ensures

@@ -1,0 +1,46 @@
+use Rattle.std.proofs.Common.{◌≡◌, arith, ap, sym, subst, Some}
+use Rattle.sqlite.specs.Held.{state}
+use Rattle.sqlite.specs.State.{HasCleanDisk}
+use Rattle.registry_names.proofs.ByteStreamFacts.{Writes-nothing}
+use Rattle.registry_names.specs.Texts.{Text}
+use Rattle.registry_packument.specs.Packuments.{pack_len, pack_text}
+use Rattle.registry_rules.specs.State.{State}
+use Rattle.registry_tables.specs.Contents.{registry_of}
+use Rattle.registry_tables.specs.Effects.{registry_in}
+use Rattle.registry_tables.specs.WalkLaws.{left_then}
+use Rattle.registry_desk.specs.Sending.{versions_in}
+use Rattle.registry_desk.proofs.SendingFacts.{takes_as, walk_rests, walk_stored}
+use Rattle.registry_desk.proofs.sending.send_stored.Goals as goal
+
+pub send_again-requires : goal.send_again-requires
+send_again-requires g c =
+    let old = state g.S.Store c.args.conn.now in
+    let mid = state g.S.Store c.stored_len.new.conn in
+    record {
+      rests = walk_rests old mid c.requires.rests c.stored_len.ensures.left;
+      unshut = λ clean. rw c.in-Ok.is at (c.stored_len.ensures.unshut clean);
+      counted = λ clean.
+          let stays : registry_in mid ≡ registry_in old = ap registry_of (walk_stored old mid c.requires.rests c.stored_len.ensures.left clean (rw c.in-Ok.is at (c.stored_len.ensures.unshut clean))) in
+          subst (λ (T : State). pack_len c.args.head.now (versions_in T c.args.name.now) ≡ Some c.in-Ok.len) (sym stays) (rw c.in-Ok.is at (c.stored_len.ensures.len clean));
+    }
+
+pub returns-in-Ok-clause-left : goal.returns-in-Ok-clause-left
+returns-in-Ok-clause-left g c =
+    left_then (state g.S.Store c.args.conn.now) (state g.S.Store c.stored_len.new.conn) (state g.S.Store c.send_again.new.conn) c.stored_len.ensures.left c.send_again.ensures.left
+
+pub returns-in-Ok-clause-takes : goal.returns-in-Ok-clause-takes
+returns-in-Ok-clause-takes g c =
+    let old = state g.S.Store c.args.conn.now in
+    let mid = state g.S.Store c.stored_len.new.conn in
+    let new = state g.S.Store c.send_again.new.conn in
+    takes_as (g.O.Opener.opens c.args.opener.now)
+    (λ (text : Text). HasCleanDisk new → pack_text c.args.head.now (versions_in (registry_in mid) c.args.name.now) ≡ Some text)
+    (λ (text : Text). HasCleanDisk new → pack_text c.args.head.now (versions_in (registry_in old) c.args.name.now) ≡ Some text) _ _ _ c.send_again.result
+    (λ text written clean.
+    let were : HasCleanDisk mid = omega (arith, c.send_again.ensures.left.survives.clean, clean) in
+    let stays : registry_in mid ≡ registry_in old = ap registry_of (walk_stored old mid c.requires.rests c.stored_len.ensures.left were (rw c.in-Ok.is at (c.stored_len.ensures.unshut were))) in
+    subst (λ (T : State). pack_text c.args.head.now (versions_in T c.args.name.now) ≡ Some text) stays (written clean))
+    c.send_again.ensures.takes
+
+pub returns-in-Err-clause-takes : goal.returns-in-Err-clause-takes
+returns-in-Err-clause-takes g c = Writes-nothing _ _

@@ -1,0 +1,22 @@
+use Rattle.std.proofs.Common.{◌≡◌, ap, sym, subst, Some}
+use Rattle.std.proofs.lemmas.Result.{IfOk-weaker, on_ok_weaker}
+use Rattle.sqlite.specs.Held.{state}
+use Rattle.sqlite.specs.State.{HasCleanDisk}
+use Rattle.registry_names.specs.Texts.{Text}
+use Rattle.registry_packument.specs.Counted.{IsUnbroken}
+use Rattle.registry_packument.specs.Packuments.{pack_text}
+use Rattle.registry_tables.specs.Effects.{registry_in}
+use Rattle.registry_desk.specs.Sending.{versions_in}
+use Rattle.registry_desk.proofs.QueryFacts.{taken_whole}
+use Rattle.registry_desk.proofs.texts.written_text.Goals as goal
+
+pub returns-clause-unshut : goal.returns-clause-unshut
+returns-clause-unshut g c clean = on_ok_weaker c.text_sent.result (λ whole. c.send_again-sent.ensures.unshut clean (subst IsUnbroken (sym whole) tt)) c.text_sent.ensures.whole
+
+pub returns-clause-text : goal.returns-clause-text
+returns-clause-text g c clean =
+    let old = state g.S.Store c.args.conn.now in
+    let new = state g.S.Store c.send_again-sent.new.conn in
+    IfOk-weaker c.text_sent.result _ _ (λ text it. it clean)
+    (taken_whole (λ (text : Text). HasCleanDisk new → pack_text c.args.head.now (versions_in (registry_in old) c.args.name.now) ≡ Some text) _ c.send_again-sent.new.writer.bytes.items c.send_again-sent.result c.text_sent.result
+    c.text_sent.ensures.whole c.text_sent.ensures.text (ap Some c.requires.empty) c.send_again-sent.ensures.takes)

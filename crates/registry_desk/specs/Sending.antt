@@ -1,0 +1,130 @@
+-- A packument that is sent as it is made, in place of being answered as one text.
+use Rattle.std.specs.Prelude.{◌≡◌, ℕ, Bool, false, true, List, [], map, Option, Some, Ok, Err, IsTrue, ⊤}
+use Rattle.sqlite.specs.Held.{Held, state}
+use Rattle.sqlite.specs.State.{State as Shown, Survives}
+use Rattle.sqlite_trees.specs.declared.store.Store.{Ghosts}
+use Rattle.registry_names.specs.ByteStreams.{Writes, WritesPrefix}
+use Rattle.registry_names.specs.Maps.{of}
+use Rattle.registry_names.specs.Texts.{Text}
+use Rattle.registry_packument.specs.Sendings.{WritesSome, opened}
+use Rattle.registry_packument.specs.Heads.{HeadParts}
+use Rattle.registry_packument.specs.Packuments.{pack_text}
+use Rattle.registry_packument.specs.declared.opener.Sent.{Sent}
+use Rattle.registry_packument.specs.declared.opener.Sent.TheVariants.{Refused, Whole, WriteFault, Broken}
+use Rattle.registry_packument.specs.declared.packument.VersionRow.{VersionRow}
+use Rattle.registry_rules.specs.State.{State}
+use Rattle.registry_rules.specs.declared.reply.Reply.{Reply}
+use Rattle.registry_rules.specs.declared.reply.Reply.TheVariants as reply
+use Rattle.registry_rules.specs.declared.reply.Reply.TheVariants.{Doc}
+use Rattle.registry_rules.specs.declared.request.Action.{Action}
+use Rattle.registry_rules.specs.declared.request.Action.TheVariants.{Packument}
+use Rattle.registry_rules.specs.declared.request.Request.{Request}
+use Rattle.registry_tables.specs.Archives.{HoldsArchives}
+use Rattle.registry_tables.specs.Effects.{stored}
+use Rattle.registry_tables.specs.Needs.{HoldsNeeds}
+use Rattle.registry_tables.specs.Teams.{GrantsInScope}
+use Rattle.registry_history.specs.Answers.{answer, head_of, packument_in, version_row}
+use Rattle.registry_history.specs.Runs.{Outcome}
+use Rattle.registry_desk.specs.Lives.{HasAnswered}
+use Rattle.registry_desk.specs.Promises.{Answered, GrowsHistory, HidesUnread, HoldsReferences, Keeps, KeepsForm, KeepsStored, Moves, Served, StaysSure, Stepped, SurvivesOne, Unchanged, WasOpen}
+use Rattle.registry_desk.specs.Resting.{IsRegistryOf, Rests}
+use Rattle.registry_desk.specs.declared.sending.Origin.{Origin}
+use Rattle.registry_desk.specs.declared.sending.Origin.TheVariants as origin
+
+-- what asks for a packument
+abbrev pub IsPackument : Action → Type 0
+IsPackument what = (name : Text) × (what ≡ Packument name)
+
+-- ---- a packument that is sent is a request that is answered
+
+-- all that `apply` promises of a request
+pub record AnswersAsApply (old new : Shown) (r : Request) (o : Outcome) : Type 0 where
+  pub answer : Answered old new r o
+  pub served : Served old new o
+  pub opened : WasOpen old new
+  pub unchanged : Unchanged old new r o
+  pub step : Stepped old new r o
+  pub moves : Moves old new r o
+  pub history : GrowsHistory old new r o
+  pub hidden : HidesUnread old new r o
+  pub grants : Keeps old new r GrantsInScope
+  pub needs : Keeps old new r HoldsNeeds
+  pub refers : Keeps old new r HoldsReferences
+  pub archives : Keeps old new r HoldsArchives
+  pub form : KeepsForm old new r
+  pub survives : SurvivesOne old new r
+  pub stays : StaysSure new
+
+-- so it is of the connections at the entry and at the exit
+abbrev pub answers_as_apply : {S : Type 0} → Ghosts S → Held S → Request → Outcome → Held S → Type 0
+answers_as_apply store M r o N = AnswersAsApply (state store M) (state store N) r o
+
+module _ {D : Type 0} (answers : D → Request → Outcome → D → Type 0) where
+  -- a document that may be answered
+  abbrev pub MayAnswer : D → Request → Text → Type 0
+  MayAnswer M r text = (N : D) × answers M r (Ok (Doc text)) N
+
+  -- What was answered and what was written, by how it was sent. A packument that was written whole,
+  -- or that a failed write broke off, was answered. One that the machine broke off is a fault, and
+  -- what was written is a prefix of what opens a document that might have been answered, and of it
+  abbrev pub Sends : (ℕ → List ℕ) → D → Request → Sent → D → Option (List ℕ) → Option (List ℕ) → Bool → Type 0
+  Sends opens M r (Refused why) N out out2 unknown = answers M r (Ok (reply.Refused why)) N × Writes out out2 unknown []
+  Sends opens M r Whole N out out2 unknown = (text : Text) × answers M r (Ok (Doc text)) N × Writes out out2 unknown (opened opens text)
+  Sends opens M r WriteFault N out out2 unknown = (text : Text) × answers M r (Ok (Doc text)) N × WritesPrefix out out2 unknown (opened opens text)
+  Sends opens M r (Broken fault false) N out out2 unknown = answers M r (Err fault) N × Writes out out2 unknown []
+  Sends opens M r (Broken fault true) N out out2 unknown =
+      answers M r (Err fault) N × ((text : Text) × MayAnswer M r text × WritesSome out out2 unknown (opened opens text))
+
+-- A packument that was sent is a request that was asked, with the outcome that it came to: so it may
+-- stand anywhere among requests that are asked by `apply`, and they are a run (`TurnsAreRuns`)
+abbrev pub SentAreAsked : {S : Type 0} → Ghosts S → Type 0
+SentAreAsked {S} store = (opens : ℕ → List ℕ) (M N : Held S) (r : Request) (sent : Sent) (out out2 : Option (List ℕ)) (unknown : Bool)
+    → Sends (answers_as_apply store) opens M r sent N out out2 unknown → (o : Outcome) × HasAnswered (state store M) (state store N) r o
+
+-- ---- what a packument is sent from
+
+-- the head of a package's packument
+abbrev pub head_in : State → Text → HeadParts
+head_in S p = head_of p (of S.tags p) (of S.live p) (of S.spent p)
+
+-- its versions, as they are shown
+abbrev pub versions_in : State → Text → List VersionRow
+versions_in S p = map version_row (of S.live p)
+
+-- the packument of the package comes from this, where nothing refuses the query
+abbrev pub IsShownBy : Origin → State → Text → Type 0
+IsShownBy (origin.Refused why) S p = ⊥
+IsShownBy (origin.Kept text) S p = text ≡ packument_in S p
+IsShownBy (origin.Stored head) S p = head ≡ head_in S p
+
+-- the packument of the package comes from this, unless the query is refused
+abbrev pub IsFrom : Origin → State → Text → Type 0
+IsFrom (origin.Refused why) S p = ⊤
+IsFrom (origin.Kept text) S p = text ≡ packument_in S p
+IsFrom (origin.Stored head) S p = head ≡ head_in S p
+
+-- the query for the packument of the package comes to this: why it is refused, or, where it isn't,
+-- what its packument comes from
+abbrev pub IsOrigin : Origin → State → Request → Text → Type 0
+IsOrigin (origin.Refused why) S r p = answer S r ≡ reply.Refused why
+IsOrigin (origin.Kept text) S r p = answer S r ≡ Doc text
+IsOrigin (origin.Stored head) S r p = (answer S r ≡ Doc (packument_in S p)) × (head ≡ head_in S p)
+
+-- the reply is made of what the query comes to
+abbrev pub IsMadeOf : Reply → Origin → State → Text → Type 0
+IsMadeOf given (origin.Refused why) S p = given ≡ reply.Refused why
+IsMadeOf given (origin.Kept text) S p = given ≡ Doc text
+IsMadeOf given (origin.Stored head) S p = (text : Text) × (given ≡ Doc text) × (pack_text head (versions_in S p) ≡ Some text)
+
+-- a document that is replied is the packument of the package
+abbrev pub ShowsAlone : State → Text → Reply → Type 0
+ShowsAlone S p given = (text : Text) → given ≡ Doc text → text ≡ packument_in S p
+
+-- ---- what a query leaves
+
+-- Whatever it comes to: the connection between requests, with all that was stored
+pub record LeavesAll (old new : Shown) : Type 0 where
+  pub rests : Rests new
+  pub opened : WasOpen old new
+  pub same : KeepsStored old new
+  pub survives : Survives old new (λ db. IsTrue old.is_open × IsRegistryOf db (stored old))

@@ -1,0 +1,414 @@
+//! Packuments that are sent as they are made. No text of the whole is made, and of the versions'
+//! documents one is held at a time; their moments are in the head.
+
+ghost use Rattle.std.specs.Prelude.{◌≡◌, ◌≢◌, false, true, IfOk, OnOk, IsTrue, Some, None, map};
+ghost use Rattle.sqlite.specs.Held.{state};
+ghost use Rattle.sqlite.specs.State.{HasCleanDisk};
+ghost use Rattle.registry_names.specs.Maps.{of};
+ghost use Rattle.registry_packument.specs.Counted.{IsUnbroken, Takes};
+ghost use Rattle.registry_packument.specs.Packuments.{pack_len, pack_text};
+ghost use Rattle.registry_packument.specs.Sendings.{failures_after};
+ghost use Rattle.registry_packument.specs.declared.opener.Sent.TheVariants.{WriteFault};
+ghost use Rattle.registry_rows.specs.Frames.{Stays};
+ghost use Rattle.registry_rules.specs.Facts.{FactsTell};
+ghost use Rattle.registry_rules.specs.Refusals.{refusal};
+ghost use Rattle.registry_rules.specs.State.{State};
+ghost use Rattle.registry_rules.specs.declared.request.Action.TheVariants as asked;
+ghost use Rattle.registry_tables.specs.Contents.{registry_of};
+ghost use Rattle.registry_tables.specs.Effects.{InForm, Knows, Loads, registry_in, shown, stored_in};
+ghost use Rattle.registry_tables.specs.Spelled.{tag_entry};
+ghost use Rattle.registry_tables.specs.Teams.{AreTeamsSound};
+ghost use Rattle.registry_tables.specs.Walking.{lent, rows_left, seen_by, stopped_at};
+ghost use Rattle.registry_tables.specs.Walks.{Begins, HasGoneOn, IsLeftAlone, reference, shown_by};
+ghost use Rattle.registry_desk.specs.Caches.{ArePackuments, HasPackuments};
+ghost use Rattle.registry_desk.specs.Found.{AreTimesOf};
+ghost use Rattle.registry_desk.specs.Promises.{HoldsSoundFor, KeepsStored};
+ghost use Rattle.registry_desk.specs.Resting.{Rests};
+ghost use Rattle.registry_desk.specs.Sending.{IsFrom, IsOrigin, IsShownBy, LeavesAll, Sends, answers_as_apply, head_in, versions_in};
+
+use crate::cache::ask;
+use crate::packages::seen_package;
+use crate::rows::{cached_text, pack_times};
+use registry_cache::{SharedText, TextCache};
+use registry_hidden::laws::unread_packages_are_unheard_of;
+use registry_names::{ByteOut, DistTag, Fault, Name, Refusal, Text};
+use registry_packument::{
+    Opener, PackHead, PackTimes, Sent, packument_len, send_counted, send_text,
+};
+use registry_rows::{commit, fault_of};
+use registry_rules::{Facts, Request, may_ask};
+use registry_tables::{LiveRows, VersionWalk, load_caller, load_tags, load_times, walk_versions};
+use sqlite::{Alter, Connection, Transaction};
+use std::alloc::Global;
+
+/// What a query for a packument comes to, before a byte of it is written.
+#[derive(Drop)]
+pub(crate) enum Origin {
+    /// Why it is refused.
+    Refused(Refusal),
+    /// The packument is this text, which was made before.
+    Kept(SharedText),
+    /// The packument has this head, and the versions that are stored.
+    Stored(PackHead),
+}
+
+// ---- inside a transaction
+
+// The head of a packument, with these tags and moments. A database gives its rows in order.
+fn head_of(
+    alloc: Global,
+    name: &Name,
+    tags: Vec<DistTag>,
+    times: PackTimes,
+) -> Result<PackHead, Fault>
+    ensures { IfOk result (λ head. (S : State) → map tag_entry tags.items ≡ of S.tags name.now
+        → AreTimesOf times S name.now → head ≡ head_in S name.now) }
+{
+    let name = Text::from_str(alloc, name.text())?;
+    match PackHead::new(name, tags, times) {
+        Some(head) => Ok(head),
+        None => Err(Fault::Database),
+    }
+}
+
+// The head of a package's packument. None of its manifests is read.
+fn loaded_head<S: Alter>(
+    alloc: Global,
+    tx: &mut Transaction<'_, S>,
+    name: &Name,
+) -> Result<PackHead, Fault>
+    requires in_form { InForm S.Store tx.old }
+    ensures stays { Stays S.Store tx.old tx.new }
+    ensures loads { Loads S.Store tx.old tx.new result
+        (λ head c. head ≡ head_in (registry_of c) name.now) }
+{
+    let tags = load_tags(alloc, tx, name)?;
+    let live = load_times(alloc, tx, name)?;
+    let times = pack_times(alloc, tx, name, live)?;
+    head_of(alloc, name, tags, times)
+}
+
+// What a packument comes from, where nothing refuses the query.
+fn shown_from<S: Alter>(
+    alloc: Global,
+    tx: &mut Transaction<'_, S>,
+    cache: &TextCache,
+    name: &Name,
+) -> Result<Origin, Fault>
+    requires in_form { InForm S.Store tx.old }
+    ensures stays { Stays S.Store tx.old tx.new }
+    ensures knows { Knows S.Store tx.old tx.new result (λ origin c. ArePackuments c cache.now
+        → IsShownBy origin (registry_of c) name.now) }
+{
+    match cached_text(cache, name) {
+        Some(text) => Ok(Origin::Kept(text)),
+        None => Ok(Origin::Stored(loaded_head(alloc, tx, name)?)),
+    }
+}
+
+// Why a request is refused, if it is.
+fn refusal_of(facts: &Facts, request: &Request) -> Option<Refusal>
+    ensures { (S : State) → FactsTell facts.now S request.now → result ≡ refusal S request.now }
+{
+    match may_ask(facts, request) {
+        Ok(()) => None,
+        Err(refusal) => Some(refusal),
+    }
+}
+
+// What a query for the packument of the package comes to. The policy is asked before anything of
+// the packument is looked for.
+fn find_origin<S: Alter>(
+    alloc: Global,
+    tx: &mut Transaction<'_, S>,
+    cache: &TextCache,
+    request: &Request,
+    name: &Name,
+) -> Result<Origin, Fault>
+    requires in_form { InForm S.Store tx.old }
+    requires asks { request.now.what ≡ asked.Packument name.now }
+    ensures stays { Stays S.Store tx.old tx.new }
+    ensures loads { Loads S.Store tx.old tx.new result (λ origin c. AreTeamsSound c
+        → ArePackuments c cache.now → IsOrigin origin (registry_of c) request.now name.now) }
+    ensures shows { HasCleanDisk (shown S.Store tx.new) → IfOk result (λ origin.
+        ArePackuments (stored_in S.Store tx.old) cache.now
+        → IsFrom origin (registry_of (stored_in S.Store tx.old)) name.now) }
+{
+    let Some(caller) = load_caller(alloc, tx, &request.who)? else {
+        return Ok(Origin::Refused(Refusal::NoCaller));
+    };
+    let about = seen_package(alloc, tx, &caller, name)?;
+    let facts = Facts {
+        caller: Some(caller),
+        about,
+    };
+    match refusal_of(&facts, request) {
+        Some(refusal) => Ok(Origin::Refused(refusal)),
+        None => shown_from(alloc, tx, cache, name),
+    }
+}
+
+// ---- in a transaction of its own
+
+/// What a query for the packument of the package comes to.
+pub(crate) fn origin_of<S: Alter>(
+    alloc: Global,
+    conn: &mut Connection<S>,
+    cache: &TextCache,
+    request: &Request,
+    name: &Name,
+) -> Result<Origin, Fault>
+    requires rests { Rests (state S.Store conn.old) }
+    requires right { HasPackuments (state S.Store conn.old) cache.now }
+    requires asks { request.now.what ≡ asked.Packument name.now }
+    ensures left { LeavesAll (state S.Store conn.old) (state S.Store conn.new) }
+    ensures served { HasCleanDisk (state S.Store conn.new)
+        → OnOk result (IsTrue (state S.Store conn.new).is_open) }
+    ensures origin { HoldsSoundFor request.now (state S.Store conn.old)
+        → HasCleanDisk (state S.Store conn.new) → IfOk result
+        (λ origin. IsOrigin origin (registry_in (state S.Store conn.old)) request.now name.now) }
+    ensures shows { HasCleanDisk (state S.Store conn.new) → IfOk result
+        (λ origin. IsFrom origin (registry_in (state S.Store conn.old)) name.now) }
+{
+    let mut tx = conn.transaction();
+    let origin = find_origin(alloc, &mut tx, cache, request, name)?;
+    match commit(tx) {
+        Ok(()) => Ok(origin),
+        Err(fault) => Err(fault),
+    }
+}
+
+// ---- in walks over the versions, outside a transaction
+
+// How many bytes the packument with this head has, and the versions that a walk has left.
+fn walk_len<R: LiveRows>(
+    alloc: Global,
+    head: &PackHead,
+    walk: &mut VersionWalk<'_, R>,
+) -> Result<u64, Fault>
+    ensures same_rows { (lent R.LiveRows walk.new).ghost_name
+        ≡ (lent R.LiveRows walk.old).ghost_name }
+    ensures goes_on { HasGoneOn R.store (lent R.LiveRows walk.old) (lent R.LiveRows walk.new)
+        (stopped_at R.LiveRows walk.new) }
+    ensures unstopped { OnOk result (stopped_at R.LiveRows walk.new ≡ None) }
+    ensures len { HasCleanDisk (seen_by R.LiveRows walk.new) → IfOk result (λ len.
+        pack_len head.now (rows_left R.LiveRows walk.old) ≡ Some len) }
+{
+    packument_len(alloc, head, walk)
+}
+
+// How many bytes the packument with this head has, and the versions that were asked for.
+fn rows_len<R: LiveRows>(
+    alloc: Global,
+    name: &Name,
+    head: &PackHead,
+    rows: &mut R,
+) -> Result<u64, Fault>
+    requires begun { Begins R.store name.now (R.rows rows.old) }
+    ensures same_reference { reference R.store (R.rows rows.new)
+        ≡ reference R.store (R.rows rows.old) }
+    ensures left { IsLeftAlone (shown_by R.store (R.rows rows.old))
+        (shown_by R.store (R.rows rows.new)) }
+    ensures unshut { HasCleanDisk (shown_by R.store (R.rows rows.new))
+        → OnOk result (IsTrue (shown_by R.store (R.rows rows.new)).is_open) }
+    ensures len { HasCleanDisk (shown_by R.store (R.rows rows.new)) → IfOk result (λ len.
+        pack_len head.now (versions_in (registry_in (shown_by R.store (R.rows rows.old))) name.now)
+        ≡ Some len) }
+{
+    let mut walk = VersionWalk::over(rows, name);
+    walk_len(alloc, head, &mut walk)
+}
+
+/// How many bytes the packument with this head has.
+pub(crate) fn stored_len<S: Alter>(
+    alloc: Global,
+    conn: &mut Connection<S>,
+    name: &Name,
+    head: &PackHead,
+) -> Result<u64, Fault>
+    requires rests { Rests (state S.Store conn.old) }
+    requires unshut { HasCleanDisk (state S.Store conn.old)
+        → IsTrue (state S.Store conn.old).is_open }
+    ensures left { IsLeftAlone (state S.Store conn.old) (state S.Store conn.new) }
+    ensures unshut { HasCleanDisk (state S.Store conn.new)
+        → OnOk result (IsTrue (state S.Store conn.new).is_open) }
+    ensures len { HasCleanDisk (state S.Store conn.new) → IfOk result (λ len. pack_len head.now
+        (versions_in (registry_in (state S.Store conn.old)) name.now) ≡ Some len) }
+{
+    match walk_versions(conn, name) {
+        Ok(mut rows) => rows_len(alloc, name, head, &mut rows),
+        Err(error) => Err(fault_of(error)),
+    }
+}
+
+// Sends the packument with this head, and the versions that a walk has left, which was counted to
+// have so many bytes.
+fn send_walk<R: LiveRows, W: ByteOut, O: Opener>(
+    alloc: Global,
+    head: &PackHead,
+    walk: &mut VersionWalk<'_, R>,
+    len: u64,
+    writer: &mut W,
+    opener: &O,
+) -> Sent
+    requires counted { HasCleanDisk (seen_by R.LiveRows walk.old)
+        → pack_len head.now (rows_left R.LiveRows walk.old) ≡ Some len }
+    requires unstopped { stopped_at R.LiveRows walk.old ≡ None }
+    ensures same_rows { (lent R.LiveRows walk.new).ghost_name
+        ≡ (lent R.LiveRows walk.old).ghost_name }
+    ensures goes_on { HasGoneOn R.store (lent R.LiveRows walk.old) (lent R.LiveRows walk.new)
+        (stopped_at R.LiveRows walk.new) }
+    ensures unstopped { IsUnbroken result → stopped_at R.LiveRows walk.new ≡ None }
+    ensures takes { Takes (O.opens opener.now) (λ text. HasCleanDisk (seen_by R.LiveRows walk.new)
+        → pack_text head.now (rows_left R.LiveRows walk.old) ≡ Some text)
+        (W.bytes writer.old) (W.bytes writer.new) (W.is_unknown writer.new) result }
+
+    ensures counted { W.failures writer.new ≡ failures_after result (W.failures writer.old) }
+    ensures told { result ≢ WriteFault → W.is_unknown writer.new ≡ W.is_unknown writer.old }
+    ensures unknown { W.is_unknown writer.old ≡ true → W.is_unknown writer.new ≡ true }
+{
+    send_counted(alloc, head, walk, len, writer, opener)
+}
+
+// Sends the packument with this head, and the versions that were asked for, which was counted to
+// have so many bytes.
+fn send_rows<R: LiveRows, W: ByteOut, O: Opener>(
+    alloc: Global,
+    name: &Name,
+    head: &PackHead,
+    rows: &mut R,
+    len: u64,
+    writer: &mut W,
+    opener: &O,
+) -> Sent
+    requires begun { Begins R.store name.now (R.rows rows.old) }
+    requires counted { HasCleanDisk (shown_by R.store (R.rows rows.old)) → pack_len head.now
+        (versions_in (registry_in (shown_by R.store (R.rows rows.old))) name.now) ≡ Some len }
+    ensures same_reference { reference R.store (R.rows rows.new)
+        ≡ reference R.store (R.rows rows.old) }
+    ensures left { IsLeftAlone (shown_by R.store (R.rows rows.old))
+        (shown_by R.store (R.rows rows.new)) }
+    ensures unshut { HasCleanDisk (shown_by R.store (R.rows rows.new)) → IsUnbroken result
+        → IsTrue (shown_by R.store (R.rows rows.new)).is_open }
+    ensures takes { Takes (O.opens opener.now) (λ text.
+        HasCleanDisk (shown_by R.store (R.rows rows.new)) → pack_text head.now
+        (versions_in (registry_in (shown_by R.store (R.rows rows.old))) name.now) ≡ Some text)
+        (W.bytes writer.old) (W.bytes writer.new) (W.is_unknown writer.new) result }
+
+    ensures counted { W.failures writer.new ≡ failures_after result (W.failures writer.old) }
+    ensures told { result ≢ WriteFault → W.is_unknown writer.new ≡ W.is_unknown writer.old }
+    ensures unknown { W.is_unknown writer.old ≡ true → W.is_unknown writer.new ≡ true }
+{
+    let mut walk = VersionWalk::over(rows, name);
+    send_walk(alloc, head, &mut walk, len, writer, opener)
+}
+
+/// Sends the packument with this head, which was counted to have so many bytes.
+pub(crate) fn send_again<S: Alter, W: ByteOut, O: Opener>(
+    alloc: Global,
+    conn: &mut Connection<S>,
+    name: &Name,
+    head: &PackHead,
+    len: u64,
+    writer: &mut W,
+    opener: &O,
+) -> Sent
+    requires rests { Rests (state S.Store conn.old) }
+    requires unshut { HasCleanDisk (state S.Store conn.old)
+        → IsTrue (state S.Store conn.old).is_open }
+    requires counted { HasCleanDisk (state S.Store conn.old) → pack_len head.now
+        (versions_in (registry_in (state S.Store conn.old)) name.now) ≡ Some len }
+    ensures left { IsLeftAlone (state S.Store conn.old) (state S.Store conn.new) }
+    ensures unshut { HasCleanDisk (state S.Store conn.new) → IsUnbroken result
+        → IsTrue (state S.Store conn.new).is_open }
+    ensures takes { Takes (O.opens opener.now) (λ text. HasCleanDisk (state S.Store conn.new)
+        → pack_text head.now (versions_in (registry_in (state S.Store conn.old)) name.now)
+        ≡ Some text)
+        (W.bytes writer.old) (W.bytes writer.new) (W.is_unknown writer.new) result }
+
+    ensures counted { W.failures writer.new ≡ failures_after result (W.failures writer.old) }
+    ensures told { result ≢ WriteFault → W.is_unknown writer.new ≡ W.is_unknown writer.old }
+    ensures unknown { W.is_unknown writer.old ≡ true → W.is_unknown writer.new ≡ true }
+{
+    match walk_versions(conn, name) {
+        Ok(mut rows) => send_rows(alloc, name, head, &mut rows, len, writer, opener),
+        Err(error) => Sent::Broken {
+            fault: fault_of(error),
+            has_started: false,
+        },
+    }
+}
+
+// Sends the packument with this head: counts its bytes in one walk, and sends it in another.
+fn send_stored<S: Alter, W: ByteOut, O: Opener>(
+    alloc: Global,
+    conn: &mut Connection<S>,
+    name: &Name,
+    head: &PackHead,
+    writer: &mut W,
+    opener: &O,
+) -> Sent
+    requires rests { Rests (state S.Store conn.old) }
+    requires unshut { HasCleanDisk (state S.Store conn.old)
+        → IsTrue (state S.Store conn.old).is_open }
+    ensures left { IsLeftAlone (state S.Store conn.old) (state S.Store conn.new) }
+    ensures unshut { HasCleanDisk (state S.Store conn.new) → IsUnbroken result
+        → IsTrue (state S.Store conn.new).is_open }
+    ensures takes { Takes (O.opens opener.now) (λ text. HasCleanDisk (state S.Store conn.new)
+        → pack_text head.now (versions_in (registry_in (state S.Store conn.old)) name.now)
+        ≡ Some text)
+        (W.bytes writer.old) (W.bytes writer.new) (W.is_unknown writer.new) result }
+
+    ensures counted { W.failures writer.new ≡ failures_after result (W.failures writer.old) }
+    ensures told { result ≢ WriteFault → W.is_unknown writer.new ≡ W.is_unknown writer.old }
+    ensures unknown { W.is_unknown writer.old ≡ true → W.is_unknown writer.new ≡ true }
+{
+    match stored_len(alloc, conn, name, head) {
+        Ok(len) => send_again(alloc, conn, name, head, len, writer, opener),
+        Err(fault) => Sent::Broken {
+            fault,
+            has_started: false,
+        },
+    }
+}
+
+// ---- all of it
+
+/// Answers a query for the packument of the package, and writes that.
+pub(crate) fn sent<S: Alter, W: ByteOut, O: Opener>(
+    alloc: Global,
+    conn: &mut Connection<S>,
+    cache: &mut TextCache,
+    request: &Request,
+    name: &Name,
+    writer: &mut W,
+    opener: &O,
+) -> Sent
+    requires rests { Rests (state S.Store conn.old) }
+    requires right { HasPackuments (state S.Store conn.old) cache.old }
+    requires asks { request.now.what ≡ asked.Packument name.now }
+    ensures rests { Rests (state S.Store conn.new) }
+    ensures right { HasPackuments (state S.Store conn.new) cache.new }
+    ensures limit { cache.new.limit ≡ cache.old.limit }
+    ensures stored { KeepsStored (state S.Store conn.old) (state S.Store conn.new) }
+    ensures sends { Sends (answers_as_apply S.Store) (O.opens opener.now) conn.old request.now
+        result conn.new (W.bytes writer.old) (W.bytes writer.new) (W.is_unknown writer.new) }
+
+    ensures counted { W.failures writer.new ≡ failures_after result (W.failures writer.old) }
+    ensures told { result ≢ WriteFault → W.is_unknown writer.new ≡ W.is_unknown writer.old }
+    ensures unknown { W.is_unknown writer.old ≡ true → W.is_unknown writer.new ≡ true }
+{
+    unread_packages_are_unheard_of();
+    match origin_of(alloc, conn, cache, request, name) {
+        Ok(Origin::Refused(refusal)) => Sent::Refused(refusal),
+        Ok(Origin::Kept(text)) => {
+            let _is_kept = ask(cache, name);
+            send_text(alloc, text.as_str(), writer, opener)
+        }
+        Ok(Origin::Stored(head)) => send_stored(alloc, conn, name, &head, writer, opener),
+        Err(fault) => Sent::Broken {
+            fault,
+            has_started: false,
+        },
+    }
+}

@@ -1,0 +1,233 @@
+//! Packuments that are answered as one text. A text that isn't kept is made in two walks over the
+//! versions: the first counts its bytes, and the second writes them, once, into room for so many.
+//! No list of versions is held.
+
+ghost use Rattle.std.specs.Prelude.{◌≡◌, [], IfOk, IsTrue, OnErr, OnOk, Some, vec_capacity};
+ghost use Rattle.sqlite.specs.Held.{state};
+ghost use Rattle.sqlite.specs.State.{HasCleanDisk};
+ghost use Rattle.registry_packument.specs.Packuments.{pack_len, pack_text};
+ghost use Rattle.registry_packument.specs.declared.opener.Sent.TheVariants.{Whole};
+ghost use Rattle.registry_rules.specs.declared.request.Action.TheVariants as asked;
+ghost use Rattle.registry_history.specs.Answers.{answer};
+ghost use Rattle.registry_tables.specs.Effects.{registry_in};
+ghost use Rattle.registry_tables.specs.Walks.{IsLeftAlone};
+ghost use Rattle.registry_desk.specs.Caches.{HasPackuments, KeepsAnswer, KeepsNoMore};
+ghost use Rattle.registry_desk.specs.Promises.{Answered, HoldsSoundFor, Served};
+ghost use Rattle.registry_desk.specs.Resting.{Rests};
+ghost use Rattle.registry_desk.specs.Sending.{IsMadeOf, LeavesAll, ShowsAlone, versions_in};
+
+use crate::cache::keep_reply;
+use crate::sending::{Origin, origin_of, send_again, stored_len};
+use registry_cache::{SharedText, TextCache};
+use registry_names::{ByteOut, Fault, Name, Text, WriteFailed};
+use registry_packument::{Opener, PackHead, Sent};
+use registry_rules::{Reply, Request};
+use sqlite::{Alter, Connection};
+use std::alloc::{AllocError, Global};
+
+// ---- bytes
+
+// Nothing stands before a packument that is answered as a text.
+#[derive(Drop)]
+struct Bare;
+
+impl Opener for Bare {
+    ghost opens = { λ _ _. [] };
+
+    fn opening(&self, alloc: Global, _len: u64) -> Result<Text, Fault> {
+        Ok(Text::from(String::new(alloc)))
+    }
+}
+
+// A text that is written into room which was taken before. A write fails where no memory is left.
+#[derive(Drop)]
+struct TextRoom {
+    bytes: Vec<u8>,
+    failures: u64,
+}
+
+impl ByteOut for TextRoom {
+    ghost bytes = { λ room. Some room.bytes.items };
+
+    ghost failures = { λ room. room.failures };
+
+    fn write(&mut self, text: &[u8]) -> Result<usize, WriteFailed> {
+        if self.failures == u64::MAX {
+            return Err(WriteFailed);
+        }
+        match self.bytes.extend_from_slice(text) {
+            Ok(()) => Ok(text.len()),
+            Err(_) => {
+                self.failures += 1;
+                Err(WriteFailed)
+            }
+        }
+    }
+}
+
+// Room for so many bytes, and no more.
+fn room_for(alloc: Global, len: u64) -> Result<Vec<u8>, AllocError>
+    ensures empty { IfOk result (λ room. room.items ≡ []) }
+    ensures exact { IfOk result (λ room. vec_capacity room ≡ len) }
+{
+    Vec::with_capacity(alloc, len as usize)
+}
+
+// The text of these bytes.
+fn text_in(bytes: Vec<u8>) -> Result<Text, Fault>
+    ensures { IfOk result (λ text. text ≡ bytes.items) }
+{
+    match String::from_utf8(bytes) {
+        Ok(string) => Ok(Text::from(string)),
+        Err(_) => Err(Fault::Database),
+    }
+}
+
+// The text that was sent into these bytes.
+fn text_sent(sent: Sent, bytes: Vec<u8>) -> Result<Text, Fault>
+    ensures whole { OnOk result (sent ≡ Whole) }
+    ensures text { IfOk result (λ text. text ≡ bytes.items) }
+{
+    match sent {
+        Sent::Whole => text_in(bytes),
+        Sent::Broken { fault, .. } => Err(fault),
+        Sent::WriteFault | Sent::Refused(_) => Err(Fault::Memory),
+    }
+}
+
+// ---- the text
+
+// Writes the packument with this head, which was counted to have so many bytes, into room for just
+// these.
+fn written_text<S: Alter>(
+    alloc: Global,
+    conn: &mut Connection<S>,
+    name: &Name,
+    head: &PackHead,
+    len: u64,
+    room: Vec<u8>,
+) -> Result<Text, Fault>
+    requires rests { Rests (state S.Store conn.old) }
+    requires unshut { HasCleanDisk (state S.Store conn.old)
+        → IsTrue (state S.Store conn.old).is_open }
+    requires counted { HasCleanDisk (state S.Store conn.old) → pack_len head.now
+        (versions_in (registry_in (state S.Store conn.old)) name.now) ≡ Some len }
+    requires empty { room.items ≡ [] }
+    requires exact { vec_capacity room ≡ len }
+    ensures left { IsLeftAlone (state S.Store conn.old) (state S.Store conn.new) }
+    ensures unshut { HasCleanDisk (state S.Store conn.new)
+        → OnOk result (IsTrue (state S.Store conn.new).is_open) }
+    ensures text { HasCleanDisk (state S.Store conn.new) → IfOk result (λ text.
+        pack_text head.now (versions_in (registry_in (state S.Store conn.old)) name.now)
+        ≡ Some text) }
+{
+    let mut room = TextRoom {
+        bytes: room,
+        failures: 0,
+    };
+    let sent = send_again(alloc, conn, name, head, len, &mut room, &Bare);
+    text_sent(sent, room.bytes)
+}
+
+// The text of the packument with this head.
+fn made_text<S: Alter>(
+    alloc: Global,
+    conn: &mut Connection<S>,
+    name: &Name,
+    head: &PackHead,
+) -> Result<Text, Fault>
+    requires rests { Rests (state S.Store conn.old) }
+    requires unshut { HasCleanDisk (state S.Store conn.old)
+        → IsTrue (state S.Store conn.old).is_open }
+    ensures left { IsLeftAlone (state S.Store conn.old) (state S.Store conn.new) }
+    ensures unshut { HasCleanDisk (state S.Store conn.new)
+        → OnOk result (IsTrue (state S.Store conn.new).is_open) }
+    ensures text { HasCleanDisk (state S.Store conn.new) → IfOk result (λ text.
+        pack_text head.now (versions_in (registry_in (state S.Store conn.old)) name.now)
+        ≡ Some text) }
+{
+    let len = stored_len(alloc, conn, name, head)?;
+    let room = room_for(alloc, len)?;
+    written_text(alloc, conn, name, head, len, room)
+}
+
+// The reply that is this text, which others may share.
+fn shared(text: Text) -> Result<Reply, Fault>
+    ensures { IfOk result (λ given. given ≡ Reply.Doc text) }
+{
+    Ok(Reply::Doc(SharedText::from_text(text)?))
+}
+
+// ---- the reply
+
+// The reply to a query that comes to this.
+fn reply_of<S: Alter>(
+    alloc: Global,
+    conn: &mut Connection<S>,
+    name: &Name,
+    origin: Origin,
+) -> Result<Reply, Fault>
+    requires rests { Rests (state S.Store conn.old) }
+    requires unshut { HasCleanDisk (state S.Store conn.old)
+        → IsTrue (state S.Store conn.old).is_open }
+    ensures left { IsLeftAlone (state S.Store conn.old) (state S.Store conn.new) }
+    ensures unshut { HasCleanDisk (state S.Store conn.new)
+        → OnOk result (IsTrue (state S.Store conn.new).is_open) }
+    ensures made { HasCleanDisk (state S.Store conn.new) → IfOk result (λ given.
+        IsMadeOf given origin (registry_in (state S.Store conn.old)) name.now) }
+{
+    match origin {
+        Origin::Refused(refusal) => Ok(Reply::Refused(refusal)),
+        Origin::Kept(text) => Ok(Reply::Doc(text)),
+        Origin::Stored(head) => shared(made_text(alloc, conn, name, &head)?),
+    }
+}
+
+// The reply to a query for the packument of the package.
+fn query_reply<S: Alter>(
+    alloc: Global,
+    conn: &mut Connection<S>,
+    cache: &TextCache,
+    request: &Request,
+    name: &Name,
+) -> Result<Reply, Fault>
+    requires rests { Rests (state S.Store conn.old) }
+    requires right { HasPackuments (state S.Store conn.old) cache.now }
+    requires asks { request.now.what ≡ asked.Packument name.now }
+    ensures left { LeavesAll (state S.Store conn.old) (state S.Store conn.new) }
+    ensures served { HasCleanDisk (state S.Store conn.new)
+        → OnOk result (IsTrue (state S.Store conn.new).is_open) }
+    ensures told { HoldsSoundFor request.now (state S.Store conn.old)
+        → HasCleanDisk (state S.Store conn.new) → IfOk result
+        (λ given. given ≡ answer (registry_in (state S.Store conn.old)) request.now) }
+    ensures shows { HasCleanDisk (state S.Store conn.new) → IfOk result
+        (ShowsAlone (registry_in (state S.Store conn.old)) name.now) }
+{
+    let origin = origin_of(alloc, conn, cache, request, name)?;
+    reply_of(alloc, conn, name, origin)
+}
+
+/// Answers a query for the packument of the package, and keeps its text as the latest asked.
+pub(crate) fn queried<S: Alter>(
+    alloc: Global,
+    conn: &mut Connection<S>,
+    cache: &mut TextCache,
+    request: &Request,
+    name: &Name,
+) -> Result<Reply, Fault>
+    requires rests { Rests (state S.Store conn.old) }
+    requires right { HasPackuments (state S.Store conn.old) cache.old }
+    requires asks { request.now.what ≡ asked.Packument name.now }
+    ensures left { LeavesAll (state S.Store conn.old) (state S.Store conn.new) }
+    ensures right { HasPackuments (state S.Store conn.new) cache.new }
+    ensures limit { cache.new.limit ≡ cache.old.limit }
+    ensures answer { Answered (state S.Store conn.old) (state S.Store conn.new)
+        request.now result }
+    ensures served { Served (state S.Store conn.old) (state S.Store conn.new) result }
+    ensures no_more { OnErr result (KeepsNoMore cache.old cache.new) }
+    ensures kept { IfOk result (KeepsAnswer request.now.what cache.old cache.new) }
+{
+    let reply = query_reply(alloc, conn, cache, request, name)?;
+    keep_reply(cache, &request.what, &reply);
+    Ok(reply)
+}

@@ -1,0 +1,165 @@
+-- Connections beside guests.
+use Rattle.std.proofs.Common.{◌≡◌, ◌⊎◌, ◌++◌, ◌∷◌, ◌∙◌, [], ℕ, Bool, List, Option, Some, None, refl, sym, ap, subst, inl, inr, append_assoc}
+use Rattle.std.specs.Prelude.{IfSome}
+use Rattle.std.specs.Io.KnownBytes.{append_known}
+use Rattle.registry_wire.specs.declared.wanted.Wanted.{Wanted}
+use Rattle.registry_service.specs.HttpAnswers.{Outcome}
+use Rattle.registry_service.specs.Turns.{Answering, Cause, IsAnswered, IsTurnFor, bad_input, no_memory, request}
+use Rattle.registry_service.specs.declared.turning.End.{End}
+use Rattle.registry_service.proofs.HistoryFacts.{one-history}
+use Rattle.registry_server.specs.ConnectionStates.{Pending, TakesTurn}
+use Rattle.registry_guests.specs.Beside.{AnswersAll, AnswersOnce, GuestsGoOn, GuestsLead, MakeOneHistory, ShowsGuest, VisitsFollow, beside_guests}
+use Rattle.registry_guests.specs.Guests.{Begins, Hears, Listens, OpenGuest, Starves, VisitsIn}
+use Rattle.registry_guests.specs.Saying.{sent_as}
+
+-- ---- connections
+
+module _ {D : Type 0} (answers : Answering D) where
+  pub lead-none : (M : D) → GuestsLead answers M M
+  lead-none M = ([], refl)
+
+  pub go-on : GuestsGoOn answers
+  go-on M N P t lead turn = (t ∷ lead.0, (N, lead.1, turn))
+
+  pub make-one : MakeOneHistory answers
+  make-one M w r = one-history (beside_guests answers) M w r
+
+  answered-beside : (M K N : D) (w : Wanted) (at : ℕ) (o : Outcome) → GuestsLead answers M K → IsAnswered answers K w at o N
+      → (P : D) × IsAnswered (beside_guests answers) M w at o P × GuestsLead answers P N
+  answered-beside M K N w at o lead a =
+      elim a [
+        | inl (r, reads, is) ↦ (N, inl (r, reads, (K, lead, is)), lead-none N)
+        | inr (s, reads, is, same) ↦ (M, inr (s, reads, is, refl), subst (λ (d : D). GuestsLead answers M d) (sym same) lead)
+      ]
+
+  turn-beside : (M K N : D) (c : Cause) (last : Bool) (o : Outcome) (ended : Option End) → GuestsLead answers M K → IsTurnFor answers c K last o ended N
+      → (P : D) × IsTurnFor (beside_guests answers) c M last o ended P × GuestsLead answers P N
+  turn-beside M K N (request w at) last o ended lead t =
+      let a = answered-beside M K N w at o lead t.answered in
+      (a.0, record { answered = a.1; ends = t.ends }, a.2)
+  turn-beside M K N (bad_input r) last o ended lead t = (M, (t.0, refl), subst (λ (d : D). GuestsLead answers M d) (sym t.1) lead)
+  turn-beside M K N no_memory last o ended lead t = (M, (t.0, refl), subst (λ (d : D). GuestsLead answers M d) (sym t.1) lead)
+
+  takes-beside : (M K N : D) (old new : Pending) (r r2 : Option (List ℕ)) (over : Bool) → GuestsLead answers M K → TakesTurn answers old new K N r r2 over
+      → (P : D) × TakesTurn (beside_guests answers) old new M P r r2 over × GuestsLead answers P N
+  takes-beside M K N old new r r2 over lead t =
+      let u = t.turns in
+      let b = turn-beside M K N t.cause _ u.outcome t.turned.end lead u.is_turn in (
+        b.0,
+        record {
+          cause = t.cause;
+          turned = t.turned;
+          took = t.took;
+          turns = record { outcome = u.outcome; is_turn = b.1; answer = u.answer; counts = u.counts };
+          asked = t.asked;
+          outgoing = t.outgoing;
+          ends = t.ends;
+          left = t.left;
+        },
+        b.2,
+      )
+
+module _ {S : Type 0} (received sent : S → Option (List ℕ)) {D : Type 0} (answers : Answering D) where
+  pub visits-follow : VisitsFollow received sent answers
+  visits-follow M K N now most old new r r2 lead v =
+      elim v.turns [
+        | inl t ↦
+            (let b = takes-beside answers M K N v.read v.due r r2 new.is_over lead t.0.takes in (
+              b.0,
+              record {
+                got = v.got;
+                few = v.few;
+                gave = v.gave;
+                lean = v.lean;
+                read = v.read;
+                due = v.due;
+                keeps = v.keeps;
+                put = v.put;
+                turns = inl (record { may = t.0.may; takes = b.1 }, t.1);
+                took = v.took;
+                sends = v.sends;
+                over = v.over;
+              },
+              b.2,
+            ))
+        | inr t ↦ (
+          M,
+          record {
+            got = v.got;
+            few = v.few;
+            gave = v.gave;
+            lean = v.lean;
+            read = v.read;
+            due = v.due;
+            keeps = v.keeps;
+            put = v.put;
+            turns = inr (record { state = t.0.state; service = refl; unasked = t.0.unasked }, t.1);
+            took = v.took;
+            sends = v.sends;
+            over = v.over;
+          },
+          subst (λ (d : D). GuestsLead answers M d) (sym t.0.service) lead,
+        )
+      ]
+
+-- ---- guests
+
+known-more : (known held : Option (List ℕ)) (before got : List ℕ) → IfSome known (λ bytes. bytes ≡ before) → held ≡ append_known known got → IfSome held (λ bytes. bytes ≡ before ++ got)
+known-more None held before got is more = subst (λ (k : Option (List ℕ)). IfSome k (λ bytes. bytes ≡ before ++ got)) (sym more) tt
+known-more (Some xs) held before got is more = subst (λ (k : Option (List ℕ)). IfSome k (λ bytes. bytes ≡ before ++ got)) (sym more) (ap (λ (b : List ℕ). b ++ got) is)
+
+sent-more : (known now : Option (List ℕ)) (all put left due : List ℕ) → IfSome known (λ bytes. all ≡ bytes ++ due) → due ≡ put ++ left → now ≡ append_known known put → IfSome now (λ bytes. all ≡ bytes ++ left)
+sent-more None now all put left due is parts took = subst (λ (k : Option (List ℕ)). IfSome k (λ bytes. all ≡ bytes ++ left)) (sym took) tt
+sent-more (Some xs) now all put left due is parts took =
+    subst (λ (k : Option (List ℕ)). IfSome k (λ bytes. all ≡ bytes ++ left)) (sym took)
+    (is ∙ ap (λ (d : List ℕ). xs ++ d) parts ∙ sym (append_assoc xs put left))
+
+-- nothing was sent, and so all is left
+none-sent : (known now : Option (List ℕ)) (due : List ℕ) → now ≡ known → IfSome known (λ bytes. bytes ≡ []) → IfSome now (λ bytes. due ≡ bytes ++ due)
+none-sent None now due same is = subst (λ (k : Option (List ℕ)). IfSome k (λ bytes. due ≡ bytes ++ due)) (sym same) tt
+none-sent (Some xs) now due same is = subst (λ (k : Option (List ℕ)). IfSome k (λ bytes. due ≡ bytes ++ due)) (sym same) (ap (λ (b : List ℕ). b ++ due) (sym is))
+
+still-none : (known now : Option (List ℕ)) → now ≡ known → IfSome known (λ bytes. bytes ≡ []) → IfSome now (λ bytes. bytes ≡ [])
+still-none known now same is = subst (λ (k : Option (List ℕ)). IfSome k (λ bytes. bytes ≡ [])) (sym same) is
+
+module _ {S : Type 0} (received sent : S → Option (List ℕ)) {D : Type 0} (answers : Answering D) (is_ended : S → Bool) where
+  heard-all : (most : ℕ) (old new : S) (held heard : List ℕ) → Hears received sent most old new held heard → IfSome (received old) (λ bytes. bytes ≡ held) → IfSome (received new) (λ bytes. bytes ≡ heard)
+  heard-all most old new held heard h is = subst (λ (l : List ℕ). IfSome (received new) (λ bytes. bytes ≡ l)) (sym h.keeps) (known-more (received old) (received new) held h.got is h.gave)
+
+  shows-listening : (most : ℕ) (old new : OpenGuest S) (M N : D) (r r2 : Option (List ℕ)) → ShowsGuest received sent answers None old → Listens received sent is_ended answers most old new M N r r2
+      → ShowsGuest received sent answers None new
+  shows-listening most old new M N r r2 s l = (
+    l.unanswered,
+    heard-all most old.socket new.socket old.held new.held l.hears s.1,
+    still-none (sent old.socket) (sent new.socket) l.hears.unsent s.2,
+  )
+
+  shows-begun : (most : ℕ) (old new : OpenGuest S) (M N : D) (r r2 : Option (List ℕ)) → ShowsGuest received sent answers None old → (b : Begins received sent is_ended answers most old new M N r r2)
+      → ShowsGuest received sent answers (Some b.said) new
+  shows-begun most old new M N r r2 s b =
+      let before = none-sent (sent old.socket) (sent b.between) (sent_as b.said) b.hears.unsent s.2 in
+      (b.left, b.begun, sent-more (sent b.between) (sent new.socket) (sent_as b.said) b.sends.put b.left (sent_as b.said) before b.sends.parts b.sends.took)
+
+  answers-all : (most : ℕ) (old new : OpenGuest S) (M N : D) (r r2 : Option (List ℕ)) → ShowsGuest received sent answers None old → (b : Begins received sent is_ended answers most old new M N r r2)
+      → AnswersAll received sent answers is_ended old.held new b.said M N r r2 ⊎ Starves answers b.said M N r r2
+  answers-all most old new M N r r2 s b =
+      let came = heard-all most old.socket b.between old.held b.heard b.hears s.1 in
+      let still = subst (λ (k : Option (List ℕ)). IfSome k (λ bytes. bytes ≡ b.heard)) (sym b.sends.unread) came in
+      elim b.due [
+        | inr starves ↦ inr starves.1
+        | inl d ↦
+            elim d.answered [
+              | inr starves ↦ inr starves
+              | inl turn ↦ inl (record { ended = d.ended; whole = subst (λ (l : List ℕ). IfSome (received new.socket) (λ bytes. bytes ≡ l)) d.all still; turn = turn })
+            ]
+      ]
+
+  pub answers-once : AnswersOnce received sent answers is_ended
+  answers-once most old new M N r r2 None s v =
+      elim (subst (λ (l : Option (List ℕ)). VisitsIn received sent is_ended answers most l old new M N r r2) s.0 v.does) [
+        | inl l ↦ inl (shows-listening most old new M N r r2 s l, l.service, l.unasked)
+        | inr b ↦ inr (refl, b.said, shows-begun most old new M N r r2 s b, answers-all most old new M N r r2 s b)
+      ]
+  answers-once most old new M N r r2 (Some said) s v =
+      let g = subst (λ (l : Option (List ℕ)). VisitsIn received sent is_ended answers most l old new M N r r2) s.1 v.does in
+      inl ((g.left, g.begun, sent-more (sent old.socket) (sent new.socket) (sent_as said) g.sends.put g.left s.0 s.2 g.sends.parts g.sends.took), g.service, g.unasked)

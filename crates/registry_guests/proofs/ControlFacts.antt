@@ -1,0 +1,148 @@
+-- Who holds or stops a server.
+use Rattle.std.proofs.Common.{◌≡◌, ◌∷◌, ◌==◌, ◌∙◌, [], ℕ, Bool, true, false, List, Option, None, Some, get_or, length, refl, ap, sym, subst, inl, inr, arith, ◌&&◌, ◌||◌, not, if◌then◌else◌}
+use Rattle.std.proofs.lemmas.Bool.{false≢true}
+use Rattle.std.proofs.lemmas.Bool.Decides.{nat_tests}
+use Rattle.std.specs.Io.KnownBytes.{append_known}
+use Rattle.registry_server.specs.declared.connection.Visit.{Visit}
+use Rattle.registry_server.specs.declared.connection.Visit.TheVariants.{Again, Rests, Over}
+use Rattle.registry_guests.specs.Controls.{Answers, Hears, HasAsked, HoldersHaveAsked, Obeys, StopsStay, Visits, VisitsControl, VisitsIf, VisitsThere, after, after_visit, control, hold_byte, hold_limit, holds, holds_at, holds_with, stop_byte, stops, stops_at, time_after}
+use Rattle.registry_guests.specs.declared.control.Control.{Control}
+use Rattle.registry_guests.specs.declared.control.Visitor.{Visitor}
+use Rattle.registry_guests.specs.declared.post.Post.{Post}
+use Rattle.registry_guests.specs.declared.post.Post.TheVariants.{Silent, Holds, Stops}
+
+-- a list of one
+pub only-one : (l : List ℕ) (d : ℕ) → length l ≡ 1 → l ≡ get_or l 0 d ∷ []
+only-one [] d is = absurd (omega (arith, is))
+only-one (x ∷ []) d is = refl
+only-one (x ∷ (y ∷ l)) d is = absurd (omega (arith, is))
+
+none-some : {A B : Type 0} (x : A) → None ≡ Some x → B
+none-some x is = absurd (cc)
+
+some-is : {A : Type 0} (x y : A) → Some x ≡ Some y → x ≡ y
+some-is x y is = cc
+
+same-byte : (a b : ℕ) → (a == b) ≡ true → a ≡ b
+same-byte a b is = grind (arith, nat_tests, is)
+
+-- ---- who holds a server after a byte
+
+no-hold : {B : Type 0} (next : Post) → Some Stops ≡ Some next → holds_at next ≡ true → B
+no-hold next is holding = absurd (false≢true (ap holds_at (some-is Stops next is) ∙ holding))
+
+silent-hold : (asks stops stopping : Bool) (until : ℕ) (next : Post) → (if asks && not stopping then Some (Holds until) else (if stops then Some Stops else None)) ≡ Some next
+    → holds_at next ≡ true → (asks ≡ true) × (stopping ≡ false)
+silent-hold true stops false until next is holding = (refl, refl)
+silent-hold true true true until next is holding = no-hold next is holding
+silent-hold true false true until next is holding = none-some next is
+silent-hold false true stopping until next is holding = no-hold next is holding
+silent-hold false false stopping until next is holding = none-some next is
+
+first-hold : (post next : Post) (byte : ℕ) (stopping : Bool) (now : ℕ) → holds_at post ≡ false → after post byte stopping now ≡ Some next → holds_at next ≡ true
+    → ((byte == hold_byte) ≡ true) × (stopping ≡ false)
+first-hold (Silent until) next byte stopping now was is holding =
+    silent-hold (byte == hold_byte) (byte == stop_byte) stopping (time_after now hold_limit) next is holding
+first-hold (Holds until) next byte stopping now was is holding = absurd (false≢true (sym was))
+first-hold Stops next byte stopping now was is holding = none-some next is
+
+told : (byte : ℕ) (before later : Option (List ℕ)) (visit : Visit) → Answers true byte before later visit → (visit ≡ Over → ⊥) → later ≡ append_known before (byte ∷ [])
+told byte before later visit (inl said) on = said.0
+told byte before later visit (inr over) on = absurd (on over.1)
+
+module _ {S : Type 0} (received sent : S → Option (List ℕ)) (has_none is_ended is_broken : S → Bool) where
+  -- ---- a visit
+
+  -- nobody is to be visited
+  pub control-rests : (now : ℕ) (c : Control S) → c.is_ready ≡ false → VisitsControl received sent has_none is_ended is_broken now c c
+  control-rests now c is = subst (λ (b : Bool). VisitsIf received sent has_none is_ended is_broken b now c c) (sym is) refl
+
+  there : (now : ℕ) (p q : Control S) (o : Option (Visitor S)) → p.is_ready ≡ true → p.visitor ≡ o → VisitsThere received sent has_none is_ended is_broken now o p.is_stopping q
+      → VisitsControl received sent has_none is_ended is_broken now p q
+  there now p q o is at visits =
+      subst (λ (b : Bool). VisitsIf received sent has_none is_ended is_broken b now p q) (sym is)
+      (subst (λ (v : Option (Visitor S)). VisitsThere received sent has_none is_ended is_broken now v p.is_stopping q) (sym at) visits)
+
+  -- nobody is there
+  pub control-free : (now : ℕ) (p : Control S) → p.is_ready ≡ true → p.visitor ≡ None → VisitsControl received sent has_none is_ended is_broken now p (control p.visitor false p.is_stopping)
+  control-free now p is at = there now p (control p.visitor false p.is_stopping) None is at (ap (λ (o : Option (Visitor S)). control o false p.is_stopping) at)
+
+  -- a visitor is there, and was visited
+  pub control-there : (now : ℕ) (p : Control S) (v w : Visitor S) (visit : Visit) → p.is_ready ≡ true → p.visitor ≡ Some v
+      → Visits received sent is_ended is_broken p.is_stopping now v w visit → (visit ≡ Rests → has_none w.socket ≡ true)
+      → VisitsControl received sent has_none is_ended is_broken now p (after_visit visit w p.is_stopping)
+  control-there now p v w visit is at visits waits =
+      there now p (after_visit visit w p.is_stopping) (Some v) is at (record { visitor = w; visit = visit; visits = visits; control_after = refl; waits = waits })
+
+  -- ---- who holds it
+
+  -- somebody is still there who holds it
+  stays : (visit : Visit) (w : Visitor S) (b : Bool) → holds (after_visit visit w b) ≡ true → ((after_visit visit w b).visitor ≡ Some w) × (holds_at w.post ≡ true) × (visit ≡ Over → ⊥)
+  stays Again w b is = (refl, is, λ e. absurd (cc))
+  stays Rests w b is = (refl, is, λ e. absurd (cc))
+  stays Over w b is = absurd (false≢true is)
+
+  -- a byte came
+  asked-by : (stopping : Bool) (now : ℕ) (v w : Visitor S) (byte : ℕ) (visit : Visit) (o : Option Post) → after v.post byte stopping now ≡ o
+      → Obeys o byte v.post w.post (sent v.socket) (sent w.socket) visit → holds_at v.post ≡ false → holds_at w.post ≡ true → (visit ≡ Over → ⊥)
+      → (byte ≡ hold_byte) × (stopping ≡ false) × (sent w.socket ≡ append_known (sent v.socket) (byte ∷ []))
+  asked-by stopping now v w byte visit None at obeys was is on = absurd (false≢true (sym was ∙ sym (ap holds_at obeys.0) ∙ is))
+  asked-by stopping now v w byte visit (Some next) at obeys was is on =
+      let holding : holds_at next ≡ true = sym (ap holds_at obeys.0) ∙ is in
+      let first = first-hold v.post next byte stopping now was at holding in
+      let answers = subst (λ (b : Bool). Answers b byte (sent v.socket) (sent w.socket) visit) holding obeys.1 in
+      (same-byte byte hold_byte first.0, first.1, told byte (sent v.socket) (sent w.socket) visit answers on)
+
+  asked-heard : (heard : List ℕ) (stopping : Bool) (now : ℕ) (v w : Visitor S) (visit : Visit) → received w.socket ≡ append_known (received v.socket) heard
+      → Hears received sent is_ended is_broken heard stopping now v w visit → holds_at v.post ≡ false → holds_at w.post ≡ true → (visit ≡ Over → ⊥)
+      → (received w.socket ≡ append_known (received v.socket) (hold_byte ∷ [])) × (sent w.socket ≡ append_known (sent v.socket) (hold_byte ∷ [])) × (stopping ≡ false)
+  asked-heard [] stopping now v w visit gave hears was is on = absurd (false≢true (sym was ∙ sym (ap holds_at hears.0) ∙ is))
+  asked-heard (byte ∷ []) stopping now v w visit gave hears was is on =
+      let asked = asked-by stopping now v w byte visit (after v.post byte stopping now) refl hears was is on in (
+        subst (λ (b : ℕ). received w.socket ≡ append_known (received v.socket) (b ∷ [])) asked.0 gave,
+        subst (λ (b : ℕ). sent w.socket ≡ append_known (sent v.socket) (b ∷ [])) asked.0 asked.2,
+        asked.1,
+      )
+  asked-heard (byte ∷ (more ∷ rest)) stopping now v w visit gave hears was is on = absurd hears
+
+  asked-there : (now : ℕ) (old new : Control S) (o : Option (Visitor S)) → old.visitor ≡ o → VisitsThere received sent has_none is_ended is_broken now o old.is_stopping new
+      → holds_with o ≡ false → holds new ≡ true → HasAsked received sent has_none is_ended is_broken old new
+  asked-there now old new None at v was is = absurd (false≢true (sym (ap holds v) ∙ is))
+  asked-there now old new (Some v) at one was is =
+      let still = stays one.visit one.visitor old.is_stopping (sym (ap holds one.control_after) ∙ is) in
+      let asked = asked-heard one.visits.0 old.is_stopping now v one.visitor one.visit one.visits.1 one.visits.2 was still.1 still.2 in
+      record {
+        before = v;
+        later = one.visitor;
+        was = at;
+        is = ap (λ (c : Control S). c.visitor) one.control_after ∙ still.0;
+        asked = asked.0;
+        told = asked.1;
+        goes_on = asked.2;
+      }
+
+  asked-if : (b : Bool) (now : ℕ) (old new : Control S) → VisitsIf received sent has_none is_ended is_broken b now old new → holds old ≡ false → holds new ≡ true
+      → HasAsked received sent has_none is_ended is_broken old new
+  asked-if true now old new v was is = asked-there now old new old.visitor refl v was is
+  asked-if false now old new same was is = absurd (false≢true (sym was ∙ sym (ap holds same) ∙ is))
+
+  pub holders-have-asked : HoldersHaveAsked received sent has_none is_ended is_broken
+  holders-have-asked now old new v was is = asked-if old.is_ready now old new v was is
+
+  -- ---- a server that is to end
+
+  stops-after : (visit : Visit) (w : Visitor S) (b : Bool) → b ≡ true → stops (after_visit visit w b) ≡ true
+  stops-after Again w b is = ap (λ (t : Bool). t || stops_at w.post) is
+  stops-after Rests w b is = ap (λ (t : Bool). t || stops_at w.post) is
+  stops-after Over w b is = ap (λ (t : Bool). t || stops_at w.post) is
+
+  stops-there : (now : ℕ) (new : Control S) (b : Bool) (o : Option (Visitor S)) → VisitsThere received sent has_none is_ended is_broken now o b new → b ≡ true → stops new ≡ true
+  stops-there now new b None v is = ap stops v ∙ is
+  stops-there now new b (Some v) one is = ap stops one.control_after ∙ stops-after one.visit one.visitor b is
+
+  stops-if : (b : Bool) (now : ℕ) (old new : Control S) → VisitsIf received sent has_none is_ended is_broken b now old new → stops old ≡ true → stops new ≡ true
+  stops-if true now old new v is = stops-there now new old.is_stopping old.visitor v is
+  stops-if false now old new same is = ap stops same ∙ is
+
+  pub stops-stay : StopsStay received sent has_none is_ended is_broken
+  stops-stay now old new v is = stops-if old.is_ready now old new v is

@@ -1,0 +1,140 @@
+-- A guest: what is received of it, what it is answered, and what of that is sent.
+use Rattle.std.specs.Prelude.{◌≡◌, ◌⊎◌, ◌+◌, ◌-◌, ◌<◌, ◌≤◌, ◌++◌, ◌∷◌, ◌^◌, min, nat_le, ℕ, Bool, true, List, [], Option, Some, None, length}
+use Rattle.std.specs.Io.KnownBytes.{append_known}
+use Rattle.registry_service.specs.Courses.{Gave}
+use Rattle.registry_service.specs.Turns.{Answering}
+use Rattle.registry_guests.specs.GuestTurns.{IsGuestTurn, on_memory}
+use Rattle.registry_guests.specs.Saying.{Spoken, prints, sent_as}
+use Rattle.registry_guests.specs.Spelling.{AreWords, spelling}
+
+-- the most bytes of a message: a body, one byte more to see that it is too large, and 8 MiB of words
+abbrev pub message_limit : ℕ
+message_limit = 12_582_913
+
+-- so many milliseconds a guest has in all
+abbrev pub time_limit : ℕ
+time_limit = 8_000
+
+-- its socket, what of its message came, what isn't sent of its answer once it has one, and until when
+-- it has time
+pub record OpenGuest (S : Type 0) : Type 0 where
+  pub socket : S
+  pub held : List ℕ
+  pub left : Option (List ℕ)
+  pub until : ℕ
+
+abbrev pub guest_at : {S : Type 0} → S → List ℕ → Option (List ℕ) → ℕ → OpenGuest S
+guest_at socket held left until = record { socket = socket; held = held; left = left; until = until }
+
+-- What a guest waits for: that its socket gives more of its message, and once that is answered that its
+-- socket takes some of the answer. So it has to wait where that has none, or is full.
+abbrev pub must_wait_in : Option (List ℕ) → Bool → Bool → Bool
+must_wait_in None has_none is_full = has_none
+must_wait_in (Some left) has_none is_full = is_full
+
+-- a guest has to wait
+abbrev pub must_wait : {S : Type 0} → (S → Bool) → (S → Bool) → OpenGuest S → Bool
+must_wait has_none is_full g = must_wait_in g.left (has_none g.socket) (is_full g.socket)
+
+-- one that has just come
+abbrev pub first_guest : {S : Type 0} → S → ℕ → OpenGuest S
+first_guest socket now = guest_at socket [] None (min (now + time_limit) (2 ^ 64 - 1))
+
+abbrev pub is_late : {S : Type 0} → OpenGuest S → ℕ → Bool
+is_late g now = nat_le g.until now
+
+-- bytes that are no message
+abbrev pub IsNoMessage : List ℕ → Type 0
+IsNoMessage bytes = (ws : List (List ℕ)) (body : List ℕ) → AreWords ws → length body < 2 ^ 64 → bytes ≡ spelling ws body → ⊥
+
+module _ {S : Type 0} (received sent : S → Option (List ℕ)) where
+  -- So many bytes at most were received, and are held behind the others. Nothing was sent.
+  pub record Hears (most : ℕ) (old new : S) (held held2 : List ℕ) : Type 0 where
+    pub got : List ℕ
+    pub few : length got ≤ most
+    pub gave : received new ≡ append_known (received old) got
+    pub unsent : sent new ≡ sent old
+    pub keeps : held2 ≡ held ++ got
+
+  -- The socket took some of the first bytes of what is due, and the others are left. Nothing was
+  -- received.
+  pub record SendsDue (old new : S) (due left : List ℕ) : Type 0 where
+    pub put : List ℕ
+    pub took : sent new ≡ append_known (sent old) put
+    pub unread : received new ≡ received old
+    pub parts : due ≡ put ++ left
+
+module _ {D : Type 0} (answers : Answering D) where
+  -- these bytes are a message, and a turn is taken for it at the clock's moment, in which this is said
+  abbrev pub TakesTurn : List ℕ → Spoken → D → D → Option (List ℕ) → Option (List ℕ) → Type 0
+  TakesTurn bytes said M N readings readings2 =
+      (ws : List (List ℕ)) × (body : List ℕ) × (now : ℕ) × AreWords ws × (bytes ≡ spelling ws body)
+      × IsGuestTurn answers M ws body now (prints said) N × Gave readings readings2 (now ∷ [])
+
+  -- there is no memory, which is said, and neither the service nor the clock is asked
+  abbrev pub Starves : Spoken → D → D → Option (List ℕ) → Option (List ℕ) → Type 0
+  Starves said M N readings readings2 = (prints said ≡ on_memory) × (N ≡ M) × (readings2 ≡ readings)
+
+  -- the answer to a message: its turn is taken, or there is no memory to read it
+  abbrev pub AnswersMessage : List ℕ → Spoken → D → D → Option (List ℕ) → Option (List ℕ) → Type 0
+  AnswersMessage bytes said M N readings readings2 = TakesTurn bytes said M N readings readings2 ⊎ Starves said M N readings readings2
+
+module _ {S : Type 0} (received sent : S → Option (List ℕ)) (is_ended : S → Bool) {D : Type 0} (answers : Answering D) where
+  -- More of its message came. Neither the service nor the clock is asked.
+  pub record Listens (most : ℕ) (old new : OpenGuest S) (M N : D) (readings readings2 : Option (List ℕ)) : Type 0 where
+    pub hears : Hears received sent most old.socket new.socket old.held new.held
+    pub unanswered : new.left ≡ None
+    pub service : N ≡ M
+    pub unasked : readings2 ≡ readings
+
+  -- No more comes, and nothing came in this visit: what is held is all that was received, and is
+  -- answered as a message.
+  pub record IsComplete (held heard : List ℕ) (socket : S) (said : Spoken) (M N : D) (readings readings2 : Option (List ℕ)) : Type 0 where
+    pub ended : is_ended socket ≡ true
+    pub all : heard ≡ held
+    pub answered : AnswersMessage answers held said M N readings readings2
+
+  -- why an answer begins: the message is complete, or there is no memory to hold what came
+  abbrev pub IsDue : List ℕ → List ℕ → S → Spoken → D → D → Option (List ℕ) → Option (List ℕ) → Type 0
+  IsDue held heard socket said M N readings readings2 =
+      IsComplete held heard socket said M N readings readings2
+      ⊎ ((length held < length heard) × Starves answers said M N readings readings2)
+
+  -- Its answer begins, and some of it is sent.
+  pub record Begins (most : ℕ) (old new : OpenGuest S) (M N : D) (readings readings2 : Option (List ℕ)) : Type 0 where
+    pub between : S
+    pub heard : List ℕ
+    pub hears : Hears received sent most old.socket between old.held heard
+    pub said : Spoken
+    pub due : IsDue old.held heard new.socket said M N readings readings2
+    pub left : List ℕ
+    pub sends : SendsDue received sent between new.socket (sent_as said) left
+    pub begun : new.left ≡ Some left
+
+  -- Some more of the answer is sent. Neither the service nor the clock is asked.
+  pub record GoesOn (old new : OpenGuest S) (due : List ℕ) (M N : D) (readings readings2 : Option (List ℕ)) : Type 0 where
+    pub left : List ℕ
+    pub sends : SendsDue received sent old.socket new.socket due left
+    pub begun : new.left ≡ Some left
+    pub service : N ≡ M
+    pub unasked : readings2 ≡ readings
+
+  abbrev pub VisitsIn : ℕ → Option (List ℕ) → OpenGuest S → OpenGuest S → D → D → Option (List ℕ) → Option (List ℕ) → Type 0
+  VisitsIn most None old new M N readings readings2 = Listens most old new M N readings readings2 ⊎ Begins most old new M N readings readings2
+  VisitsIn most (Some due) old new M N readings readings2 = GoesOn old new due M N readings readings2
+
+  -- A visit of a guest: before its answer begins it is listened to, and its message answered once;
+  -- then the answer is sent. So many bytes are received at most, and its time stays.
+  pub record Visits (most : ℕ) (old new : OpenGuest S) (M N : D) (readings readings2 : Option (List ℕ)) : Type 0 where
+    pub does : VisitsIn most old.left old new M N readings readings2
+    pub until : new.until ≡ old.until
+
+-- Before it is answered: its socket is broken; what it sent is too long; or no more comes, and that
+-- is no message. Then: its whole answer was sent, or its socket takes no more.
+abbrev pub IsOverIn : List ℕ → Option (List ℕ) → Bool → Bool → Type 0
+IsOverIn held None ended broken = (broken ≡ true) ⊎ (message_limit < length held) ⊎ ((ended ≡ true) × IsNoMessage held)
+IsOverIn held (Some left) ended broken = (left ≡ []) ⊎ (broken ≡ true) ⊎ (ended ≡ true)
+
+-- why a guest is over
+abbrev pub IsOver : {S : Type 0} → (S → Bool) → (S → Bool) → OpenGuest S → Type 0
+IsOver is_ended is_broken g = IsOverIn g.held g.left (is_ended g.socket) (is_broken g.socket)

@@ -1,0 +1,188 @@
+//! One guest: its message is received to its end, answered, and the answer sent.
+
+ghost use Rattle.std.specs.Prelude.{◌≡◌, ◌<◌, ◌++◌, [], ℕ, List, true, Some, IfOk, IfSome, IfNone, OnOk, OnErr, length};
+ghost use Rattle.registry_guests.specs.Guests as spec;
+ghost use Rattle.registry_guests.specs.Guests.{AnswersMessage, Hears, IsNoMessage, IsOver, IsOverIn, SendsDue, Visits, first_guest, must_wait};
+ghost use Rattle.registry_guests.specs.Saying.{sent_as};
+ghost use Rattle.registry_server.specs.declared.connection.Visit.TheVariants as visits;
+ghost use Rattle.registry_server.specs.declared.socket.Flow.TheVariants as flows;
+
+use crate::fault::ReadError;
+use crate::reading::read;
+use crate::said::Said;
+use crate::turning::turn;
+use crate::unsent::Unsent;
+use registry_names::{BODY_LIMIT, Fault};
+use registry_server::{Flow, Socket, Visit};
+use registry_service::{Clock, Service};
+use std::alloc::{AllocError, Global};
+use std::marker::Model;
+
+/// The most bytes of a message: those of a body, one more to see that it is too large, and 8 MiB for
+/// the words, which is more than the system gives a program.
+pub const MESSAGE_LIMIT: usize = BODY_LIMIT + 1 + 8_388_608;
+
+/// So many milliseconds a guest has in all.
+pub const GUEST_TIME_LIMIT: u64 = 8_000;
+
+/// A guest: its socket, what of its message came, what isn't sent of its answer once it has one, and
+/// until when it has time.
+#[derive(Drop)]
+pub struct Guest<S: Socket> {
+    socket: S,
+    held: Vec<u8>,
+    unsent: Option<Unsent>,
+    until: u64,
+}
+
+impl<S: Socket> Model for Guest<S> {
+    ghost use Rattle.registry_guests.specs.Guests.{OpenGuest, guest_at};
+
+    ghost Value = { OpenGuest S };
+
+    ghost view = { λ g. guest_at g.socket g.held.items g.unsent g.until };
+}
+
+impl<S: Socket> Guest<S> {
+    /// A guest that has just come, at this time in milliseconds. It takes no memory.
+    pub fn new(alloc: Global, socket: S, now: u64) -> Guest<S>
+        ensures { result ≡ first_guest socket now }
+    {
+        Guest {
+            socket,
+            held: Vec::new(alloc),
+            unsent: None,
+            until: now.saturating_add(GUEST_TIME_LIMIT),
+        }
+    }
+
+    /// Whether its time is up.
+    pub fn is_late(&self, now: u64) -> bool
+        ensures { result ≡ spec.is_late self.now now }
+    {
+        self.until <= now
+    }
+
+    /// Its socket.
+    pub fn into_socket(self) -> S
+        ensures { result ≡ self.socket }
+    {
+        let Guest {
+            socket,
+            held: _,
+            unsent: _,
+            until: _,
+        } = self;
+        socket
+    }
+
+    /// Goes on with the guest. Before its answer begins it receives once; where no more comes it
+    /// answers what came, if that is a message. It sends once where an answer has begun.
+    pub fn visit<D: Service, C: Clock>(
+        &mut self,
+        alloc: Global,
+        service: &mut D,
+        clock: &mut C,
+        buffer: &mut [u8],
+    ) -> Visit
+        ensures visits { Visits S.received S.sent S.is_ended D.answers (length buffer.old) self.old self.new
+            service.old service.new (C.readings clock.old) (C.readings clock.new) }
+        ensures waits { result ≡ visits.Rests → must_wait S.has_none S.is_full self.new ≡ true }
+        ensures over { result ≡ visits.Over → IsOver S.is_ended S.is_broken self.new }
+    {
+        match &mut self.unsent {
+            Some(unsent) => send(&mut self.socket, unsent),
+            None => match receive(&mut self.socket, &mut self.held, buffer) {
+                Ok(Flow::Moved(_)) if self.held.len() > MESSAGE_LIMIT => Visit::Over,
+                Ok(Flow::Moved(_)) => Visit::Again,
+                Ok(Flow::Waits) => Visit::Rests,
+                Ok(Flow::Broken) => Visit::Over,
+                Ok(Flow::Ended) => match answer(alloc, service, clock, &self.held) {
+                    Some(said) => self.begin(said),
+                    None => Visit::Over,
+                },
+                Err(_) => self.begin(Said::of(Err(Fault::Memory))),
+            },
+        }
+    }
+
+    // Begins to send what is said.
+    fn begin(&mut self, said: Said) -> Visit
+        ensures sends { (left : List ℕ) × SendsDue S.received S.sent self.old.socket self.new.socket (sent_as said) left
+            × (self.new.left ≡ Some left) }
+        ensures still_ended { S.is_ended self.old.socket ≡ true → S.is_ended self.new.socket ≡ true }
+        ensures until { self.new.until ≡ self.old.until }
+        ensures waits { result ≡ visits.Rests → must_wait S.has_none S.is_full self.new ≡ true }
+        ensures over { result ≡ visits.Over → IsOver S.is_ended S.is_broken self.new }
+    {
+        let mut unsent = Unsent::of(said);
+        let visit = send(&mut self.socket, &mut unsent);
+        self.unsent = Some(unsent);
+        visit
+    }
+}
+
+// Receives what has come, and holds it. After an error what came isn't held.
+fn receive<S: Socket>(
+    socket: &mut S,
+    held: &mut Vec<u8>,
+    buffer: &mut [u8],
+) -> Result<Flow, AllocError>
+    ensures kept { OnOk result (Hears S.received S.sent (length buffer.old) socket.old socket.new
+        held.old.items held.new.items) }
+    ensures lost { OnErr result ((got : List ℕ) × (0 < length got) × Hears S.received S.sent (length buffer.old)
+        socket.old socket.new held.old.items (held.old.items ++ got)) }
+    ensures none { IfOk result (λ flow. flow ≡ flows.Ended → held.new.items ≡ held.old.items) }
+    ensures waits { IfOk result (λ flow. flow ≡ flows.Waits → S.has_none socket.new ≡ true) }
+    ensures ended { IfOk result (λ flow. flow ≡ flows.Ended → S.is_ended socket.new ≡ true) }
+    ensures broken { IfOk result (λ flow. flow ≡ flows.Broken → S.is_broken socket.new ≡ true) }
+{
+    let flow = socket.receive(buffer);
+    if let Flow::Moved(count) = flow {
+        held.extend_from_slice(&buffer[..count])?;
+    }
+    Ok(flow)
+}
+
+// Answers a message. None where the bytes are none.
+fn answer<D: Service, C: Clock>(
+    alloc: Global,
+    service: &mut D,
+    clock: &mut C,
+    bytes: &[u8],
+) -> Option<Said>
+    ensures some { IfSome result (λ said. AnswersMessage D.answers bytes.now said
+        service.old service.new (C.readings clock.old) (C.readings clock.new)) }
+    ensures none { IfNone result (IsNoMessage bytes.now) }
+    ensures service { IfNone result (service.new ≡ service.old) }
+    ensures clock { IfNone result (C.readings clock.new ≡ C.readings clock.old) }
+{
+    match read(alloc, bytes) {
+        Ok(message) => Some(turn(alloc, service, &message, clock.now())),
+        Err(ReadError::Memory) => Some(Said::of(Err(Fault::Memory))),
+        Err(ReadError::Malformed(_)) => None,
+    }
+}
+
+// Sends once.
+fn send<S: Socket>(socket: &mut S, unsent: &mut Unsent) -> Visit
+    ensures sends { SendsDue S.received S.sent socket.old socket.new unsent.old unsent.new }
+    ensures still_ended { S.is_ended socket.old ≡ true → S.is_ended socket.new ≡ true }
+    ensures waits { result ≡ visits.Rests → S.is_full socket.new ≡ true }
+    ensures over { result ≡ visits.Over → IsOverIn [] (Some unsent.new) (S.is_ended socket.new) (S.is_broken socket.new) }
+{
+    let (front, text) = unsent.parts();
+    match socket.send(front, text) {
+        Flow::Moved(count) => {
+            unsent.advance(count);
+            if unsent.is_empty() {
+                Visit::Over
+            } else {
+                Visit::Again
+            }
+        }
+        Flow::Waits => Visit::Rests,
+        Flow::Ended => Visit::Over,
+        Flow::Broken => Visit::Over,
+    }
+}

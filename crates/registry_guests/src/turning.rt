@@ -1,0 +1,120 @@
+//! A guest's turn: what the service is asked, and what is said of it.
+
+ghost use Rattle.std.specs.Prelude.{◌≡◌, All, IsUtf8, IfOk, IfErr, IfSome, IfNone, false, unwrap_or};
+ghost use Rattle.registry_cli.specs.Lines.{IsWhole, asks_to_serve, line_of as line_spec};
+ghost use Rattle.registry_guests.specs.GuestTurns as spec;
+ghost use Rattle.registry_guests.specs.GuestTurns.{AsksOnce, IsCommand, IsGuestTurn, IsUnasked};
+ghost use Rattle.registry_guests.specs.Saying.{prints};
+ghost use Rattle.registry_guests.specs.Spelling.{view, words as words_in};
+
+use crate::reading::Message;
+use crate::said::Said;
+use registry_cli::{Line, Usage, action_of, line};
+use registry_names::{Fault, Moment, Stop, Text};
+use registry_rules::{Reply, Request};
+use registry_service::Service;
+use std::alloc::{AllocError, Global};
+
+/// What is said of words that are no texts.
+const NO_TEXTS: &str = "error: invalid UTF-8 was detected in one or more arguments";
+
+/// What is said where a server is asked to serve.
+const SERVING: &str = "error: a server can't be asked to serve";
+
+/// Takes the turn of a message at this moment, which is that of the request where its words say
+/// none: at most one request is asked of the service. What is said is what the program prints of the
+/// same words and the same file where it has the registry itself.
+pub fn turn<D: Service>(alloc: Global, service: &mut D, message: &Message<'_>, now: Moment) -> Said
+    ensures { IsGuestTurn D.answers service.old (view message.now).0 (view message.now).1 now
+        (prints result) service.new }
+{
+    match line_of(alloc, &message.words) {
+        Ok(line) => ask(alloc, service, &line, message.body, now),
+        Err(said) => said,
+    }
+}
+
+// Asks what a line asks for.
+fn ask<D: Service>(alloc: Global, service: &mut D, line: &Line, body: &[u8], now: Moment) -> Said
+    requires whole { IsWhole line.now.what }
+    requires asks { asks_to_serve line.now.what ≡ false }
+    ensures { AsksOnce D.answers service.old line.now body.now now (prints result) service.new }
+{
+    match action_of(alloc, line, body) {
+        Ok((who, what)) => {
+            let at = moment_of(line, now);
+            Said::of(service.answer(alloc, &Request { at, who, what }))
+        }
+        Err(Stop::Refused(refusal)) => Said::of(Ok(Reply::Refused(refusal))),
+        Err(Stop::Fault(fault)) => Said::of(Err(fault)),
+    }
+}
+
+// The moment that a line says, or now.
+fn moment_of(line: &Line, now: Moment) -> Moment
+    ensures { result ≡ unwrap_or line.now.at now }
+{
+    match line.at {
+        Some(at) => at,
+        None => now,
+    }
+}
+
+// The line that words mean, which asks for an action, or what is said of them.
+fn line_of(alloc: Global, words: &[Vec<u8>]) -> Result<Line, Said>
+    ensures ok { IfOk result (λ l. IsCommand (words_in words.now) × (l ≡ line_spec (words_in words.now))) }
+    ensures err { IfErr result (λ said. IsUnasked (words_in words.now) (prints said)) }
+{
+    match texts(alloc, words) {
+        Ok(Some(texts)) => line_in(alloc, &texts),
+        Ok(None) => Err(usage(alloc, NO_TEXTS)),
+        Err(_) => Err(starved()),
+    }
+}
+
+// The same of words that are texts.
+fn line_in(alloc: Global, words: &[Text]) -> Result<Line, Said>
+    requires { All IsUtf8 words.now }
+    ensures ok { IfOk result (λ l. IsCommand words.now × (l ≡ line_spec words.now)) }
+    ensures err { IfErr result (λ said. IsUnasked words.now (prints said)) }
+{
+    match line(alloc, words) {
+        Ok(line) if line.asks_to_serve() => Err(usage(alloc, SERVING)),
+        Ok(line) => Ok(line),
+        Err(Usage::Words(text)) => Err(Said::usage(text)),
+        Err(Usage::Memory) => Err(starved()),
+    }
+}
+
+// What is said of a usage, or that no memory is left.
+fn usage(alloc: Global, text: &str) -> Said
+    ensures { spec.SaysOrStarves text.now (prints result) }
+{
+    match Text::from_str(alloc, text) {
+        Ok(text) => Said::usage(text),
+        Err(_) => starved(),
+    }
+}
+
+// What is said where no memory is left.
+fn starved() -> Said
+    ensures { prints result ≡ spec.on_memory }
+{
+    Said::of(Err(Fault::Memory))
+}
+
+// The texts that words are. None where one of them is no text.
+fn texts(alloc: Global, words: &[Vec<u8>]) -> Result<Option<Vec<Text>>, AllocError>
+    ensures some { IfOk result (λ found. IfSome found (λ texts. (texts.items ≡ words_in words.now)
+        × All IsUtf8 (words_in words.now))) }
+    ensures none { IfOk result (λ found. IfNone found (All IsUtf8 (words_in words.now) → ⊥)) }
+{
+    let mut texts = Vec::new(alloc);
+    for word in words {
+        let Ok(word) = std::str::from_utf8(word) else {
+            return Ok(None);
+        };
+        texts.push(Text::from_str(alloc, word)?)?;
+    }
+    Ok(Some(texts))
+}

@@ -1,0 +1,3 @@
+mod ColumnFacts
+mod TargetFacts
+mod TokenFacts

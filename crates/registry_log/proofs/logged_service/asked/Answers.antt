@@ -1,0 +1,8 @@
+use Rattle.registry_http.specs.Services.{shown}
+use Rattle.registry_http.proofs.SeekingFacts.{sought_applies}
+use Rattle.registry_log.proofs.logged_service.asked.Goals as goal
+
+pub returns : goal.returns
+returns g c =
+    sought_applies (shown g.S.Store c.args.inner.now) (shown g.S.Store c.user_of-user.new.inner) (shown g.S.Store c.answer-outcome.new.self) c.args.request.now c.answer-outcome.result
+    c.user_of-user.ensures.opened c.user_of-user.ensures.stored c.user_of-user.ensures.survives c.answer-outcome.ensures.answers

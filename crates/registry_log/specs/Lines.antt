@@ -1,0 +1,60 @@
+-- The lines of a log.
+use Rattle.std.specs.Prelude.{ℕ, ◌/◌, ◌%◌, ◌||◌, nat_eq, Bool, List, [], ◌∷◌, ◌++◌, map, codes, decimal, Option, Some, None, if◌then◌else◌}
+use Rattle.std.specs.Char.{is_ascii_graphic}
+use Rattle.std.specs.List.{starts_with}
+use Rattle.registry_names.specs.declared.method.Method.{Method}
+use Rattle.registry_names.specs.declared.method.Method.TheVariants.{Get, Put, Post, Delete, Other}
+use Rattle.registry_packument.specs.Calendar.{utc_text}
+use Rattle.registry_log.specs.declared.entry.Entry.{Entry}
+
+-- ---- columns
+
+-- a byte that can be seen stands for itself, and `?` for each other, a space among them
+abbrev pub seen_byte : ℕ → ℕ
+seen_byte b = if is_ascii_graphic b then b else 63
+
+-- a text as a column: `-` where there is none
+abbrev pub column : List ℕ → List ℕ
+column [] = codes "-"
+column (b ∷ bs) = map seen_byte (b ∷ bs)
+
+-- with the space, or the newline, that ends it
+abbrev pub cell : List ℕ → List ℕ
+cell text = column text ++ codes " "
+
+abbrev pub last_cell : List ℕ → List ℕ
+last_cell text = column text ++ codes "\n"
+
+-- ---- targets
+
+abbrev pub begins : List ℕ → List ℕ → Bool
+begins text word = starts_with nat_eq text word
+
+-- a token may stand behind the first byte
+abbrev pub hides : List ℕ → Bool
+hides text = begins text (codes "/npm_") || (begins text (codes "=npm_") || (begins text (codes "/user/token/") || begins text (codes "/tokens/token/")))
+
+-- a target up to where a token may stand, and `***` for all that is behind
+abbrev pub masked : List ℕ → List ℕ
+masked [] = []
+masked (b ∷ bs) = b ∷ (if hides (b ∷ bs) then codes "***" else masked bs)
+
+-- ---- lines
+
+-- the name of a method, where it is known
+abbrev pub method_text : Option Method → List ℕ
+method_text (Some Get) = codes "GET"
+method_text (Some Put) = codes "PUT"
+method_text (Some Post) = codes "POST"
+method_text (Some Delete) = codes "DELETE"
+method_text (Some Other) = []
+method_text None = []
+
+-- microseconds in milliseconds, with one decimal
+abbrev pub time_text : Option ℕ → List ℕ
+time_text None = []
+time_text (Some n) = decimal (n / 1000) ++ codes "." ++ decimal (n / 100 % 10)
+
+-- the line of a request: seven columns
+abbrev pub line_of : Entry → List ℕ
+line_of e = cell (utc_text e.at) ++ cell e.user.now ++ cell (method_text e.method) ++ cell (masked e.target.now) ++ cell (decimal e.status) ++ cell (decimal e.length) ++ last_cell (time_text e.micros)

@@ -1,0 +1,25 @@
+//! A log of the requests that a registry answered over HTTP: a line a request.
+//!
+//! A [`LoggedService`] is a registry as a service, with or without a log. Contracts see the registry
+//! alone, so all that is promised of it is promised with a log, too. What a turn answered is an
+//! [`Entry`], whose line has seven columns whatever a client sent ([`laws`]). Lines wait in a room of
+//! fixed size, and are written once in each round of turns. Those that can't be written are lost,
+//! and that is said in the log once it can be written again.
+#![tactic(auto)]
+
+mod column;
+mod entry;
+pub mod laws;
+mod log;
+mod log_clock;
+mod logged_service;
+mod sink;
+mod target;
+mod waiting;
+
+pub use crate::entry::Entry;
+pub use crate::log::Log;
+pub use crate::log_clock::LogClock;
+pub use crate::logged_service::LoggedService;
+pub use crate::sink::LineSink;
+pub use crate::waiting::{WAITING_LIMIT, Waiting};

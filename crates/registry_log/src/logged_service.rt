@@ -1,0 +1,141 @@
+//! A registry as a service that may keep a log.
+
+ghost use Rattle.std.specs.Prelude.{◌≡◌};
+ghost use Rattle.sqlite.specs.State.{Survives};
+ghost use Rattle.registry_desk.specs.Promises.{KeepsStored, WasOpen};
+ghost use Rattle.registry_http.specs.Services.{applied, shown};
+
+use crate::log::Log;
+use crate::log_clock::LogClock;
+use crate::sink::LineSink;
+use registry_http::RegistryService;
+use registry_names::{Fault, Ident};
+use registry_rules::{Credential, Reply, Request};
+use registry_service::{Service, Turned};
+use registry_wire::Wanted;
+use sqlite::Alter;
+use std::alloc::Global;
+use std::marker::Model;
+
+/// A registry that is asked over HTTP, and the log of what was answered, if one is kept. Contracts see
+/// the registry alone, as those of a [`RegistryService`] do: a log changes nothing of it.
+///
+/// Who asks is looked up, by the token, only where a log is kept.
+pub struct LoggedService<S: Alter, K: LogClock, W: LineSink> {
+    inner: RegistryService<S>,
+    log: Option<Log<K, W>>,
+}
+
+// Written out, so that to drop a service is one call and not one for each part.
+impl<S: Alter + Drop, K: LogClock + Drop, W: LineSink + Drop> Drop for LoggedService<S, K, W> {
+    fn drop(self) {
+        let LoggedService { inner: _, log: _ } = self;
+    }
+}
+
+impl<S: Alter, K: LogClock, W: LineSink> Model for LoggedService<S, K, W> {
+    ghost use Rattle.registry_http.specs.Services.{Serving, serving_code};
+
+    ghost Value = { Serving S };
+
+    ghost coded = { serving_code S.code };
+
+    ghost view = { λ s. s.inner };
+}
+
+impl<S: Alter, K: LogClock, W: LineSink> LoggedService<S, K, W> {
+    /// A registry as a service, and its log, if one is to be kept.
+    pub fn new(inner: RegistryService<S>, log: Option<Log<K, W>>) -> LoggedService<S, K, W>
+        ensures { result ≡ inner }
+    {
+        LoggedService { inner, log }
+    }
+
+    /// Says a line in the log, if one is kept.
+    pub fn say(&mut self, text: &str)
+        ensures { self.new ≡ self.old }
+    {
+        match &mut self.log {
+            Some(log) => log.say(text),
+            None => {}
+        }
+    }
+}
+
+impl<S: Alter, K: LogClock + Drop, W: LineSink + Drop> LoggedService<S, K, W> {
+    /// The registry without its log.
+    pub fn into_inner(self) -> RegistryService<S>
+        ensures { result ≡ self }
+    {
+        let LoggedService { inner, log: _ } = self;
+        inner
+    }
+}
+
+impl<S: Alter, K: LogClock, W: LineSink> Service for LoggedService<S, K, W> {
+    ghost answers = { applied (shown S.Store) };
+
+    ghost over = { λ s. s.is_over };
+
+    /// Answers one request as a [`RegistryService`] does. Where a log is kept it is looked up before
+    /// who asks.
+    fn answer(&mut self, alloc: Global, request: &Request) -> Result<Reply, Fault> {
+        match &mut self.log {
+            Some(log) => asked(alloc, &mut self.inner, log, request),
+            None => self.inner.answer(alloc, request),
+        }
+    }
+
+    fn is_over(&self) -> bool {
+        self.inner.is_over()
+    }
+
+    fn note(&mut self, wanted: Option<&Wanted>, turned: &Turned) {
+        match &mut self.log {
+            Some(log) => log.note(wanted, turned),
+            None => {}
+        }
+    }
+
+    fn rest(&mut self) {
+        match &mut self.log {
+            Some(log) => log.rest(),
+            None => {}
+        }
+    }
+}
+
+// The outcome of a request of which a log is kept.
+fn asked<S: Alter, K: LogClock, W: LineSink>(
+    alloc: Global,
+    inner: &mut RegistryService<S>,
+    log: &mut Log<K, W>,
+    request: &Request,
+) -> Result<Reply, Fault>
+    ensures { applied (shown S.Store) inner.old request.now result inner.new }
+{
+    let user = user_of(alloc, inner, &request.who);
+    let begun = log.begin();
+    let outcome = inner.answer(alloc, request);
+    log.answered(request.at, user, begun);
+    outcome
+}
+
+// The user whose token is shown. None where it is nobody's, or that can't be seen.
+fn user_of<S: Alter>(
+    alloc: Global,
+    inner: &mut RegistryService<S>,
+    who: &Credential,
+) -> Option<Ident>
+    ensures opened { WasOpen (shown S.Store inner.old) (shown S.Store inner.new) }
+    ensures stored { KeepsStored (shown S.Store inner.old) (shown S.Store inner.new) }
+    ensures survives { Survives (shown S.Store inner.old) (shown S.Store inner.new) (λ _. ⊥) }
+{
+    match who {
+        Credential::Token(digest) => match inner.user_of(alloc, digest) {
+            Ok(user) => user,
+            Err(_) => None,
+        },
+        Credential::Operator | Credential::User(_) | Credential::Anonymous => None,
+    }
+}

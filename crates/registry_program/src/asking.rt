@@ -1,0 +1,58 @@
+//! Asking the registry in a file, whoever has it.
+
+use crate::beside::{TRIES, ask_server, busy, is_busy, pause};
+use crate::ending::Ending;
+use crate::registries::Registries;
+use registry_names::Text;
+use registry_rules::{Reply, Request};
+use std::alloc::Global;
+
+/// What the registry in a file is asked: a request, and the arguments and the bytes of the file that
+/// they name by which a server is asked for the same.
+#[derive(Clone, Copy)]
+pub struct Question<'a> {
+    /// The path of the file that keeps the registry.
+    pub path: &'a str,
+    /// What is asked of the registry itself.
+    pub request: &'a Request,
+    /// What is sent to a server.
+    pub arguments: &'a [Text],
+    /// The bytes that are sent with it.
+    pub body: &'a [u8],
+}
+
+/// What is answered.
+#[derive(Drop)]
+pub enum Answer {
+    /// The reply of the registry, which was opened.
+    Reply(Reply),
+    /// What a server sent that has the file.
+    Sent(Vec<u8>),
+}
+
+/// Asks the registry in a file. Where another process has the file and is a server, that is asked
+/// instead. Where no server is there either, both are asked for once more, for five seconds.
+pub fn answer_to<R: Registries>(
+    rt: &HostRuntime,
+    alloc: Global,
+    registries: &mut R,
+    question: Question<'_>,
+) -> Result<Answer, Ending> {
+    let Question {
+        path,
+        request,
+        arguments,
+        body,
+    } = question;
+    for _ in 0..TRIES {
+        let reply = registries.reply(rt, alloc, path, request);
+        if !is_busy(&reply) {
+            return Ok(Answer::Reply(reply?));
+        }
+        if let Some(bytes) = ask_server(rt, alloc, path, arguments, body)? {
+            return Ok(Answer::Sent(bytes));
+        }
+        pause(rt);
+    }
+    Err(busy())
+}

@@ -1,0 +1,212 @@
+//! Checking all that a registry's file holds.
+
+ghost use Rattle.std.specs.Prelude.{IfOk};
+ghost use Rattle.sqlite.specs.Held.{state};
+ghost use Rattle.sqlite.specs.State.{HasCleanDisk};
+ghost use Rattle.registry_check.specs.Premises.{TellsPremises};
+ghost use Rattle.registry_desk.specs.Resting.{Rests};
+ghost use Rattle.registry_tables.specs.Effects.{stored};
+
+use crate::beside::{TRIES, busy, hold_server, is_busy, pause};
+use crate::checking_beside::problems_beside;
+use crate::ending::{Ending, Failure, Obstacle};
+use crate::errands::print_done;
+use crate::opening::{close, open, require_file};
+use crate::run::{obstacle_text, print_line};
+use registry_check::{Problem, Thing, check};
+use registry_desk::Registry;
+use registry_names::{Blob, ByteOut, Fault, Text};
+use sqlite::{Alter, Connection, FileStore};
+use sqlite_disk::Disk;
+use std::alloc::{AllocError, Global};
+
+/// What stands before each thing that is wrong.
+const WRONG: &str = "wrong: ";
+
+/// Checks the registry in the file at the path, which is let go of, and gives the exit status: 0
+/// where nothing is wrong, and else 1, with a line on the errors for each thing that is. A file
+/// that holds no registry, or was changed by another hand so that it doesn't open, is wrong as a
+/// whole. Where a server has the file, a copy is checked that is made in the server's folder. A file
+/// that isn't there, that another process has, or that can't be read or copied is a fault.
+pub fn print_check<O: ByteOut, E: ByteOut>(
+    rt: &HostRuntime,
+    alloc: Global,
+    path: &str,
+    output: &mut O,
+    errors: &mut E,
+) -> Result<u8, Ending> {
+    match problems_at(rt, alloc, path) {
+        Ok(problems) => print_problems(alloc, &problems, output, errors),
+        Err(Ending::Fault(Failure::Opening(Obstacle::Foreign))) => {
+            print_line(errors, WRONG, obstacle_text(Obstacle::Foreign));
+            Ok(1)
+        }
+        Err(ending) => Err(ending),
+    }
+}
+
+fn print_problems<O: ByteOut, E: ByteOut>(
+    alloc: Global,
+    problems: &[Problem],
+    output: &mut O,
+    errors: &mut E,
+) -> Result<u8, Ending> {
+    if problems.is_empty() {
+        return print_done(output);
+    }
+    for problem in problems {
+        let text = problem_text(alloc, problem)?;
+        print_line(errors, WRONG, text.as_str());
+    }
+    Ok(1)
+}
+
+// What is wrong in a file, whoever has it.
+fn problems_at(rt: &HostRuntime, alloc: Global, path: &str) -> Result<Vec<Problem>, Ending> {
+    require_file(rt, path)?;
+    for _ in 0..TRIES {
+        let found = problems_alone(rt, alloc, path);
+        if !is_busy(&found) {
+            return found;
+        }
+        if let Some(held) = hold_server(rt, alloc, path)? {
+            return problems_beside(rt, alloc, path, held);
+        }
+        pause(rt);
+    }
+    Err(busy())
+}
+
+// What is wrong in a file that no other process has.
+fn problems_alone(rt: &HostRuntime, alloc: Global, path: &str) -> Result<Vec<Problem>, Ending> {
+    match open(rt, path) {
+        Ok(registry) => problems_in(alloc, registry),
+        Err(ending) => Err(ending),
+    }
+}
+
+/// What is wrong in a registry, which is let go of.
+pub fn problems_in<D: Disk + Drop>(
+    alloc: Global,
+    registry: Registry<FileStore<D>>,
+) -> Result<Vec<Problem>, Ending> {
+    let mut conn = registry.release();
+    let problems = problems_of(alloc, &mut conn);
+    close(conn);
+    match problems {
+        Ok(problems) => Ok(problems),
+        Err(fault) => Err(Ending::from(fault)),
+    }
+}
+
+// What is wrong behind a connection that is between requests. Nothing is exactly where all that
+// requests suppose is so.
+fn problems_of<S: Alter>(alloc: Global, conn: &mut Connection<S>) -> Result<Vec<Problem>, Fault>
+    requires rests { Rests (state S.Store conn.old) }
+    ensures { HasCleanDisk (state S.Store conn.new)
+        → IfOk result (λ found. TellsPremises found.items (stored (state S.Store conn.old))) }
+{
+    let mut tx = conn.transaction();
+    let problems = check(alloc, &mut tx);
+    tx.rollback();
+    problems
+}
+
+// A thing, and what is wrong with it.
+fn problem_text(alloc: Global, problem: &Problem) -> Result<String, AllocError> {
+    let thing = thing_text(alloc, &problem.thing)?;
+    joined(alloc, &[thing.as_str(), " ", problem.rule.text()])
+}
+
+fn thing_text(alloc: Global, thing: &Thing) -> Result<String, AllocError> {
+    match thing {
+        Thing::Token { digest } => token_text(alloc, digest),
+        Thing::Organisation { organisation } => named(alloc, "organisation ", organisation),
+        Thing::Member { organisation, user } => part(alloc, "member ", user, organisation),
+        Thing::Team { organisation, team } => part(alloc, "team ", team, organisation),
+        Thing::TeamMember {
+            organisation,
+            team,
+            user,
+        } => member_text(alloc, organisation, team, user),
+        Thing::Package { package } => named(alloc, "package ", package),
+        Thing::Grant {
+            organisation,
+            team,
+            package,
+        } => grant_text(alloc, organisation, team, package),
+        Thing::Maintainer { package, user } => part(alloc, "maintainer ", user, package),
+        Thing::Version { package, version } => part(alloc, "version ", version, package),
+        Thing::Need {
+            package,
+            version,
+            target,
+            range,
+        } => need_text(alloc, package, version, target, range),
+        Thing::Held { package, version } => part(alloc, "archive of version ", version, package),
+        Thing::Archive { number } => format!(in alloc; "archive {number}"),
+    }
+}
+
+fn named(alloc: Global, kind: &str, name: &Text) -> Result<String, AllocError> {
+    joined(alloc, &[kind, name.as_str()])
+}
+
+// A thing that is one of another.
+fn part(alloc: Global, kind: &str, name: &Text, whole: &Text) -> Result<String, AllocError> {
+    joined(alloc, &[kind, name.as_str(), " of ", whole.as_str()])
+}
+
+fn token_text(alloc: Global, digest: &Blob) -> Result<String, AllocError> {
+    let digits = hex::encode(alloc, digest.as_slice())?;
+    joined(alloc, &["token with the digest ", digits.as_str()])
+}
+
+fn member_text(
+    alloc: Global,
+    organisation: &Text,
+    team: &Text,
+    user: &Text,
+) -> Result<String, AllocError> {
+    let team = part(alloc, " of team ", team, organisation)?;
+    joined(alloc, &["member ", user.as_str(), team.as_str()])
+}
+
+fn grant_text(
+    alloc: Global,
+    organisation: &Text,
+    team: &Text,
+    package: &Text,
+) -> Result<String, AllocError> {
+    let team = part(alloc, " to team ", team, organisation)?;
+    joined(alloc, &["grant of ", package.as_str(), team.as_str()])
+}
+
+fn need_text(
+    alloc: Global,
+    package: &Text,
+    version: &Text,
+    target: &Text,
+    range: &Text,
+) -> Result<String, AllocError> {
+    let version = part(alloc, " of version ", version, package)?;
+    joined(
+        alloc,
+        &[
+            "need ",
+            target.as_str(),
+            " ",
+            range.as_str(),
+            version.as_str(),
+        ],
+    )
+}
+
+// The pieces as one text.
+fn joined(alloc: Global, pieces: &[&str]) -> Result<String, AllocError> {
+    let mut text = String::new(alloc);
+    for piece in pieces {
+        text.push_str(piece)?;
+    }
+    Ok(text)
+}

@@ -1,0 +1,113 @@
+//! Checking the registry of a server, by a copy of its files.
+
+use crate::beside::require_held;
+use crate::checking::problems_in;
+use crate::ending::{Ending, Failure, Obstacle, Snag};
+use crate::held::{copy_files, new_file, snag};
+use crate::opening::{obstacle_in, open_obstacle};
+use registry_check::Problem;
+use registry_desk::{Registry, Unopened};
+use registry_guests::Hold;
+use registry_names::Fault;
+use sqlite::{File, Files, Options, Unknown};
+use sqlite_disk::Disk;
+use std::alloc::Global;
+use std::fs;
+
+/// What the salts of a copy's log are made of. Nobody else has that log, so it needs no randomness.
+const SEED: u64 = 1;
+
+/// What is wrong in the registry of a server, which is held until its files are copied.
+///
+/// The copy lies in the server's folder, which its owner alone enters, and has no name there any
+/// more once it is open. Only who holds the server is at that name, so what is there before was left
+/// by a check that was killed.
+pub fn problems_beside(
+    rt: &HostRuntime,
+    alloc: Global,
+    path: &str,
+    held: Hold,
+) -> Result<Vec<Problem>, Ending> {
+    let mut held = held;
+    let file = format!(in alloc; "{path}-server/check")?;
+    let log = format!(in alloc; "{path}-server/check-wal")?;
+    forget(rt, file.as_str(), log.as_str());
+    let files = files_of_copy(rt, alloc, path, file.as_str(), log.as_str());
+    forget(rt, file.as_str(), log.as_str());
+    let kept = require_held(&mut held);
+    drop(held);
+    match (files, kept) {
+        (Ok(files), Ok(())) => problems_in_files(alloc, files),
+        (Err(ending), Ok(())) => Err(ending),
+        (_, Err(ending)) => Err(ending),
+    }
+}
+
+// Removes a copy's names.
+fn forget(rt: &HostRuntime, file: &str, log: &str) {
+    for path in [file, log] {
+        let _ = fs::remove_file(rt, path);
+    }
+}
+
+// Copies the files of a server that is held, and opens the copy.
+fn files_of_copy(
+    rt: &HostRuntime,
+    alloc: Global,
+    path: &str,
+    file: &str,
+    log: &str,
+) -> Result<Files<File>, Ending> {
+    copy_to(rt, alloc, path, file, log)?;
+    match sqlite_std_file::open(rt, file, Unknown) {
+        Ok(files) => Ok(files),
+        Err(error) => match open_obstacle(error) {
+            Some(_) => Err(snag(Snag::Unreadable)),
+            None => Err(Ending::from(Fault::Memory)),
+        },
+    }
+}
+
+fn copy_to(
+    rt: &HostRuntime,
+    alloc: Global,
+    path: &str,
+    file: &str,
+    log: &str,
+) -> Result<(), Ending> {
+    let mut file = new_file(rt, file)?;
+    let mut log = new_file(rt, log)?;
+    copy_files(rt, alloc, path, &mut file, &mut log)
+}
+
+// What is wrong in these files, which are let go of.
+fn problems_in_files<D: Disk + Drop>(
+    alloc: Global,
+    files: Files<D>,
+) -> Result<Vec<Problem>, Ending> {
+    if !files.may_be_used() {
+        return Err(snag(Snag::Unreadable));
+    }
+    match Registry::open_files(alloc, files, Options::new(SEED)) {
+        Ok(registry) => problems_in(alloc, registry),
+        Err((Fault::Memory, _)) => Err(Ending::from(Fault::Memory)),
+        Err((Fault::Database, left)) => Err(Ending::Fault(Failure::Opening(obstacle_left(
+            alloc, left,
+        )))),
+    }
+}
+
+// What keeps the files from being opened of which this is left.
+fn obstacle_left<D: Disk + Drop>(alloc: Global, left: Unopened<D>) -> Obstacle {
+    let mut left = left;
+    let found = match &mut left {
+        Unopened::Database(conn) => Some(obstacle_in(alloc, conn)),
+        Unopened::Files(_) => None,
+    };
+    let met = left.into_files().tally();
+    match found {
+        Some(obstacle) => obstacle,
+        None if met.refused > 0 => Obstacle::Full,
+        None => Obstacle::Foreign,
+    }
+}

@@ -1,0 +1,263 @@
+//! Copying the file that keeps a registry.
+
+ghost use Rattle.std.specs.Prelude.{IfOk, IsTrue, OnOk};
+ghost use Rattle.std.specs.Io.KnownBytes.{Appends};
+ghost use Rattle.sqlite.specs.Files.{file_state};
+ghost use Rattle.sqlite_wal.specs.Reads.{AreClean};
+ghost use Rattle.registry_program.specs.Copies.{IsCopy};
+
+use crate::beside::{TRIES, busy, hold_server, is_busy, pause, require_held};
+use crate::ending::{Ending, Failure, Obstacle, Snag};
+use crate::held::{copy_files, new_file, snag, snagged, written};
+use crate::opening::{obstacle_of, open, require_file};
+use registry_desk::Registry;
+use registry_guests::Hold;
+use registry_names::Fault;
+use sqlite::{Error, ErrorCode, FileStore, Files};
+use sqlite_disk::Disk;
+use std::alloc::{AllocError, Global};
+use std::fs::File;
+use std::io::{ErrorKind, Write};
+use std::path::{AsPath, Path};
+use std::{fs, io};
+
+/// How many bytes are copied at once.
+const PIECE: usize = 16_384;
+
+/// Copies the registry in the file at the path to another, which is one file without a log.
+///
+/// The copy is made under its name and `-part`, opened to see that it is whole, and gets its name
+/// then. Where nobody else has the file, its log is copied into it first. Where a server has it, that
+/// is held while the file and its log are copied, and the log is copied into the copy.
+///
+/// A fault comes where the file isn't there or can't be opened; where a file has the name of the
+/// copy already, or that name and `-wal`, `-part` or `-part-wal`, which stays as it is; where the
+/// copy can't be written or doesn't open; and where the server went on meanwhile. Then there is no
+/// copy.
+pub fn back_up(rt: &HostRuntime, alloc: Global, path: &str, copy: &str) -> Result<(), Ending> {
+    let names = Names::of(alloc, copy)?;
+    require_file(rt, path)?;
+    names.require_free(rt)?;
+    let part = new_file(rt, names.part.as_str())?;
+    let made = make_copy(rt, alloc, path, part, &names);
+    names.forget_part(rt);
+    made
+}
+
+/// The names of a copy and of its log, and those under which they are made.
+#[derive(Drop)]
+struct Names<'a> {
+    copy: &'a str,
+    log: String,
+    part: String,
+    part_log: String,
+}
+
+impl Names<'_> {
+    fn of(alloc: Global, copy: &str) -> Result<Names<'_>, AllocError> {
+        Ok(Names {
+            copy,
+            log: format!(in alloc; "{copy}-wal")?,
+            part: format!(in alloc; "{copy}-part")?,
+            part_log: format!(in alloc; "{copy}-part-wal")?,
+        })
+    }
+
+    // No file has any of them.
+    fn require_free(&self, rt: &HostRuntime) -> Result<(), Ending> {
+        require_none(rt, self.copy)?;
+        for name in [&self.log, &self.part, &self.part_log] {
+            require_none(rt, name.as_str())?;
+        }
+        Ok(())
+    }
+
+    // Removes what the copy was made under.
+    fn forget_part(&self, rt: &HostRuntime) {
+        for name in [&self.part, &self.part_log] {
+            let _ = fs::remove_file(rt, name.as_str());
+        }
+    }
+}
+
+// No file has the name.
+fn require_none(rt: &HostRuntime, path: &str) -> Result<(), Ending> {
+    match fs::symlink_metadata(rt, path) {
+        Err(error) if error.kind() == ErrorKind::NotFound => Ok(()),
+        Err(error) => Err(snagged(&error)),
+        Ok(_) => Err(snag(Snag::Taken)),
+    }
+}
+
+// Writes the part, sees that it is whole, and gives it the name of the copy.
+fn make_copy(
+    rt: &HostRuntime,
+    alloc: Global,
+    path: &str,
+    part: File,
+    names: &Names<'_>,
+) -> Result<(), Ending> {
+    let mut part = part;
+    fill(rt, alloc, path, &mut part, names.part_log.as_str())?;
+    written(part.sync_all())?;
+    see_whole(rt, names.part.as_str())?;
+    written(part.sync_all())?;
+    written(fs::hard_link(rt, names.part.as_str(), names.copy))?;
+    written(sync_folder(rt, names.copy))
+}
+
+// Writes the registry in a file to the part, whoever has the file. The part has a log only where a
+// server has it.
+fn fill(
+    rt: &HostRuntime,
+    alloc: Global,
+    path: &str,
+    part: &mut File,
+    part_log: &str,
+) -> Result<(), Ending> {
+    for _ in 0..TRIES {
+        let done = copy_alone(rt, path, part);
+        if !is_busy(&done) {
+            return done;
+        }
+        if let Some(held) = hold_server(rt, alloc, path)? {
+            return copy_beside(rt, alloc, path, held, part, part_log);
+        }
+        pause(rt);
+    }
+    Err(busy())
+}
+
+// Copies the files of a server, which is held until then.
+fn copy_beside(
+    rt: &HostRuntime,
+    alloc: Global,
+    path: &str,
+    held: Hold,
+    part: &mut File,
+    part_log: &str,
+) -> Result<(), Ending> {
+    let mut held = held;
+    let mut log = new_file(rt, part_log)?;
+    copy_files(rt, alloc, path, part, &mut log)?;
+    require_held(&mut held)?;
+    drop(held);
+    written(log.sync_all())
+}
+
+// Has the names in the folder of the file on the disk.
+fn sync_folder(rt: &HostRuntime, path: &str) -> io::Result<()> {
+    fs::open(rt, folder_of(path))?.sync_all()
+}
+
+fn folder_of(path: &str) -> Path<'_> {
+    match Path::new(path).parent() {
+        Some(folder) if !folder.path_text().is_empty() => folder,
+        _ => Path::new("."),
+    }
+}
+
+// Copies the registry in a file that no other process has.
+fn copy_alone(rt: &HostRuntime, path: &str, target: &mut File) -> Result<(), Ending> {
+    match open(rt, path) {
+        Ok(registry) => copy_registry(registry, target),
+        Err(ending) => Err(ending),
+    }
+}
+
+// Its files are locked until they are copied.
+fn copy_registry<D: Disk + Drop>(
+    registry: Registry<FileStore<D>>,
+    target: &mut File,
+) -> Result<(), Ending> {
+    match write_copy(registry, target) {
+        Ok(files) => {
+            drop(files);
+            Ok(())
+        }
+        Err(ending) => Err(ending),
+    }
+}
+
+/// Copies a registry's log into its file, and the file into the output. The files are given back,
+/// and are locked until they are dropped.
+///
+/// What is written is one file that holds the registry, as long as the disk returns what was
+/// written to it. A fault comes where a file can't be read or written.
+pub fn write_copy<D: Disk + Drop, W: Write>(
+    registry: Registry<FileStore<D>>,
+    output: &mut W,
+) -> Result<Files<D>, Ending>
+    ensures copied { IfOk result (λ files. AreClean D.Disk files.log files.db
+        → IsCopy (file_state registry) (W.contents output.old) (W.contents output.new)) }
+{
+    match registry.release().close_files() {
+        Ok(files) => write_files(files, output),
+        Err((error, store)) => {
+            drop(store.close());
+            Err(unclosed(error))
+        }
+    }
+}
+
+// Writes the database file.
+fn write_files<D: Disk + Drop, W: Write>(
+    files: Files<D>,
+    output: &mut W,
+) -> Result<Files<D>, Ending>
+    requires usable { IsTrue (D.Disk.is_usable files.db) }
+    ensures wrote { IfOk result (λ left. AreClean D.Disk left.log left.db
+        → AreClean D.Disk files.log files.db
+        × Appends (W.contents output.old) (W.contents output.new) (D.Disk.seen files.db)) }
+{
+    let mut files = files;
+    match write_disk(&mut files.db, output) {
+        Ok(()) => Ok(files),
+        Err(error) => Err(snagged(&error)),
+    }
+}
+
+// Writes all that a disk holds, piece by piece.
+fn write_disk<D: Disk, W: Write>(disk: &mut D, output: &mut W) -> io::Result<()>
+    requires usable { IsTrue (D.Disk.is_usable disk.old) }
+    ensures clean { IsTrue (D.Disk.is_clean disk.new) → IsTrue (D.Disk.is_clean disk.old) }
+    ensures wrote { OnOk result (IsTrue (D.Disk.is_clean disk.new)
+        → Appends (W.contents output.old) (W.contents output.new) (D.Disk.seen disk.old)) }
+{
+    let size = disk.len()?;
+    let mut piece = [0u8; PIECE];
+    let mut at = 0usize;
+    'pieces: while at < size {
+        let count = piece.len().min(size - at);
+        disk.read_at(at, &mut piece[..count])?;
+        output.write_all(&piece[..count])?;
+        at += count;
+    }
+    Ok(())
+}
+
+/// What it says that a registry's log can't be copied into its file.
+pub fn unclosed(error: Error) -> Ending {
+    match error {
+        Error::SqliteFailure(ErrorCode::OutOfMemory) => Ending::from(Fault::Memory),
+        error => Ending::Fault(Failure::Opening(obstacle_of(error))),
+    }
+}
+
+// The copy opens as a registry, and is closed again, which copies its log into it.
+fn see_whole(rt: &HostRuntime, copy: &str) -> Result<(), Ending> {
+    match open(rt, copy) {
+        Ok(registry) => close_whole(registry),
+        Err(Ending::Fault(Failure::Opening(Obstacle::Full))) => Err(snag(Snag::Full)),
+        Err(Ending::Fault(Failure::Opening(_))) => Err(snag(Snag::Unreadable)),
+        Err(ending) => Err(ending),
+    }
+}
+
+fn close_whole<D: Disk + Drop>(registry: Registry<FileStore<D>>) -> Result<(), Ending> {
+    match registry.release().close() {
+        Ok(()) => Ok(()),
+        Err(Error::SqliteFailure(ErrorCode::DiskFull)) => Err(snag(Snag::Full)),
+        Err(_) => Err(snag(Snag::Unwritable)),
+    }
+}

@@ -1,0 +1,99 @@
+//! What the program does for whoever runs the registry, beside requests.
+
+use crate::asking::{Answer, Question, answer_to};
+use crate::beside::print_sent_token;
+use crate::checking::print_check;
+use crate::commands::request;
+use crate::copying::back_up;
+use crate::ending::{Ending, Failure};
+use crate::registries::Registries;
+use crate::serving::serve;
+use crate::stopping::stop;
+use registry_cli::{Errand, NewToken, TOKEN_BYTES, print_token, token_of};
+use registry_names::{ByteOut, Text, write_whole};
+use std::alloc::Global;
+use std::random::RandomSource;
+
+/// What is printed for an errand that was done.
+const DONE: &str = "{\"ok\":true}\n";
+
+/// Runs an errand, prints what comes of it, and gives the exit status. A check, a copy and the end
+/// of a server are of the file at the path all the same. Where a server has the file, it is asked to
+/// add a token, and held while its files are copied.
+pub fn run_errand<R: Registries, O: ByteOut, E: ByteOut>(
+    rt: &HostRuntime,
+    alloc: Global,
+    registries: &mut R,
+    errand: Errand,
+    output: &mut O,
+    errors: &mut E,
+) -> Result<u8, Ending> {
+    match errand {
+        Errand::TokenNew(new) => make_token(rt, alloc, registries, new, output, errors),
+        Errand::Check { db } => print_check(rt, alloc, db.as_str(), output, errors),
+        Errand::Backup { db, copy } => {
+            back_up(rt, alloc, db.as_str(), copy.as_str())?;
+            print_done(output)
+        }
+        Errand::Stop { db } => {
+            stop(rt, alloc, db.as_str())?;
+            print_done(output)
+        }
+        Errand::Serve { line, log } => {
+            serve(rt, alloc, &line, Some(log.as_str()), output, errors)
+        }
+    }
+}
+
+/// Says on the output that an errand was done, and gives the exit status.
+pub fn print_done<O: ByteOut>(output: &mut O) -> Result<u8, Ending> {
+    write_whole(output, DONE.as_bytes())?;
+    Ok(0)
+}
+
+// Makes a token, adds it, and prints it where it was added. The registry keeps its digest alone, so
+// nobody can print it again. To print it takes no memory.
+fn make_token<R: Registries, O: ByteOut, E: ByteOut>(
+    rt: &HostRuntime,
+    alloc: Global,
+    registries: &mut R,
+    new: NewToken,
+    output: &mut O,
+    errors: &mut E,
+) -> Result<u8, Ending> {
+    let token = random_token(rt, alloc)?;
+    let token = token.as_str();
+    match add_token(rt, alloc, registries, new, token)? {
+        Answer::Reply(reply) => Ok(print_token(token, &reply, output, errors)?),
+        Answer::Sent(bytes) => print_sent_token(alloc, &bytes, token, output, errors),
+    }
+}
+
+// A token of the system's random bytes.
+fn random_token(rt: &HostRuntime, alloc: Global) -> Result<Text, Ending> {
+    let mut random = [0u8; TOKEN_BYTES];
+    match rt.fill_bytes(&mut random) {
+        Ok(()) => Ok(token_of(alloc, random)?),
+        Err(_) => Err(Ending::Fault(Failure::Read)),
+    }
+}
+
+// The answer to the line that adds a token.
+fn add_token<R: Registries>(
+    rt: &HostRuntime,
+    alloc: Global,
+    registries: &mut R,
+    new: NewToken,
+    token: &str,
+) -> Result<Answer, Ending> {
+    let arguments = new.arguments(alloc, token)?;
+    let line = new.line(alloc, Text::from_str(alloc, token)?)?;
+    let request = request(rt, alloc, &line, &[])?;
+    let question = Question {
+        path: line.db.as_str(),
+        request: &request,
+        arguments: &arguments,
+        body: &[],
+    };
+    answer_to(rt, alloc, registries, question)
+}

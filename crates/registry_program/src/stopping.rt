@@ -1,0 +1,23 @@
+//! Ending the server that has a registry's file.
+
+use crate::beside::{TRIES, busy, end_server, pause};
+use crate::ending::{Ending, Failure, Trouble};
+use crate::opening::is_taken;
+use std::alloc::Global;
+
+/// Ends the server that has the registry's file at the path, once what is under way is answered, and
+/// comes back when it has ended. A server that is just starting is waited for, for five seconds.
+///
+/// A fault comes where the file isn't there, or no process has it: then nobody was asked to end.
+pub fn stop(rt: &HostRuntime, alloc: Global, path: &str) -> Result<(), Ending> {
+    for _ in 0..TRIES {
+        if end_server(rt, alloc, path)? {
+            return Ok(());
+        }
+        if !is_taken(rt, path)? {
+            return Err(Ending::Fault(Failure::Server(Trouble::NoServer)));
+        }
+        pause(rt);
+    }
+    Err(busy())
+}

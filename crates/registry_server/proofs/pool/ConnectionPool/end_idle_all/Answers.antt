@@ -1,0 +1,15 @@
+use Rattle.std.proofs.Common.{◌≡◌, ◌++◌, ◌<◌, ◌+◌, ap, get_or, take, drop, map, slice_set, length, subst, sym, arith}
+use Rattle.std.proofs.lemmas.List.Edits.{map_over_more}
+use Rattle.registry_server.specs.Pools.{unless_idle}
+use Rattle.registry_server.specs.declared.pool.Place.{Place}
+use Rattle.registry_server.proofs.pool.ConnectionPool.end_idle_all.Goals as goal
+
+pub loop-place-preserved : goal.loop-place-preserved
+loop-place-preserved g c =
+    let old = c.args.self.now.places.items in
+    let items = c.loop-place.place-items in
+    let i = c.loop-place.place-index in
+    let here = get_or items i c.place-item.result in
+    let within : i < length old = grind (arith, c.loop-place-test.true, c.loop-place.auto.place-items, c.deref_mut-place-items.ensures.value, c.deref_mut-place-items.ensures.len) in
+    subst (λ (q : Place g.row.S.Denot). slice_set items i q ≡ map unless_idle (take (i + 1) old) ++ drop (i + 1) old) (sym c.end_idle.ensures)
+    (map_over_more unless_idle old items i here within c.loop-place.invariant (ap (λ (d : Place g.row.S.Denot). get_or items i d) c.place-item.is))

@@ -1,0 +1,102 @@
+//! Others than connections who ask the service of a server, or hold or stop the server itself.
+
+ghost use Rattle.std.specs.Prelude.{◌≡◌, Bool};
+
+use mio::Registry;
+use registry_service::{Clock, Service};
+use std::alloc::Global;
+
+/// The first token of guests. Those of connections and of their listener are below.
+pub const FIRST_GUEST: usize = crate::pool::CONNECTION_COUNT + 1;
+
+/// So many tokens are the guests'.
+pub const GUEST_TOKENS: usize = 16;
+
+/// Who asks the service beside the connections of a server, which looks after them once in each
+/// round. They register with the server's poll under the tokens from [`FIRST_GUEST`] on, of which
+/// there are [`GUEST_TOKENS`].
+///
+/// One of them may hold the server: then it answers nobody. And they may stop it: then it lets nobody
+/// in any more, answers what is under way, and ends.
+pub trait Guests {
+    // Whether one of them holds the server.
+    ghost holds: { Self → Bool };
+
+    // Whether the server is to end.
+    ghost stops: { Self → Bool };
+
+    /// Whether one of them holds the server.
+    fn holds(&self) -> bool
+        ensures { result ≡ holds self.now };
+
+    /// Whether the server is to end.
+    fn stops(&self) -> bool
+        ensures { result ≡ stops self.now };
+
+    /// Goes on with who holds or stops the server, or is there to do so. This time in milliseconds
+    /// goes on while the server is held. No call may wait.
+    fn attend(&mut self, registry: &Registry, now: u64);
+
+    /// Something is ready under a token, which is counted from that of the first guest.
+    fn wake(&mut self, number: usize);
+
+    /// Whether one of them can go on at once. While the server is held that is who holds it.
+    fn is_busy(&self) -> bool;
+
+    /// Whether nobody is there who asks the service.
+    fn is_empty(&self) -> bool;
+
+    /// Goes on once with each of them who asks the service and is ready, and lets in who is there. A
+    /// service that is over is asked nothing. No call may wait.
+    fn visit<D: Service, C: Clock>(
+        &mut self,
+        alloc: Global,
+        service: &mut D,
+        clock: &mut C,
+        buffer: &mut [u8],
+        registry: &Registry,
+        now: u64,
+    );
+}
+
+/// Nobody.
+#[derive(Drop)]
+pub struct NoGuests;
+
+impl Guests for NoGuests {
+    ghost use Rattle.std.specs.Prelude.{false};
+
+    ghost holds = { λ _. false };
+
+    ghost stops = { λ _. false };
+
+    fn holds(&self) -> bool {
+        false
+    }
+
+    fn stops(&self) -> bool {
+        false
+    }
+
+    fn attend(&mut self, _registry: &Registry, _now: u64) {}
+
+    fn wake(&mut self, _number: usize) {}
+
+    fn is_busy(&self) -> bool {
+        false
+    }
+
+    fn is_empty(&self) -> bool {
+        true
+    }
+
+    fn visit<D: Service, C: Clock>(
+        &mut self,
+        _alloc: Global,
+        _service: &mut D,
+        _clock: &mut C,
+        _buffer: &mut [u8],
+        _registry: &Registry,
+        _now: u64,
+    ) {}
+}

@@ -1,0 +1,31 @@
+-- What a service answers and writes where it sends a packument.
+use Rattle.std.specs.Prelude.{◌≡◌, ℕ, Bool, true, false, List, [], Option, Ok, Err}
+use Rattle.registry_names.specs.ByteStreams.{Writes, WritesPrefix}
+use Rattle.registry_names.specs.Texts.{Text}
+use Rattle.registry_packument.specs.Sendings.{WritesSome, opened}
+use Rattle.registry_packument.specs.declared.opener.Sent.{Sent}
+use Rattle.registry_packument.specs.declared.opener.Sent.TheVariants.{Refused, Whole, WriteFault, Broken}
+use Rattle.registry_rules.specs.declared.reply.Reply.TheVariants as reply
+use Rattle.registry_rules.specs.declared.request.Action.{Action}
+use Rattle.registry_rules.specs.declared.request.Action.TheVariants.{Packument}
+use Rattle.registry_rules.specs.declared.request.Request.{Request}
+use Rattle.registry_service.specs.Turns.{Answering}
+
+-- it asks for a packument
+abbrev pub IsPackument : Action → Type 0
+IsPackument what = (name : Text) × (what ≡ Packument name)
+
+module _ {D : Type 0} (answers : Answering D) where
+  -- a document that may be answered
+  abbrev pub MayAnswer : D → Request → Text → Type 0
+  MayAnswer M r text = (N : D) × answers M r (Ok (reply.Doc text)) N
+
+  -- What was answered, and what was written of it. Of a refusal nothing is, nor of a fault that came
+  -- before the first byte. Where one came behind it, what was written is of a packument that may be
+  -- answered.
+  abbrev pub Sends : (ℕ → List ℕ) → D → Request → Sent → D → Option (List ℕ) → Option (List ℕ) → Bool → Type 0
+  Sends opens M r (Refused refusal) N out out2 unknown = answers M r (Ok (reply.Refused refusal)) N × Writes out out2 unknown []
+  Sends opens M r Whole N out out2 unknown = (text : Text) × answers M r (Ok (reply.Doc text)) N × Writes out out2 unknown (opened opens text)
+  Sends opens M r WriteFault N out out2 unknown = (text : Text) × answers M r (Ok (reply.Doc text)) N × WritesPrefix out out2 unknown (opened opens text)
+  Sends opens M r (Broken fault false) N out out2 unknown = answers M r (Err fault) N × Writes out out2 unknown []
+  Sends opens M r (Broken fault true) N out out2 unknown = answers M r (Err fault) N × ((text : Text) × MayAnswer M r text × WritesSome out out2 unknown (opened opens text))

@@ -1,0 +1,335 @@
+//! Guests, over sockets in memory.
+
+ghost use Rattle.std.specs.Prelude.{length};
+ghost use Rattle.registry_server.specs.Sockets.{MovesAtMost};
+
+use crate::outcome::same;
+use crate::parts::{as_text, text, texts};
+use crate::talk::connections::{FixedTags, Steps};
+use registry_guests::{
+    Control, GUEST_COUNT, GUEST_TIME_LIMIT, Guest, HOLD_LIMIT, Hall, SILENCE_LIMIT, Said, Unsent,
+    fits, hear, read, write,
+};
+use registry_names::{Blob, Fault, Refusal};
+use registry_rules::Reply;
+use registry_server::{Flow, Socket, Visit};
+use std::alloc::Global;
+use std::process::Abort;
+
+/// What a program would print, and its status.
+type Case<'c> = (&'c [&'c str], u8, &'c str);
+
+/// The socket of a guest that sends a message, a few bytes at a time, and keeps what it gets.
+#[derive(Drop)]
+struct Memory {
+    message: Vec<u8>,
+    taken: usize,
+    piece_len: usize,
+    got: Vec<u8>,
+}
+
+impl Socket for Memory {
+    ghost use Rattle.std.specs.Prelude.{None, true};
+
+    ghost received = { λ _. None };
+
+    ghost sent = { λ _. None };
+
+    ghost has_none = { λ _. true };
+
+    ghost is_full = { λ _. true };
+
+    ghost has_more = { λ _. true };
+
+    ghost is_ended = { λ _. true };
+
+    ghost is_broken = { λ _. true };
+
+    fn receive(&mut self, buffer: &mut [u8]) -> Flow {
+        let rest = self.message.get(self.taken..).unwrap_or(&[]);
+        let count = rest.len().min(buffer.len()).min(self.piece_len);
+        if count == 0 {
+            return Flow::Ended;
+        }
+        buffer[..count].copy_from_slice(&rest[..count]);
+        self.taken = self.taken.saturating_add(count);
+        Flow::Moved(count)
+    }
+
+    fn look(&mut self) -> Flow {
+        Flow::Moved(0)
+    }
+
+    fn send(&mut self, head: &[u8], body: &[u8]) -> Flow {
+        let bytes = if head.is_empty() { body } else { head };
+        let count = bytes.len().min(self.piece_len);
+        match self.got.extend_from_slice(&bytes[..count]) {
+            Ok(()) => Flow::Moved(count),
+            Err(_) => Flow::Broken,
+        }
+    }
+
+    fn shut(&mut self) -> bool {
+        true
+    }
+}
+
+// A message of these words, which asks nothing of a file.
+fn message(rt: &impl Abort, alloc: Global, words: &[&str]) -> Vec<u8> {
+    let words = texts(rt, alloc, words);
+    if !fits(&words) {
+        panic!(rt; "the words don't fit into a message");
+    }
+    write(alloc, &words, b"a body").expect(rt, "memory")
+}
+
+fn socket(alloc: Global, message: Vec<u8>, piece_len: usize) -> Memory {
+    Memory {
+        message,
+        taken: 0,
+        piece_len,
+        got: Vec::new(alloc),
+    }
+}
+
+#[test]
+fn a_message_is_read_as_it_was_written(rt: HostRuntime) {
+    let alloc = rt.alloc();
+    let bytes = message(&rt, alloc, &["user-add", "", "ann"]);
+    let read = read(alloc, &bytes).expect(&rt, "a message");
+    same(&rt, "words", read.words.len(), 3);
+    let last = read.words.last().map(|word| as_text(word));
+    same(&rt, "the last", last, Some("ann"));
+    same(&rt, "the body", as_text(read.body), "a body");
+    for len in 0..bytes.len() {
+        same(
+            &rt,
+            len,
+            registry_guests::read(alloc, &bytes[..len]).is_err(),
+            true,
+        );
+    }
+}
+
+// What is said, as it is sent and heard.
+fn is_said(rt: &impl Abort, alloc: Global, said: Said, status: u8, wanted: &str) {
+    let mut bytes = Vec::new(alloc);
+    let unsent = Unsent::of(said);
+    let (front, rest) = unsent.parts();
+    bytes.extend_from_slice(front).expect(rt, "memory");
+    bytes.extend_from_slice(rest).expect(rt, "memory");
+    is_heard(rt, alloc, &bytes, status, wanted);
+}
+
+// What is heard of bytes that were sent.
+fn is_heard(rt: &impl Abort, alloc: Global, bytes: &[u8], status: u8, wanted: &str) {
+    let heard = hear(alloc, bytes).expect(rt, "an answer");
+    let mut text = Vec::from_slice(alloc, heard.text).expect(rt, "memory");
+    text.extend_from_slice(&heard.end).expect(rt, "memory");
+    same(rt, wanted, as_text(&text), wanted);
+    same(rt, wanted, heard.status, status);
+}
+
+#[test]
+fn outcomes_are_said_as_they_are_printed(rt: HostRuntime) {
+    let alloc = rt.alloc();
+    let archive = Blob::from_slice(alloc, b"bytes").expect(&rt, "memory");
+    is_said(&rt, alloc, Said::of(Ok(Reply::Done)), 0, "{\"ok\":true}\n");
+    is_said(
+        &rt,
+        alloc,
+        Said::of(Ok(Reply::Count(12))),
+        0,
+        "{\"count\":12,\"ok\":true}\n",
+    );
+    is_said(&rt, alloc, Said::of(Ok(Reply::Bytes(archive))), 0, "bytes");
+    is_said(
+        &rt,
+        alloc,
+        Said::of(Ok(Reply::Refused(Refusal::NotFound))),
+        1,
+        "refused: NotFound\n",
+    );
+    is_said(
+        &rt,
+        alloc,
+        Said::of(Err(Fault::Database)),
+        3,
+        "fault: Database\n",
+    );
+    is_said(
+        &rt,
+        alloc,
+        Said::usage(text(&rt, alloc, "wrong")),
+        2,
+        "wrong\n",
+    );
+    is_said(
+        &rt,
+        alloc,
+        Said::usage(text(&rt, alloc, "wrong\n")),
+        2,
+        "wrong\n",
+    );
+}
+
+/// What guests ask of a service that knows two teams' fault and refuses all else.
+static CASES: [Case<'static>; 4] = [
+    (&["--operator", "user-add", "ann"], 1, "refused: NotFound\n"),
+    (&["--as", "ann", "teams", "lab"], 3, "fault: Database\n"),
+    (&["--as", "ann", "tags", "Kit"], 1, "refused: BadName\n"),
+    (
+        &["--as", "ann", "--operator", "teams", "lab"],
+        2,
+        "--as excludes --operator\n",
+    ),
+];
+
+// Visits a guest until it is over, or rests.
+fn visit_all(rt: &impl Abort, alloc: Global, guest: &mut Guest<Memory>) -> Visit {
+    let mut service = FixedTags {
+        asked: Vec::new(alloc),
+    };
+    let mut clock = Steps { next: 0 };
+    let mut buffer = [0; 64];
+    let mut visit = Visit::Again;
+    for _ in 0..10_000 {
+        if visit == Visit::Again {
+            visit = guest.visit(alloc, &mut service, &mut clock, &mut buffer);
+        }
+    }
+    same(rt, "asked once at most", service.asked.len() <= 1, true);
+    visit
+}
+
+#[test]
+fn guests_are_answered(rt: HostRuntime) {
+    let alloc = rt.alloc();
+    for (words, status, wanted) in &CASES {
+        for piece_len in [1, 7, 1_000] {
+            let bytes = message(&rt, alloc, words);
+            let mut guest = Guest::new(alloc, socket(alloc, bytes, piece_len), 0);
+            same(&rt, *wanted, visit_all(&rt, alloc, &mut guest), Visit::Over);
+            is_heard(&rt, alloc, &guest.into_socket().got, *status, wanted);
+        }
+    }
+}
+
+#[test]
+fn a_cut_message_is_answered_by_nothing(rt: HostRuntime) {
+    let alloc = rt.alloc();
+    let mut bytes = message(&rt, alloc, &["tags", "kit"]);
+    let _last = bytes.pop();
+    let mut guest = Guest::new(alloc, socket(alloc, bytes, 7), 0);
+    same(&rt, "cut", visit_all(&rt, alloc, &mut guest), Visit::Over);
+    same(&rt, "cut", guest.into_socket().got.len(), 0);
+}
+
+#[test]
+fn a_hall_has_eight_seats(rt: HostRuntime) {
+    let alloc = rt.alloc();
+    let mut hall = Hall::new(alloc).expect(&rt, "memory");
+    same(&rt, "new", hall.is_empty(), true);
+    for number in 0..GUEST_COUNT {
+        same(&rt, number, hall.place(), Some(number));
+        let bytes = message(&rt, alloc, &["tags", "kit"]);
+        hall.add(alloc, number, socket(alloc, bytes, 1_000), 0);
+    }
+    same(&rt, "full", hall.place(), None);
+    same(&rt, "busy", hall.is_busy(), true);
+    let mut service = FixedTags {
+        asked: Vec::new(alloc),
+    };
+    let mut clock = Steps { next: 0 };
+    let mut buffer = [0; 64];
+    hall.visit_all(alloc, &mut service, &mut clock, &mut buffer);
+    hall.wake(3);
+    hall.end_late(GUEST_TIME_LIMIT - 1);
+    same(&rt, "in time", hall.is_empty(), false);
+    hall.end_late(GUEST_TIME_LIMIT);
+    same(&rt, "late", hall.is_empty(), true);
+}
+
+// A server whose visitor of the control socket says this, a byte a visit, from 0 on.
+fn controlled(rt: &impl Abort, alloc: Global, said: &str) -> Control<Memory> {
+    let mut control = Control::new();
+    come(rt, alloc, &mut control, said);
+    control
+}
+
+fn come(rt: &impl Abort, alloc: Global, control: &mut Control<Memory>, said: &str) {
+    let said = Vec::from_slice(alloc, said.as_bytes()).expect(rt, "memory");
+    control.add(socket(alloc, said, 1), 0);
+}
+
+// What was sent to who is there.
+fn answers(rt: &impl Abort, control: Control<Memory>) -> Vec<u8> {
+    control.into_socket().expect(rt, "a visitor").got
+}
+
+#[test]
+fn a_visitor_holds_a_server(rt: HostRuntime) {
+    let alloc = rt.alloc();
+    let mut control = controlled(&rt, alloc, "hk");
+    same(&rt, "before it asks", control.holds(), false);
+    control.visit(0);
+    same(&rt, "once it has", control.holds(), true);
+    control.visit(HOLD_LIMIT - 1);
+    control.end_late(HOLD_LIMIT - 1);
+    same(&rt, "until its time is up", control.holds(), true);
+    same(&rt, "it stops nothing", control.stops(), false);
+    same(&rt, "it was told", as_text(&answers(&rt, control)), "hk");
+}
+
+#[test]
+fn a_hold_ends(rt: HostRuntime) {
+    let alloc = rt.alloc();
+    for said in ["h", "hh", "hs", "hx"] {
+        let mut control = controlled(&rt, alloc, said);
+        control.visit(0);
+        same(&rt, said, control.holds(), true);
+        control.visit(0);
+        same(&rt, said, control.holds(), false);
+        same(&rt, said, control.is_free(), true);
+        same(&rt, said, control.stops(), false);
+    }
+    let mut control = controlled(&rt, alloc, "hk");
+    control.visit(1);
+    control.end_late(HOLD_LIMIT);
+    same(&rt, "in time", control.holds(), true);
+    control.end_late(HOLD_LIMIT + 1);
+    same(&rt, "late", control.is_free(), true);
+}
+
+#[test]
+fn a_visitor_that_says_nothing_is_let_go(rt: HostRuntime) {
+    let alloc = rt.alloc();
+    let mut control = controlled(&rt, alloc, "");
+    same(&rt, "it is visited", control.is_busy(), true);
+    control.end_late(SILENCE_LIMIT - 1);
+    same(&rt, "in time", control.is_free(), false);
+    control.end_late(SILENCE_LIMIT);
+    same(&rt, "late", control.is_free(), true);
+    for said in ["k", "x"] {
+        let mut control = controlled(&rt, alloc, said);
+        control.visit(0);
+        same(&rt, said, control.is_free(), true);
+        same(&rt, said, control.holds(), false);
+    }
+}
+
+#[test]
+fn a_visitor_stops_a_server(rt: HostRuntime) {
+    let alloc = rt.alloc();
+    let mut control = controlled(&rt, alloc, "s");
+    control.visit(0);
+    control.end_late(u64::MAX);
+    same(&rt, "it stays", control.is_free(), false);
+    same(&rt, "it stops", control.stops(), true);
+    control.visit(0);
+    same(&rt, "it ends", control.is_free(), true);
+    come(&rt, alloc, &mut control, "h");
+    control.visit(0);
+    same(&rt, "nobody holds it", control.holds(), false);
+    same(&rt, "it still stops", control.stops(), true);
+}

@@ -1,0 +1,121 @@
+//! Packuments that are sent: a text that is there, and versions from a source in memory.
+
+ghost use Rattle.std.specs.Prelude.{◌==◌, codes, if◌then◌else◌};
+
+use crate::outcome::same;
+use crate::packument::stream::{Failing, KIT, KIT_TAGS, KIT_VERSIONS, Narrow};
+use crate::packument::{head, source};
+use crate::parts::{as_text, concat};
+use registry_names::{Fault, Text, ToWrite};
+use registry_packument::{Opener, Sent, send_counted, send_text};
+use std::alloc::Global;
+use std::process::Abort;
+
+/// More calls than a source of three versions is asked.
+const ALL: u32 = 9;
+
+/// What is said before a packument of as many bytes as the case has.
+const COUNTED: &str = "as long as it was counted\n";
+
+/// What is said before any other.
+const OTHER: &str = "of another length\n";
+
+/// Says before a packument whether it has as many bytes as the case.
+#[derive(Drop)]
+struct Counted {
+    len: u64,
+}
+
+impl Opener for Counted {
+    ghost opens = { λ counted len. if len == counted.len
+        then codes "as long as it was counted\n" else codes "of another length\n" };
+
+    fn opening(&self, alloc: Global, len: u64) -> Result<Text, Fault> {
+        let text = if len == self.len { COUNTED } else { OTHER };
+        Ok(Text::from_str(alloc, text)?)
+    }
+}
+
+fn narrow(alloc: Global, room: usize) -> Narrow {
+    Narrow {
+        taken: Vec::new(alloc),
+        room,
+    }
+}
+
+// How the packument is sent that was counted to have so many bytes, from a source that answers so
+// many calls, to a writer that takes what it has room for.
+fn sent_to(rt: &impl Abort, alloc: Global, answers: u32, len: u64, writer: &mut Narrow) -> Sent {
+    let head = head(rt, alloc, "kit", KIT_TAGS, KIT_VERSIONS);
+    let mut source = Failing {
+        source: source(rt, alloc, KIT_VERSIONS),
+        answers,
+        failed: false,
+    };
+    let opener = Counted { len };
+    send_counted(
+        alloc,
+        &head,
+        &mut source,
+        len,
+        &mut ToWrite::new(writer),
+        &opener,
+    )
+}
+
+// Sees how a packument is sent to a writer with this room, from a source and from its text.
+fn both_sent(rt: &impl Abort, alloc: Global, room: usize, sent: Sent, written: &str) {
+    let len = KIT.len() as u64;
+    let mut counted = narrow(alloc, room);
+    let from_source = sent_to(rt, alloc, ALL, len, &mut counted);
+    same(rt, room, &from_source, &sent);
+    same(rt, room, as_text(&counted.taken), written);
+    let mut there = narrow(alloc, room);
+    let from_text = send_text(alloc, KIT, &mut ToWrite::new(&mut there), &Counted { len });
+    same(rt, room, &from_text, &sent);
+    same(rt, room, as_text(&there.taken), written);
+}
+
+#[test]
+fn packuments_are_sent_to_any_writer(rt: HostRuntime) {
+    let alloc = rt.alloc();
+    let whole = concat(&rt, alloc, &[COUNTED, KIT]);
+    for room in 0..whole.len() {
+        let front = whole.as_str().get(..room).unwrap_or("?");
+        both_sent(&rt, alloc, room, Sent::WriteFault, front);
+    }
+    both_sent(&rt, alloc, whole.len(), Sent::Whole, whole.as_str());
+}
+
+// Sees that a prefix of the packument is sent, and not all of it, and then a fault comes.
+fn is_broken_off(rt: &impl Abort, alloc: Global, answers: u32, len: u64) {
+    let mut narrow = narrow(alloc, usize::MAX);
+    let sent = sent_to(rt, alloc, answers, len, &mut narrow);
+    let broken = Sent::Broken {
+        fault: Fault::Database,
+        has_started: !narrow.taken.is_empty(),
+    };
+    same(rt, (answers, len), &sent, &broken);
+    let whole = concat(rt, alloc, &[COUNTED, KIT]);
+    let taken = as_text(&narrow.taken);
+    same(rt, (answers, len), whole.as_str().starts_with(taken), true);
+    same(rt, (answers, len), whole.as_str() == taken, false);
+}
+
+#[test]
+fn a_source_that_fails_breaks_a_packument_off(rt: HostRuntime) {
+    for answers in 0..4 {
+        is_broken_off(&rt, rt.alloc(), answers, KIT.len() as u64);
+    }
+}
+
+#[test]
+fn a_packument_of_another_length_is_broken_off(rt: HostRuntime) {
+    let len = KIT.len() as u64;
+    for shorter in 0..len {
+        is_broken_off(&rt, rt.alloc(), ALL, shorter);
+    }
+    for more in 1..100 {
+        is_broken_off(&rt, rt.alloc(), ALL, len.saturating_add(more));
+    }
+}

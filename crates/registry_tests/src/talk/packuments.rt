@@ -1,0 +1,185 @@
+//! Packuments that are sent as they are made, by a service that may break off in one.
+
+ghost use Rattle.std.specs.Prelude.{false};
+
+use super::connections::Steps;
+use crate::outcome::same;
+use crate::parts::as_text;
+use crate::wire::reader::Narrow;
+use registry_names::{ByteOut, Fault, FromRead, Refusal, ToWrite, write_whole};
+use registry_packument::{Opener, Sent};
+use registry_rules::{Reply, Request};
+use registry_service::{End, PackumentService, Served, Service, serve};
+use registry_wire::Inbox;
+use std::alloc::Global;
+use std::process::Abort;
+
+const PACKUMENT: &str = "{\"name\":\"kit\"}";
+
+/// Where a packument breaks off.
+#[derive(Clone, Copy, Debug, PartialEq, Eq)]
+enum Break {
+    Nowhere,
+    BeforeItsHead,
+    BehindItsHead,
+}
+
+/// A service that sends one packument, whichever is asked for, behind a head, and answers nothing
+/// else.
+#[derive(Drop)]
+struct OnePackument {
+    breaks: Break,
+    asked: u32,
+}
+
+impl Service for OnePackument {
+    ghost answers = { λ M r o N. Unit {0} };
+
+    ghost over = { λ _. false };
+
+    fn answer(&mut self, _alloc: Global, _request: &Request) -> Result<Reply, Fault> {
+        Ok(Reply::Refused(Refusal::NotFound))
+    }
+
+    fn is_over(&self) -> bool {
+        false
+    }
+}
+
+impl PackumentService for OnePackument {
+    fn send_packument<W: ByteOut, O: Opener>(
+        &mut self,
+        alloc: Global,
+        _request: &Request,
+        writer: &mut W,
+        opener: &O,
+    ) -> Sent {
+        self.asked = self.asked.saturating_add(1);
+        if self.breaks == Break::BeforeItsHead {
+            return Sent::Broken {
+                fault: Fault::Database,
+                has_started: false,
+            };
+        }
+        let Ok(head) = opener.opening(alloc, PACKUMENT.len() as u64) else {
+            return Sent::Broken {
+                fault: Fault::Memory,
+                has_started: false,
+            };
+        };
+        let head = head.as_str().as_bytes();
+        if head.is_empty() {
+            return Sent::Refused(Refusal::NotFound);
+        }
+        match write_whole(writer, head) {
+            Ok(()) => {}
+            Err(_) => return Sent::WriteFault,
+        }
+        if self.breaks == Break::BehindItsHead {
+            return Sent::Broken {
+                fault: Fault::Database,
+                has_started: true,
+            };
+        }
+        match write_whole(writer, PACKUMENT.as_bytes()) {
+            Ok(()) => Sent::Whole,
+            Err(_) => Sent::WriteFault,
+        }
+    }
+}
+
+const KIT: &str = "GET /kit HTTP/1.1\r\n\r\n";
+
+const TWO: &str = "GET /kit HTTP/1.1\r\n\r\nGET /kit HTTP/1.1\r\nconnection: close\r\n\r\n";
+
+const KIT_OUT: &str =
+    "HTTP/1.1 200 OK\r\ncontent-type: application/json\r\ncontent-length: 14\r\n\r\n{\"name\":\"kit\"}";
+
+/// Where the packument breaks off, what comes, what is written of it, how many packuments are asked
+/// for, how many requests are answered, and how the connection ends.
+type Case = (Break, &'static str, &'static str, u32, u32, End);
+
+static CASES: [Case; 3] = [
+    (
+        Break::Nowhere,
+        TWO,
+        "HTTP/1.1 200 OK\r\ncontent-type: application/json\r\ncontent-length: 14\r\n\r\n{\"name\":\"kit\"}HTTP/1.1 200 OK\r\ncontent-type: application/json\r\ncontent-length: 14\r\nconnection: close\r\n\r\n{\"name\":\"kit\"}",
+        2,
+        2,
+        End::Closed,
+    ),
+    (
+        Break::BeforeItsHead,
+        TWO,
+        "HTTP/1.1 500 Internal Server Error\r\ncontent-type: application/json\r\ncontent-length: 20\r\nconnection: close\r\n\r\n{\"error\":\"Database\"}",
+        1,
+        1,
+        End::Faulted(Fault::Database),
+    ),
+    (
+        Break::BehindItsHead,
+        TWO,
+        "HTTP/1.1 200 OK\r\ncontent-type: application/json\r\ncontent-length: 14\r\n\r\n",
+        1,
+        0,
+        End::Faulted(Fault::Database),
+    ),
+];
+
+// Sees that all comes out as the case has it.
+fn comes_out(rt: &impl Abort, alloc: Global, case: &Case) {
+    let (breaks, input, output, asked, requests, end) = case;
+    let mut service = OnePackument {
+        breaks: *breaks,
+        asked: 0,
+    };
+    let mut inbox = Inbox::new(alloc, FromRead::new(input.as_bytes()));
+    let mut out = Vec::new(alloc);
+    let mut writer = ToWrite::new(&mut out);
+    let mut clock = Steps { next: 0 };
+    let served = serve(alloc, &mut service, &mut inbox, &mut writer, &mut clock);
+    let wanted = Served {
+        requests: *requests,
+        end: *end,
+    };
+    same(rt, breaks, &served, &wanted);
+    same(rt, breaks, &service.asked, asked);
+    same(rt, breaks, as_text(&out), *output);
+}
+
+#[test]
+fn packuments_are_sent_behind_their_head(rt: HostRuntime) {
+    for case in &CASES {
+        comes_out(&rt, rt.alloc(), case);
+    }
+}
+
+// Sees that as many bytes are written as are taken, of the response to one request.
+fn is_cut(rt: &impl Abort, alloc: Global, limit: usize) {
+    let mut service = OnePackument {
+        breaks: Break::Nowhere,
+        asked: 0,
+    };
+    let mut inbox = Inbox::new(alloc, FromRead::new(KIT.as_bytes()));
+    let mut narrow = Narrow {
+        taken: Vec::new(alloc),
+        limit,
+    };
+    let mut writer = ToWrite::new(&mut narrow);
+    let mut clock = Steps { next: 0 };
+    let served = serve(alloc, &mut service, &mut inbox, &mut writer, &mut clock);
+    let wanted = Served {
+        requests: 0,
+        end: End::WriteFault,
+    };
+    same(rt, &limit, &served, &wanted);
+    let front = KIT_OUT.get(..limit).unwrap_or(KIT_OUT);
+    same(rt, &limit, as_text(&narrow.taken), front);
+}
+
+#[test]
+fn a_failed_write_leaves_a_prefix_of_a_packument(rt: HostRuntime) {
+    for limit in 0..KIT_OUT.len() {
+        is_cut(&rt, rt.alloc(), limit);
+    }
+}

@@ -1,0 +1,156 @@
+#!/bin/sh
+# A server that keeps a log of its requests: what stands there, a log that is moved away, one whose
+# folder is gone, and a disk that is full.
+#
+#     examples/log.sh [PROGRAM]
+#
+# PROGRAM is out/registry where it is left out. All that is made lies in a folder of its own, which is
+# removed. Each try prints a line, and the last line is `N passed, 0 failed`, with status 0, or the
+# status is 1. It takes half a minute, and needs curl and python3. The tries of a full disk need root,
+# who mounts one of 64 kB; without root they are left out, and that is said.
+set -eu
+
+top=$(cd "$(dirname "$0")/.." && pwd)
+program=$(realpath "${1:-$top/out/registry}")
+[ -x "$program" ] || { echo "log.sh: there is no program $program: make build proves and builds it" >&2; exit 2; }
+for tool in curl python3; do
+    command -v $tool > /dev/null || { echo "log.sh: $tool is needed, and isn't there" >&2; exit 2; }
+done
+
+work=$(mktemp -d)
+server=
+finish() {
+    [ -z "$server" ] || { kill -9 "$server" 2>/dev/null || true; wait "$server" 2>/dev/null || true; }
+    umount "$work/disk" 2>/dev/null || true
+    rm -rf "$work"
+}
+trap finish EXIT
+trap 'exit 130' INT
+trap 'exit 143' TERM
+
+passed=0
+failed=0
+# A try: what it shows, and a command that ends with status 0 where it comes out so.
+try() {
+    title=$1
+    shift
+    if "$@"; then
+        passed=$((passed + 1))
+        echo "ok: $title"
+    else
+        failed=$((failed + 1))
+        echo "FAILED: $title"
+    fi
+}
+# Whether a command comes out so within two seconds. A line is written once its round is over, so an
+# answer may be there before it.
+soon() {
+    for _ in $(seq 1 200); do
+        if "$@"; then return 0; fi
+        sleep 0.01
+    done
+    return 1
+}
+
+# ---- servers and requests
+
+port=$(python3 -c 'import socket; one = socket.socket(); one.bind(("127.0.0.1", 0)); print(one.getsockname()[1])')
+registry() { "$program" --db "$work/registry.db" "$@"; }
+# Starts a server that logs to a file, and waits until it listens.
+serve() {
+    # What an earlier server said is gone before this one is waited for.
+    rm -f "$work/server"
+    "$program" --db "$work/registry.db" serve --port "$port" --log "$1" > "$work/server" 2> "$work/errors" &
+    server=$!
+    soon grep -qs listening "$work/server" || { cat "$work/errors" >&2; exit 1; }
+}
+end() { kill -9 "$server" 2>/dev/null || true; wait "$server" 2>/dev/null || true; server=; }
+# Asks for a path with a token.
+get() { curl -s -o "$work/answer" -H "authorization: Bearer $2" "http://127.0.0.1:$port$1"; }
+# Sends what is no request.
+send_none() { python3 -c 'import socket, sys; one = socket.create_connection(("127.0.0.1", int(sys.argv[1]))); one.sendall(b"what\r\n\r\n"); one.recv(1000)' "$port"; }
+is_answered() { grep -q NotFound "$work/answer"; }
+# The last line of a file, but for its moment and its time.
+last() { tail -n 1 "$1" 2>/dev/null | sed 's/^[^ ]* //; s/ [0-9.-]*$//'; }
+last_is() { [ "$(last "$1")" = "$2" ]; }
+has_lines() { [ "$(wc -l < "$1")" = "$2" ]; }
+says() { grep -q "$2" "$1" 2>/dev/null; }
+# Whether a log is refused, with status 2.
+is_refused() {
+    status=0
+    timeout 10 "$program" --db "$work/registry.db" serve --port "$port" --log "$1" > "$work/out" 2> "$work/err" || status=$?
+    [ "$status" = 2 ] && [ "$(cat "$work/err")" = "error: --log takes a file that isn't one of the registry's" ]
+}
+
+registry --operator user-add ann > "$work/out"
+registry --operator token-add ann npm_ann_000000001 > "$work/out"
+
+# ---- what is in a line
+
+log=$work/requests.log
+serve "$log"
+try 'the first line says that it is begun' soon last_is "$log" '# begun'
+get /-/package/kit/dist-tags npm_ann_000000001
+try 'a request has a line' soon last_is "$log" 'ann GET /-/package/kit/dist-tags 404 20'
+get /-/user/token/npm_ann_000000001 npm_ann_000000001
+try 'a token in a path is not seen' soon last_is "$log" '- GET /-/*** 404 20'
+get '/kit?token=npm_ann_000000001' npm_ann_000000001
+try 'nor one in a query' soon last_is "$log" 'ann GET /kit?token=*** 404 20'
+get /-/package/kit/dist-tags npm_nobody_0000001
+try 'a token of nobody has no user' soon last_is "$log" '- GET /-/package/kit/dist-tags 401 20'
+send_none
+try 'what is no request has a line' soon last_is "$log" '- - - 400 19'
+registry --operator user-add bob > "$work/out"
+try 'a command beside the server has none' last_is "$log" '- - - 400 19'
+try 'the log holds no token' sh -c "! grep -q npm_ '$log'"
+try 'its owner alone reads it' [ "$(stat -c %a "$log")" = 600 ]
+
+# ---- a log that is moved away, ends and begins
+
+mv "$log" "$log.1"
+get /-/package/kit/dist-tags npm_ann_000000001
+try 'a log that was moved away is begun anew' soon has_lines "$log" 1
+try 'and nothing more comes to the old one' last_is "$log.1" '- - - 400 19'
+end
+serve "$log"
+try 'after a kill it goes on behind what is there' soon has_lines "$log" 2
+registry stop > "$work/out"
+server=
+try 'the last line says why it ended' last_is "$log" '# ended: a command told it to stop'
+
+# ---- logs that would do harm
+
+mkfifo "$work/pipe"
+try "the registry's own file is no log" is_refused "$work/registry.db"
+try "nor is the log of that" is_refused "$work/registry.db-wal"
+try 'nor is a pipe' is_refused "$work/pipe"
+try 'nor a folder' is_refused "$work"
+
+# ---- logs that can't be written
+
+mkdir "$work/gone"
+serve "$work/gone/requests.log"
+get /-/package/kit/dist-tags npm_ann_000000001
+rm -r "$work/gone"
+get /-/package/kit/dist-tags npm_ann_000000001
+try 'without its folder all is answered' is_answered
+mkdir "$work/gone"
+get /-/package/kit/dist-tags npm_ann_000000001
+try 'what was lost is told' soon says "$work/gone/requests.log" ' # lost lines: 1$'
+end
+
+if [ "$(id -u)" = 0 ] && mkdir "$work/disk" && mount -t tmpfs -o size=64k none "$work/disk" 2>/dev/null; then
+    serve "$work/disk/requests.log"
+    for n in $(seq 1 1000); do get "/-/package/kit-$n/dist-tags" npm_ann_000000001; done
+    try 'on a full disk all is answered' is_answered
+    mv "$work/disk/requests.log" "$work/full.log"
+    get /-/package/kit/dist-tags npm_ann_000000001
+    try 'once there is room the loss is told' soon says "$work/disk/requests.log" ' # lost lines: [0-9]*$'
+    try 'and the request has a line' soon last_is "$work/disk/requests.log" 'ann GET /-/package/kit/dist-tags 404 20'
+    end
+else
+    echo 'left out: a full disk, which root alone can make'
+fi
+
+echo "$passed passed, $failed failed"
+[ "$failed" = 0 ]
