@@ -213,19 +213,32 @@ failing_disk
 mkdir "$work/lies"
 db=$work/lies/registry.db
 
+# These words end in the two lines.
+ends_so() {
+    words=$1
+    shift
+    # shellcheck disable=SC2086
+    if timeout 60 "$@" --db "$db" $words > "$work/out" 2> "$work/errors"; then status=0; else status=$?; fi
+    [ "$status" -eq 3 ] || fail "$what: $words ended with $status"
+    [ ! -s "$work/out" ] || fail "$what: $words printed something"
+    printf 'fault: Database\n%s\n' "$second" | cmp -s - "$work/errors" || fail "$what: $words said $(cat "$work/errors")"
+}
+
 # A query, a command and a server each end in these two lines, and what lies there is as it was. A
 # server that opened it would go on, and is stopped.
 is_refused() {
     sum=$(sums)
-    for words in 'tags kit' '--operator user-add eve' 'serve'; do
-        # shellcheck disable=SC2086
-        if timeout 60 "$@" --db "$db" $words > "$work/out" 2> "$work/errors"; then status=0; else status=$?; fi
-        [ "$status" -eq 3 ] || fail "$what: $words ended with $status"
-        [ ! -s "$work/out" ] || fail "$what: $words printed something"
-        printf 'fault: Database\n%s\n' "$second" | cmp -s - "$work/errors" || fail "$what: $words said $(cat "$work/errors")"
-    done
+    for words in 'tags kit' '--operator user-add eve' 'serve'; do ends_so "$words" "$@"; done
     [ "$(sums)" = "$sum" ] || fail "$what: its bytes are others"
     say "$what: fault: Database, $second"
+}
+
+# So does a second server. Commands are answered by the first one (examples/beside.sh).
+second_server_is_refused() {
+    sum=$(sums)
+    ends_so serve "$program"
+    [ "$(sums)" = "$sum" ] || fail "$what: its bytes are others"
+    say "$what, for a second server: fault: Database, $second"
 }
 
 # The sum of the file, and of the log beside it where one lies there; of a folder what is in it.
@@ -302,7 +315,7 @@ lay 'a registry that a server has' "another process has the registry's file"
 cp "$made" "$db"
 serve "$db"
 log=yes
-is_refused "$program"
+second_server_is_refused
 log=
 stop
 
