@@ -26,8 +26,8 @@ use Rattle.registry_tables.proofs.StepFacts.{changes_make}
 use Rattle.registry_history.specs.Answers.{packument_in, reply_to}
 use Rattle.registry_history.specs.Apart.{are_about, is_about}
 use Rattle.registry_history.specs.Runs.{Outcome}
-use Rattle.registry_history.proofs.ApartFacts.{changes_of_others}
-use Rattle.registry_desk.specs.Caches.{ArePackuments, HasPackuments, IsAbout, IsAboutNone, IsPut, IsSoundFor, KeepsLatest, KeepsNoMore, KeepsReply, LeavesCacheRight, ShowsPackument, without_changed}
+use Rattle.registry_desk.specs.Caches.{ArePackuments, HasPackuments, IsAbout, IsAboutNone, IsPut, IsSoundFor, KeepsLatest, KeepsNoMore, KeepsReply, LeavesCacheRight, ShowsPackument, live_packument, without_changed}
+use Rattle.registry_desk.proofs.LivingFacts.{live_of_others}
 
 -- ---- what is forgotten
 
@@ -142,10 +142,10 @@ reply_limit _ _ old new keeps = ap (λ (s : Cache). s.limit) keeps
 
 -- ---- what changes make of what is kept
 
-made_still : (c : Contents) (cs : List Change) (cache : Cache) → HeldAreStored c → (p text : Text) → kept (without_changed cs cache) p ≡ Some text → packument_in (registry_of (all_stored cs c)) p ≡ packument_in (registry_of c) p
+made_still : (c : Contents) (cs : List Change) (cache : Cache) → HeldAreStored c → (p text : Text) → kept (without_changed cs cache) p ≡ Some text → live_packument (registry_of (all_stored cs c)) p ≡ live_packument (registry_of c) p
 made_still c cs cache held p text h =
-    ap (λ S. packument_in S p) (changes_make cs c held)
-    ∙ changes_of_others (registry_of c) cs p (changed_found cs cache p text h).0
+    ap (λ S. live_packument S p) (changes_make cs c held)
+    ∙ live_of_others (registry_of c) cs p (changed_found cs cache p text h).0
 
 -- ---- what is answered
 
@@ -170,7 +170,7 @@ module _ (c d : Contents) (who : Option Caller) (what : Action) (cs : List Chang
   leaves_by : (given : Reply) → HeldAreStored c → d ≡ all_stored cs c → (is_command what ≡ false → cs ≡ []) → new ≡ without_changed cs old
       → (IsSoundFor what c old → given ≡ reply_to (registry_of c) who what) → LeavesCacheRight c d what old new given
   leaves_by given held is query left told = record {
-    still = λ p text h. ap (λ (e : Contents). packument_in (registry_of e) p) is ∙ made_still c cs old held p text (ap (λ (s : Cache). kept s p) (sym left) ∙ h);
+    still = λ p text h. ap (λ (e : Contents). live_packument (registry_of e) p) is ∙ made_still c cs old held p text (ap (λ (s : Cache). kept s p) (sym left) ∙ h);
     shown = shows_packument c old who what given told;
     asked = λ p asks. ap (λ (e : Contents). packument_in (registry_of e) p) (is ∙ ap (λ changes. all_stored changes c) (query (ap is_command asks)));
   }
@@ -184,7 +184,7 @@ module _ (c d : Contents) (who : Option Caller) (what : Action) (cs : List Chang
 -- what is refused changes nothing
 pub leaves_refused : (c d : Contents) (what : Action) (cache : Cache) (why : Refusal) → d ≡ c → LeavesCacheRight c d what cache cache (Refused why)
 leaves_refused c d what cache why same = record {
-  still = λ p text h. ap (λ (e : Contents). packument_in (registry_of e) p) same;
+  still = λ p text h. ap (λ (e : Contents). live_packument (registry_of e) p) same;
   shown = λ p text are asks h. cc;
   asked = λ p asks. ap (λ (e : Contents). packument_in (registry_of e) p) same;
 }
@@ -195,24 +195,26 @@ leaves_refused c d what cache why same = record {
 pub right_unchanged : (old new : Shown) (was is_now : Cache) → (HasCleanDisk new → IsTrue new.is_open → HasCleanDisk old × IsTrue old.is_open × (stored new ≡ stored old)) → KeepsNoMore was is_now → HasPackuments old was → HasPackuments new is_now
 right_unchanged old new was is_now same keeps right clean on =
     let before = same clean on in
-    record { right = λ p text h. (right before.0 before.1).right p text (keeps.before p text h) ∙ ap (λ (c : Contents). packument_in (registry_of c) p) (sym before.2) }
+    record { right = λ p text h. ap (λ (c : Contents). live_packument (registry_of c) p) before.2 ∙ (right before.0 before.1).right p text (keeps.before p text h) }
 
 -- the request was answered
 pub right_answered : (c d : Contents) (what : Action) (was is_now : Cache) (given : Reply) → LeavesCacheRight c d what was is_now given → KeepsNoMore was is_now → ArePackuments c was → ArePackuments d is_now
-right_answered c d what was is_now given leaves keeps are = record { right = λ p text h. are.right p text (keeps.before p text h) ∙ sym (leaves.still p text h) }
+right_answered c d what was is_now given leaves keeps are = record { right = λ p text h. leaves.still p text h ∙ are.right p text (keeps.before p text h) }
 
-pub shown_answered : (c d : Contents) (what : Action) (was is_now : Cache) (given : Reply) → LeavesCacheRight c d what was is_now given → ArePackuments c was → (p text : Text) → what ≡ Packument p → given ≡ Doc text → text ≡ packument_in (registry_of d) p
-shown_answered c d what was is_now given leaves are p text asks h = leaves.shown p text are asks h ∙ sym (leaves.asked p asks)
+-- and of another request than for a packument nothing more is kept
+pub other_kept : (what : Action) (given : Reply) (s : Cache) → ((p : Text) → what ≡ Packument p → ⊥) → KeepsReply what given s s
+other_kept (Packument name) given s other = absurd (other name refl)
+other_kept _ given s other = refl
 
 -- what is replied is kept
 pub right_kept : (d : Contents) (what : Action) (given : Reply) (was is_now : Cache) → ArePackuments d was
-    → ((p text : Text) → what ≡ Packument p → given ≡ Doc text → text ≡ packument_in (registry_of d) p) → KeepsReply what given was is_now → ArePackuments d is_now
+    → ((p text : Text) → what ≡ Packument p → given ≡ Doc text → live_packument (registry_of d) p ≡ Some text) → KeepsReply what given was is_now → ArePackuments d is_now
 right_kept d (Packument name) (Doc text) was is_now right shows keeps =
     let more = more_kept name text was is_now keeps in
     record {
       right = λ p found h. elim (more.found p found h) [
         | inl before ↦ right.right p found before
-        | inr same ↦ sym same.1 ∙ shows name text refl refl ∙ ap (packument_in (registry_of d)) same.0
+        | inr same ↦ ap (live_packument (registry_of d)) (sym same.0) ∙ shows name text refl refl ∙ ap (λ (t : Text). Some t) same.1
       ];
     }
 right_kept d _ _ was is_now right shows keeps = subst (ArePackuments d) (sym keeps) right

@@ -5,6 +5,7 @@ mod EarlyFacts
 mod GrantFacts
 mod KeepingFacts
 mod LifeFacts
+mod LivingFacts
 mod LoadedFacts
 mod LookFacts
 mod MakingFacts
@@ -16,3 +17,4 @@ mod CacheFacts
 pub mod AnswerFacts
 mod StopFacts
 pub mod StoredFacts
+mod TakenFacts

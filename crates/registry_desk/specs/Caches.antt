@@ -1,10 +1,11 @@
 -- What the texts that are kept have to do with what is stored. `old` and `new` are what a cache
 -- keeps at the entry and at the exit.
-use Rattle.std.specs.Prelude.{◌≡◌, ◌⊎◌, ◌^◌, ℕ, false, not, List, IfNone, IfSome, IsTrue, Some}
+use Rattle.std.specs.Prelude.{◌≡◌, ◌⊎◌, ◌^◌, ℕ, false, not, List, IfNone, IfSome, IsTrue, Option, None, Some, if◌then◌else◌}
 use Rattle.sqlite.specs.State.{State as Shown, HasCleanDisk}
 use Rattle.registry_names.specs.Texts.{Text, is}
 use Rattle.registry_cache.specs.Caches.{Cache, AreRight, asked, kept, kept_where, with_room, with_text}
 use Rattle.registry_rules.specs.Changes.{Change}
+use Rattle.registry_rules.specs.State.{State, has_live}
 use Rattle.registry_rules.specs.declared.reply.Reply.{Reply}
 use Rattle.registry_rules.specs.declared.reply.Reply.TheVariants.{Doc}
 use Rattle.registry_rules.specs.declared.request.Action.{Action}
@@ -16,9 +17,13 @@ use Rattle.registry_history.specs.Answers.{packument_in}
 use Rattle.registry_history.specs.Apart.{are_about, is_about}
 use Rattle.registry_desk.specs.Resting.{Rests}
 
--- each text is the packument of its name
+-- the packument of a package of which a version lives; None of another
+abbrev pub live_packument : State → Text → Option Text
+live_packument S p = if has_live S p then Some (packument_in S p) else None
+
+-- each text is the packument of its name, and a version of that lives
 abbrev pub ArePackuments : Contents → Cache → Type 0
-ArePackuments c cache = AreRight (λ p text. text ≡ packument_in (registry_of c) p) cache
+ArePackuments c cache = AreRight (λ p text. live_packument (registry_of c) p ≡ Some text) cache
 
 -- that is so of an open connection whose disk is clean
 abbrev pub HasPackuments : Shown → Cache → Type 0
@@ -96,10 +101,14 @@ ShowsPackument c cache what given = (p text : Text)
 abbrev pub IsSamePackument : Contents → Contents → Text → Type 0
 IsSamePackument c d p = packument_in (registry_of d) p ≡ packument_in (registry_of c) p
 
--- The contents go from c to d: what is kept is of packages whose packuments stay, and a packument
--- that is answered is the package's, before and after
+-- and so is whether a version of it lives
+abbrev pub IsSameLive : Contents → Contents → Text → Type 0
+IsSameLive c d p = live_packument (registry_of d) p ≡ live_packument (registry_of c) p
+
+-- The contents go from c to d: what is kept is of packages whose packuments stay, and that still
+-- have a live version or none; and a packument that is answered is the package's, before and after
 pub record LeavesCacheRight (c d : Contents) (what : Action) (old new : Cache) (given : Reply)
     : Type 0 where
-  pub still : (p text : Text) → kept new p ≡ Some text → IsSamePackument c d p
+  pub still : (p text : Text) → kept new p ≡ Some text → IsSameLive c d p
   pub shown : ShowsPackument c old what given
   pub asked : (p : Text) → what ≡ Packument p → IsSamePackument c d p

@@ -24,7 +24,6 @@ ghost use Rattle.registry_packument.specs.Sendings.{failures_after};
 ghost use Rattle.registry_packument.specs.declared.opener.Sent.TheVariants.{WriteFault};
 
 use crate::answer::answered_inside;
-use crate::cache::keep_reply;
 use crate::sending::sent;
 use crate::texts::queried;
 use registry_cache::TextCache;
@@ -368,8 +367,8 @@ fn answered<S: Alter>(
     }
 }
 
-// The same in one transaction, which rolls back where `?` drops it. What is replied is kept after
-// the commit.
+// The same of another request, in one transaction, which rolls back where `?` drops it. Nothing of
+// its reply is kept.
 fn transacted<S: Alter>(
     alloc: Global,
     conn: &mut Connection<S>,
@@ -378,6 +377,7 @@ fn transacted<S: Alter>(
 ) -> Result<Reply, Fault>
     requires rests { Rests (state S.Store conn.old) }
     requires right { HasPackuments (state S.Store conn.old) cache.old }
+    requires other { ¬ IsPackument request.now.what }
     ensures rests { Rests (state S.Store conn.new) }
     ensures right { HasPackuments (state S.Store conn.new) cache.new }
     ensures limit { cache.new.limit ≡ cache.old.limit }
@@ -395,10 +395,7 @@ fn transacted<S: Alter>(
     let mut tx = conn.transaction();
     let reply = answered_inside(alloc, &mut tx, cache, request)?;
     match commit(tx) {
-        Ok(()) => {
-            keep_reply(cache, &request.what, &reply);
-            Ok(reply)
-        }
+        Ok(()) => Ok(reply),
         Err(fault) => Err(fault),
     }
 }

@@ -10,8 +10,6 @@ ghost use Rattle.registry_packument.specs.Packuments.{pack_len, pack_text};
 ghost use Rattle.registry_packument.specs.Sendings.{failures_after};
 ghost use Rattle.registry_packument.specs.declared.opener.Sent.TheVariants.{WriteFault};
 ghost use Rattle.registry_rows.specs.Frames.{Stays};
-ghost use Rattle.registry_rules.specs.Facts.{FactsTell};
-ghost use Rattle.registry_rules.specs.Refusals.{refusal};
 ghost use Rattle.registry_rules.specs.State.{State};
 ghost use Rattle.registry_rules.specs.declared.request.Action.TheVariants as asked;
 ghost use Rattle.registry_tables.specs.Contents.{registry_of};
@@ -27,8 +25,9 @@ ghost use Rattle.registry_desk.specs.Resting.{Rests};
 ghost use Rattle.registry_desk.specs.Sending.{IsFrom, IsOrigin, IsShownBy, LeavesAll, Sends, answers_as_apply, head_in, versions_in};
 
 use crate::cache::ask;
-use crate::packages::seen_package;
+use crate::policy::standing_if_allowed;
 use crate::rows::{cached_text, pack_times};
+use registry_access::Ask;
 use registry_cache::{SharedText, TextCache};
 use registry_hidden::laws::unread_packages_are_unheard_of;
 use registry_names::{ByteOut, DistTag, Fault, Name, Refusal, Text};
@@ -36,8 +35,10 @@ use registry_packument::{
     Opener, PackHead, PackTimes, Sent, packument_len, send_counted, send_text,
 };
 use registry_rows::{commit, fault_of};
-use registry_rules::{Facts, Request, may_ask};
-use registry_tables::{LiveRows, VersionWalk, load_caller, load_tags, load_times, walk_versions};
+use registry_rules::Request;
+use registry_tables::{
+    LiveRows, VersionWalk, has_live, load_caller, load_tags, load_times, walk_versions,
+};
 use sqlite::{Alter, Connection, Transaction};
 use std::alloc::Global;
 
@@ -88,7 +89,26 @@ fn loaded_head<S: Alter>(
     head_of(alloc, name, tags, times)
 }
 
-// What a packument comes from, where nothing refuses the query.
+// What a packument that isn't kept comes from, where the policy allows the query.
+fn stored_from<S: Alter>(
+    alloc: Global,
+    tx: &mut Transaction<'_, S>,
+    name: &Name,
+) -> Result<Origin, Fault>
+    requires in_form { InForm S.Store tx.old }
+    ensures stays { Stays S.Store tx.old tx.new }
+    ensures loads { Loads S.Store tx.old tx.new result
+        (λ origin c. IsShownBy origin (registry_of c) name.now) }
+{
+    if has_live(tx, name)? {
+        Ok(Origin::Stored(loaded_head(alloc, tx, name)?))
+    } else {
+        Ok(Origin::Refused(Refusal::NotFound))
+    }
+}
+
+// What a packument comes from, where the policy allows the query. A version of a package whose
+// packument is kept lives.
 fn shown_from<S: Alter>(
     alloc: Global,
     tx: &mut Transaction<'_, S>,
@@ -102,17 +122,7 @@ fn shown_from<S: Alter>(
 {
     match cached_text(cache, name) {
         Some(text) => Ok(Origin::Kept(text)),
-        None => Ok(Origin::Stored(loaded_head(alloc, tx, name)?)),
-    }
-}
-
-// Why a request is refused, if it is.
-fn refusal_of(facts: &Facts, request: &Request) -> Option<Refusal>
-    ensures { (S : State) → FactsTell facts.now S request.now → result ≡ refusal S request.now }
-{
-    match may_ask(facts, request) {
-        Ok(()) => None,
-        Err(refusal) => Some(refusal),
+        None => stored_from(alloc, tx, name),
     }
 }
 
@@ -137,15 +147,11 @@ fn find_origin<S: Alter>(
     let Some(caller) = load_caller(alloc, tx, &request.who)? else {
         return Ok(Origin::Refused(Refusal::NoCaller));
     };
-    let about = seen_package(alloc, tx, &caller, name)?;
-    let facts = Facts {
-        caller: Some(caller),
-        about,
+    let _standing = match standing_if_allowed(alloc, tx, &caller, name, &Ask::Read(name))? {
+        Ok(standing) => standing,
+        Err(refusal) => return Ok(Origin::Refused(refusal)),
     };
-    match refusal_of(&facts, request) {
-        Some(refusal) => Ok(Origin::Refused(refusal)),
-        None => shown_from(alloc, tx, cache, name),
-    }
+    shown_from(alloc, tx, cache, name)
 }
 
 // ---- in a transaction of its own

@@ -18,7 +18,7 @@ use Rattle.registry_desk.specs.Resting.{IsRegistryOf, Rests, next_stored, settle
 use Rattle.registry_desk.proofs.CommitFacts.{commit_rests, failed_undone, registry_left, undone_open, undone_rests, undone_stored}
 use Rattle.registry_desk.specs.Caches.{ArePackuments, HasPackuments}
 use Rattle.registry_desk.proofs.SettlingFacts.{faulted_next, settled_next}
-use Rattle.registry_desk.proofs.CacheFacts.{reply_limit, right_answered, right_kept, right_unchanged, shown_answered}
+use Rattle.registry_desk.proofs.CacheFacts.{other_kept, right_answered, right_unchanged}
 use Rattle.registry_desk.proofs.registry.transacted.Goals as goal
 
 pub returns-in-Ok-clause-rests : goal.returns-in-Ok-clause-rests
@@ -221,23 +221,18 @@ returns-in-Ok-clause-right g c =
     let begun = state g.S.Store c.transaction-tx.result.conn.now in
     let mid = state g.S.Store c.answered_inside.new.tx.conn.now in
     let new = state g.S.Store c.commit.new.tx.0 in
-    let what = c.args.request.now.what in
-    let reply = c.in_ok-reply.reply in
-    let between = c.answered_inside.new.cache in
+    let cache = c.answered_inside.new.cache in
     let seen : stored begun ≡ stored old = rw c.transaction-tx.ensures.begun refl in
-    let stay : HasPackuments new c.keep_reply.new.cache = λ clean on.
+    let stay : HasPackuments new cache = λ clean on.
     let were : HasCleanDisk mid = omega (arith, c.commit.ensures.survives.clean, clean) in
     let first : HasCleanDisk old = omega (arith, (rw c.transaction-tx.ensures.begun at c.answered_inside.ensures.stays.survives).clean, were) in
     let was_open : IsTrue old.is_open = rw c.transaction-tx.ensures.begun at c.in_ok-reply.ensures.served were in
     let are = subst (λ (d : Contents). ArePackuments d c.args.cache.now) (sym seen) (c.requires.right first was_open) in
-    let leaves = c.in_ok-reply.ensures.right were in
     let left : stored new ≡ stored mid = ap (λ (d : Database). contents d.trees) (c.in-Ok.ensures.ok clean).1.now_is in
-    subst (λ (d : Contents). ArePackuments d c.keep_reply.new.cache) (sym left)
-    (right_kept (stored mid) what reply between c.keep_reply.new.cache
-    (right_answered (stored begun) (stored mid) what c.args.cache.now between reply leaves c.answered_inside.ensures.no_more are)
-    (shown_answered (stored begun) (stored mid) what c.args.cache.now between reply leaves are) c.keep_reply.ensures) in
+    subst (λ (d : Contents). ArePackuments d cache) (sym left)
+    (right_answered (stored begun) (stored mid) c.args.request.now.what c.args.cache.now cache c.in_ok-reply.reply (c.in_ok-reply.ensures.right were) c.answered_inside.ensures.no_more are) in
     let same : c.commit.new.tx.0 ≡ c.conn-2-1.given.0 = search rules in
-    subst (λ h. HasPackuments (state g.S.Store h) c.keep_reply.new.cache) same stay
+    subst (λ h. HasPackuments (state g.S.Store h) cache) same stay
 
 pub returns-in-Err-clause-right : goal.returns-in-Err-clause-right
 returns-in-Err-clause-right g c =
@@ -267,11 +262,6 @@ returns-in_err-reply-clause-right g c =
     (first, undone_open old mid new keeps (c.drop-tx.ensures.undone clean) on, undone_stored old mid new c.requires.rests first keeps (c.drop-tx.ensures.undone clean) on)) c.answered_inside.ensures.no_more c.requires.right in
     let same : c.drop-tx.new.self.0 ≡ c.conn-1.given.0 = search rules in
     subst (λ h. HasPackuments (state g.S.Store h) c.answered_inside.new.cache) same stay
-
--- every step keeps the limit
-pub returns-in-Ok-clause-limit : goal.returns-in-Ok-clause-limit
-returns-in-Ok-clause-limit g c =
-    reply_limit c.args.request.now.what c.in_ok-reply.reply c.answered_inside.new.cache c.keep_reply.new.cache c.keep_reply.ensures ∙ c.answered_inside.ensures.no_more.limit
 
 -- ---- where no command was accepted
 
@@ -316,6 +306,8 @@ returns-in_err-reply-clause-unchanged g c =
     let same : c.drop-tx.new.self.0 ≡ c.conn-1.given.0 = search rules in
     subst (λ h. HasCleanDisk (state g.S.Store h) → IsTrue (state g.S.Store h).is_open → enters r c.from_residual.result ≡ false → stored (state g.S.Store h) ≡ stored old) same stay
 
--- what is replied is kept after all else
+-- of another request than for a packument nothing is kept
 pub returns-in-Ok-clause-kept : goal.returns-in-Ok-clause-kept
-returns-in-Ok-clause-kept g c = (c.answered_inside.new.cache, c.answered_inside.ensures.no_more, c.keep_reply.ensures)
+returns-in-Ok-clause-kept g c =
+    let what = c.args.request.now.what in
+    (c.answered_inside.new.cache, c.answered_inside.ensures.no_more, other_kept what c.in_ok-reply.reply c.answered_inside.new.cache (λ p asks. c.requires.other (p, asks)))
