@@ -1,7 +1,9 @@
 -- What a stream took of a packument that is sent, where it is known what its text is, or how many
 -- bytes it has.
-use Rattle.std.specs.Prelude.{◌≡◌, ◌<◌, ℕ, Bool, true, false, List, [], ◌∷◌, ◌++◌, length, Option, Result, Ok, Err, ⊤}
+use Rattle.std.specs.Prelude.{◌≡◌, ◌≢◌, ◌<◌, ◌⊎◌, ℕ, Bool, true, false, List, [], ◌∷◌, ◌++◌, length, Option, Some, Result, Ok, Err, ⊤}
 use Rattle.registry_names.specs.ByteStreams.{Writes, WritesPrefix}
+use Rattle.registry_names.specs.declared.stop.Fault.{Fault}
+use Rattle.registry_names.specs.declared.stop.Fault.TheVariants.{Memory, Database}
 use Rattle.registry_packument.specs.Documents.{documented}
 use Rattle.registry_packument.specs.ObjectTexts.{member_text}
 use Rattle.registry_packument.specs.Sendings.{WritesSome, opened}
@@ -27,6 +29,23 @@ IsUnbroken (Refused refusal) = ⊤
 IsUnbroken Whole = ⊤
 IsUnbroken WriteFault = ⊤
 IsUnbroken (Broken fault has_started) = ⊥
+
+-- where it is broken off, it is by such a fault
+abbrev pub IfBroken : Sent → (Fault → Type 0) → Type 0
+IfBroken (Refused refusal) IsSuch = ⊤
+IfBroken Whole IsSuch = ⊤
+IfBroken WriteFault IsSuch = ⊤
+IfBroken (Broken fault has_started) IsSuch = IsSuch fault
+
+-- Of a packument so many bytes were counted, and its rows have so many, where there is one of them.
+-- Memory may run out in any case; the database is at fault only where they haven't those counted
+abbrev pub IsFaultOfLen : ℕ → Option ℕ → Fault → Type 0
+IsFaultOfLen counted has Memory = ⊤
+IsFaultOfLen counted has Database = has ≢ Some counted
+
+-- what breaks it off: the fault that the source stopped at, or one of these
+abbrev pub IsBreak : Option Fault → ℕ → Option ℕ → Fault → Type 0
+IsBreak stopped counted has fault = (stopped ≡ Some fault) ⊎ IsFaultOfLen counted has fault
 
 -- the machine didn't fail while the versions were written: all were, or a write failed
 abbrev pub IsUnstopped : {A : Type 0} → Result A PackFault → Type 0
@@ -55,3 +74,8 @@ row_text later r = member_text later (r.version, documented r.manifest r.message
 abbrev pub rows_text : Bool → List VersionRow → List ℕ
 rows_text later [] = 125 ∷ 125 ∷ []
 rows_text later (r ∷ rs) = row_text later r ++ rows_text true rs
+
+-- the same without the two braces
+abbrev pub rows_members : Bool → List VersionRow → List ℕ
+rows_members later [] = []
+rows_members later (r ∷ rs) = row_text later r ++ rows_members true rs

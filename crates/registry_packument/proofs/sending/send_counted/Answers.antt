@@ -1,7 +1,7 @@
-use Rattle.std.proofs.Common.{◌≡◌, ◌∙◌, ◌+◌, ℕ, List, Some, arith, false, length-append}
+use Rattle.std.proofs.Common.{◌≡◌, ◌∙◌, ◌+◌, ℕ, List, Some, arith, false, inr, length-append}
 use Rattle.registry_packument.specs.Packuments.{opening_text, pack_text}
-use Rattle.registry_packument.specs.Counted.{rows_text}
-use Rattle.registry_packument.proofs.SendingFacts.{counted_long, counted_text, ends_taking, ends_within, length-opening_text, start_takes, start_within, whole_long}
+use Rattle.registry_packument.specs.Counted.{rows_members, rows_text}
+use Rattle.registry_packument.proofs.SendingFacts.{counted_long, counted_text, end_fault, end_memory, ends_taking, ends_within, length-opening_text, nothing_sent, start_fault, start_takes, start_within, whole_long}
 use Rattle.registry_packument.proofs.sending.send_counted.Goals as goal
 
 pub returns-in-Ok-write_whole-clause-framed : goal.returns-in-Ok-write_whole-clause-framed
@@ -33,3 +33,21 @@ pub returns-in-Ok-write_whole-clause-long : goal.returns-in-Ok-write_whole-claus
 returns-in-Ok-write_whole-clause-long g c known whole =
     let rows = g.S.VersionSource.rows c.args.source.now in
     omega (arith, length-append (opening_text c.args.head.now) (rows_text false rows), c.in-Ok.ensures.room, whole_long c.write_counted.result (rw c.end_of.ensures at whole) (c.write_counted.ensures.long known))
+
+-- ---- what breaks it off
+
+pub returns-in-Err-clause-fault : goal.returns-in-Err-clause-fault
+returns-in-Err-clause-fault g c known = start_fault _ c.args.head.now (g.S.VersionSource.rows c.args.source.now) c.args.len c.in-Err.fault c.in-Err.ensures.err
+
+pub returns-in-Ok-write_whole-clause-fault : goal.returns-in-Ok-write_whole-clause-fault
+returns-in-Ok-write_whole-clause-fault g c known =
+    rw c.end_of.ensures (end_fault _ c.args.head.now (g.S.VersionSource.rows c.args.source.now) c.args.len c.in-Ok.start.room c.in-Ok.ensures.room c.write_counted.result (c.write_counted.ensures.fault known))
+
+pub returns-in-Err-clause-memory : goal.returns-in-Err-clause-memory
+returns-in-Err-clause-memory g c known memory = inr (nothing_sent _ _ _ c.args.head.now _)
+
+pub returns-in-Ok-write_whole-clause-memory : goal.returns-in-Ok-write_whole-clause-memory
+returns-in-Ok-write_whole-clause-memory g c known =
+    let rows = g.S.VersionSource.rows c.args.source.now in
+    rw c.end_of.ensures (end_memory c.as_bytes.result.now (g.O.Opener.opens c.args.opener.now c.args.len) (opening_text c.args.head.now) (rows_members false rows) (c.as_bytes.ensures.value ∙ c.in-Ok.ensures.text)
+    c.in-Ok-write_whole.ensures.ok c.write_counted.ensures.unknown c.write_counted.result (c.write_counted.ensures.memory known))
