@@ -1,5 +1,5 @@
 -- Turns of connections and of commands are runs.
-use Rattle.std.proofs.Common.{◌≡◌, ◌++◌, ◌∷◌, [], List, map, Option, Bool, inl, inr, refl, sym, ap, subst}
+use Rattle.std.proofs.Common.{◌≡◌, ◌++◌, ◌∷◌, ◌∙◌, [], List, map, Option, Bool, inl, inr, refl, sym, ap, subst}
 use Rattle.std.specs.Prelude.{unwrap_or}
 use Rattle.sqlite.specs.State.{State as Shown}
 use Rattle.registry_rules.proofs.SoundSteps.{nothing_sound}
@@ -16,46 +16,65 @@ use Rattle.registry_service.specs.Turns.{Answering, Cause, IsTurnFor, Turn, bad_
 use Rattle.registry_service.specs.declared.turning.End.{End}
 use Rattle.registry_http.specs.Services.{Applies, applied}
 use Rattle.registry_cli.specs.Lines.{line_of}
-use Rattle.registry_guests.specs.Beside.{GuestTurn, GuestsLead, GuestsTurn, beside_guests}
+use Rattle.registry_guests.specs.Beside.{Beside, GuestTurn, GuestsLead, GuestsTurn, beside, beside_guests}
 use Rattle.registry_guests.specs.GuestTurns.{IsGuestTurn}
 use Rattle.registry_guests.specs.Saying.{prints}
-use Rattle.registry_beside.specs.Beside.{AnyTurn, AskAll, AsksFor, AsksNothing, IsOneRun, LogRunsBeside, TakeTurns, TakesTurn, TurnsRunBeside, of_connection, of_connections, of_guest}
+use Rattle.registry_beside.specs.Beside.{AnyTurn, AskAll, AsksFor, AsksNothing, IsOneRun, LogRunsBeside, TakeTurns, TakesTurn, TurnsRunBeside, of_connection, of_connections, of_guest, of_guests}
 
 -- ---- one list of turns
 
--- turns that include those of connections that are known
-record Include {D : Type 0} (answers : Answering D) (M : D) (known : List Turn) (N : D) : Type 0 where
+-- turns that are those of connections that are known, and those of commands that the service has
+record Include {D : Type 0} (answers : Answering D) (M : D) (known : List Turn) (N : Beside D) : Type 0 where
   turns : List AnyTurn
   same : of_connections turns ≡ known
-  take : TakeTurns answers M turns N
+  guests : of_guests turns ≡ N.turns
+  take : TakeTurns answers M turns N.service
 
 module _ {D : Type 0} (answers : Answering D) (M : D) where
   -- commands take turns
-  with-guests : (known : List Turn) (K : D) (gs : List GuestTurn) (N : D) → Include answers M known K → GuestsTurn answers K gs N → Include answers M known N
-  with-guests known K [] N i same = record { turns = i.turns; same = i.same; take = subst (λ (N : D). TakeTurns answers M i.turns N) (sym same) i.take }
+  with-guests : (known : List Turn) (K : Beside D) (gs : List GuestTurn) (N : D) → Include answers M known K → GuestsTurn answers K.service gs N → Include answers M known (beside N (gs ++ K.turns))
+  with-guests known K [] N i same = record { turns = i.turns; same = i.same; guests = i.guests; take = subst (λ (N : D). TakeTurns answers M i.turns N) (sym same) i.take }
   with-guests known K (g ∷ gs) N i turn =
       let j = with-guests known K gs turn.0 i turn.1 in
-      record { turns = of_guest g ∷ j.turns; same = j.same; take = (turn.0, j.take, turn.2) }
+      record { turns = of_guest g ∷ j.turns; same = j.same; guests = ap (λ (l : List GuestTurn). g ∷ l) j.guests; take = (turn.0, j.take, turn.2) }
+
+  with-lead : (known : List Turn) (K N : Beside D) → Include answers M known K → GuestsLead answers K N → Include answers M known N
+  with-lead known K N i lead =
+      let j = with-guests known K lead.0 N.service i lead.1 in
+      record { turns = j.turns; same = j.same; guests = j.guests ∙ sym lead.2; take = j.take }
 
   -- a connection takes a turn
-  with-turn : (known : List Turn) (K N : D) (t : Turn) → Include answers M known K → TakesTurn answers K (of_connection t) N → Include answers M (t ∷ known) N
-  with-turn known K N t i turn = record { turns = of_connection t ∷ i.turns; same = ap (λ (l : List Turn). t ∷ l) i.same; take = (K, i.take, turn) }
+  with-turn : (known : List Turn) (K N : Beside D) (t : Turn) → Include answers M known K → N.turns ≡ K.turns → TakesTurn answers K.service (of_connection t) N.service → Include answers M (t ∷ known) N
+  with-turn known K N t i same turn = record {
+    turns = of_connection t ∷ i.turns;
+    same = ap (λ (l : List Turn). t ∷ l) i.same;
+    guests = i.guests ∙ sym same;
+    take = (K.service, i.take, turn);
+  }
+
+  -- it takes one in which nothing is asked
+  with-none : (known : List Turn) (K N : Beside D) (t : Turn) → Include answers M known K → N ≡ K → TakesTurn answers K.service (of_connection t) N.service → Include answers M (t ∷ known) N
+  with-none known K N t i same turn = with-turn known K N t i (ap (λ (b : Beside D). b.turns) same) turn
 
   -- commands take turns before its request
-  with-both : (known : List Turn) (K N : D) (c : Cause) (last : Bool) (o : Outcome) (ended : Option End) → Include answers M known K → IsTurnFor (beside_guests answers) c K last o ended N
+  with-both : (known : List Turn) (K N : Beside D) (c : Cause) (last : Bool) (o : Outcome) (ended : Option End) → Include answers M known K → IsTurnFor (beside_guests answers) c K last o ended N
       → Include answers M (record { cause = c; outcome = o; ended = ended } ∷ known) N
   with-both known K N (request w at) last o ended i turn =
       elim turn.answered [
-        | inl (r, reads, beside) ↦
-            with-turn known beside.0 N (record { cause = request w at; outcome = o; ended = ended }) (with-guests known K beside.1.0 beside.0 i beside.1.1)
-            (last, record { answered = inl (r, reads, beside.2); ends = turn.ends })
-        | inr stops ↦ with-turn known K N (record { cause = request w at; outcome = o; ended = ended }) i (last, record { answered = inr stops; ends = turn.ends })
+        | inl (r, reads, asked) ↦
+            with-turn known (beside asked.0 N.turns) N (record { cause = request w at; outcome = o; ended = ended }) (with-lead known K (beside asked.0 N.turns) i asked.1) refl
+            (last, record { answered = inl (r, reads, asked.2); ends = turn.ends })
+        | inr (s, reads, is, same) ↦
+            with-none known K N (record { cause = request w at; outcome = o; ended = ended }) i same
+            (last, record { answered = inr (s, reads, is, ap (λ (b : Beside D). b.service) same); ends = turn.ends })
       ]
-  with-both known K N (bad_input r) last o ended i turn = with-turn known K N (record { cause = bad_input r; outcome = o; ended = ended }) i (last, turn)
-  with-both known K N no_memory last o ended i turn = with-turn known K N (record { cause = no_memory; outcome = o; ended = ended }) i (last, turn)
+  with-both known K N (bad_input r) last o ended i turn =
+      with-none known K N (record { cause = bad_input r; outcome = o; ended = ended }) i turn.1 (last, (turn.0, ap (λ (b : Beside D). b.service) turn.1))
+  with-both known K N no_memory last o ended i turn =
+      with-none known K N (record { cause = no_memory; outcome = o; ended = ended }) i turn.1 (last, (turn.0, ap (λ (b : Beside D). b.service) turn.1))
 
-  with-log : (log : List LogEntry) (N : D) → FollowAll (beside_guests answers) M log N → Include answers M (map (λ e. e.turn) log) N
-  with-log [] N same = record { turns = []; same = refl; take = same }
+  with-log : (log : List LogEntry) (N : Beside D) → FollowAll (beside_guests answers) (beside M []) log N → Include answers M (map (λ e. e.turn) log) N
+  with-log [] N same = record { turns = []; same = refl; guests = sym (ap (λ (b : Beside D). b.turns) same); take = ap (λ (b : Beside D). b.service) same }
   with-log (e ∷ log) N follow =
       with-both (map (λ e. e.turn) log) follow.0 N e.turn.cause _ e.turn.outcome e.turn.ended (with-log log follow.0 follow.1) follow.2
 
@@ -158,5 +177,5 @@ turns-run show M N ts take = one-run (show M) (show N) ts (of-all show M N ts ta
 
 pub log-run : {D : Type 0} (show : D → Shown) → LogRunsBeside show
 log-run show M K N log follow lead =
-    let i = with-guests (applied show) M (map (λ e. e.turn) log) K lead.0 N (with-log (applied show) M log K follow) lead.1 in
-    (i.turns, i.same, i.take, turns-run show M N i.turns i.take)
+    let i = with-lead (applied show) M (map (λ e. e.turn) log) K N (with-log (applied show) M log K follow) lead in
+    (i.turns, i.same, i.guests, i.take, turns-run show M N.service i.turns i.take)

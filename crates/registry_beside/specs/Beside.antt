@@ -12,7 +12,7 @@ use Rattle.registry_http.specs.Services as http
 use Rattle.registry_http.specs.Services.{Asks, applied}
 use Rattle.registry_cli.specs.Asked.{reads_line}
 use Rattle.registry_cli.specs.Lines.{line_of}
-use Rattle.registry_guests.specs.Beside.{GuestTurn, GuestsLead, beside_guests}
+use Rattle.registry_guests.specs.Beside.{Beside, GuestTurn, GuestsLead, beside, beside_guests}
 use Rattle.registry_guests.specs.GuestTurns.{IsCommand, IsGuestTurn, IsUnasked}
 use Rattle.registry_guests.specs.Saying.{printed_of, prints}
 
@@ -26,6 +26,12 @@ abbrev pub of_connections : List AnyTurn → List Turn
 of_connections [] = []
 of_connections (of_connection t ∷ ts) = t ∷ of_connections ts
 of_connections (of_guest t ∷ ts) = of_connections ts
+
+-- those of commands
+abbrev pub of_guests : List AnyTurn → List GuestTurn
+of_guests [] = []
+of_guests (of_connection t ∷ ts) = of_guests ts
+of_guests (of_guest t ∷ ts) = t ∷ of_guests ts
 
 module _ {D : Type 0} (answers : Answering D) where
   abbrev pub TakesTurn : D → AnyTurn → D → Type 0
@@ -87,7 +93,8 @@ module _ {D : Type 0} (show : D → Shown) where
   abbrev pub TurnsRunBeside : Type 0
   TurnsRunBeside = (M N : D) (ts : List AnyTurn) → TakeTurns (applied show) M ts N → IsOneRun (show M) (show N) ts
 
-  -- of the turns of connections beside commands, and of commands after them
+  -- of the turns of connections beside commands, and of commands after them: they are the turns of the
+  -- connections and those of the commands, all and in their order
   abbrev pub LogRunsBeside : Type 0
-  LogRunsBeside = (M K N : D) (log : List LogEntry) → FollowAll (beside_guests (applied show)) M log K → GuestsLead (applied show) K N
-      → (ts : List AnyTurn) × (of_connections ts ≡ map (λ e. e.turn) log) × TakeTurns (applied show) M ts N × IsOneRun (show M) (show N) ts
+  LogRunsBeside = (M : D) (K N : Beside D) (log : List LogEntry) → FollowAll (beside_guests (applied show)) (beside M []) log K → GuestsLead (applied show) K N
+      → (ts : List AnyTurn) × (of_connections ts ≡ map (λ e. e.turn) log) × (of_guests ts ≡ N.turns) × TakeTurns (applied show) M ts N.service × IsOneRun (show M) (show N.service) ts

@@ -13,8 +13,8 @@ use sqlite::Alter;
 /// the headline holds.
 ///
 /// The turns of connections whose service lets commands take turns before a request, and the commands
-/// after the last of them, are such turns: those of the connections are among them, all and in their
-/// order.
+/// after the last of them, are such turns: those of the connections, all and in their order, those of
+/// the commands, all and in theirs, and no others.
 pub fn turns_beside_guests_are_one_run<S: Alter>()
     ensures turns { TurnsRunBeside (shown S.Store) }
     ensures all { LogRunsBeside (shown S.Store) }

@@ -1,19 +1,15 @@
--- What the fields of a cache of texts are to a contract.
-use Rattle.std.specs.Prelude.{◌≡◌, ◌-◌, ◌^◌, ◌≤◌, List, map, string_bytes}
+-- What the fields of a cache are to a contract.
+use Rattle.std.specs.Prelude.{◌≡◌, ◌-◌, ◌^◌, ◌≤◌, ℕ, List, map}
 use Rattle.registry_names.specs.Texts.{Text}
-use Rattle.registry_cache.specs.Caches.{Entries, Cache, cache, size}
-use Rattle.registry_cache.specs.declared.cache.TextCache.TheInside.{Inside}
+use Rattle.registry_cache.specs.Caches.{Entries, size}
 
--- the entries with the bytes of their names
-abbrev pub named : {S : Type 0} → (S → Text) → List (S × Text) → Entries
-named bytes es = map (λ e. (bytes e.0, e.1)) es
+-- the entries, with the bytes of their names and of what is kept
+abbrev pub named : {S V : Type 0} → (S → Text) → (V → Text) → List (S × V) → Entries
+named name bytes es = map (λ e. (name e.0, bytes e.1)) es
 
-abbrev pub shown : Inside → Cache
-shown fields = cache (named string_bytes fields.entries.entries) fields.large fields.limit
-
--- The bytes of all texts but the large one are counted and are few enough. They alone make texts go,
--- and no number of entries does
-pub record IsCounted (fields : Inside) : Type 0 where
-  pub counted : fields.size ≡ size (named string_bytes fields.entries.entries)
-  pub limited : fields.size ≤ fields.limit
-  pub unbounded : fields.entries.cap ≡ 2 ^ 64 - 1
+-- The bytes of all that is kept, but for the large one, are counted and are few enough. They alone
+-- make what is kept go, and no number of entries does
+pub record IsCounted (es : Entries) (count limit cap : ℕ) : Type 0 where
+  pub counted : count ≡ size es
+  pub limited : count ≤ limit
+  pub unbounded : cap ≡ 2 ^ 64 - 1

@@ -1,52 +1,61 @@
-//! The cache of texts.
+//! The cache of what is shared.
 
-ghost use Rattle.std.specs.Prelude.{◌≡◌, ◌≤◌, ◌+◌, ◌∷◌, [], length, option_copied, IfOk, OnOk, OnErr, Some, None, not};
+ghost use Rattle.std.specs.Prelude.{◌≡◌, ◌≤◌, ◌+◌, ◌∷◌, [], length, option_copied, option_map, IfOk, OnOk, OnErr, Some, None, not};
 ghost use Rattle.registry_names.specs.Texts.{is};
 ghost use Rattle.registry_names.specs.Maps.{first_at};
 ghost use Rattle.registry_cache.specs.Caches.{cache, kept, size, large_size, asked, forgotten, with_text, with_room, prefix, entries_without, passed, without_large};
 
-use crate::named_text::NamedText;
+use crate::named::Named;
+use crate::shared::Shared;
+use crate::shared_blob::SharedBlob;
 use crate::shared_text::SharedText;
 use lru::LruCache;
 use std::alloc::{AllocError, Global};
 use std::marker::Model;
 
-/// Texts by name, of which all together have a limited number of bytes, and beside them one text
-/// that alone has more. The names, and what a text takes in memory beside its bytes, aren't counted.
-/// Contracts see each name with its text, the latest asked first, then the large text with its name,
+/// Texts or blobs by name, of which all together have a limited number of bytes, and beside them one
+/// that alone has more. The names, and what a value takes in memory beside its bytes, aren't counted.
+/// Contracts see each name with the bytes, the latest asked first, then the large one with its name,
 /// if there is one, and the limit.
 #[derive(Drop)]
-pub struct TextCache {
-    entries: LruCache<String, SharedText>,
+pub struct SharedCache<V: Shared> {
+    entries: LruCache<String, V>,
     size: usize,
-    large: Option<NamedText>,
+    large: Option<Named<V>>,
     limit: usize,
 }
 
-impl Model for TextCache {
-    ghost use Rattle.registry_cache.specs.Caches.{Cache, cache_code};
+/// A cache of texts.
+pub type TextCache = SharedCache<SharedText>;
+
+/// A cache of blobs.
+pub type BlobCache = SharedCache<SharedBlob>;
+
+impl<V: Shared> Model for SharedCache<V> {
+    ghost use Rattle.std.specs.Prelude.{string_bytes};
+    ghost use Rattle.registry_cache.specs.Caches.{Cache, cache, cache_code};
+    ghost use Rattle.registry_cache.specs.Inside.{named, IsCounted};
 
     ghost Value = { Cache };
 
     ghost coded = { cache_code };
 
-    ghost use Rattle.registry_cache.specs.Inside.{shown, IsCounted};
+    ghost view = { λ s. cache (named string_bytes V.bytes s.entries.entries) s.large s.limit };
 
-    ghost view = { shown };
-
-    ghost invariant = { IsCounted };
+    ghost invariant = { λ s. IsCounted (named string_bytes V.bytes s.entries.entries) s.size s.limit
+        s.entries.cap };
 }
 
-impl TextCache {
-    /// A cache that keeps nothing, and will keep texts of at most `limit` bytes together, and one
+impl<V: Shared> SharedCache<V> {
+    /// A cache that keeps nothing, and will keep values of at most `limit` bytes together, and one
     /// that alone has more.
     ///
     /// An error comes where no memory is left.
-    pub fn new(alloc: Global, limit: usize) -> Result<TextCache, AllocError>
+    pub fn new(alloc: Global, limit: usize) -> Result<SharedCache<V>, AllocError>
         ensures { IfOk result (λ s. s ≡ cache [] None limit) }
     {
         let entries = LruCache::unbounded(alloc)?;
-        Ok(TextCache {
+        Ok(SharedCache {
             entries,
             size: 0,
             large: None,
@@ -54,48 +63,48 @@ impl TextCache {
         })
     }
 
-    /// The text that is kept under the name, which is now the latest asked.
+    /// What is kept under the name, which is now the latest asked.
     ///
-    /// An error comes where the number of the text's owners can't be counted any more.
-    pub fn get(&mut self, name: &str) -> Result<Option<SharedText>, AllocError>
-        ensures text { IfOk result (λ text. text ≡ kept self.old name.now) }
+    /// An error comes where the number of its owners can't be counted any more.
+    pub fn get(&mut self, name: &str) -> Result<Option<V>, AllocError>
+        ensures text { IfOk result (λ value. option_map V.bytes value ≡ kept self.old name.now) }
         ensures cache { self.new ≡ asked self.old name.now }
     {
         self.ask(name);
         match self.peek(name) {
-            Some(text) => Ok(Some(text.share()?)),
+            Some(value) => Ok(Some(value.share()?)),
             None => Ok(None),
         }
     }
 
-    /// The text that is kept under the name. The order stays as it is.
-    pub fn peek(&self, name: &str) -> Option<&SharedText>
-        ensures { option_copied result ≡ kept self.now name.now }
+    /// What is kept under the name. The order stays as it is.
+    pub fn peek(&self, name: &str) -> Option<&V>
+        ensures { option_map V.bytes (option_copied result) ≡ kept self.now name.now }
     {
         match &self.large {
-            Some(large) if large.has_name(name) => Some(large.text()),
+            Some(large) if large.has_name(name) => Some(large.value()),
             _ => self.entries.peek(name),
         }
     }
 
-    /// Keeps the text under the name, in place of what was kept there, as the latest asked. Others
-    /// go where there are too many bytes, the least lately asked first. A text that alone has more
-    /// bytes than the limit is kept in place of the one that was kept so before, and of the others
-    /// none goes.
+    /// Keeps the value under the name, in place of what was kept there, as the latest asked. Others
+    /// go where there are too many bytes, the least lately asked first. One that alone has more bytes
+    /// than the limit is kept in place of the one that was kept so before, and of the others none
+    /// goes.
     ///
     /// An error comes where no memory is left. Then nothing is kept under the name, and of the others
-    /// as much as if the text were.
-    pub fn put(&mut self, name: &str, text: SharedText) -> Result<(), AllocError>
-        ensures ok { OnOk result (self.new ≡ with_text self.old name.now text) }
-        ensures err { OnErr result (self.new ≡ with_room self.old name.now text) }
+    /// as much as if the value were.
+    pub fn put(&mut self, name: &str, value: V) -> Result<(), AllocError>
+        ensures ok { OnOk result (self.new ≡ with_text self.old name.now (V.bytes value)) }
+        ensures err { OnErr result (self.new ≡ with_room self.old name.now (V.bytes value)) }
     {
         self.forget(name);
-        let len = text.as_str().len();
+        let len = value.len();
         if len > self.limit {
-            return self.put_large(name, text);
+            return self.put_large(name, value);
         }
         self.make_room(self.limit - len);
-        self.add(name, text, len)
+        self.add(name, value, len)
     }
 
     /// Keeps nothing under the name from now on, and all else as it is.
@@ -106,7 +115,7 @@ impl TextCache {
         self.forget_entry(name);
     }
 
-    /// The number of bytes of all texts together, without the large one.
+    /// The number of bytes of all values together, without the large one.
     pub fn size(&self) -> usize
         ensures size { result ≡ size self.now.entries }
         ensures limited { result ≤ self.now.limit }
@@ -114,17 +123,17 @@ impl TextCache {
         self.size
     }
 
-    /// The number of bytes of the text that alone has more than the limit, and 0 where there is none.
+    /// The number of bytes of the value that alone has more than the limit, and 0 where there is none.
     pub fn large_size(&self) -> usize
         ensures { result ≡ large_size self.now }
     {
         match &self.large {
-            Some(large) => large.text().as_str().len(),
+            Some(large) => large.value().len(),
             None => 0,
         }
     }
 
-    /// The limit of the number of bytes of all texts together, without the large one.
+    /// The limit of the number of bytes of all values together, without the large one.
     pub fn limit(&self) -> usize
         ensures { result ≡ self.now.limit }
     {
@@ -142,8 +151,8 @@ impl TextCache {
         ensures { self.new ≡ cache (entries_without name.now self.old.entries) self.old.large self.old.limit }
     {
         let _names_differ = self.entries.len();
-        if let Some(text) = self.entries.pop(name) {
-            self.size -= text.as_str().len();
+        if let Some(value) = self.entries.pop(name) {
+            self.size -= value.len();
         }
     }
 
@@ -159,7 +168,7 @@ impl TextCache {
         }
     }
 
-    // Keeps nothing under the name of the large text from now on.
+    // Keeps nothing under the name of the large value from now on.
     fn give_place(&mut self)
         ensures { self.new ≡ without_large self.old }
     {
@@ -168,15 +177,15 @@ impl TextCache {
         }
     }
 
-    // Keeps a large text in place of the one that was kept before.
-    fn put_large(&mut self, name: &str, text: SharedText) -> Result<(), AllocError>
-        ensures ok { OnOk result
-            (self.new ≡ cache (without_large self.old).entries (Some (name.now, text)) self.old.limit) }
+    // Keeps a large value in place of the one that was kept before.
+    fn put_large(&mut self, name: &str, value: V) -> Result<(), AllocError>
+        ensures ok { OnOk result (self.new ≡ cache (without_large self.old).entries
+            (Some (name.now, V.bytes value)) self.old.limit) }
         ensures err { OnErr result (self.new ≡ without_large self.old) }
     {
         self.give_place();
         let alloc = *self.entries.allocator();
-        self.large = Some(NamedText::new(alloc, name, text)?);
+        self.large = Some(Named::new(alloc, name, value)?);
         Ok(())
     }
 
@@ -185,26 +194,26 @@ impl TextCache {
         ensures { self.new ≡ cache (prefix room self.old.entries) self.old.large self.old.limit }
     {
         while self.size > room {
-            let Some((_, text)) = self.entries.pop_lru() else {
+            let Some((_, value)) = self.entries.pop_lru() else {
                 return;
             };
-            self.size -= text.as_str().len();
+            self.size -= value.len();
         }
     }
 
-    // Keeps a text more, under a name that has none.
-    fn add(&mut self, name: &str, text: SharedText, len: usize) -> Result<(), AllocError>
+    // Keeps a value more, under a name that has none.
+    fn add(&mut self, name: &str, value: V, len: usize) -> Result<(), AllocError>
         requires new { first_at is self.old.entries name.now ≡ None }
-        requires len { len ≡ length text }
+        requires len { len ≡ length (V.bytes value) }
         requires room { size self.old.entries + len ≤ self.old.limit }
-        ensures ok { OnOk result
-            (self.new ≡ cache ((name.now, text) ∷ self.old.entries) self.old.large self.old.limit) }
+        ensures ok { OnOk result (self.new ≡ cache ((name.now, V.bytes value) ∷ self.old.entries)
+            self.old.large self.old.limit) }
         ensures err { OnErr result (self.new ≡ self.old) }
     {
         let alloc = *self.entries.allocator();
         let name = String::from_str(alloc, name)?;
         let _few = self.entries.len();
-        self.entries.put(name, text)?;
+        self.entries.put(name, value)?;
         self.size += len;
         Ok(())
     }

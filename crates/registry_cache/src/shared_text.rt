@@ -6,6 +6,7 @@ ghost use Rattle.std.specs.Str.{bytes_eq};
 ghost use Rattle.std.specs.Cmp.Rules.{comparing};
 ghost use Rattle.std.proofs.Common.{rules};
 
+use crate::shared::Shared;
 use registry_names::Text;
 use std::alloc::{AllocError, Global};
 use std::marker::Model;
@@ -45,22 +46,25 @@ impl SharedText {
         Ok(SharedText { text })
     }
 
-    /// The text for one more owner. Its bytes aren't copied.
-    ///
-    /// An error comes where the number of owners can't be counted any more.
-    pub fn share(&self) -> Result<SharedText, AllocError>
-        ensures { IfOk result (λ t. t ≡ self.now) }
-    {
-        let text = self.text.clone()?;
-        Ok(SharedText { text })
-    }
-
     /// The text itself.
     pub fn as_str(&self) -> &str
         ensures text { result.now ≡ self.now }
         ensures utf8 { IsUtf8 self.now }
     {
         self.text.as_str()
+    }
+}
+
+impl Shared for SharedText {
+    ghost bytes = { λ t. t };
+
+    fn len(&self) -> usize {
+        self.as_str().len()
+    }
+
+    fn share(&self) -> Result<SharedText, AllocError> {
+        let text = self.text.clone()?;
+        Ok(SharedText { text })
     }
 }
 

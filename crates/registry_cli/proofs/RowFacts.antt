@@ -1,9 +1,11 @@
 -- One more argument, one more subcommand, and what was found of an argument and of a subcommand.
-use Rattle.std.proofs.Common.{◌≡◌, ◌∙◌, ◌<◌, ◌+◌, ◌++◌, ℕ, Bor, List, [], ◌∷◌, Option, None, Some, ap, ap₂, refl, sym, map, fold, find, take, length, slice_index_or, option_map, unwrap_or}
+use Rattle.std.proofs.Common.{◌≡◌, ◌∙◌, ◌<◌, ◌+◌, ◌++◌, ℕ, Bool, Bor, List, [], ◌∷◌, Option, None, Some, ap, ap₂, refl, sym, map, fold, find, take, length, slice_index_or, option_map, unwrap_or}
 use Rattle.std.specs.Prelude.{Box}
 use Rattle.std.specs.Box.{box_value}
+use Rattle.std.specs.Option.{option_or}
 use Rattle.std.specs.Str.{bytes_eq}
 use Rattle.std.proofs.lemmas.List.{take_more, map-append}
+use Rattle.std.proofs.lemmas.List.Folds.{find-append}
 use Rattle.std.proofs.lemmas.List.Sums.{fold-append}
 use Rattle.clap.specs.Walk.{Row, Text, first_of, rows_of}
 use Rattle.clap.specs.Matches.{first_value}
@@ -13,8 +15,8 @@ use Rattle.clap.proofs.WalkLemmas.{first_value-rows}
 use Rattle.clap.specs.declared.parser.matches.ArgMatches.TheViews.{out-SubCommand}
 use Rattle.clap.specs.declared.parser.matches.SubCommand.{SubCommand}
 use Rattle.registry_cli.specs.Lines.{value_in, parameters_of}
-use Rattle.registry_cli.specs.Subcommands.{subcommand, subcommands, with_rules, with_subcommands}
-use Rattle.registry_cli.specs.Tables.{row_of, rule, rule_of_parameter}
+use Rattle.registry_cli.specs.Subcommands.{subcommand, subcommands, with_groups, with_rules, with_subcommands}
+use Rattle.registry_cli.specs.Tables.{row_of, rows_of_group, rule, rule_of_parameter}
 use Rattle.registry_cli.specs.declared.subcommand.Need.{Need}
 use Rattle.registry_cli.specs.declared.subcommand.Need.TheVariants.{Required, Default, Number, Word}
 use Rattle.registry_cli.specs.declared.subcommand.Parameter.{Parameter}
@@ -30,6 +32,10 @@ rules_more a xs i d within = fold_more with_rule a rule_of_parameter xs i d with
 pub subcommands_more : (a : App) (xs : List Subcommand) (i : ℕ) (d : Subcommand) → i < length xs
     → with_subcommands a (map row_of (take (i + 1) xs)) ≡ with_subcommand (with_subcommands a (map row_of (take i xs))) (subcommand (row_of (slice_index_or xs i d)))
 subcommands_more a xs i d within = fold_more (λ b s. with_subcommand b (subcommand s)) a row_of xs i d within
+
+pub groups_more : (a : App) (xs : List (Bor (List Subcommand))) (i : ℕ) (d : Bor (List Subcommand)) → i < length xs
+    → with_groups a (map rows_of_group (take (i + 1) xs)) ≡ with_subcommands (with_groups a (map rows_of_group (take i xs))) (rows_of_group (slice_index_or xs i d))
+groups_more a xs i d within = fold_more with_subcommands a rows_of_group xs i d within
 
 pub texts_more : (texts : List (Bor Text)) (xs : List Text) (i : ℕ) (s : Bor Text) (d : Text) → i < length xs → map (λ s. s.now) texts ≡ take i xs → s.now ≡ slice_index_or xs i d
     → map (λ s. s.now) (texts ++ s ∷ []) ≡ take (i + 1) xs
@@ -70,6 +76,16 @@ pub met : {Z : Type 0} (b : Option (Box SubCommand Z)) (name : Text) (rows : Lis
     → Some rows ≡ option_map (λ p. p.1) (subcommand_rows b) → Some (name, rows) ≡ subcommand_rows b
 met None name rows is_name are_rows = cc
 met (Some b) name rows is_name are_rows = cc
+
+option_map-or : {A B : Type 0} (f : A → B) (a b : Option A) → option_map f (option_or a b) ≡ option_or (option_map f a) (option_map f b)
+option_map-or f None b = refl
+option_map-or f (Some x) b = refl
+
+-- what is looked for in one list after another
+pub found_in_both : {A B : Type 0} (f : A → B) (p : B → Bool) (r a b : Option A) (xs ys : List B) → r ≡ option_or a b
+    → option_map f a ≡ find p xs → option_map f b ≡ find p ys → option_map f r ≡ find p (xs ++ ys)
+found_in_both f p r a b xs ys is first second =
+    ap (option_map f) is ∙ option_map-or f a b ∙ ap₂ option_or first second ∙ sym (find-append p xs ys)
 
 pub mapped : (o : Option (Bor Subcommand)) → option_map (λ row. row_of row.now) o ≡ option_map row_of (option_map (λ row. row.now) o)
 mapped None = refl

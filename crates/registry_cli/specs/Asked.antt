@@ -1,5 +1,6 @@
 -- What a line asks for.
 use Rattle.std.specs.Prelude.{ℕ, List, Option, Some, None, MatchResult, codes, if◌then◌else◌}
+use Rattle.std.specs.Option.{option_or}
 use Rattle.std.specs.Str.{bytes_eq}
 use Rattle.registry_names.specs.Texts.{Text}
 use Rattle.registry_publish.specs.Form.{FormParts, IsFormOf, StopsForm}
@@ -24,19 +25,30 @@ reads_who who.Anonymous = gives credential.Anonymous
 
 -- ---- what the subcommands ask for
 
-abbrev pub verb_of : Text → Option Verb
-verb_of name =
+-- for users, tokens and organisations
+abbrev pub organisation_verb : Text → Option Verb
+organisation_verb name =
     if bytes_eq name (codes "user-add") then Some UserAdd else (
     if bytes_eq name (codes "token-add") then Some TokenAdd else (
     if bytes_eq name (codes "org-create") then Some OrgCreate else (
     if bytes_eq name (codes "org-set") then Some OrgSet else (
     if bytes_eq name (codes "org-rm") then Some OrgRemove else (
+    None)))))
+
+-- for teams, and for what they are granted
+abbrev pub team_verb : Text → Option Verb
+team_verb name =
     if bytes_eq name (codes "team-create") then Some TeamCreate else (
     if bytes_eq name (codes "team-destroy") then Some TeamDestroy else (
     if bytes_eq name (codes "team-add") then Some TeamAdd else (
     if bytes_eq name (codes "team-rm") then Some TeamRemove else (
     if bytes_eq name (codes "grant") then Some Grant else (
     if bytes_eq name (codes "revoke") then Some Revoke else (
+    None))))))
+
+-- that change a package
+abbrev pub package_verb : Text → Option Verb
+package_verb name =
     if bytes_eq name (codes "access") then Some SetAccess else (
     if bytes_eq name (codes "owner-add") then Some OwnerAdd else (
     if bytes_eq name (codes "owner-rm") then Some OwnerRemove else (
@@ -45,6 +57,11 @@ verb_of name =
     if bytes_eq name (codes "tag-rm") then Some TagRemove else (
     if bytes_eq name (codes "deprecate") then Some Deprecate else (
     if bytes_eq name (codes "withdraw") then Some Withdraw else (
+    None))))))))
+
+-- that print something of the registry
+abbrev pub query_verb : Text → Option Verb
+query_verb name =
     if bytes_eq name (codes "packument") then Some Packument else (
     if bytes_eq name (codes "version-doc") then Some VersionDoc else (
     if bytes_eq name (codes "archive") then Some Archive else (
@@ -53,7 +70,10 @@ verb_of name =
     if bytes_eq name (codes "teams") then Some Teams else (
     if bytes_eq name (codes "team-members") then Some TeamMembers else (
     if bytes_eq name (codes "team-packages") then Some TeamPackages else (
-    None)))))))))))))))))))))))))))
+    None))))))))
+
+abbrev pub verb_of : Text → Option Verb
+verb_of name = option_or (organisation_verb name) (option_or (team_verb name) (option_or (package_verb name) (query_verb name)))
 
 abbrev pub reads_form : List ℕ → Reading FormParts
 reads_form body result = MatchResult result (IsFormOf body) (StopsForm body)

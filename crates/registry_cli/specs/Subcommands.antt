@@ -1,6 +1,6 @@
 -- The arguments that the program takes: its options, and its subcommands with their arguments, a
 -- line for each.
-use Rattle.std.specs.Prelude.{ℕ, pos, true, List, [], ◌∷◌, fold, Some, codes}
+use Rattle.std.specs.Prelude.{ℕ, pos, true, List, [], ◌∷◌, ◌++◌, fold, Some, codes}
 use Rattle.clap.specs.Walk.{Rule, Text}
 use Rattle.clap.specs.Simple.{App, Shape, new_app, new_rule, on_top, with_rule, with_subcommand}
 use Rattle.clap.specs.declared.builder.action.ArgAction.TheVariants.{SetTrue}
@@ -103,20 +103,31 @@ connections = with_default (codes "1000000") (number (codes "CONNECTIONS") (code
 
 -- ---- the subcommands
 
-abbrev pub subcommands : List (Text × List Rule)
-subcommands =
+-- for users, tokens and organisations
+abbrev pub organisations : List (Text × List Rule)
+organisations =
     (codes "user-add", user ∷ [])
     ∷ (codes "token-add", user ∷ token ∷ [])
     ∷ (codes "org-create", organisation ∷ user ∷ [])
     ∷ (codes "org-set", organisation ∷ user ∷ role ∷ [])
     ∷ (codes "org-rm", organisation ∷ user ∷ [])
-    ∷ (codes "team-create", organisation ∷ team ∷ [])
+    ∷ []
+
+-- for teams, and for what they are granted
+abbrev pub teams : List (Text × List Rule)
+teams =
+    (codes "team-create", organisation ∷ team ∷ [])
     ∷ (codes "team-destroy", organisation ∷ team ∷ [])
     ∷ (codes "team-add", organisation ∷ team ∷ user ∷ [])
     ∷ (codes "team-rm", organisation ∷ team ∷ user ∷ [])
     ∷ (codes "grant", organisation ∷ team ∷ name ∷ level ∷ [])
     ∷ (codes "revoke", organisation ∷ team ∷ name ∷ [])
-    ∷ (codes "access", name ∷ status ∷ [])
+    ∷ []
+
+-- that change a package
+abbrev pub packages : List (Text × List Rule)
+packages =
+    (codes "access", name ∷ status ∷ [])
     ∷ (codes "owner-add", name ∷ user ∷ [])
     ∷ (codes "owner-rm", name ∷ user ∷ [])
     ∷ (codes "publish", file ∷ [])
@@ -124,7 +135,12 @@ subcommands =
     ∷ (codes "tag-rm", name ∷ tag ∷ [])
     ∷ (codes "deprecate", name ∷ selector ∷ message ∷ [])
     ∷ (codes "withdraw", name ∷ version ∷ [])
-    ∷ (codes "packument", name ∷ [])
+    ∷ []
+
+-- that print something of the registry
+abbrev pub queries : List (Text × List Rule)
+queries =
+    (codes "packument", name ∷ [])
     ∷ (codes "version-doc", name ∷ version ∷ [])
     ∷ (codes "archive", name ∷ version ∷ [])
     ∷ (codes "tags", name ∷ [])
@@ -132,8 +148,13 @@ subcommands =
     ∷ (codes "teams", organisation ∷ [])
     ∷ (codes "team-members", organisation ∷ team ∷ [])
     ∷ (codes "team-packages", organisation ∷ team ∷ [])
-    ∷ (codes "serve", port ∷ connections ∷ [])
     ∷ []
+
+abbrev pub serving : List (Text × List Rule)
+serving = (codes "serve", port ∷ connections ∷ []) ∷ []
+
+abbrev pub subcommands : List (Text × List Rule)
+subcommands = organisations ++ teams ++ packages ++ queries ++ serving
 
 -- ---- the command
 
@@ -145,6 +166,10 @@ subcommand s = (with_rules (new_app s.0) s.1).top
 
 abbrev pub with_subcommands : App → List (Text × List Rule) → App
 with_subcommands a rows = fold (λ b s. with_subcommand b (subcommand s)) a rows
+
+-- one list of subcommands after another
+abbrev pub with_groups : App → List (List (Text × List Rule)) → App
+with_groups a groups = fold with_subcommands a groups
 
 -- the program's name isn't among the arguments, and a subcommand has to be there
 abbrev pub bare : App

@@ -1,4 +1,5 @@
 -- The program's own table of subcommands, as the definition's.
+use Rattle.std.specs.Borrow.{Bor}
 use Rattle.std.specs.Prelude.{List, map, true}
 use Rattle.clap.specs.Walk.{Rule, Text}
 use Rattle.registry_cli.specs.Subcommands.{number, numbers, option, optional, required, with_default}
@@ -18,3 +19,6 @@ rule_of_parameter w = rule w.id.now w.need
 
 abbrev pub row_of : Subcommand → Text × List Rule
 row_of s = (s.name.now, map rule_of_parameter s.parameters.now)
+
+abbrev pub rows_of_group : Bor (List Subcommand) → List (Text × List Rule)
+rows_of_group rows = map row_of rows.now

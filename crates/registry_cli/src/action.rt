@@ -84,18 +84,43 @@ fn action(alloc: Global, arguments: &[Text], body: &[u8]) -> Result<Action, Stop
 fn verb_of(name: &str) -> Option<Verb>
     ensures { result ≡ spec.verb_of name.now }
 {
+    organisation_verb(name)
+        .or(team_verb(name))
+        .or(package_verb(name))
+        .or(query_verb(name))
+}
+
+fn organisation_verb(name: &str) -> Option<Verb>
+    ensures { result ≡ spec.organisation_verb name.now }
+{
     match name {
         "user-add" => Some(Verb::UserAdd),
         "token-add" => Some(Verb::TokenAdd),
         "org-create" => Some(Verb::OrgCreate),
         "org-set" => Some(Verb::OrgSet),
         "org-rm" => Some(Verb::OrgRemove),
+        _ => None,
+    }
+}
+
+fn team_verb(name: &str) -> Option<Verb>
+    ensures { result ≡ spec.team_verb name.now }
+{
+    match name {
         "team-create" => Some(Verb::TeamCreate),
         "team-destroy" => Some(Verb::TeamDestroy),
         "team-add" => Some(Verb::TeamAdd),
         "team-rm" => Some(Verb::TeamRemove),
         "grant" => Some(Verb::Grant),
         "revoke" => Some(Verb::Revoke),
+        _ => None,
+    }
+}
+
+fn package_verb(name: &str) -> Option<Verb>
+    ensures { result ≡ spec.package_verb name.now }
+{
+    match name {
         "access" => Some(Verb::SetAccess),
         "owner-add" => Some(Verb::OwnerAdd),
         "owner-rm" => Some(Verb::OwnerRemove),
@@ -104,6 +129,14 @@ fn verb_of(name: &str) -> Option<Verb>
         "tag-rm" => Some(Verb::TagRemove),
         "deprecate" => Some(Verb::Deprecate),
         "withdraw" => Some(Verb::Withdraw),
+        _ => None,
+    }
+}
+
+fn query_verb(name: &str) -> Option<Verb>
+    ensures { result ≡ spec.query_verb name.now }
+{
+    match name {
         "packument" => Some(Verb::Packument),
         "version-doc" => Some(Verb::VersionDoc),
         "archive" => Some(Verb::Archive),

@@ -6,10 +6,12 @@ ghost use Rattle.clap.specs.Walk.{rule_of};
 ghost use Rattle.clap.specs.declared.builder.command.Command.TheViews.{out-Command};
 ghost use Rattle.registry_cli.specs.Errands.{house};
 ghost use Rattle.registry_cli.specs.Subcommands as spec;
-ghost use Rattle.registry_cli.specs.Subcommands.{bare, options, with_rules, with_subcommands};
-ghost use Rattle.registry_cli.specs.Tables.{row_of, rule_of_parameter};
+ghost use Rattle.registry_cli.specs.Subcommands.{bare, options, with_groups, with_rules, with_subcommands};
+ghost use Rattle.registry_cli.specs.Tables.{row_of, rows_of_group, rule_of_parameter};
 
-use crate::subcommand::{Need, Parameter, Subcommand, all, errands};
+use crate::subcommand::{
+    Need, Parameter, Subcommand, errands, organisations, packages, queries, serving, teams,
+};
 use clap::builder::ValueParser;
 use clap::{Arg, ArgAction, Command};
 use std::alloc::{AllocError, Global};
@@ -113,6 +115,23 @@ fn with_rows<'a>(
     Ok(command)
 }
 
+fn with_groups<'a>(
+    alloc: Global,
+    command: Command<'a>,
+    groups: &[&[Subcommand]],
+) -> Result<Command<'a>, AllocError>
+    requires local { (out-Command command).has_globals ≡ false }
+    ensures app { IfOk result (λ c. app_of c
+        ≡ with_groups (app_of command.entry) (map rows_of_group groups.now)) }
+    ensures local { IfOk result (λ c. (out-Command c).has_globals ≡ false) }
+{
+    let mut command = command;
+    for rows in groups {
+        command = with_rows(alloc, command, rows)?;
+    }
+    Ok(command)
+}
+
 // The options that name the file and the user.
 fn with_names<'a>(alloc: Global, command: Command<'a>) -> Result<Command<'a>, AllocError>
     requires local { (out-Command command).has_globals ≡ false }
@@ -124,8 +143,9 @@ fn with_names<'a>(alloc: Global, command: Command<'a>) -> Result<Command<'a>, Al
         .long("db")
         .help("The file that keeps the registry")
         .default_value("registry.db");
+    let command = with_argument(command, db)?;
     let user = Arg::new(alloc, "USER").long("as").help("Ask as this user");
-    with_argument(with_argument(command, db)?, user)
+    with_argument(command, user)
 }
 
 // The flag of the operator, and the moment.
@@ -139,11 +159,12 @@ fn with_moment<'a>(alloc: Global, command: Command<'a>) -> Result<Command<'a>, A
         .long("operator")
         .help("Ask as the operator, who adds users, tokens and organisations")
         .action(ArgAction::SetTrue);
+    let command = with_argument(command, operator)?;
     let at = Arg::new(alloc, "SECONDS")
         .long("at")
         .help("Ask at this second since 1970, and not now")
         .value_parser(ValueParser::Signed(0, LAST_SECOND));
-    with_argument(with_argument(command, operator)?, at)
+    with_argument(command, at)
 }
 
 // The command before its options.
@@ -172,7 +193,8 @@ pub(crate) fn registry<'a>(alloc: Global) -> Result<Command<'a>, AllocError>
     ensures app { IfOk result (λ c. app_of c ≡ spec.registry) }
     ensures local { IfOk result (λ c. (out-Command c).has_globals ≡ false) }
 {
-    with_rows(alloc, with_options(alloc)?, all())
+    let groups = [organisations(), teams(), packages(), queries(), serving()];
+    with_groups(alloc, with_options(alloc)?, groups.as_slice())
 }
 
 /// The command of errands.

@@ -1,7 +1,7 @@
 //! Printing an answer, which takes no memory.
 
 ghost use Rattle.std.specs.Prelude.{◌≡◌, ◌++◌, OnOk, OnErr, IfOk, codes, decimal, true};
-ghost use Rattle.registry_names.specs.ByteStreams.{Writes, WritesPrefix};
+ghost use Rattle.registry_names.specs.ByteStreams.{Writes, WritesPrefix, failures_after};
 ghost use Rattle.registry_cli.specs.Prints.{WritesSome, newline, printed, printed_token, token_out};
 
 use itoa::Buffer;
@@ -29,6 +29,7 @@ pub fn print_reply<O: ByteOut, E: ByteOut>(
     ensures broken { OnErr result (WritesPrefix (O.bytes output.old) (O.bytes output.new)
         (O.is_unknown output.new) (printed reply.now).out) }
     ensures silent { OnErr result (errors.new ≡ errors.old) }
+    ensures failed { O.failures output.new ≡ failures_after result (O.failures output.old) }
 {
     write_answer(reply, output)?;
     let _ = write_refusal(reply, errors);
@@ -55,6 +56,7 @@ pub fn print_token<O: ByteOut, E: ByteOut>(
     ensures broken { OnErr result (WritesPrefix (O.bytes output.old) (O.bytes output.new)
         (O.is_unknown output.new) (printed_token token.now reply.now).out) }
     ensures silent { OnErr result (errors.new ≡ errors.old) }
+    ensures failed { O.failures output.new ≡ failures_after result (O.failures output.old) }
 {
     write_token(token, reply, output)?;
     let _ = write_refusal(reply, errors);
@@ -67,6 +69,7 @@ fn write_token<W: ByteOut>(token: &str, reply: &Reply, writer: &mut W) -> Result
         (W.is_unknown writer.new) (token_out token.now reply.now)) }
     ensures err { OnErr result (WritesPrefix (W.bytes writer.old) (W.bytes writer.new)
         (W.is_unknown writer.new) (token_out token.now reply.now)) }
+    ensures failed { W.failures writer.new ≡ failures_after result (W.failures writer.old) }
 {
     match reply {
         Reply::Created | Reply::Done => write_two(writer, token.as_bytes(), b"\n"),
@@ -89,6 +92,7 @@ fn write_answer<W: ByteOut>(reply: &Reply, writer: &mut W) -> Result<(), WriteFa
         (W.is_unknown writer.new) (printed reply.now).out) }
     ensures err { OnErr result (WritesPrefix (W.bytes writer.old) (W.bytes writer.new)
         (W.is_unknown writer.new) (printed reply.now).out) }
+    ensures failed { W.failures writer.new ≡ failures_after result (W.failures writer.old) }
 {
     match reply {
         Reply::Created | Reply::Done => write_whole(writer, DONE.as_bytes()),
@@ -105,6 +109,7 @@ fn write_refusal<W: ByteOut>(reply: &Reply, writer: &mut W) -> Result<(), WriteF
         (W.is_unknown writer.new) (printed reply.now).err) }
     ensures err { OnErr result (WritesPrefix (W.bytes writer.old) (W.bytes writer.new)
         (W.is_unknown writer.new) (printed reply.now).err) }
+    ensures failed { W.failures writer.new ≡ failures_after result (W.failures writer.old) }
 {
     match reply {
         Reply::Created | Reply::Done | Reply::Count(_) | Reply::Doc(_) | Reply::Bytes(_) =>
@@ -126,6 +131,7 @@ fn write_count<W: ByteOut>(count: u64, writer: &mut W) -> Result<(), WriteFailed
     ensures err { OnErr result (WritesPrefix (W.bytes writer.old) (W.bytes writer.new)
         (W.is_unknown writer.new)
         (codes "{\"count\":" ++ decimal count ++ codes ",\"ok\":true}" ++ newline)) }
+    ensures failed { W.failures writer.new ≡ failures_after result (W.failures writer.old) }
 {
     let mut digits = Buffer::new();
     let number = digits.format(count).as_bytes();
@@ -143,6 +149,7 @@ fn write_three<W: ByteOut>(
         (W.is_unknown writer.new) (first.now ++ (second.now ++ third.now))) }
     ensures err { OnErr result (WritesPrefix (W.bytes writer.old) (W.bytes writer.new)
         (W.is_unknown writer.new) (first.now ++ (second.now ++ third.now))) }
+    ensures failed { W.failures writer.new ≡ failures_after result (W.failures writer.old) }
 {
     write_whole(writer, first)?;
     write_two(writer, second, third)
@@ -155,6 +162,7 @@ fn write_two<W: ByteOut>(writer: &mut W, first: &[u8], second: &[u8]) -> Result<
         (W.is_unknown writer.new) (first.now ++ second.now)) }
 
     ensures unknown { W.is_unknown writer.old ≡ true → W.is_unknown writer.new ≡ true }
+    ensures failed { W.failures writer.new ≡ failures_after result (W.failures writer.old) }
 {
     write_whole(writer, first)?;
     write_whole(writer, second)

@@ -3,7 +3,7 @@
 ghost use Rattle.std.specs.Prelude.{◌≡◌, find, map, option_map};
 ghost use Rattle.std.specs.Str.{bytes_eq};
 ghost use Rattle.registry_cli.specs.Errands.{errands};
-ghost use Rattle.registry_cli.specs.Subcommands.{subcommands};
+ghost use Rattle.registry_cli.specs.Subcommands.{organisations, packages, queries, serving, subcommands, teams};
 ghost use Rattle.registry_cli.specs.Tables.{row_of};
 
 /// Whether an argument has to be there.
@@ -163,7 +163,7 @@ const CONNECTIONS: Parameter = Parameter {
     },
 };
 
-static SUBCOMMANDS: [Subcommand; 28] = [
+static ORGANISATIONS: [Subcommand; 5] = [
     Subcommand {
         name: "user-add",
         parameters: &[USER],
@@ -194,6 +194,9 @@ static SUBCOMMANDS: [Subcommand; 28] = [
         about: "Take a user out of an organisation and its teams (an owner)",
         example: "Example: registry --as ann org-rm lab bob",
     },
+];
+
+static TEAMS: [Subcommand; 6] = [
     Subcommand {
         name: "team-create",
         parameters: &[ORGANISATION, TEAM],
@@ -230,6 +233,9 @@ static SUBCOMMANDS: [Subcommand; 28] = [
         about: "Take back what a team is granted on a package (an owner or admin)",
         example: "Example: registry --as ann revoke lab ops @lab/kit",
     },
+];
+
+static PACKAGES: [Subcommand; 8] = [
     Subcommand {
         name: "access",
         parameters: &[PACKAGE, STATUS],
@@ -278,6 +284,9 @@ static SUBCOMMANDS: [Subcommand; 28] = [
         about: "Withdraw a version within 72 hours, for good (who may write the package)",
         example: "Example: registry --as bob withdraw @lab/kit 1.0.0",
     },
+];
+
+static QUERIES: [Subcommand; 8] = [
     Subcommand {
         name: "packument",
         parameters: &[PACKAGE],
@@ -326,13 +335,14 @@ static SUBCOMMANDS: [Subcommand; 28] = [
         about: "Print what a team is granted (a member of the organisation)",
         example: "Example: registry --as bob team-packages lab ops",
     },
-    Subcommand {
-        name: "serve",
-        parameters: &[PORT, CONNECTIONS],
-        about: "Serve npm over HTTP on 127.0.0.1: up to 512 connections at once, a request at a time",
-        example: "Example: registry serve --port 8080\n\nWith --log FILE a line is written to the end of FILE for each request, too",
-    },
 ];
+
+static SERVE: [Subcommand; 1] = [Subcommand {
+    name: "serve",
+    parameters: &[PORT, CONNECTIONS],
+    about: "Serve npm over HTTP on 127.0.0.1: up to 512 connections at once, a request at a time",
+    example: "Example: registry serve --port 8080\n\nWith --log FILE a line is written to the end of FILE for each request, too",
+}];
 
 const LOG: Parameter = Parameter {
     id: "LOG",
@@ -373,11 +383,39 @@ static ERRANDS: [Subcommand; 5] = [
     },
 ];
 
-/// All subcommands that ask for a request, and `serve`.
-pub(crate) fn all() -> &'static [Subcommand]
-    ensures { map row_of result.now ≡ subcommands }
+/// The subcommands for users, tokens and organisations.
+pub(crate) fn organisations() -> &'static [Subcommand]
+    ensures { map row_of result.now ≡ organisations }
 {
-    SUBCOMMANDS.as_slice()
+    ORGANISATIONS.as_slice()
+}
+
+/// The subcommands for teams, and for what they are granted.
+pub(crate) fn teams() -> &'static [Subcommand]
+    ensures { map row_of result.now ≡ teams }
+{
+    TEAMS.as_slice()
+}
+
+/// The subcommands that change a package.
+pub(crate) fn packages() -> &'static [Subcommand]
+    ensures { map row_of result.now ≡ packages }
+{
+    PACKAGES.as_slice()
+}
+
+/// The subcommands that print something of the registry.
+pub(crate) fn queries() -> &'static [Subcommand]
+    ensures { map row_of result.now ≡ queries }
+{
+    QUERIES.as_slice()
+}
+
+/// The subcommand `serve`.
+pub(crate) fn serving() -> &'static [Subcommand]
+    ensures { map row_of result.now ≡ serving }
+{
+    SERVE.as_slice()
 }
 
 /// The subcommands that ask for no request.
@@ -392,5 +430,17 @@ pub(crate) fn called(name: &str) -> Option<&'static Subcommand>
     ensures { option_map (λ row. row_of row.now) result
         ≡ find (λ row. bytes_eq row.0 name.now) subcommands }
 {
-    all().iter().find(|row| row.name == name)
+    called_in(organisations(), name)
+        .or(called_in(teams(), name))
+        .or(called_in(packages(), name))
+        .or(called_in(queries(), name))
+        .or(called_in(serving(), name))
+}
+
+// The one of these that has this name, if there is one.
+fn called_in<'a>(rows: &'a [Subcommand], name: &str) -> Option<&'a Subcommand>
+    ensures { option_map (λ row. row_of row.now) result
+        ≡ find (λ row. bytes_eq row.0 name.now) (map row_of rows.now) }
+{
+    rows.iter().find(|row| row.name == name)
 }

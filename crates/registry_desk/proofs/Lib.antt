@@ -12,7 +12,9 @@ mod OpenedFacts
 mod QueryFacts
 mod SendingFacts
 mod SettlingFacts
+mod ArchiveFacts
 mod CacheFacts
 pub mod AnswerFacts
 mod StopFacts
 pub mod StoredFacts
+mod KeptFacts

@@ -53,15 +53,16 @@ use Rattle.registry_history.specs.Runs.{IsAnswer, Outcome, accepts, enters, ente
 use Rattle.registry_history.specs.Says.{Says}
 use Rattle.registry_history.proofs.RunFacts.{history_says}
 use Rattle.registry_hidden.specs.Laws.{RepliesAreAlike}
-use Rattle.registry_desk.specs.Caches.{HasPackuments, KeepsNoMore}
+use Rattle.registry_desk.specs.Caches.{HasAnswers, KeepNoMore, KeepsNoMore}
 use Rattle.registry_desk.specs.Lives.{HasAnswered}
 use Rattle.registry_desk.specs.Promises.{Answered, HoldsReferences, HoldsSoundFor, Served}
 use Rattle.registry_desk.specs.Resting.{IsRegistryOf, Rests, next_stored, settled_by, stepped}
-use Rattle.registry_desk.specs.Sending.{AnswersAsApply, IsOrigin, IsShownBy, LeavesAll, MayAnswer, Sends, SentAreAsked, answers_as_apply, head_in, versions_in}
+use Rattle.registry_desk.specs.Sending.{AnswersAsApply, BrokenBeginTheAnswer, IsOrigin, IsShownBy, LeavesAll, MayAnswer, Sends, SentAreAsked, answers_as_apply, head_in, versions_in}
+use Rattle.registry_desk.specs.declared.cache.Caches.{Caches}
 use Rattle.registry_desk.specs.declared.sending.Origin.{Origin}
 use Rattle.registry_desk.specs.declared.sending.Origin.TheVariants as origin
 use Rattle.registry_desk.proofs.AnswerFacts.{unrefused, versions_are}
-use Rattle.registry_desk.proofs.CacheFacts.{right_unchanged}
+use Rattle.registry_desk.proofs.KeptFacts.{right_unchanged}
 use Rattle.registry_desk.proofs.CommitFacts.{commit_rests, ready_again, registry_left, rests_sure, undone_open, undone_rests, undone_stored}
 use Rattle.registry_desk.proofs.SettlingFacts.{settled_next}
 use Rattle.registry_desk.proofs.StoredFacts.{refers_for_one}
@@ -161,6 +162,22 @@ module _ {S : Type 0} (store : Ghosts S) (old : Shown) (h : Held S) (settled : (
         stays = λ clean on. rests_sure store h (λ db. settled db on) left.rests clean on;
       }
 
+-- what is left alone is left as it is
+leaves_itself : (s : Shown) → Rests s → LeavesAll s s
+leaves_itself s rests = record {
+  rests = rests;
+  opened = λ clean on. on;
+  same = λ clean on. refl;
+  survives = record {
+    clean = omega arith;
+    shield = λ shielded. shielded;
+    counts = omega arith;
+    limit = refl;
+    closes = λ clean on. inl on;
+    crash = λ clean db may. inl may;
+  };
+}
+
 -- ---- walks, after a query
 
 module _ (mid new : Shown) (rests : Rests mid) (left : IsLeftAlone mid new) where
@@ -191,13 +208,13 @@ module _ (mid new : Shown) (rests : Rests mid) (left : IsLeftAlone mid new) wher
 -- ---- how it was sent
 
 sends_by : {D : Type 0} (A : D → Request → Outcome → D → Type 0) (opens : ℕ → List ℕ) (M N : D) (r : Request) (a b : Option (List ℕ)) (s : Bool) (IsText : Text → Type 0) (sent : Sent)
-    → (IsUnbroken sent → (text : Text) → IsText text → A M r (Ok (Doc text)) N) → ((fault : Fault) → A M r (Err fault) N) → ((text : Text) → IsText text → MayAnswer A M r text)
+    → (IsUnbroken sent → (text : Text) → IsText text → A M r (Ok (Doc text)) N) → ((fault : Fault) → A M r (Err fault) N) → ((fault : Fault) (text : Text) → IsText text → MayAnswer A M r text fault N)
     → Takes opens IsText a b s sent → Sends A opens M r sent N a b s
 sends_by A opens M N r a b s IsText (Refused why) whole fails may takes = absurd takes
 sends_by A opens M N r a b s IsText Whole whole fails may takes = (takes.0, whole tt takes.0 takes.1.0, takes.1.1)
 sends_by A opens M N r a b s IsText WriteFault whole fails may takes = (takes.0, whole tt takes.0 takes.1.0, takes.1.1)
 sends_by A opens M N r a b s IsText (Broken fault false) whole fails may takes = (fails fault, takes)
-sends_by A opens M N r a b s IsText (Broken fault true) whole fails may takes = (fails fault, (takes.0, may takes.0 takes.1.0, takes.1.1))
+sends_by A opens M N r a b s IsText (Broken fault true) whole fails may takes = (fails fault, (takes.0, may fault takes.0 takes.1.0, takes.1.1))
 
 is_clean : (b : Bool) → (doubt b ≡ 0) ⊎ (doubt b ≡ 0 → ⊥)
 unfolding doubt
@@ -208,6 +225,10 @@ module _ {S : Type 0} (store : Ghosts S) (settled : (h : Held S) (db : Trees) �
     (replies : RepliesAreAlike) (opens : ℕ → List ℕ) (M mid : Held S) (r : Request) (p : Text) (asks : r.what ≡ Packument p) (all : LeavesAll (state store M) (state store mid)) where
   query : is_command r.what ≡ false
   query = ap is_command asks
+
+  -- a fault after what K leaves
+  fault_after : (K N : Held S) → LeavesAll (state store K) (state store N) → (fault : Fault) → answers_as_apply store K r (Err fault) N
+  fault_after K N left fault = answered_as store (state store K) N (settled N) replies r query left (Err fault) (λ _ _. tt) (λ _. tt)
 
   on_both : (HasCleanDisk (state store mid) → IsTrue (state store mid).is_open) → HasCleanDisk (state store mid) → IsTrue (state store M).is_open × IsTrue (state store mid).is_open
   on_both open_still clean = (all.opened clean (open_still clean), open_still clean)
@@ -230,7 +251,7 @@ module _ {S : Type 0} (store : Ghosts S) (settled : (h : Held S) (db : Trees) �
     kept_sends text told a b s sent takes =
         let whole = λ (bytes : Text) (is : bytes ≡ text). as_document bytes (λ sound clean. ap Doc is ∙ sym (told sound clean)) in
         sends_by (answers_as_apply store) opens M mid r a b s (λ bytes. bytes ≡ text) sent (λ _. whole)
-        (λ fault. answered_as store (state store M) mid (settled mid) replies r query all (Err fault) (λ _ _. tt) (λ _. tt)) (λ bytes is. (mid, whole bytes is)) takes
+        (λ fault. answered_as store (state store M) mid (settled mid) replies r query all (Err fault) (λ _ _. tt) (λ _. tt)) (λ fault bytes is. (mid, whole bytes is, fault_after mid mid (leaves_itself (state store mid) all.rests) fault)) takes
 
     module _ (head : HeadParts) (told : HoldsSoundFor r (state store M) → HasCleanDisk (state store mid) → (answer (registry_in (state store M)) r ≡ Doc (packument_in (registry_in (state store M)) p)) × (head ≡ head_in (registry_in (state store M)) p)) where
       -- the text that is made of what is stored is the answer
@@ -251,9 +272,9 @@ module _ {S : Type 0} (store : Ghosts S) (settled : (h : Held S) (db : Trees) �
           (λ unbroken text written. answered_as store (state store M) N (settled N) replies r query whole (Ok (Doc text)) (λ sound clean. made text (written clean) sound (before clean))
           (λ clean. (whole.opened clean (unshut clean unbroken), unshut clean unbroken)))
           (λ fault. answered_as store (state store M) N (settled N) replies r query whole (Err fault) (λ _ _. tt) (λ _. tt))
-          (λ text written. elim (is_clean (state store N).is_clean) [
-            | inl clean ↦ (mid, as_document text (λ sound were. made text (written clean) sound were))
-            | inr unclean ↦ (N, answered_as store (state store M) N (settled N) replies r query whole (Ok (Doc text)) (λ sound clean. absurd (unclean clean)) (λ clean. absurd (unclean clean)))
+          (λ fault text written. elim (is_clean (state store N).is_clean) [
+            | inl clean ↦ (mid, as_document text (λ sound were. made text (written clean) sound were), fault_after mid N (walk_leaves (state store mid) (state store N) all.rests left (state store mid) (leaves_itself (state store mid) all.rests)) fault)
+            | inr unclean ↦ (N, answered_as store (state store M) N (settled N) replies r query whole (Ok (Doc text)) (λ sound clean. absurd (unclean clean)) (λ clean. absurd (unclean clean)), fault_after N N (leaves_itself (state store N) whole.rests) fault)
           ])
           takes
 
@@ -311,10 +332,10 @@ dropped_all store old mid new rests ended first keeps last back =
       survives = survives_then (state store old) mid new _ _ _ (λ _ _ none. absurd none) (λ _ _ none. absurd none) (survives_begin store old mid _ first) last;
     }
 
--- ---- the texts that are kept
+-- ---- what is kept
 
--- what was kept is the packument of what is still stored
-pub right_left : (old new : Shown) (was is_now : Cache) → LeavesAll old new → KeepsNoMore was is_now → HasPackuments old was → HasPackuments new is_now
+-- what was kept is right by what is still stored
+pub right_left : (old new : Shown) (was is_now : Caches) → LeavesAll old new → KeepNoMore was is_now → HasAnswers old was → HasAnswers new is_now
 right_left old new was is_now left keeps right =
     right_unchanged old new was is_now (λ clean on. (omega (arith, left.survives.clean, clean), left.opened clean on, left.same clean on)) keeps right
 
@@ -365,8 +386,14 @@ asked_as old new r o a = record {
 }
 
 pub sent_are_asked : {S : Type 0} (store : Ghosts S) → SentAreAsked store
-sent_are_asked store opens M N r (Refused why) a b s it = (Ok (reply.Refused why), asked_as _ _ r _ it.0)
-sent_are_asked store opens M N r Whole a b s it = (Ok (Doc it.0), asked_as _ _ r _ it.1)
-sent_are_asked store opens M N r WriteFault a b s it = (Ok (Doc it.0), asked_as _ _ r _ it.1)
-sent_are_asked store opens M N r (Broken fault false) a b s it = (Err fault, asked_as _ _ r _ it.0)
-sent_are_asked store opens M N r (Broken fault true) a b s it = (Err fault, asked_as _ _ r _ it.0)
+sent_are_asked store opens M N r (Refused why) a b s it = (Ok (reply.Refused why), refl, asked_as _ _ r _ it.0)
+sent_are_asked store opens M N r Whole a b s it = (Ok (Doc it.0), (it.0, refl), asked_as _ _ r _ it.1)
+sent_are_asked store opens M N r WriteFault a b s it = (Ok (Doc it.0), (it.0, refl), asked_as _ _ r _ it.1)
+sent_are_asked store opens M N r (Broken fault false) a b s it = (Err fault, refl, asked_as _ _ r _ it.0)
+sent_are_asked store opens M N r (Broken fault true) a b s it = (Err fault, refl, asked_as _ _ r _ it.0)
+
+-- the disk was as clean where the document may have been answered
+pub broken_begin : {S : Type 0} (store : Ghosts S) → BrokenBeginTheAnswer store
+broken_begin store opens M N r fault a b s (failed, (text, may, wrote)) sound clean =
+    let were : HasCleanDisk (state store may.0) = omega (arith, may.2.survives.clean, clean) in
+    (text, sym (may.1.answer sound were), wrote)

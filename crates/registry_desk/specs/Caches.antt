@@ -1,20 +1,27 @@
--- What the texts that are kept have to do with what is stored. `old` and `new` are what a cache
--- keeps at the entry and at the exit.
-use Rattle.std.specs.Prelude.{◌≡◌, ◌⊎◌, ◌^◌, ℕ, false, not, List, IfNone, IfSome, IsTrue, Some}
+-- What a registry keeps of its answers, and what that has to do with what is stored. `old` and `new`
+-- are what is kept at the entry and at the exit.
+use Rattle.std.specs.Prelude.{◌≡◌, ◌⊎◌, ◌^◌, ℕ, Bool, false, not, List, ◌∷◌, ◌++◌, IfNone, IfSome, IsTrue, Some}
+use Rattle.std.specs.List.{list_any}
 use Rattle.sqlite.specs.State.{State as Shown, HasCleanDisk}
+use Rattle.registry_names.specs.Names.{IsName}
 use Rattle.registry_names.specs.Texts.{Text, is}
+use Rattle.registry_names.specs.Versions.{VersionParts, text_of_version}
 use Rattle.registry_cache.specs.Caches.{Cache, AreRight, asked, kept, kept_where, with_room, with_text}
-use Rattle.registry_rules.specs.Changes.{Change}
+use Rattle.registry_rules.specs.Actions.{version_of}
+use Rattle.registry_rules.specs.Changes.{Change, AddUser, AddToken, AddOrg, PutMember, DropMember, AddTeam, PutTeamMember, DropTeamMember, DropTeam, PutGrant, DropGrant, PutOwner, DropOwner, PutStatus, AddVersion, RetireVersion, PutDeprecation, PutTag, DropTag}
 use Rattle.registry_rules.specs.declared.reply.Reply.{Reply}
-use Rattle.registry_rules.specs.declared.reply.Reply.TheVariants.{Doc}
+use Rattle.registry_rules.specs.declared.reply.Reply.TheVariants.{Bytes, Doc}
 use Rattle.registry_rules.specs.declared.request.Action.{Action}
-use Rattle.registry_rules.specs.declared.request.Action.TheVariants.{Packument, TeamPackages}
+use Rattle.registry_rules.specs.declared.request.Action.TheVariants.{Archive, Packument, TeamPackages}
 use Rattle.registry_tables.specs.Contents.{Contents, registry_of}
 use Rattle.registry_tables.specs.Effects.{stored}
 use Rattle.registry_tables.specs.Teams.{AreTeamsSound}
-use Rattle.registry_history.specs.Answers.{packument_in}
+use Rattle.registry_history.specs.Answers.{archive_in, packument_in}
 use Rattle.registry_history.specs.Apart.{are_about, is_about}
 use Rattle.registry_desk.specs.Resting.{Rests}
+use Rattle.registry_desk.specs.declared.cache.Caches.{Caches}
+
+-- ---- what is right
 
 -- each text is the packument of its name
 abbrev pub ArePackuments : Contents → Cache → Type 0
@@ -24,28 +31,99 @@ ArePackuments c cache = AreRight (λ p text. text ≡ packument_in (registry_of 
 abbrev pub HasPackuments : Shown → Cache → Type 0
 HasPackuments s cache = HasCleanDisk s → IsTrue s.is_open → ArePackuments (stored s) cache
 
+-- the name under which the archive of a version is kept: the package, a space, and the version. No
+-- package has a space in its name
+abbrev pub archive_key : Text → Text → Text
+archive_key p v = p ++ 32 ∷ v
+
+-- the bytes are the archive of the version that they are kept under
+abbrev pub IsArchiveUnder : Contents → Text → List ℕ → Type 0
+IsArchiveUnder c key bytes = (p v : Text) → IsName p → archive_key p v ≡ key → bytes ≡ archive_in (registry_of c) p v
+
+abbrev pub AreArchives : Contents → Cache → Type 0
+AreArchives c cache = AreRight (IsArchiveUnder c) cache
+
+-- all that is kept is right
+pub record AreAnswers (c : Contents) (caches : Caches) : Type 0 where
+  pub packuments : ArePackuments c caches.packuments
+  pub archives : AreArchives c caches.archives
+
+-- that is so of an open connection whose disk is clean
+abbrev pub HasAnswers : Shown → Caches → Type 0
+HasAnswers s caches = HasCleanDisk s → IsTrue s.is_open → AreAnswers (stored s) caches
+
 -- the most bytes that the texts which a registry keeps have together, without the one text that
 -- alone has more
-abbrev pub cache_limit : ℕ
-cache_limit = 2 ^ 26
+abbrev pub text_limit : ℕ
+text_limit = 2 ^ 26
+
+-- the most that the archives have, likewise
+abbrev pub archive_limit : ℕ
+archive_limit = 2 ^ 26
 
 -- between requests
-pub record IsCached (s : Shown) (cache : Cache) : Type 0 where
+pub record IsCached (s : Shown) (caches : Caches) : Type 0 where
   pub rests : Rests s
-  pub right : HasPackuments s cache
-  pub limited : cache.limit ≡ cache_limit
+  pub right : HasAnswers s caches
+  pub limited : caches.packuments.limit ≡ text_limit
+  pub archives_limited : caches.archives.limit ≡ archive_limit
 
 -- ---- what is forgotten
+
+-- nothing is kept under the names that these changes touch, and all else is as it was
+abbrev pub without_touched : (Change → Text → Bool) → List Change → Cache → Cache
+without_touched touches changes s = kept_where s (λ q. not (list_any (λ change. touches change q) changes))
 
 -- nothing is kept of the packages of which these change a version or a tag, and all else is as it
 -- was
 abbrev pub without_changed : List Change → Cache → Cache
-without_changed changes s = kept_where s (λ q. not (are_about changes q))
+without_changed = without_touched is_about
+
+-- whether the version whose archive has this name comes or goes
+abbrev pub moves : Change → Text → Bool
+moves (AddUser u) key = false
+moves (AddToken digest u) key = false
+moves (AddOrg o) key = false
+moves (PutMember o u role stands) key = false
+moves (DropMember o u) key = false
+moves (AddTeam o t) key = false
+moves (PutTeamMember o t u) key = false
+moves (DropTeamMember o t u) key = false
+moves (DropTeam o t) key = false
+moves (PutGrant o t p grant stands) key = false
+moves (DropGrant o t p) key = false
+moves (PutOwner p u) key = false
+moves (DropOwner p u) key = false
+moves (PutStatus p status stands) key = false
+moves (AddVersion f now) key = is (archive_key f.name (version_of f)) key
+moves (RetireVersion p v published withdrawn) key = is (archive_key p v) key
+moves (PutDeprecation p v message) key = false
+moves (PutTag p t v stands) key = false
+moves (DropTag p t) key = false
+
+-- nothing is kept of the versions that come or go by these changes, and all else is as it was
+abbrev pub without_moved : List Change → Cache → Cache
+without_moved = without_touched moves
 
 -- nothing is kept but what was, with the same limit
 pub record KeepsNoMore (old new : Cache) : Type 0 where
   pub limit : new.limit ≡ old.limit
   pub before : (p text : Text) → kept new p ≡ Some text → kept old p ≡ Some text
+
+-- of neither kind
+pub record KeepNoMore (old new : Caches) : Type 0 where
+  pub packuments : KeepsNoMore old.packuments new.packuments
+  pub archives : KeepsNoMore old.archives new.archives
+
+-- nothing is kept of what these changes touch, and all else is as it was
+pub record AreLeftBy (changes : List Change) (old new : Caches) : Type 0 where
+  pub packuments : new.packuments ≡ without_changed changes old.packuments
+  pub archives : new.archives ≡ without_moved changes old.archives
+
+-- the limits are the same
+pub record HaveSameLimits (old new : Caches) : Type 0 where
+  pub packuments : new.packuments.limit ≡ old.packuments.limit
+  pub archives : new.archives.limit ≡ old.archives.limit
 
 -- the change is about this package alone, and about none
 module _ (change : Change) where
@@ -54,6 +132,13 @@ module _ (change : Change) where
 
   abbrev pub IsAboutNone : Type 0
   IsAboutNone = (p : Text) → is_about change p ≡ false
+
+  -- by the change this version alone comes or goes, and none
+  abbrev pub Moves : Text → Text → Type 0
+  Moves p v = (key : Text) → moves change key ≡ is (archive_key p v) key
+
+  abbrev pub MovesNone : Type 0
+  MovesNone = (key : Text) → moves change key ≡ false
 
 -- ---- what is kept of a reply
 
@@ -68,23 +153,32 @@ pub record KeepsLatest (name text : Text) (old new : Cache) : Type 0 where
   pub put : IfNone (kept old name) (IsPut name text old new)
   pub again : IfSome (kept old name) (λ _. new ≡ asked old name)
 
--- of replies a packument alone is kept
-abbrev pub KeepsReply : Action → Reply → Cache → Cache → Type 0
-KeepsReply (Packument name) (Doc text) old new = KeepsLatest name text old new
+-- the archive is kept so, or there is no memory to look for it
+abbrev pub KeepsArchive : Text → Text → List ℕ → Cache → Cache → Type 0
+KeepsArchive p v bytes old new =
+    (IsName p × KeepsLatest (archive_key p v) bytes old new) ⊎ (new ≡ old)
+
+-- of replies a packument and an archive alone are kept
+abbrev pub KeepsReply : Action → Reply → Caches → Caches → Type 0
+KeepsReply (Packument name) (Doc text) old new =
+    KeepsLatest name text old.packuments new.packuments × (new.archives ≡ old.archives)
+KeepsReply (Archive p v) (Bytes bytes) old new =
+    (new.packuments ≡ old.packuments) × KeepsArchive p (text_of_version v) bytes old.archives new.archives
 KeepsReply _ _ old new = new ≡ old
 
 -- nothing else is kept of an answered request than what was kept before, and then its reply
-abbrev pub KeepsAnswer : Action → Cache → Cache → Reply → Type 0
-KeepsAnswer what old new given = (still : Cache) × KeepsNoMore old still × KeepsReply what given still new
+abbrev pub KeepsAnswer : Action → Caches → Caches → Reply → Type 0
+KeepsAnswer what old new given = (still : Caches) × KeepNoMore old still × KeepsReply what given still new
 
 -- ---- a request
 
--- What is stored and kept is sound for an action: for a packument the texts that are kept, and for
--- what a team is granted the teams
-abbrev pub IsSoundFor : Action → Contents → Cache → Type 0
-IsSoundFor (Packument p) c cache = ArePackuments c cache
-IsSoundFor (TeamPackages o t) c cache = AreTeamsSound c
-IsSoundFor _ c cache = Unit {0}
+-- What is stored and kept is sound for an action: for a packument the texts that are kept, for an
+-- archive the archives, and for what a team is granted the teams
+abbrev pub IsSoundFor : Action → Contents → Caches → Type 0
+IsSoundFor (Packument p) c caches = ArePackuments c caches.packuments
+IsSoundFor (Archive p v) c caches = AreArchives c caches.archives
+IsSoundFor (TeamPackages o t) c caches = AreTeamsSound c
+IsSoundFor _ c caches = Unit {0}
 
 -- a packument that is answered is the package's
 abbrev pub ShowsPackument : Contents → Cache → Action → Reply → Type 0
@@ -92,14 +186,38 @@ ShowsPackument c cache what given = (p text : Text)
     → ArePackuments c cache → what ≡ Packument p → given ≡ Doc text
     → text ≡ packument_in (registry_of c) p
 
+-- an archive that is answered is the version's
+abbrev pub ShowsArchive : Contents → Cache → Action → Reply → Type 0
+ShowsArchive c cache what given = (p : Text) (v : VersionParts) (bytes : List ℕ)
+    → AreArchives c cache → what ≡ Archive p v → given ≡ Bytes bytes
+    → bytes ≡ archive_in (registry_of c) p (text_of_version v)
+
 -- the packument of the package is the same in both
 abbrev pub IsSamePackument : Contents → Contents → Text → Type 0
 IsSamePackument c d p = packument_in (registry_of d) p ≡ packument_in (registry_of c) p
 
+-- the archive of the version is the same in both
+abbrev pub IsSameArchive : Contents → Contents → Text → Text → Type 0
+IsSameArchive c d p v = archive_in (registry_of d) p v ≡ archive_in (registry_of c) p v
+
 -- The contents go from c to d: what is kept is of packages whose packuments stay, and a packument
 -- that is answered is the package's, before and after
-pub record LeavesCacheRight (c d : Contents) (what : Action) (old new : Cache) (given : Reply)
+pub record LeavesTextsRight (c d : Contents) (what : Action) (old new : Cache) (given : Reply)
     : Type 0 where
   pub still : (p text : Text) → kept new p ≡ Some text → IsSamePackument c d p
   pub shown : ShowsPackument c old what given
   pub asked : (p : Text) → what ≡ Packument p → IsSamePackument c d p
+
+-- so of archives
+pub record LeavesArchivesRight (c d : Contents) (what : Action) (old new : Cache) (given : Reply)
+    : Type 0 where
+  pub still : (key bytes : Text) → kept new key ≡ Some bytes
+      → (p v : Text) → archive_key p v ≡ key → IsSameArchive c d p v
+  pub shown : ShowsArchive c old what given
+  pub asked : (p : Text) (v : VersionParts) → what ≡ Archive p v → IsSameArchive c d p (text_of_version v)
+
+-- so of both
+pub record LeavesCacheRight (c d : Contents) (what : Action) (old new : Caches) (given : Reply)
+    : Type 0 where
+  pub packuments : LeavesTextsRight c d what old.packuments new.packuments given
+  pub archives : LeavesArchivesRight c d what old.archives new.archives given

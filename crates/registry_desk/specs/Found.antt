@@ -22,7 +22,7 @@ use Rattle.registry_tables.specs.Contents.{Contents, registry_of}
 use Rattle.registry_tables.specs.Needs.{HoldsNeeds}
 use Rattle.registry_tables.specs.Spelled.{document, document_entry, member_entry, published, row_entry, tag_entry}
 use Rattle.registry_tables.specs.Teams.{granted_entry}
-use Rattle.registry_history.specs.Answers.{asked_release, created_at, modified_at, packument_in}
+use Rattle.registry_history.specs.Answers.{archive_in, asked_release, created_at, modified_at, packument_in}
 use Rattle.registry_desk.specs.declared.grants.Grantable.{Grantable}
 use Rattle.registry_desk.specs.declared.maintainers.Leaver.{Leaver}
 use Rattle.registry_desk.specs.declared.maintainers.Newcomer.{Newcomer}
@@ -47,6 +47,7 @@ AreRowsOf (rows.Packument versions tags times) S who (Packument p) =
     (map row_entry versions.items ≡ map (seen document) (of S.live p)) × ((map tag_entry tags.items ≡ of S.tags p) × AreTimesOf times S p)
 AreRowsOf (rows.Known text) S who (Packument p) = text ≡ packument_in S p
 AreRowsOf (rows.Document found) S who (VersionDoc p asked) = option_map document_entry found ≡ option_map document (asked_release S p asked)
+AreRowsOf (rows.KnownArchive archive) S who (Archive p v) = archive ≡ archive_in S p (text_of_version v)
 AreRowsOf (rows.Archive archive) S who (Archive p v) = archive ≡ option_map (λ (r : Release). r.archive) (at S.live (p, text_of_version v))
 AreRowsOf (rows.Tags tags) S who (Tags p) = map tag_entry tags.items ≡ of S.tags p
 AreRowsOf (rows.Members members) S who (Members o) = map member_entry members.items ≡ of S.access.roles o

@@ -1,11 +1,12 @@
 -- A packument that is sent as it is made, in place of being answered as one text.
 use Rattle.std.specs.Prelude.{◌≡◌, ℕ, Bool, false, true, List, [], map, Option, Some, Ok, Err, IsTrue, ⊤}
 use Rattle.sqlite.specs.Held.{Held, state}
-use Rattle.sqlite.specs.State.{State as Shown, Survives}
+use Rattle.sqlite.specs.State.{State as Shown, HasCleanDisk, Survives}
 use Rattle.sqlite_trees.specs.declared.store.Store.{Ghosts}
 use Rattle.registry_names.specs.ByteStreams.{Writes, WritesPrefix}
 use Rattle.registry_names.specs.Maps.{of}
 use Rattle.registry_names.specs.Texts.{Text}
+use Rattle.registry_names.specs.declared.stop.Fault.{Fault}
 use Rattle.registry_packument.specs.Sendings.{WritesSome, opened}
 use Rattle.registry_packument.specs.Heads.{HeadParts}
 use Rattle.registry_packument.specs.Packuments.{pack_text}
@@ -20,13 +21,13 @@ use Rattle.registry_rules.specs.declared.request.Action.{Action}
 use Rattle.registry_rules.specs.declared.request.Action.TheVariants.{Packument}
 use Rattle.registry_rules.specs.declared.request.Request.{Request}
 use Rattle.registry_tables.specs.Archives.{HoldsArchives}
-use Rattle.registry_tables.specs.Effects.{stored}
+use Rattle.registry_tables.specs.Effects.{registry_in, stored}
 use Rattle.registry_tables.specs.Needs.{HoldsNeeds}
 use Rattle.registry_tables.specs.Teams.{GrantsInScope}
 use Rattle.registry_history.specs.Answers.{answer, head_of, packument_in, version_row}
 use Rattle.registry_history.specs.Runs.{Outcome}
 use Rattle.registry_desk.specs.Lives.{HasAnswered}
-use Rattle.registry_desk.specs.Promises.{Answered, GrowsHistory, HidesUnread, HoldsReferences, Keeps, KeepsForm, KeepsStored, Moves, Served, StaysSure, Stepped, SurvivesOne, Unchanged, WasOpen}
+use Rattle.registry_desk.specs.Promises.{Answered, GrowsHistory, HidesUnread, HoldsReferences, HoldsSoundFor, Keeps, KeepsForm, KeepsStored, Moves, Served, StaysSure, Stepped, SurvivesOne, Unchanged, WasOpen}
 use Rattle.registry_desk.specs.Resting.{IsRegistryOf, Rests}
 use Rattle.registry_desk.specs.declared.sending.Origin.{Origin}
 use Rattle.registry_desk.specs.declared.sending.Origin.TheVariants as origin
@@ -60,26 +61,41 @@ abbrev pub answers_as_apply : {S : Type 0} → Ghosts S → Held S → Request �
 answers_as_apply store M r o N = AnswersAsApply (state store M) (state store N) r o
 
 module _ {D : Type 0} (answers : D → Request → Outcome → D → Type 0) where
-  -- a document that may be answered
-  abbrev pub MayAnswer : D → Request → Text → Type 0
-  MayAnswer M r text = (N : D) × answers M r (Ok (Doc text)) N
+  -- a document that may be answered, and a fault after it, which leaves N
+  abbrev pub MayAnswer : D → Request → Text → Fault → D → Type 0
+  MayAnswer M r text fault N = (K : D) × answers M r (Ok (Doc text)) K × answers K r (Err fault) N
 
   -- What was answered and what was written, by how it was sent. A packument that was written whole,
   -- or that a failed write broke off, was answered. One that the machine broke off is a fault, and
-  -- what was written is a prefix of what opens a document that might have been answered, and of it
+  -- what was written is a prefix of what opens a document that might have been answered before it,
+  -- and of the document
   abbrev pub Sends : (ℕ → List ℕ) → D → Request → Sent → D → Option (List ℕ) → Option (List ℕ) → Bool → Type 0
   Sends opens M r (Refused why) N out out2 unknown = answers M r (Ok (reply.Refused why)) N × Writes out out2 unknown []
   Sends opens M r Whole N out out2 unknown = (text : Text) × answers M r (Ok (Doc text)) N × Writes out out2 unknown (opened opens text)
   Sends opens M r WriteFault N out out2 unknown = (text : Text) × answers M r (Ok (Doc text)) N × WritesPrefix out out2 unknown (opened opens text)
   Sends opens M r (Broken fault false) N out out2 unknown = answers M r (Err fault) N × Writes out out2 unknown []
   Sends opens M r (Broken fault true) N out out2 unknown =
-      answers M r (Err fault) N × ((text : Text) × MayAnswer M r text × WritesSome out out2 unknown (opened opens text))
+      answers M r (Err fault) N × ((text : Text) × MayAnswer M r text fault N × WritesSome out out2 unknown (opened opens text))
+
+-- the outcome of a packument that was sent so
+abbrev pub IsOutcomeOf : Sent → Outcome → Type 0
+IsOutcomeOf (Refused why) o = o ≡ Ok (reply.Refused why)
+IsOutcomeOf Whole o = (text : Text) × (o ≡ Ok (Doc text))
+IsOutcomeOf WriteFault o = (text : Text) × (o ≡ Ok (Doc text))
+IsOutcomeOf (Broken fault has_started) o = o ≡ Err fault
 
 -- A packument that was sent is a request that was asked, with the outcome that it came to: so it may
 -- stand anywhere among requests that are asked by `apply`, and they are a run (`TurnsAreRuns`)
 abbrev pub SentAreAsked : {S : Type 0} → Ghosts S → Type 0
 SentAreAsked {S} store = (opens : ℕ → List ℕ) (M N : Held S) (r : Request) (sent : Sent) (out out2 : Option (List ℕ)) (unknown : Bool)
-    → Sends (answers_as_apply store) opens M r sent N out out2 unknown → (o : Outcome) × HasAnswered (state store M) (state store N) r o
+    → Sends (answers_as_apply store) opens M r sent N out out2 unknown → (o : Outcome) × IsOutcomeOf sent o × HasAnswered (state store M) (state store N) r o
+
+-- Of a packument that the machine broke off behind its first byte, over a disk that is clean, what
+-- was written is a part of what opens the answer to the query, and of the answer
+abbrev pub BrokenBeginTheAnswer : {S : Type 0} → Ghosts S → Type 0
+BrokenBeginTheAnswer {S} store = (opens : ℕ → List ℕ) (M N : Held S) (r : Request) (fault : Fault) (out out2 : Option (List ℕ)) (unknown : Bool)
+    → Sends (answers_as_apply store) opens M r (Broken fault true) N out out2 unknown → HoldsSoundFor r (state store M) → HasCleanDisk (state store N)
+    → (text : Text) × (answer (registry_in (state store M)) r ≡ Doc text) × WritesSome out out2 unknown (opened opens text)
 
 -- ---- what a packument is sent from
 

@@ -1,61 +1,224 @@
-//! The cache of packuments that a registry keeps.
+//! What a registry keeps of its answers: texts of packuments, and archives.
 
-ghost use Rattle.std.specs.Prelude.{◌≡◌, false, [], ◌∷◌, map, IfNone, IfSome, None};
+ghost use Rattle.std.specs.Prelude.{◌≡◌, false, [], ◌∷◌, map, string_bytes, IfNone, IfOk, IfSome, None, OnErr, OnOk, Some};
+ghost use Rattle.registry_names.specs.Names.{IsName};
+ghost use Rattle.registry_names.specs.Versions.{text_of_version};
 ghost use Rattle.registry_rules.specs.Changes.{change_of};
+ghost use Rattle.registry_cache.specs.Caches as spec;
 ghost use Rattle.registry_cache.specs.Caches.{asked, kept};
-ghost use Rattle.registry_desk.specs.Caches.{IsAbout, IsAboutNone, IsPut, KeepsLatest, KeepsReply, without_changed};
+ghost use Rattle.registry_desk.specs.Caches as promises;
+ghost use Rattle.registry_desk.specs.Caches.{IsAbout, IsAboutNone, IsPut, KeepsArchive, KeepsLatest, KeepsNoMore, KeepsReply, Moves, MovesNone, without_changed, without_moved};
 
-use registry_cache::{SharedText, TextCache};
-use registry_names::Name;
+use registry_cache::{BlobCache, Shared, SharedBlob, SharedCache, TextCache};
+use registry_names::{Name, Ver};
 use registry_rules::{Action, Change, Reply};
+use std::alloc::{AllocError, Global};
 
-/// Keeps what is replied to the query of a packument, as the latest asked. It is no fault where no
-/// memory is left for that.
-pub(crate) fn keep_reply(cache: &mut TextCache, what: &Action, reply: &Reply)
-    ensures { KeepsReply what.now reply.now cache.old cache.new }
-{
-    if let (Action::Packument { package }, Reply::Doc(text)) = (what, reply) {
-        keep(cache, package, text);
+/// The most bytes that the texts of packuments have together which a registry keeps, beside one
+/// text that alone has more.
+pub(crate) const TEXT_LIMIT: usize = 64 << 20;
+
+/// The most bytes that the archives have together which a registry keeps, beside one that alone has
+/// more.
+pub(crate) const ARCHIVE_LIMIT: usize = 64 << 20;
+
+/// What a registry keeps of its answers.
+#[derive(Drop)]
+pub(crate) struct Caches {
+    /// The texts of packuments, by package.
+    pub(crate) packuments: TextCache,
+    /// The archives of live versions, by package and version.
+    pub(crate) archives: BlobCache,
+}
+
+impl Caches {
+    /// Caches that keep nothing.
+    ///
+    /// An error comes where no memory is left.
+    pub(crate) fn new(alloc: Global) -> Result<Caches, AllocError>
+        ensures packuments { IfOk result (λ c. c.packuments
+            ≡ spec.cache [] None promises.text_limit) }
+        ensures archives { IfOk result (λ c. c.archives
+            ≡ spec.cache [] None promises.archive_limit) }
+    {
+        let packuments = TextCache::new(alloc, TEXT_LIMIT)?;
+        let archives = BlobCache::new(alloc, ARCHIVE_LIMIT)?;
+        Ok(Caches {
+            packuments,
+            archives,
+        })
     }
 }
 
-fn keep(cache: &mut TextCache, name: &Name, text: &SharedText)
-    ensures { KeepsLatest name.now text.now cache.old cache.new }
+// ---- what is kept of a reply
+
+/// Keeps what is replied to the query of a packument or of an archive, as the latest asked. It is no
+/// fault where no memory is left for that.
+pub(crate) fn keep_reply(alloc: Global, caches: &mut Caches, what: &Action, reply: &Reply)
+    ensures { KeepsReply what.now reply.now caches.old caches.new }
+{
+    match (what, reply) {
+        (Action::Packument { package }, Reply::Doc(text)) => {
+            keep(&mut caches.packuments, package.text(), text);
+        }
+        (Action::Archive { package, version }, Reply::Bytes(archive)) => {
+            keep_archive(alloc, &mut caches.archives, package, version, archive);
+        }
+        _ => {}
+    }
+}
+
+fn keep<V: Shared>(cache: &mut SharedCache<V>, name: &str, value: &V)
+    ensures { KeepsLatest name.now (V.bytes value.now) cache.old cache.new }
 {
     if !ask(cache, name) {
-        put(cache, name, text);
+        put(cache, name, value);
     }
 }
 
-/// Whether a text is kept under the name, which is the latest asked from now on.
-pub(crate) fn ask(cache: &mut TextCache, name: &Name) -> bool
+/// Whether something is kept under the name, which is the latest asked from now on.
+pub(crate) fn ask<V: Shared>(cache: &mut SharedCache<V>, name: &str) -> bool
     ensures none { result ≡ false → kept cache.old name.now ≡ None }
     ensures asked { cache.new ≡ asked cache.old name.now }
 {
-    match cache.get(name.text()) {
+    match cache.get(name) {
         Ok(None) => false,
         Ok(Some(_)) | Err(_) => true,
     }
 }
 
-fn put(cache: &mut TextCache, name: &Name, text: &SharedText)
-    ensures { IsPut name.now text.now cache.old cache.new }
+fn put<V: Shared>(cache: &mut SharedCache<V>, name: &str, value: &V)
+    ensures { IsPut name.now (V.bytes value.now) cache.old cache.new }
 {
-    if let Ok(text) = text.share() {
-        let _kept = cache.put(name.text(), text);
+    if let Ok(value) = value.share() {
+        let _kept = cache.put(name, value);
+    }
+}
+
+// ---- archives
+
+// The name under which the archive of a version is kept.
+fn archive_key(alloc: Global, name: &str, version: &str) -> Result<String, AllocError>
+    ensures { IfOk result (λ key. string_bytes key ≡ promises.archive_key name.now version.now) }
+{
+    let mut key = String::from_str(alloc, name)?;
+    key.push_str(" ")?;
+    key.push_str(version)?;
+    Ok(key)
+}
+
+fn keep_archive(
+    alloc: Global,
+    cache: &mut BlobCache,
+    name: &Name,
+    version: &Ver,
+    archive: &SharedBlob,
+)
+    ensures { KeepsArchive name.now (text_of_version version.now) archive.now cache.old
+        cache.new }
+{
+    if let Ok(key) = archive_key(alloc, name.text(), version.text()) {
+        keep(cache, key.as_str(), archive);
+    }
+}
+
+/// The archive that is kept of a version. None where there is no memory to look for it, or it can't
+/// be shared.
+pub(crate) fn cached_archive(
+    alloc: Global,
+    cache: &BlobCache,
+    name: &Name,
+    version: &Ver,
+) -> Option<SharedBlob>
+    ensures kept { IfSome result (λ archive. kept cache.now
+        (promises.archive_key name.now (text_of_version version.now)) ≡ Some archive) }
+    ensures name { IsName name.now }
+{
+    let key = archive_key(alloc, name.text(), version.text()).ok()?;
+    cache.peek(key.as_str())?.share().ok()
+}
+
+// ---- what is forgotten
+
+/// Forgets the archive of each version that comes or goes. A version that comes has none yet, so a
+/// withdrawal alone lets one go.
+///
+/// An error comes where no memory is left to look for one.
+pub(crate) fn forget_archives(
+    alloc: Global,
+    cache: &mut BlobCache,
+    changes: &[Change<'_>],
+) -> Result<(), AllocError>
+    ensures ok { OnOk result (cache.new ≡ without_moved (map change_of changes.now) cache.old) }
+    ensures no_more { KeepsNoMore cache.old cache.new }
+{
+    for change in changes {
+        forget_archive(alloc, cache, change)?;
+    }
+    Ok(())
+}
+
+fn forget_archive(
+    alloc: Global,
+    cache: &mut BlobCache,
+    change: &Change<'_>,
+) -> Result<(), AllocError>
+    ensures ok { OnOk result (cache.new ≡ without_moved (change_of change.now ∷ []) cache.old) }
+    ensures err { OnErr result (cache.new ≡ cache.old) }
+{
+    match moved_version(change) {
+        Some((name, version)) => {
+            let key = archive_key(alloc, name.text(), version.text())?;
+            cache.forget(key.as_str());
+            Ok(())
+        }
+        None => Ok(()),
+    }
+}
+
+// The version that comes or goes by the change. None where none does.
+fn moved_version<'a>(change: &Change<'a>) -> Option<(&'a Name, &'a Ver)>
+    ensures some { IfSome result (λ moved. Moves (change_of change.now) moved.0.now
+        (text_of_version moved.1.now)) }
+    ensures none { IfNone result (MovesNone (change_of change.now)) }
+{
+    match *change {
+        Change::AddVersion { form, .. } => Some((form.name(), form.version())),
+        Change::RetireVersion {
+            package,
+            version,
+            ..
+        } => Some((package, version)),
+        Change::PutDeprecation { .. }
+        | Change::PutTag { .. }
+        | Change::DropTag { .. }
+        | Change::AddUser { .. }
+        | Change::AddToken { .. }
+        | Change::AddOrg { .. }
+        | Change::PutMember { .. }
+        | Change::DropMember { .. }
+        | Change::AddTeam { .. }
+        | Change::PutTeamMember { .. }
+        | Change::DropTeamMember { .. }
+        | Change::DropTeam { .. }
+        | Change::PutGrant { .. }
+        | Change::DropGrant { .. }
+        | Change::PutOwner { .. }
+        | Change::DropOwner { .. }
+        | Change::PutStatus { .. } => None,
     }
 }
 
 /// Forgets the packument of each package of which a version or a tag is changed.
-pub(crate) fn forget_changed(cache: &mut TextCache, changes: &[Change<'_>])
+pub(crate) fn forget_packuments(cache: &mut TextCache, changes: &[Change<'_>])
     ensures { cache.new ≡ without_changed (map change_of changes.now) cache.old }
 {
     for change in changes {
-        forget(cache, change);
+        forget_packument(cache, change);
     }
 }
 
-fn forget(cache: &mut TextCache, change: &Change<'_>)
+fn forget_packument(cache: &mut TextCache, change: &Change<'_>)
     ensures { cache.new ≡ without_changed (change_of change.now ∷ []) cache.old }
 {
     match changed_package(change) {

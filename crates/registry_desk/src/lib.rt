@@ -1,5 +1,6 @@
 //! The registry itself: each request is one transaction, whose reply is made before its commit. Only
-//! the text of a packument is made after it, in two walks over the versions, where it isn't kept.
+//! the text of a packument that isn't kept is made after it, in one walk over the versions, or in two
+//! where it is long.
 //!
 //! A request that is refused changes nothing. A fault may come instead of any reply, and changes
 //! nothing as long as the registry is open. Where a fault of the disk has shut it, its last request

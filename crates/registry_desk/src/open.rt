@@ -19,8 +19,8 @@ ghost use Rattle.registry_desk.specs.Opened.{FailsToConnect, FailsToOpen, HoldsE
 ghost use Rattle.registry_desk.specs.Promises.{IsSure};
 ghost use Rattle.registry_desk.specs.Resting.{Rests};
 
-use crate::registry::{CACHE_LIMIT, Registry, create_tables};
-use registry_cache::TextCache;
+use crate::cache::Caches;
+use crate::registry::{Registry, create_tables};
 use registry_migration::{Older, is_same_schema, migrate, older_schema};
 use registry_names::Fault;
 use registry_rows::{commit, fault_of};
@@ -246,13 +246,13 @@ impl<S: Alter> Registry<S> {
         if !conn.is_autocommit() {
             return Err((Fault::Database, conn));
         }
-        let cache = match TextCache::new(alloc, CACHE_LIMIT) {
-            Ok(cache) => cache,
+        let caches = match Caches::new(alloc) {
+            Ok(caches) => caches,
             Err(_) => return Err((Fault::Memory, conn)),
         };
         let mut conn = conn;
         match settle(alloc, &mut conn) {
-            Ok(()) => Ok(Registry { conn, cache }),
+            Ok(()) => Ok(Registry { conn, caches }),
             Err(fault) => Err((fault, conn)),
         }
     }

@@ -18,16 +18,15 @@ ghost use Rattle.registry_desk.specs.Promises.{Answered, GrowsHistory, HasHeadli
 ghost use Rattle.registry_desk.specs.Promises as promises;
 ghost use Rattle.registry_desk.specs.Resting.{IsRegistryOf, Rests, end_stored};
 ghost use Rattle.registry_desk.specs.Adopted.{CanBeAdopted, IsUndone};
-ghost use Rattle.registry_desk.specs.Caches.{HasPackuments, KeepsAnswer, KeepsNoMore};
+ghost use Rattle.registry_desk.specs.Caches.{HasAnswers, KeepNoMore, KeepsAnswer};
 ghost use Rattle.registry_desk.specs.Sending.{IsPackument, Sends, answers_as_apply};
 ghost use Rattle.registry_packument.specs.Sendings.{failures_after};
 ghost use Rattle.registry_packument.specs.declared.opener.Sent.TheVariants.{WriteFault};
 
 use crate::answer::answered_inside;
-use crate::cache::keep_reply;
+use crate::cache::{Caches, keep_reply};
 use crate::sending::sent;
 use crate::texts::queried;
-use registry_cache::TextCache;
 use registry_hidden::laws::unread_packages_are_unheard_of;
 use registry_names::{ByteOut, Fault};
 use registry_packument::{Opener, Sent};
@@ -39,10 +38,6 @@ use sqlite::{Alter, Connection, Error, ErrorCode, MemStore};
 use std::alloc::Global;
 use std::marker::Model;
 
-/// The most bytes that the texts of packuments have together which a registry keeps, beside one
-/// text that alone has more.
-pub(crate) const CACHE_LIMIT: usize = 64 << 20;
-
 /// A statement that is compiled to see whether a connection is open. It is never run.
 const PROBE: &str = "COMMIT";
 
@@ -51,17 +46,17 @@ const PROBE: &str = "COMMIT";
 /// Between requests it has no transaction, its tables are in form, and all that it sees was
 /// committed. A fault of the disk may shut it for good: then every request is answered by a fault.
 ///
-/// It keeps the texts of the packuments that were asked for last. Between requests each is the
-/// packument of what is stored.
+/// It keeps the texts of the packuments that were asked for last, and the archives. Between requests
+/// each is the packument of its package, or the archive of its version, by what is stored.
 pub struct Registry<S: Alter> {
     pub(crate) conn: Connection<S>,
-    pub(crate) cache: TextCache,
+    pub(crate) caches: Caches,
 }
 
 // Written out, so that to drop a registry is one call and not one for each part.
 impl<S: Alter + Drop> Drop for Registry<S> {
     fn drop(self) {
-        let Registry { conn: _, cache: _ } = self;
+        let Registry { conn: _, caches: _ } = self;
     }
 }
 
@@ -75,7 +70,7 @@ impl<S: Alter> Model for Registry<S> {
 
     ghost view = { λ r. r.conn };
 
-    ghost invariant = { λ r. IsCached (state S.Store r.conn) r.cache };
+    ghost invariant = { λ r. IsCached (state S.Store r.conn) r.caches };
 }
 
 impl Registry<MemStore> {
@@ -93,8 +88,8 @@ impl Registry<MemStore> {
             return Err(Fault::Memory);
         };
         create_tables(&mut conn)?;
-        let cache = TextCache::new(alloc, CACHE_LIMIT)?;
-        Ok(Registry { conn, cache })
+        let caches = Caches::new(alloc)?;
+        Ok(Registry { conn, caches })
     }
 
     /// Answers requests on a new registry in memory, in their order, and gives the registry that
@@ -163,7 +158,7 @@ impl<S: Alter> Registry<S> {
     {
         requests_are_in_form(request);
         unread_packages_are_unheard_of();
-        answered(alloc, &mut self.conn, &mut self.cache, request)
+        answered(alloc, &mut self.conn, &mut self.caches, request)
     }
 
     /// Answers a query for a packument, and writes that to a stream: first what opens it by its
@@ -201,7 +196,7 @@ impl<S: Alter> Registry<S> {
             Action::Packument { package } => sent(
                 alloc,
                 &mut self.conn,
-                &mut self.cache,
+                &mut self.caches,
                 request,
                 package,
                 writer,
@@ -286,7 +281,7 @@ impl<S: Alter> Registry<S> {
         ensures rests { Rests (state S.Store result) }
         ensures rises { CanBeAdopted (state S.Store result) }
     {
-        let Registry { conn, cache: _ } = self;
+        let Registry { conn, caches: _ } = self;
         conn
     }
 }
@@ -338,19 +333,20 @@ fn seen_by(error: Error) -> Result<bool, Fault>
     }
 }
 
-// The reply, which is kept if it is a packument. Where a fault comes no text is kept that wasn't
-// before.
+// The reply, which is kept if it is a packument or an archive. Where a fault comes nothing is kept
+// that wasn't before.
 fn answered<S: Alter>(
     alloc: Global,
     conn: &mut Connection<S>,
-    cache: &mut TextCache,
+    caches: &mut Caches,
     request: &Request,
 ) -> Result<Reply, Fault>
     requires rests { Rests (state S.Store conn.old) }
-    requires right { HasPackuments (state S.Store conn.old) cache.old }
+    requires right { HasAnswers (state S.Store conn.old) caches.old }
     ensures rests { Rests (state S.Store conn.new) }
-    ensures right { HasPackuments (state S.Store conn.new) cache.new }
-    ensures limit { cache.new.limit ≡ cache.old.limit }
+    ensures right { HasAnswers (state S.Store conn.new) caches.new }
+    ensures limit { caches.new.packuments.limit ≡ caches.old.packuments.limit }
+    ensures archive_limit { caches.new.archives.limit ≡ caches.old.archives.limit }
     ensures answer { Answered (state S.Store conn.old) (state S.Store conn.new)
         request.now result }
     ensures served { Served (state S.Store conn.old) (state S.Store conn.new) result }
@@ -359,12 +355,12 @@ fn answered<S: Alter>(
         request.now result }
     ensures step { Stepped (state S.Store conn.old) (state S.Store conn.new) request.now result }
     ensures survives { SurvivesOne (state S.Store conn.old) (state S.Store conn.new) request.now }
-    ensures no_more { OnErr result (KeepsNoMore cache.old cache.new) }
-    ensures kept { IfOk result (KeepsAnswer request.now.what cache.old cache.new) }
+    ensures no_more { OnErr result (KeepNoMore caches.old caches.new) }
+    ensures kept { IfOk result (KeepsAnswer request.now.what caches.old caches.new) }
 {
     match &request.what {
-        Action::Packument { package } => queried(alloc, conn, cache, request, package),
-        _ => transacted(alloc, conn, cache, request),
+        Action::Packument { package } => queried(alloc, conn, caches, request, package),
+        _ => transacted(alloc, conn, caches, request),
     }
 }
 
@@ -373,14 +369,15 @@ fn answered<S: Alter>(
 fn transacted<S: Alter>(
     alloc: Global,
     conn: &mut Connection<S>,
-    cache: &mut TextCache,
+    caches: &mut Caches,
     request: &Request,
 ) -> Result<Reply, Fault>
     requires rests { Rests (state S.Store conn.old) }
-    requires right { HasPackuments (state S.Store conn.old) cache.old }
+    requires right { HasAnswers (state S.Store conn.old) caches.old }
     ensures rests { Rests (state S.Store conn.new) }
-    ensures right { HasPackuments (state S.Store conn.new) cache.new }
-    ensures limit { cache.new.limit ≡ cache.old.limit }
+    ensures right { HasAnswers (state S.Store conn.new) caches.new }
+    ensures limit { caches.new.packuments.limit ≡ caches.old.packuments.limit }
+    ensures archive_limit { caches.new.archives.limit ≡ caches.old.archives.limit }
     ensures answer { Answered (state S.Store conn.old) (state S.Store conn.new)
         request.now result }
     ensures served { Served (state S.Store conn.old) (state S.Store conn.new) result }
@@ -389,14 +386,14 @@ fn transacted<S: Alter>(
         request.now result }
     ensures step { Stepped (state S.Store conn.old) (state S.Store conn.new) request.now result }
     ensures survives { SurvivesOne (state S.Store conn.old) (state S.Store conn.new) request.now }
-    ensures no_more { OnErr result (KeepsNoMore cache.old cache.new) }
-    ensures kept { IfOk result (KeepsAnswer request.now.what cache.old cache.new) }
+    ensures no_more { OnErr result (KeepNoMore caches.old caches.new) }
+    ensures kept { IfOk result (KeepsAnswer request.now.what caches.old caches.new) }
 {
     let mut tx = conn.transaction();
-    let reply = answered_inside(alloc, &mut tx, cache, request)?;
+    let reply = answered_inside(alloc, &mut tx, caches, request)?;
     match commit(tx) {
         Ok(()) => {
-            keep_reply(cache, &request.what, &reply);
+            keep_reply(alloc, caches, &request.what, &reply);
             Ok(reply)
         }
         Err(fault) => Err(fault),

@@ -19,7 +19,7 @@ ghost use Rattle.registry_history.specs.Runs.{accepts};
 ghost use Rattle.registry_desk.specs.Found.{AreRowsOf, AreTimesOf};
 
 use crate::rows::Rows;
-use registry_cache::SharedText;
+use registry_cache::{SharedBlob, SharedText};
 use registry_names::{DistTag, Fault, Name, Text, Ver};
 use registry_packument::{
     Granted, List, Member, PackHead, PackTimes, VersionRow, VersionRows, list_text, packument_text,
@@ -71,7 +71,10 @@ pub(crate) fn reply(alloc: Global, what: &Action, rows: Rows) -> Result<Reply, F
         ) => doc(packument(alloc, package, versions, tags, times)?),
         (Action::Packument { .. }, Rows::Known(text)) => Ok(Reply::Doc(text)),
         (Action::VersionDoc { .. }, Rows::Document(Some(row))) => { doc(document(alloc, &row)?) }
-        (Action::Archive { .. }, Rows::Archive(Some(archive))) => Ok(Reply::Bytes(archive)),
+        (Action::Archive { .. }, Rows::Archive(Some(archive))) => {
+            Ok(Reply::Bytes(SharedBlob::from_blob(alloc, archive)?))
+        }
+        (Action::Archive { .. }, Rows::KnownArchive(archive)) => Ok(Reply::Bytes(archive)),
         (Action::Tags { .. }, Rows::Tags(tags)) => doc(tags_of(alloc, tags)?),
         (Action::Members { .. }, Rows::Members(members)) => { doc(members_of(alloc, members)?) }
         (Action::Teams { .. } | Action::TeamMembers { .. }, Rows::Names(names)) => {

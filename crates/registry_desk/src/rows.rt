@@ -14,12 +14,13 @@ ghost use Rattle.registry_tables.specs.Spelled.{document, document_entry, publis
 ghost use Rattle.registry_tables.specs.Teams.{AreTeamsSound};
 ghost use Rattle.registry_cache.specs.Caches.{kept};
 ghost use Rattle.registry_desk.specs.Found.{AreRowsOf, AreTimesOf};
-ghost use Rattle.registry_desk.specs.Caches.{ArePackuments, IsSoundFor};
+ghost use Rattle.registry_desk.specs.Caches.{AreArchives, ArePackuments, IsSoundFor};
 ghost use Rattle.registry_rules.specs.declared.request.Action.TheVariants as asked;
 ghost use Rattle.registry_rules.specs.declared.request.Asked.TheVariants as which;
 
+use crate::cache::{Caches, cached_archive};
 use registry_access::Caller;
-use registry_cache::{SharedText, TextCache};
+use registry_cache::{BlobCache, Shared, SharedBlob, SharedText, TextCache};
 use registry_names::{Blob, DistTag, Fault, Ident, LATEST, Name, Text, Ver};
 use registry_packument::{Granted, Member, PackTimes, VersionRow, VersionTime};
 use registry_rules::{Action, Asked};
@@ -53,6 +54,8 @@ pub(crate) enum Rows {
     Document(Option<DocumentRow>),
     /// The archive of a version, if that lives.
     Archive(Option<Blob>),
+    /// The archive of a version, which was loaded before.
+    KnownArchive(SharedBlob),
     /// The tags of a package, in byte order.
     Tags(Vec<DistTag>),
     /// The members of an organisation, in byte order of their names.
@@ -67,13 +70,13 @@ pub(crate) enum Rows {
 pub(crate) fn rows_for<S: Alter>(
     alloc: Global,
     tx: &mut Transaction<'_, S>,
-    cache: &TextCache,
+    caches: &Caches,
     caller: &Caller,
     what: &Action,
 ) -> Result<Rows, Fault>
     requires in_form { InForm S.Store tx.old }
     ensures stays { Stays S.Store tx.old tx.new }
-    ensures knows { Knows S.Store tx.old tx.new result (λ rows c. IsSoundFor what.now c cache.now
+    ensures knows { Knows S.Store tx.old tx.new result (λ rows c. IsSoundFor what.now c caches.now
         → AreRowsOf rows (registry_of c) caller.now what.now) }
 {
     match what {
@@ -96,9 +99,11 @@ pub(crate) fn rows_for<S: Alter>(
         | Action::TagRemove { .. }
         | Action::Withdraw { .. } => Ok(Rows::Nothing),
         Action::Deprecate { package, .. } => live_rows(alloc, tx, package),
-        Action::Packument { package } => packument_rows(alloc, tx, cache, package),
+        Action::Packument { package } => packument_rows(alloc, tx, &caches.packuments, package),
         Action::VersionDoc { package, version } => document_row(tx, package, version),
-        Action::Archive { package, version } => archive_row(tx, package, version),
+        Action::Archive { package, version } => {
+            archive_row(alloc, tx, &caches.archives, package, version)
+        }
         Action::Tags { package } => tag_rows(alloc, tx, package),
         Action::Members { organisation } => member_rows(alloc, tx, organisation),
         Action::Teams { organisation } => team_rows(alloc, tx, organisation),
@@ -242,6 +247,25 @@ fn load_latest<S: Alter>(
 }
 
 fn archive_row<S: Alter>(
+    alloc: Global,
+    tx: &mut Transaction<'_, S>,
+    cache: &BlobCache,
+    name: &Name,
+    version: &Ver,
+) -> Result<Rows, Fault>
+    requires in_form { InForm S.Store tx.old }
+    ensures stays { Stays S.Store tx.old tx.new }
+    ensures knows { Knows S.Store tx.old tx.new result (λ rows c. (who : Caller)
+        → AreArchives c cache.now
+        → AreRowsOf rows (registry_of c) who (asked.Archive name.now version.now)) }
+{
+    match cached_archive(alloc, cache, name, version) {
+        Some(archive) => Ok(Rows::KnownArchive(archive)),
+        None => stored_archive(tx, name, version),
+    }
+}
+
+fn stored_archive<S: Alter>(
     tx: &mut Transaction<'_, S>,
     name: &Name,
     version: &Ver,

@@ -20,13 +20,13 @@ ghost use Rattle.registry_tables.specs.Spelled.{tag_entry};
 ghost use Rattle.registry_tables.specs.Teams.{AreTeamsSound};
 ghost use Rattle.registry_tables.specs.Walking.{lent, rows_left, seen_by, stopped_at};
 ghost use Rattle.registry_tables.specs.Walks.{Begins, HasGoneOn, IsLeftAlone, reference, shown_by};
-ghost use Rattle.registry_desk.specs.Caches.{ArePackuments, HasPackuments};
+ghost use Rattle.registry_desk.specs.Caches.{ArePackuments, HasAnswers, HasPackuments};
 ghost use Rattle.registry_desk.specs.Found.{AreTimesOf};
 ghost use Rattle.registry_desk.specs.Promises.{HoldsSoundFor, KeepsStored};
 ghost use Rattle.registry_desk.specs.Resting.{Rests};
 ghost use Rattle.registry_desk.specs.Sending.{IsFrom, IsOrigin, IsShownBy, LeavesAll, Sends, answers_as_apply, head_in, versions_in};
 
-use crate::cache::ask;
+use crate::cache::{Caches, ask};
 use crate::packages::seen_package;
 use crate::rows::{cached_text, pack_times};
 use registry_cache::{SharedText, TextCache};
@@ -219,8 +219,8 @@ fn rows_len<R: LiveRows>(
     walk_len(alloc, head, &mut walk)
 }
 
-/// How many bytes the packument with this head has.
-pub(crate) fn stored_len<S: Alter>(
+// How many bytes the packument with this head has.
+fn stored_len<S: Alter>(
     alloc: Global,
     conn: &mut Connection<S>,
     name: &Name,
@@ -378,18 +378,19 @@ fn send_stored<S: Alter, W: ByteOut, O: Opener>(
 pub(crate) fn sent<S: Alter, W: ByteOut, O: Opener>(
     alloc: Global,
     conn: &mut Connection<S>,
-    cache: &mut TextCache,
+    caches: &mut Caches,
     request: &Request,
     name: &Name,
     writer: &mut W,
     opener: &O,
 ) -> Sent
     requires rests { Rests (state S.Store conn.old) }
-    requires right { HasPackuments (state S.Store conn.old) cache.old }
+    requires right { HasAnswers (state S.Store conn.old) caches.old }
     requires asks { request.now.what ≡ asked.Packument name.now }
     ensures rests { Rests (state S.Store conn.new) }
-    ensures right { HasPackuments (state S.Store conn.new) cache.new }
-    ensures limit { cache.new.limit ≡ cache.old.limit }
+    ensures right { HasAnswers (state S.Store conn.new) caches.new }
+    ensures limit { caches.new.packuments.limit ≡ caches.old.packuments.limit }
+    ensures archive_limit { caches.new.archives.limit ≡ caches.old.archives.limit }
     ensures stored { KeepsStored (state S.Store conn.old) (state S.Store conn.new) }
     ensures sends { Sends (answers_as_apply S.Store) (O.opens opener.now) conn.old request.now
         result conn.new (W.bytes writer.old) (W.bytes writer.new) (W.is_unknown writer.new) }
@@ -399,10 +400,10 @@ pub(crate) fn sent<S: Alter, W: ByteOut, O: Opener>(
     ensures unknown { W.is_unknown writer.old ≡ true → W.is_unknown writer.new ≡ true }
 {
     unread_packages_are_unheard_of();
-    match origin_of(alloc, conn, cache, request, name) {
+    match origin_of(alloc, conn, &caches.packuments, request, name) {
         Ok(Origin::Refused(refusal)) => Sent::Refused(refusal),
         Ok(Origin::Kept(text)) => {
-            let _is_kept = ask(cache, name);
+            let _is_kept = ask(&mut caches.packuments, name.text());
             send_text(alloc, text.as_str(), writer, opener)
         }
         Ok(Origin::Stored(head)) => send_stored(alloc, conn, name, &head, writer, opener),

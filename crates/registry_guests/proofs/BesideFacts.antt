@@ -8,40 +8,46 @@ use Rattle.registry_service.specs.Turns.{Answering, Cause, IsAnswered, IsTurnFor
 use Rattle.registry_service.specs.declared.turning.End.{End}
 use Rattle.registry_service.proofs.HistoryFacts.{one-history}
 use Rattle.registry_server.specs.ConnectionStates.{Pending, TakesTurn}
-use Rattle.registry_guests.specs.Beside.{AnswersAll, AnswersOnce, GuestsGoOn, GuestsLead, MakeOneHistory, ShowsGuest, VisitsFollow, beside_guests}
+use Rattle.registry_guests.specs.Beside.{AnswersAll, AnswersOnce, Beside, GuestTurn, GuestsFollow, GuestsGoOn, GuestsLead, GuestsTurn, MakeOneHistory, ShowsGuest, TakesNone, TakesOne, VisitsFollow, beside, beside_guests}
+use Rattle.registry_guests.specs.GuestTurns.{on_memory}
+use Rattle.registry_guests.specs.Guests as guests
 use Rattle.registry_guests.specs.Guests.{Begins, Hears, Listens, OpenGuest, Starves, VisitsIn}
-use Rattle.registry_guests.specs.Saying.{sent_as}
+use Rattle.registry_guests.specs.Saying.{Spoken, prints, sent_as}
 
 -- ---- connections
 
 module _ {D : Type 0} (answers : Answering D) where
-  pub lead-none : (M : D) → GuestsLead answers M M
-  lead-none M = ([], refl)
+  pub lead-none : (M : D) (ts : List GuestTurn) → GuestsLead answers (beside M ts) (beside M ts)
+  lead-none M ts = ([], refl, refl)
+
+  -- the same turns lead to the same service
+  lead-same : (M K : Beside D) (N : D) → GuestsLead answers M K → N ≡ K.service → GuestsLead answers M (beside N K.turns)
+  lead-same M K N lead same = (lead.0, subst (λ (d : D). GuestsTurn answers M.service lead.0 d) (sym same) lead.1, lead.2)
 
   pub go-on : GuestsGoOn answers
-  go-on M N P t lead turn = (t ∷ lead.0, (N, lead.1, turn))
+  go-on M N P t lead turn = (t ∷ lead.0, (N.service, lead.1, turn), ap (λ (ts : List GuestTurn). t ∷ ts) lead.2)
 
   pub make-one : MakeOneHistory answers
   make-one M w r = one-history (beside_guests answers) M w r
 
-  answered-beside : (M K N : D) (w : Wanted) (at : ℕ) (o : Outcome) → GuestsLead answers M K → IsAnswered answers K w at o N
-      → (P : D) × IsAnswered (beside_guests answers) M w at o P × GuestsLead answers P N
+  answered-beside : (M K : Beside D) (N : D) (w : Wanted) (at : ℕ) (o : Outcome) → GuestsLead answers M K → IsAnswered answers K.service w at o N
+      → (P : Beside D) × IsAnswered (beside_guests answers) M w at o P × GuestsLead answers P (beside N K.turns)
   answered-beside M K N w at o lead a =
       elim a [
-        | inl (r, reads, is) ↦ (N, inl (r, reads, (K, lead, is)), lead-none N)
-        | inr (s, reads, is, same) ↦ (M, inr (s, reads, is, refl), subst (λ (d : D). GuestsLead answers M d) (sym same) lead)
+        | inl (r, reads, is) ↦ (beside N K.turns, inl (r, reads, (K.service, lead, is)), lead-none N K.turns)
+        | inr (s, reads, is, same) ↦ (M, inr (s, reads, is, refl), lead-same M K N lead same)
       ]
 
-  turn-beside : (M K N : D) (c : Cause) (last : Bool) (o : Outcome) (ended : Option End) → GuestsLead answers M K → IsTurnFor answers c K last o ended N
-      → (P : D) × IsTurnFor (beside_guests answers) c M last o ended P × GuestsLead answers P N
+  turn-beside : (M K : Beside D) (N : D) (c : Cause) (last : Bool) (o : Outcome) (ended : Option End) → GuestsLead answers M K → IsTurnFor answers c K.service last o ended N
+      → (P : Beside D) × IsTurnFor (beside_guests answers) c M last o ended P × GuestsLead answers P (beside N K.turns)
   turn-beside M K N (request w at) last o ended lead t =
       let a = answered-beside M K N w at o lead t.answered in
       (a.0, record { answered = a.1; ends = t.ends }, a.2)
-  turn-beside M K N (bad_input r) last o ended lead t = (M, (t.0, refl), subst (λ (d : D). GuestsLead answers M d) (sym t.1) lead)
-  turn-beside M K N no_memory last o ended lead t = (M, (t.0, refl), subst (λ (d : D). GuestsLead answers M d) (sym t.1) lead)
+  turn-beside M K N (bad_input r) last o ended lead t = (M, (t.0, refl), lead-same M K N lead t.1)
+  turn-beside M K N no_memory last o ended lead t = (M, (t.0, refl), lead-same M K N lead t.1)
 
-  takes-beside : (M K N : D) (old new : Pending) (r r2 : Option (List ℕ)) (over : Bool) → GuestsLead answers M K → TakesTurn answers old new K N r r2 over
-      → (P : D) × TakesTurn (beside_guests answers) old new M P r r2 over × GuestsLead answers P N
+  takes-beside : (M K : Beside D) (N : D) (old new : Pending) (r r2 : Option (List ℕ)) (over : Bool) → GuestsLead answers M K → TakesTurn answers old new K.service N r r2 over
+      → (P : Beside D) × TakesTurn (beside_guests answers) old new M P r r2 over × GuestsLead answers P (beside N K.turns)
   takes-beside M K N old new r r2 over lead t =
       let u = t.turns in
       let b = turn-beside M K N t.cause _ u.outcome t.turned.end lead u.is_turn in (
@@ -98,7 +104,7 @@ module _ {S : Type 0} (received sent : S → Option (List ℕ)) {D : Type 0} (an
             sends = v.sends;
             over = v.over;
           },
-          subst (λ (d : D). GuestsLead answers M d) (sym t.0.service) lead,
+          lead-same answers M K N lead t.0.service,
         )
       ]
 
@@ -163,3 +169,31 @@ module _ {S : Type 0} (received sent : S → Option (List ℕ)) {D : Type 0} (an
   answers-once most old new M N r r2 (Some said) s v =
       let g = subst (λ (l : Option (List ℕ)). VisitsIn received sent is_ended answers most l old new M N r r2) s.1 v.does in
       inl ((g.left, g.begun, sent-more (sent old.socket) (sent new.socket) (sent_as said) g.sends.put g.left s.0 s.2 g.sends.parts g.sends.took), g.service, g.unasked)
+
+  -- ---- which turns they are
+
+  none-taken : (M N : Beside D) (P : D) (new : OpenGuest S) (answered : Option Spoken) → GuestsLead answers M N → P ≡ N.service
+      → ShowsGuest received sent answers answered new ⊎ ((answered ≡ None) × (said : Spoken) × (prints said ≡ on_memory) × ShowsGuest received sent answers (Some said) new)
+      → TakesNone received sent answers answered new M N P
+  none-taken M N P new answered lead same answer = record { service = same; answer = answer; lead = lead-same answers M N P lead same }
+
+  one-taken : (M N : Beside D) (P : D) (old new : OpenGuest S) (said : Spoken) (r r2 : Option (List ℕ)) → GuestsLead answers M N → ShowsGuest received sent answers (Some said) new
+      → guests.TakesTurn answers old.held said N.service P r r2 → TakesOne received sent answers old new M N P
+  one-taken M N P old new said r r2 lead shows t = record {
+    turn = record { words = t.0; body = t.1; at = t.2; said = said };
+    words = t.3;
+    message = t.4;
+    answer = shows;
+    lead = go-on answers M N P (record { words = t.0; body = t.1; at = t.2; said = said }) lead t.5;
+  }
+
+  pub guests-follow : GuestsFollow received sent answers is_ended
+  guests-follow M N P most old new r r2 answered lead s v =
+      elim (answers-once most old new N.service P r r2 answered s v) [
+        | inl (shows, same, unasked) ↦ inr (none-taken M N P new answered lead same (inl shows))
+        | inr (none, said, shows, why) ↦
+            elim why [
+              | inl all ↦ inl (none, one-taken M N P old new said r r2 lead shows all.turn)
+              | inr starves ↦ inr (none-taken M N P new answered lead starves.1 (inr (none, said, starves.0, shows)))
+            ]
+      ]

@@ -1,11 +1,12 @@
 -- Who holds or stops a server.
-use Rattle.std.proofs.Common.{◌≡◌, ◌∷◌, ◌==◌, ◌∙◌, [], ℕ, Bool, true, false, List, Option, None, Some, get_or, length, refl, ap, sym, subst, inl, inr, arith, ◌&&◌, ◌||◌, not, if◌then◌else◌}
+use Rattle.std.proofs.Common.{◌≡◌, ◌++◌, ◌∷◌, ◌==◌, ◌∙◌, [], ℕ, Bool, true, false, List, Option, None, Some, get_or, length, refl, ap, sym, subst, inl, inr, arith, ◌&&◌, ◌||◌, not, if◌then◌else◌}
+use Rattle.std.specs.Prelude.{⊤, IfSome}
 use Rattle.std.proofs.lemmas.Bool.{false≢true}
 use Rattle.std.proofs.lemmas.Bool.Decides.{nat_tests}
 use Rattle.std.specs.Io.KnownBytes.{append_known}
 use Rattle.registry_server.specs.declared.connection.Visit.{Visit}
 use Rattle.registry_server.specs.declared.connection.Visit.TheVariants.{Again, Rests, Over}
-use Rattle.registry_guests.specs.Controls.{Answers, Hears, HasAsked, HoldersHaveAsked, Obeys, StopsStay, Visits, VisitsControl, VisitsIf, VisitsThere, after, after_visit, control, hold_byte, hold_limit, holds, holds_at, holds_with, stop_byte, stops, stops_at, time_after}
+use Rattle.registry_guests.specs.Controls.{Answers, BeginsWith, Hears, HasAsked, HoldersAskFirst, HoldersHaveAsked, IsSilent, Obeys, Reached, StopsStay, Visits, VisitsControl, VisitsIf, VisitsThere, after, after_visit, begins, comes, control, hold_byte, hold_limit, holds, holds_at, holds_with, in_time, is_late, kept_byte, let_go, stop_byte, stops, stops_at, time_after, visited, wakes}
 use Rattle.registry_guests.specs.declared.control.Control.{Control}
 use Rattle.registry_guests.specs.declared.control.Visitor.{Visitor}
 use Rattle.registry_guests.specs.declared.post.Post.{Post}
@@ -45,6 +46,40 @@ first-hold (Silent until) next byte stopping now was is holding =
     silent-hold (byte == hold_byte) (byte == stop_byte) stopping (time_after now hold_limit) next is holding
 first-hold (Holds until) next byte stopping now was is holding = absurd (false≢true (sym was))
 first-hold Stops next byte stopping now was is holding = none-some next is
+
+-- ---- what a byte makes of a visitor
+
+abbrev is_silent : Post → Bool
+is_silent (Silent until) = true
+is_silent (Holds until) = false
+is_silent Stops = false
+
+-- nobody is silent once it said something
+spoken : (asks says stopping : Bool) (until : ℕ) (next : Post) → (if asks && not stopping then Some (Holds until) else (if says then Some Stops else None)) ≡ Some next → is_silent next ≡ false
+spoken true says false until next is = sym (ap is_silent (some-is (Holds until) next is))
+spoken true true true until next is = sym (ap is_silent (some-is Stops next is))
+spoken true false true until next is = none-some next is
+spoken false true stopping until next is = sym (ap is_silent (some-is Stops next is))
+spoken false false stopping until next is = none-some next is
+
+-- who holds the server still holds it, or is let go
+held : (kept : Bool) (until : ℕ) (next : Post) → (if kept then Some (Holds until) else None) ≡ Some next → Holds until ≡ next
+held true until next is = some-is (Holds until) next is
+held false until next is = none-some next is
+
+-- ---- known bytes
+
+begin-more : (byte : ℕ) (known later : Option (List ℕ)) (more : List ℕ) → BeginsWith byte known → later ≡ append_known known more → BeginsWith byte later
+begin-more byte None later more is same = subst (BeginsWith byte) (sym same) tt
+begin-more byte (Some xs) later more is same = subst (BeginsWith byte) (sym same) (is.0 ++ more, ap (λ (l : List ℕ). l ++ more) is.1)
+
+begin-now : (byte : ℕ) (known later : Option (List ℕ)) → IfSome known (λ bytes. bytes ≡ []) → later ≡ append_known known (byte ∷ []) → BeginsWith byte later
+begin-now byte None later is same = subst (BeginsWith byte) (sym same) tt
+begin-now byte (Some xs) later is same = subst (BeginsWith byte) (sym same) ([], ap (λ (l : List ℕ). l ++ byte ∷ []) is)
+
+none-more : (known later : Option (List ℕ)) → IfSome known (λ bytes. bytes ≡ []) → later ≡ append_known known [] → IfSome later (λ bytes. bytes ≡ [])
+none-more None later is same = subst (λ (k : Option (List ℕ)). IfSome k (λ bytes. bytes ≡ [])) (sym same) tt
+none-more (Some xs) later is same = subst (λ (k : Option (List ℕ)). IfSome k (λ bytes. bytes ≡ [])) (sym same) (ap (λ (l : List ℕ). l ++ []) is)
 
 told : (byte : ℕ) (before later : Option (List ℕ)) (visit : Visit) → Answers true byte before later visit → (visit ≡ Over → ⊥) → later ≡ append_known before (byte ∷ [])
 told byte before later visit (inl said) on = said.0
@@ -146,3 +181,97 @@ module _ {S : Type 0} (received sent : S → Option (List ℕ)) (has_none is_end
 
   pub stops-stay : StopsStay received sent has_none is_ended is_broken
   stops-stay now old new v is = stops-if old.is_ready now old new v is
+
+  -- ---- over a whole life
+
+  -- what is known of the bytes of a visitor
+  abbrev Shows : Post → S → Type 0
+  Shows (Silent until) s = IsSilent received sent has_none is_ended is_broken s
+  Shows (Holds until) s = BeginsWith hold_byte (received s) × BeginsWith hold_byte (sent s)
+  Shows Stops s = ⊤
+
+  abbrev ShowsThere : Option (Visitor S) → Type 0
+  ShowsThere None = ⊤
+  ShowsThere (Some v) = Shows v.post v.socket
+
+  -- nothing came
+  shows-still : (post : Post) (s t : S) → received t ≡ append_known (received s) [] → sent t ≡ sent s → Shows post s → Shows post t
+  shows-still (Silent until) s t gave unsent is = (none-more (received s) (received t) is.0 gave, subst (λ (k : Option (List ℕ)). IfSome k (λ bytes. bytes ≡ [])) (sym unsent) is.1)
+  shows-still (Holds until) s t gave unsent is = (begin-more hold_byte (received s) (received t) [] is.0 gave, subst (BeginsWith hold_byte) (sym unsent) is.1)
+  shows-still Stops s t gave unsent is = tt
+
+  -- a silent visitor said something
+  shows-first : (until : ℕ) (next : Post) (byte : ℕ) (stopping : Bool) (now : ℕ) (s t : S) (visit : Visit) → after (Silent until) byte stopping now ≡ Some next → received t ≡ append_known (received s) (byte ∷ [])
+      → Answers (holds_at next) byte (sent s) (sent t) visit → (visit ≡ Over → ⊥) → IsSilent received sent has_none is_ended is_broken s → Shows next t
+  shows-first until (Silent u) byte stopping now s t visit is gave answers on silent =
+      absurd (false≢true (sym (spoken (byte == hold_byte) (byte == stop_byte) stopping (time_after now hold_limit) (Silent u) is)))
+  shows-first until (Holds u) byte stopping now s t visit is gave answers on silent =
+      let asks = same-byte byte hold_byte (first-hold (Silent until) (Holds u) byte stopping now refl is refl).0 in (
+        subst (λ (b : ℕ). BeginsWith b (received t)) asks (begin-now byte (received s) (received t) silent.0 gave),
+        subst (λ (b : ℕ). BeginsWith b (sent t)) asks (begin-now byte (sent s) (sent t) silent.1 (told byte (sent s) (sent t) visit answers on)),
+      )
+  shows-first until Stops byte stopping now s t visit is gave answers on silent = tt
+
+  -- one that holds the server did
+  shows-held : (until : ℕ) (next : Post) (byte : ℕ) (s t : S) (visit : Visit) → Holds until ≡ next → received t ≡ append_known (received s) (byte ∷ []) → Answers (holds_at next) byte (sent s) (sent t) visit
+      → (visit ≡ Over → ⊥) → Shows (Holds until) s → Shows next t
+  shows-held until next byte s t visit is gave answers on shows =
+      let said = told byte (sent s) (sent t) visit (subst (λ (p : Post). Answers (holds_at p) byte (sent s) (sent t) visit) (sym is) answers) on in
+      subst (λ (p : Post). Shows p t) is
+      (begin-more hold_byte (received s) (received t) (byte ∷ []) shows.0 gave, begin-more hold_byte (sent s) (sent t) (byte ∷ []) shows.1 said)
+
+  shows-next : (post next : Post) (byte : ℕ) (stopping : Bool) (now : ℕ) (s t : S) (visit : Visit) → after post byte stopping now ≡ Some next → received t ≡ append_known (received s) (byte ∷ [])
+      → Answers (holds_at next) byte (sent s) (sent t) visit → (visit ≡ Over → ⊥) → Shows post s → Shows next t
+  shows-next (Silent until) next byte stopping now s t visit is gave answers on shows = shows-first until next byte stopping now s t visit is gave answers on shows
+  shows-next (Holds until) next byte stopping now s t visit is gave answers on shows = shows-held until next byte s t visit (held (byte == kept_byte) until next is) gave answers on shows
+  shows-next Stops next byte stopping now s t visit is gave answers on shows = none-some next is
+
+  shows-obeyed : (stopping : Bool) (now : ℕ) (v w : Visitor S) (byte : ℕ) (visit : Visit) (o : Option Post) → after v.post byte stopping now ≡ o → received w.socket ≡ append_known (received v.socket) (byte ∷ [])
+      → Obeys o byte v.post w.post (sent v.socket) (sent w.socket) visit → (visit ≡ Over → ⊥) → Shows v.post v.socket → Shows w.post w.socket
+  shows-obeyed stopping now v w byte visit None at gave obeys on shows = absurd (on obeys.2)
+  shows-obeyed stopping now v w byte visit (Some next) at gave obeys on shows =
+      subst (λ (p : Post). Shows p w.socket) (sym obeys.0) (shows-next v.post next byte stopping now v.socket w.socket visit at gave obeys.1 on shows)
+
+  shows-heard : (heard : List ℕ) (stopping : Bool) (now : ℕ) (v w : Visitor S) (visit : Visit) → received w.socket ≡ append_known (received v.socket) heard
+      → Hears received sent is_ended is_broken heard stopping now v w visit → (visit ≡ Over → ⊥) → Shows v.post v.socket → Shows w.post w.socket
+  shows-heard [] stopping now v w visit gave hears on shows = subst (λ (p : Post). Shows p w.socket) (sym hears.0) (shows-still v.post v.socket w.socket gave hears.1 shows)
+  shows-heard (byte ∷ []) stopping now v w visit gave hears on shows = shows-obeyed stopping now v w byte visit (after v.post byte stopping now) refl gave hears on shows
+  shows-heard (byte ∷ (more ∷ rest)) stopping now v w visit gave hears on shows = absurd hears
+
+  shows-after : (visit : Visit) (w : Visitor S) (b : Bool) → ((visit ≡ Over → ⊥) → Shows w.post w.socket) → ShowsThere (after_visit visit w b).visitor
+  shows-after Again w b is = is (λ e. absurd (cc))
+  shows-after Rests w b is = is (λ e. absurd (cc))
+  shows-after Over w b is = tt
+
+  shows-there : (now : ℕ) (new : Control S) (b : Bool) (o : Option (Visitor S)) → VisitsThere received sent has_none is_ended is_broken now o b new → ShowsThere o → ShowsThere new.visitor
+  shows-there now new b None v shows = subst ShowsThere (sym (ap (λ (c : Control S). c.visitor) v)) tt
+  shows-there now new b (Some v) one shows =
+      subst ShowsThere (sym (ap (λ (c : Control S). c.visitor) one.control_after))
+      (shows-after one.visit one.visitor b (λ on. shows-heard one.visits.0 b now v one.visitor one.visit one.visits.1 one.visits.2 on shows))
+
+  shows-if : (b : Bool) (now : ℕ) (old new : Control S) → VisitsIf received sent has_none is_ended is_broken b now old new → ShowsThere old.visitor → ShowsThere new.visitor
+  shows-if true now old new v shows = shows-there now new old.is_stopping old.visitor v shows
+  shows-if false now old new same shows = subst ShowsThere (sym (ap (λ (c : Control S). c.visitor) same)) shows
+
+  shows-unless : (late : Bool) (v : Visitor S) → ShowsThere (Some v) → ShowsThere (if late then None else Some v)
+  shows-unless true v shows = tt
+  shows-unless false v shows = shows
+
+  shows-in_time : (now : ℕ) (o : Option (Visitor S)) → ShowsThere o → ShowsThere (in_time now o)
+  shows-in_time now None shows = tt
+  shows-in_time now (Some v) shows = shows-unless (is_late v.post now) v shows
+
+  shows-reached : (c : Control S) → Reached received sent has_none is_ended is_broken c → ShowsThere c.visitor
+  shows-reached _ begins = tt
+  shows-reached _ (comes c r now socket silent) = silent
+  shows-reached _ (wakes c r) = shows-reached c r
+  shows-reached _ (visited c d r now v) = shows-if c.is_ready now c d v (shows-reached c r)
+  shows-reached _ (let_go c r now) = shows-in_time now c.visitor (shows-reached c r)
+
+  holds-shows : (post : Post) (s : S) → Shows post s → holds_at post ≡ true → BeginsWith hold_byte (received s) × BeginsWith hold_byte (sent s)
+  holds-shows (Silent until) s shows is = absurd (false≢true is)
+  holds-shows (Holds until) s shows is = shows
+  holds-shows Stops s shows is = absurd (false≢true is)
+
+  pub holders-ask-first : HoldersAskFirst received sent has_none is_ended is_broken
+  holders-ask-first c v r at is = holds-shows v.post v.socket (subst ShowsThere at (shows-reached c r)) is

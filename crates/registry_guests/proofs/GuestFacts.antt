@@ -69,9 +69,9 @@ module _ {S : Type 0} (received sent : S → Option (List ℕ)) (is_ended : S �
 
   -- some more of its answer was sent
   pub visits-sent : (most : ℕ) (old new : OpenGuest S) (M : D) (r : Option (List ℕ)) (due left : List ℕ) → old.left ≡ Some due → SendsDue received sent old.socket new.socket due left
-      → new.left ≡ Some left → new.until ≡ old.until → Visits received sent is_ended answers most old new M M r r
-  visits-sent most old new M r due left is sends begun same =
-      visits-in most old new M M r r (Some due) is (record { left = left; sends = sends; begun = begun; service = refl; unasked = refl }) same
+      → new.left ≡ Some left → new.held ≡ old.held → new.until ≡ old.until → Visits received sent is_ended answers most old new M M r r
+  visits-sent most old new M r due left is sends begun held same =
+      visits-in most old new M M r r (Some due) is (record { left = left; sends = sends; begun = begun; held = held; service = refl; unasked = refl }) same
 
   -- more of its message came, or none
   pub visits-heard : (most : ℕ) (old new : OpenGuest S) (M N : D) (r r2 : Option (List ℕ)) → old.left ≡ None → Hears received sent most old.socket new.socket old.held new.held
@@ -83,7 +83,7 @@ module _ {S : Type 0} (received sent : S → Option (List ℕ)) (is_ended : S �
   pub visits-begun : (most : ℕ) (old new : OpenGuest S) (M N : D) (r r2 : Option (List ℕ)) (between : S) (heard : List ℕ) (said : Spoken) (left : List ℕ) → old.left ≡ None
       → Hears received sent most old.socket between old.held heard → IsDue received sent is_ended answers old.held heard new.socket said M N r r2
       → SendsDue received sent between new.socket (sent_as said) left
-      → new.left ≡ Some left → new.until ≡ old.until → Visits received sent is_ended answers most old new M N r r2
-  visits-begun most old new M N r r2 between heard said left is hears due sends begun same =
+      → new.left ≡ Some left → new.held ≡ old.held → new.until ≡ old.until → Visits received sent is_ended answers most old new M N r r2
+  visits-begun most old new M N r r2 between heard said left is hears due sends begun held same =
       visits-in most old new M N r r2 None is
-      (inr (record { between = between; heard = heard; hears = hears; said = said; due = due; left = left; sends = sends; begun = begun })) same
+      (inr (record { between = between; heard = heard; hears = hears; said = said; due = due; left = left; sends = sends; begun = begun; held = held })) same

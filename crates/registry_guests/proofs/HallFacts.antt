@@ -1,12 +1,13 @@
 -- The visits of the seats, from the first on.
-use Rattle.std.proofs.Common.{◌≡◌, ◌<◌, ◌≤◌, ◌+◌, ◌++◌, ◌∷◌, [], ◌∙◌, ℕ, zero, suc, Bool, true, false, List, Option, None, Some, length, get_or, set, take, drop, refl, ap, sym, subst, arith, ◌&&◌, not}
+use Rattle.std.proofs.Common.{◌≡◌, ◌≢◌, ◌<◌, ◌≤◌, ◌+◌, ◌++◌, ◌∷◌, [], ◌∙◌, ℕ, zero, suc, Bool, true, false, List, Option, None, Some, length, get_or, set, take, drop, refl, ap, sym, subst, arith, ◌&&◌, not}
+use Rattle.std.specs.Prelude.{IfSome}
 use Rattle.std.proofs.lemmas.List.{drop-drop, drop-set-lt, get_or-drop, take_more, take_more_set}
 use Rattle.registry_server.specs.Pools.{at_place}
 use Rattle.registry_server.specs.declared.connection.Visit.{Visit}
-use Rattle.registry_server.specs.declared.connection.Visit.TheVariants.{Rests, Over}
+use Rattle.registry_server.specs.declared.connection.Visit.TheVariants.{Again, Rests, Over}
 use Rattle.registry_service.specs.Turns.{Answering}
-use Rattle.registry_guests.specs.Guests.{IsOver, OpenGuest, Visits, must_wait}
-use Rattle.registry_guests.specs.Halls.{VisitsAll, VisitsAt, VisitsIf, VisitsThere, after_visit, seat}
+use Rattle.registry_guests.specs.Guests.{IsOver, IsWithin, OpenGuest, Visits, must_wait}
+use Rattle.registry_guests.specs.Halls.{IsWithinAt, StayWithin, VisitsAll, VisitsAt, VisitsIf, VisitsThere, after_visit, new_at, seat}
 use Rattle.registry_guests.specs.declared.hall.Seat.{Seat}
 
 -- ---- one seat changed
@@ -51,10 +52,10 @@ module _ {S : Type 0} (received sent : S → Option (List ℕ)) (has_none is_ful
 
   -- a guest is there, and was visited
   pub visits-there : (most : ℕ) (p : Seat S) (c d : OpenGuest S) (v : Visit) (M N : D) (r r2 : Option (List ℕ)) → (p.is_ready && not (over M)) ≡ true → p.guest ≡ Some c
-      → Visits received sent is_ended answers most c d M N r r2 → (v ≡ Rests → must_wait has_none is_full d ≡ true) → (v ≡ Over → IsOver is_ended is_broken d)
+      → Visits received sent is_ended answers most c d M N r r2 → (v ≢ Over → IsWithin c → IsWithin d) → (v ≡ Rests → must_wait has_none is_full d ≡ true) → (v ≡ Over → IsOver is_ended is_broken d)
       → VisitsAt received sent has_none is_full is_ended is_broken answers over most p (after_visit v d) M N r r2
-  visits-there most p c d v M N r r2 is at visits waits ends = there most p (after_visit v d) M N r r2 (Some c) is at
-      (record { guest = d; visits = visits; visit = v; seat_after = refl; waits = waits; over = ends })
+  visits-there most p c d v M N r r2 is at visits within waits ends = there most p (after_visit v d) M N r r2 (Some c) is at
+      (record { guest = d; visits = visits; visit = v; seat_after = refl; within = within; waits = waits; over = ends })
 
   visits-more : (most : ℕ) (ps qs : List (Seat S)) (p q : Seat S) (M m N : D) (r r1 r2 : Option (List ℕ))
       → VisitsAll received sent has_none is_full is_ended is_broken answers over most ps qs M m r r1 → VisitsAt received sent has_none is_full is_ended is_broken answers over most p q m N r1 r2
@@ -86,3 +87,30 @@ module _ {S : Type 0} (received sent : S → Option (List ℕ)) (has_none is_ful
       subst (λ (l : List (Seat S)). VisitsAll received sent has_none is_full is_ended is_broken answers over most l (take (i + 1) (set items i q)) M N r r2) (sym before)
       (subst (λ (l : List (Seat S)). VisitsAll received sent has_none is_full is_ended is_broken answers over most (take i old ++ p ∷ []) l M N r r2) (sym after)
       (visits-more most (take i old) (take i items) p q M m N r r1 r2 all one))
+
+  -- ---- what is held
+
+  within-after : (v : Visit) (g : OpenGuest S) → (v ≢ Over → IsWithin g) → IsWithinAt (after_visit v g)
+  within-after Again g is = is (λ e. absurd (cc))
+  within-after Rests g is = is (λ e. absurd (cc))
+  within-after Over g is = tt
+
+  within-there : (most : ℕ) (o : Option (OpenGuest S)) (q : Seat S) (M N : D) (r r2 : Option (List ℕ)) → VisitsThere received sent has_none is_full is_ended is_broken answers most o q M N r r2
+      → IfSome o IsWithin → IsWithinAt q
+  within-there most None q M N r r2 v is = subst IsWithinAt (sym v.seat_after) tt
+  within-there most (Some g) q M N r r2 v is = subst IsWithinAt (sym v.seat_after) (within-after v.visit v.guest (λ on. v.within on is))
+
+  within-if : (b : Bool) (most : ℕ) (p q : Seat S) (M N : D) (r r2 : Option (List ℕ)) → VisitsIf received sent has_none is_full is_ended is_broken answers b most p q M N r r2
+      → IsWithinAt p → IsWithinAt q
+  within-if true most p q M N r r2 v is = within-there most p.guest q M N r r2 v is
+  within-if false most p q M N r r2 v is = subst IsWithinAt (sym v.seat_after) is
+
+  pub stay-within : StayWithin received sent has_none is_full is_ended is_broken answers over
+  stay-within most [] [] M N r r2 v is = tt
+  stay-within most (p ∷ ps) (q ∷ qs) M N r r2 v is =
+      (within-if (p.is_ready && not (over M)) most p q M v.0 r v.1 v.2 is.0, stay-within most ps qs v.0 N v.1 r2 v.3 is.1)
+  stay-within most [] (q ∷ qs) M N r r2 v is = absurd v
+  stay-within most (p ∷ ps) [] M N r r2 v is = absurd v
+
+pub first-within : {S : Type 0} (now : ℕ) (socket : S) → IsWithinAt (new_at now socket)
+first-within now socket = omega arith

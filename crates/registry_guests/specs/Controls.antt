@@ -1,5 +1,5 @@
 -- The control socket of a server: who holds the server or stops it, one visitor at a time.
-use Rattle.std.specs.Prelude.{◌≡◌, ◌⊎◌, ◌+◌, ◌-◌, ◌^◌, ◌==◌, ◌∷◌, [], min, nat_le, ℕ, Bool, true, false, List, Option, Some, None, is_none, is_some, not, option_map, ◌&&◌, ◌||◌, if◌then◌else◌}
+use Rattle.std.specs.Prelude.{◌≡◌, ◌⊎◌, ◌+◌, ◌-◌, ◌^◌, ◌==◌, ◌∷◌, [], min, nat_le, ℕ, Bool, true, false, List, Option, Some, None, IfSome, is_none, is_some, not, option_map, ◌&&◌, ◌||◌, if◌then◌else◌}
 use Rattle.std.specs.Io.KnownBytes.{append_known}
 use Rattle.registry_server.specs.declared.connection.Visit.{Visit}
 use Rattle.registry_server.specs.declared.connection.Visit.TheVariants.{Again, Rests, Over}
@@ -155,6 +155,10 @@ after_visit Again v stopping = control (Some v) true (stopping || stops_at v.pos
 after_visit Rests v stopping = control (Some v) false (stopping || stops_at v.post)
 after_visit Over v stopping = control None false (stopping || stops_at v.post)
 
+-- known bytes begin with this one
+abbrev pub BeginsWith : ℕ → Option (List ℕ) → Type 0
+BeginsWith byte known = IfSome known (λ bytes. (more : List ℕ) × (bytes ≡ byte ∷ more))
+
 module _ {S : Type 0} (received sent : S → Option (List ℕ)) (has_none is_ended is_broken : S → Bool) where
   -- The visitor was visited: it goes on at once, rests, or is let go. It rests only where its socket
   -- gives nothing.
@@ -195,3 +199,23 @@ module _ {S : Type 0} (received sent : S → Option (List ℕ)) (has_none is_end
   -- a server that is to end stays so
   abbrev pub StopsStay : Type 0
   StopsStay = (now : ℕ) (old new : Control S) → VisitsControl now old new → stops old ≡ true → stops new ≡ true
+
+  -- ---- and over a whole life
+
+  -- nothing has come of a socket yet, and nothing was sent to it
+  abbrev pub IsSilent : S → Type 0
+  IsSilent socket = IfSome (received socket) (λ bytes. bytes ≡ []) × IfSome (sent socket) (λ bytes. bytes ≡ [])
+
+  -- What may come about, from a server to which nobody came: a visitor comes, is to be visited, is
+  -- visited, and is let go where its time is up.
+  pub data Reached : Control S → Type 0 where
+    begins : Reached nobody
+    comes : (c : Control S) → Reached c → (now : ℕ) (socket : S) → IsSilent socket → Reached (came now socket c)
+    wakes : (c : Control S) → Reached c → Reached (woken c)
+    visited : (c d : Control S) → Reached c → (now : ℕ) → VisitsControl now c d → Reached d
+    let_go : (c : Control S) → Reached c → (now : ℕ) → Reached (kept_at now c)
+
+  -- Whoever holds a server has asked to first of all, and first of all was told so.
+  abbrev pub HoldersAskFirst : Type 0
+  HoldersAskFirst = (c : Control S) (v : Visitor S) → Reached c → c.visitor ≡ Some v → holds_at v.post ≡ true
+      → BeginsWith hold_byte (received v.socket) × BeginsWith hold_byte (sent v.socket)

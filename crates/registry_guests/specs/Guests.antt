@@ -43,6 +43,10 @@ first_guest socket now = guest_at socket [] None (min (now + time_limit) (2 ^ 64
 abbrev pub is_late : {S : Type 0} → OpenGuest S → ℕ → Bool
 is_late g now = nat_le g.until now
 
+-- no more of its message is held than a message may have
+abbrev pub IsWithin : {S : Type 0} → OpenGuest S → Type 0
+IsWithin g = length g.held ≤ message_limit
+
 -- bytes that are no message
 abbrev pub IsNoMessage : List ℕ → Type 0
 IsNoMessage bytes = (ws : List (List ℕ)) (body : List ℕ) → AreWords ws → length body < 2 ^ 64 → bytes ≡ spelling ws body → ⊥
@@ -100,7 +104,7 @@ module _ {S : Type 0} (received sent : S → Option (List ℕ)) (is_ended : S �
       IsComplete held heard socket said M N readings readings2
       ⊎ ((length held < length heard) × Starves answers said M N readings readings2)
 
-  -- Its answer begins, and some of it is sent.
+  -- Its answer begins, and some of it is sent. What was held stays.
   pub record Begins (most : ℕ) (old new : OpenGuest S) (M N : D) (readings readings2 : Option (List ℕ)) : Type 0 where
     pub between : S
     pub heard : List ℕ
@@ -110,12 +114,15 @@ module _ {S : Type 0} (received sent : S → Option (List ℕ)) (is_ended : S �
     pub left : List ℕ
     pub sends : SendsDue received sent between new.socket (sent_as said) left
     pub begun : new.left ≡ Some left
+    pub held : new.held ≡ old.held
 
-  -- Some more of the answer is sent. Neither the service nor the clock is asked.
+  -- Some more of the answer is sent. What was held stays, and neither the service nor the clock is
+  -- asked.
   pub record GoesOn (old new : OpenGuest S) (due : List ℕ) (M N : D) (readings readings2 : Option (List ℕ)) : Type 0 where
     pub left : List ℕ
     pub sends : SendsDue received sent old.socket new.socket due left
     pub begun : new.left ≡ Some left
+    pub held : new.held ≡ old.held
     pub service : N ≡ M
     pub unasked : readings2 ≡ readings
 
@@ -130,10 +137,10 @@ module _ {S : Type 0} (received sent : S → Option (List ℕ)) (is_ended : S �
     pub until : new.until ≡ old.until
 
 -- Before it is answered: its socket is broken; what it sent is too long; or no more comes, and that
--- is no message. Then: its whole answer was sent, or its socket takes no more.
+-- is no message. Then: its whole answer was sent, or its socket is broken.
 abbrev pub IsOverIn : List ℕ → Option (List ℕ) → Bool → Bool → Type 0
 IsOverIn held None ended broken = (broken ≡ true) ⊎ (message_limit < length held) ⊎ ((ended ≡ true) × IsNoMessage held)
-IsOverIn held (Some left) ended broken = (left ≡ []) ⊎ (broken ≡ true) ⊎ (ended ≡ true)
+IsOverIn held (Some left) ended broken = (left ≡ []) ⊎ (broken ≡ true)
 
 -- why a guest is over
 abbrev pub IsOver : {S : Type 0} → (S → Bool) → (S → Bool) → OpenGuest S → Type 0

@@ -1,9 +1,12 @@
 -- Seats for guests: who is visited, and who is let go.
-use Rattle.std.specs.Prelude.{◌≡◌, ◌∷◌, [], ℕ, Bool, true, false, List, Option, Some, None, is_none, is_some, not, ◌&&◌, if◌then◌else◌}
+use Rattle.std.specs.Prelude.{◌≡◌, ◌≢◌, ◌∷◌, [], ℕ, Bool, true, false, List, Option, Some, None, IfSome, is_none, is_some, not, ◌&&◌, ◌||◌, if◌then◌else◌}
+use Rattle.std.specs.List.{AllByRecursion, list_all, list_any}
 use Rattle.registry_server.specs.declared.connection.Visit.{Visit}
 use Rattle.registry_server.specs.declared.connection.Visit.TheVariants.{Again, Rests, Over}
 use Rattle.registry_service.specs.Turns.{Answering}
-use Rattle.registry_guests.specs.Guests.{IsOver, OpenGuest, Visits, first_guest, is_late, must_wait}
+use Rattle.registry_guests.specs.Guests.{IsOver, IsWithin, OpenGuest, Visits, first_guest, is_late, must_wait}
+use Rattle.registry_guests.specs.Controls as controls
+use Rattle.registry_guests.specs.declared.control.Control.{Control}
 use Rattle.registry_guests.specs.declared.hall.Seat.{Seat}
 
 -- as many guests as are there at once
@@ -23,6 +26,18 @@ is_free s = is_none s.guest
 -- somebody is there who is to be visited
 abbrev pub is_due : {S : Type 0} → Seat S → Bool
 is_due s = s.is_ready && is_some s.guest
+
+-- nobody is at any seat
+abbrev pub is_empty : {S : Type 0} → List (Seat S) → Bool
+is_empty seats = list_all is_free seats
+
+-- Somebody can go on at once: who came to hold or stop the server, or a guest, while nobody holds it.
+abbrev pub can_go_on : {S : Type 0} → Control S → List (Seat S) → Bool
+can_go_on control seats = controls.is_due control || (not (controls.holds control) && list_any is_due seats)
+
+-- no more is held of a guest than a message may have, if one is there
+abbrev pub IsWithinAt : {S : Type 0} → Seat S → Type 0
+IsWithinAt s = IfSome s.guest IsWithin
 
 -- a new guest, who is to be visited
 abbrev pub new_at : {S : Type 0} → ℕ → S → Seat S
@@ -47,13 +62,15 @@ after_visit Rests g = seat (Some g) false
 after_visit Over g = seat None false
 
 module _ {S : Type 0} (received sent : S → Option (List ℕ)) (has_none is_full is_ended is_broken : S → Bool) {D : Type 0} (answers : Answering D) where
-  -- A guest was visited: it goes on at once, rests, or is over. It rests only where its socket gives
-  -- nothing of its message, or takes nothing of its answer.
+  -- A guest was visited: it goes on at once, rests, or is over. It goes on or rests only where no more
+  -- of its message is held than one may have; and rests only where its socket gives nothing of it, or
+  -- takes nothing of its answer.
   pub record VisitsOne (most : ℕ) (old : OpenGuest S) (new : Seat S) (M N : D) (readings readings2 : Option (List ℕ)) : Type 0 where
     pub guest : OpenGuest S
     pub visits : Visits received sent is_ended answers most old guest M N readings readings2
     pub visit : Visit
     pub seat_after : new ≡ after_visit visit guest
+    pub within : visit ≢ Over → IsWithin old → IsWithin guest
     pub waits : visit ≡ Rests → must_wait has_none is_full guest ≡ true
     pub over : visit ≡ Over → IsOver is_ended is_broken guest
 
@@ -87,3 +104,12 @@ module _ {S : Type 0} (received sent : S → Option (List ℕ)) (has_none is_ful
       × VisitsAll most seats seats2 between N readings1 readings2
   VisitsAll most [] (q ∷ seats2) M N readings readings2 = ⊥
   VisitsAll most (p ∷ seats) [] M N readings readings2 = ⊥
+
+  -- where no more is held of each guest than a message may have, that stays so
+  abbrev pub StayWithin : Type 0
+  StayWithin = (most : ℕ) (seats seats2 : List (Seat S)) (M N : D) (readings readings2 : Option (List ℕ)) → VisitsAll most seats seats2 M N readings readings2
+      → AllByRecursion IsWithinAt seats → AllByRecursion IsWithinAt seats2
+
+  -- those who are at these seats are visited so
+  abbrev pub VisitsSeats : ℕ → List (Seat S) → D → D → Option (List ℕ) → Option (List ℕ) → Type 0
+  VisitsSeats most seats M N readings readings2 = (seats2 : List (Seat S)) × VisitsAll most seats seats2 M N readings readings2

@@ -10,7 +10,7 @@ use crate::guest_socket::GuestSocket;
 use crate::hall::{GUEST_COUNT, Hall};
 use mio::net::UnixListener;
 use mio::{Registry, Token};
-use registry_server::{FIRST_GUEST, Guests};
+use registry_server::{FIRST_GUEST, Guests, Socket};
 use registry_service::{Clock, Service};
 use std::alloc::Global;
 use std::fs::{DirBuilder, Files};
@@ -198,10 +198,21 @@ impl Door {
 
 impl Guests for Door {
     ghost use Rattle.registry_guests.specs.Controls as spec;
+    ghost use Rattle.registry_guests.specs.Halls.{VisitsSeats, can_go_on, is_empty};
 
     ghost holds = { λ d. spec.holds d.visitor };
 
     ghost stops = { λ d. spec.stops d.visitor };
+
+    ghost busy = { λ d. can_go_on d.visitor d.hall.seats.items };
+
+    ghost empty = { λ d. is_empty d.hall.seats.items };
+
+    ghost visits = { λ answers over most d M N readings readings2.
+        VisitsSeats ⟦<GuestSocket as Socket>⟧.received ⟦<GuestSocket as Socket>⟧.sent
+        ⟦<GuestSocket as Socket>⟧.has_none ⟦<GuestSocket as Socket>⟧.is_full
+        ⟦<GuestSocket as Socket>⟧.is_ended ⟦<GuestSocket as Socket>⟧.is_broken
+        answers over most d.hall.seats.items M N readings readings2 };
 
     fn holds(&self) -> bool {
         self.visitor.holds()

@@ -1,8 +1,8 @@
 //! One guest: its message is received to its end, answered, and the answer sent.
 
-ghost use Rattle.std.specs.Prelude.{◌≡◌, ◌<◌, ◌++◌, [], ℕ, List, true, Some, IfOk, IfSome, IfNone, OnOk, OnErr, length};
+ghost use Rattle.std.specs.Prelude.{◌≡◌, ◌≢◌, ◌<◌, ◌++◌, [], ℕ, List, true, Some, IfOk, IfSome, IfNone, OnOk, OnErr, length};
 ghost use Rattle.registry_guests.specs.Guests as spec;
-ghost use Rattle.registry_guests.specs.Guests.{AnswersMessage, Hears, IsNoMessage, IsOver, IsOverIn, SendsDue, Visits, first_guest, must_wait};
+ghost use Rattle.registry_guests.specs.Guests.{AnswersMessage, Hears, IsNoMessage, IsOver, IsOverIn, IsWithin, SendsDue, Visits, first_guest, must_wait};
 ghost use Rattle.registry_guests.specs.Saying.{sent_as};
 ghost use Rattle.registry_server.specs.declared.connection.Visit.TheVariants as visits;
 ghost use Rattle.registry_server.specs.declared.socket.Flow.TheVariants as flows;
@@ -87,6 +87,7 @@ impl<S: Socket> Guest<S> {
     ) -> Visit
         ensures visits { Visits S.received S.sent S.is_ended D.answers (length buffer.old) self.old self.new
             service.old service.new (C.readings clock.old) (C.readings clock.new) }
+        ensures within { result ≢ visits.Over → IsWithin self.old → IsWithin self.new }
         ensures waits { result ≡ visits.Rests → must_wait S.has_none S.is_full self.new ≡ true }
         ensures over { result ≡ visits.Over → IsOver S.is_ended S.is_broken self.new }
     {
@@ -111,6 +112,7 @@ impl<S: Socket> Guest<S> {
         ensures sends { (left : List ℕ) × SendsDue S.received S.sent self.old.socket self.new.socket (sent_as said) left
             × (self.new.left ≡ Some left) }
         ensures still_ended { S.is_ended self.old.socket ≡ true → S.is_ended self.new.socket ≡ true }
+        ensures held { self.new.held ≡ self.old.held }
         ensures until { self.new.until ≡ self.old.until }
         ensures waits { result ≡ visits.Rests → must_wait S.has_none S.is_full self.new ≡ true }
         ensures over { result ≡ visits.Over → IsOver S.is_ended S.is_broken self.new }
@@ -122,7 +124,7 @@ impl<S: Socket> Guest<S> {
     }
 }
 
-// Receives what has come, and holds it. After an error what came isn't held.
+// Receives what has come, and holds it. After an error what came isn't held, and what was stays.
 fn receive<S: Socket>(
     socket: &mut S,
     held: &mut Vec<u8>,
@@ -132,7 +134,9 @@ fn receive<S: Socket>(
         held.old.items held.new.items) }
     ensures lost { OnErr result ((got : List ℕ) × (0 < length got) × Hears S.received S.sent (length buffer.old)
         socket.old socket.new held.old.items (held.old.items ++ got)) }
+    ensures stays { OnErr result (held.new.items ≡ held.old.items) }
     ensures none { IfOk result (λ flow. flow ≡ flows.Ended → held.new.items ≡ held.old.items) }
+    ensures none_yet { IfOk result (λ flow. flow ≡ flows.Waits → held.new.items ≡ held.old.items) }
     ensures waits { IfOk result (λ flow. flow ≡ flows.Waits → S.has_none socket.new ≡ true) }
     ensures ended { IfOk result (λ flow. flow ≡ flows.Ended → S.is_ended socket.new ≡ true) }
     ensures broken { IfOk result (λ flow. flow ≡ flows.Broken → S.is_broken socket.new ≡ true) }

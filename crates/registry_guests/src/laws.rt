@@ -1,7 +1,9 @@
 //! Laws of guests. Each is the contract of a function that does nothing.
 
-ghost use Rattle.registry_guests.specs.Beside.{AnswersOnce, GuestsGoOn, MakeOneHistory, VisitsFollow, beside_guests};
-ghost use Rattle.registry_guests.specs.Controls.{HoldersHaveAsked, StopsStay};
+ghost use Rattle.std.specs.Prelude.{ℕ};
+ghost use Rattle.registry_guests.specs.Beside.{AnswersOnce, GuestsFollow, GuestsGoOn, MakeOneHistory, VisitsFollow, beside_guests};
+ghost use Rattle.registry_guests.specs.Controls.{HoldersAskFirst, HoldersHaveAsked, StopsStay};
+ghost use Rattle.registry_guests.specs.Halls.{IsWithinAt, StayWithin, new_at};
 ghost use Rattle.registry_server.specs.Worlds.{VisitsLead};
 
 use registry_server::Socket;
@@ -15,20 +17,32 @@ pub fn guests_are_answered_once<S: Socket, D: Service>()
     ensures { AnswersOnce S.received S.sent D.answers S.is_ended }
 {}
 
+/// Of each guest no more is held than a message may have: of one that comes nothing is, and visits keep
+/// it so.
+pub fn guests_hold_little<S: Socket, D: Service>()
+    ensures first { (now : ℕ) (socket : S) → IsWithinAt (new_at now socket) }
+    ensures stay { StayWithin S.received S.sent S.has_none S.is_full S.is_ended S.is_broken D.answers D.over }
+{}
+
 /// Connections and guests have one history. A connection's visit at what guests left is one of a
 /// service that lets guests take turns before a request; by such visits each connection's world is
 /// reached; and in it there is one list of turns such that the service is what they leave, each
-/// taken at what all older ones and the guests' turns before it left.
+/// taken at what all older ones and the guests' turns before it left. The turns of guests are kept
+/// beside the service, and are those that guests are answered by: a visit of a guest adds the turn that
+/// is taken in it, if one is, and nothing else adds any.
 pub fn guests_share_one_history<S: Socket, D: Service>()
     ensures guests { GuestsGoOn D.answers }
+    ensures answered { GuestsFollow S.received S.sent D.answers S.is_ended }
     ensures follows { VisitsFollow S.received S.sent D.answers }
     ensures leads { VisitsLead S.received S.sent (beside_guests D.answers) }
     ensures one { MakeOneHistory D.answers }
 {}
 
-/// Who holds a server has asked to, and was told so, and the server wasn't to end then. A server that
-/// is to end stays so.
+/// Whoever holds a server, whatever has come about before, has asked to by its first byte, and was told
+/// so by the first that was sent to it. In the visit in which it begins to hold the server it asks, is
+/// told so, and the server isn't to end. A server that is to end stays so in a visit.
 pub fn holders_have_asked<S: Socket>()
+    ensures first { HoldersAskFirst S.received S.sent S.has_none S.is_ended S.is_broken }
     ensures asked { HoldersHaveAsked S.received S.sent S.has_none S.is_ended S.is_broken }
     ensures stay { StopsStay S.received S.sent S.has_none S.is_ended S.is_broken }
 {}

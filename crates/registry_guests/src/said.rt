@@ -6,7 +6,7 @@ ghost use Rattle.registry_guests.specs.Saying as spec;
 ghost use Rattle.registry_cli.specs.Prints.{newline};
 ghost use Rattle.registry_guests.specs.Saying.{on_usage, printed_of, prints};
 
-use registry_names::{Blob, Fault, Refusal, Text};
+use registry_names::{Fault, Refusal, Text};
 use registry_rules::Reply;
 use registry_service::Body;
 use registry_wire::ShortText;
@@ -68,7 +68,7 @@ impl Said {
         let is_line = !ends_line(text.as_str().as_bytes());
         Said {
             status: 2,
-            body: Body::Bytes(Blob::from(text.into_string().into_bytes())),
+            body: Body::Text(text),
             is_line,
         }
     }

@@ -1,3 +1,5 @@
 mod ColumnFacts
 mod TargetFacts
 mod TokenFacts
+mod EndFacts
+mod NoteFacts

@@ -1,3 +1,4 @@
 pub mod Lines
 pub mod Waitings
+pub mod Logs
 pub mod Laws

@@ -55,6 +55,12 @@ abbrev pub time_text : Option ℕ → List ℕ
 time_text None = []
 time_text (Some n) = decimal (n / 1000) ++ codes "." ++ decimal (n / 100 % 10)
 
--- the line of a request: seven columns
+-- a line of seven columns: the moment, the user, the method, the target, the status, the length of the
+-- answer, and for how long the registry was asked
+abbrev pub line_with : ℕ → List ℕ → Option Method → List ℕ → ℕ → ℕ → Option ℕ → List ℕ
+line_with at user method target status length micros =
+    cell (utc_text at) ++ cell user ++ cell (method_text method) ++ cell (masked target) ++ cell (decimal status) ++ cell (decimal length) ++ last_cell (time_text micros)
+
+-- the line of a request
 abbrev pub line_of : Entry → List ℕ
-line_of e = cell (utc_text e.at) ++ cell e.user.now ++ cell (method_text e.method) ++ cell (masked e.target.now) ++ cell (decimal e.status) ++ cell (decimal e.length) ++ last_cell (time_text e.micros)
+line_of e = line_with e.at e.user.now e.method e.target.now e.status e.length e.micros

@@ -1,16 +1,20 @@
 //! A log of what was answered.
 
-ghost use Rattle.std.specs.Prelude.{◌≤◌, length};
+ghost use Rattle.std.specs.Prelude.{◌≡◌, ◌≤◌, [], length, string_bytes, None, IfErr, IfOk, IfSome, if◌then◌else◌};
+ghost use Rattle.registry_log.specs.Logs as spec;
+ghost use Rattle.registry_log.specs.Logs.{IsPut, IsWritten, NotesTurn, Remembers, Rests, SaysLine, logging, turn_line};
+ghost use Rattle.registry_log.specs.Waitings.{queue};
 
 use crate::entry::Entry;
 use crate::log_clock::LogClock;
 use crate::sink::LineSink;
 use crate::waiting::Waiting;
-use registry_names::{Fault, Ident, Moment};
+use registry_names::{Fault, Ident, Method, Moment};
 use registry_packument::moment_text;
 use registry_service::Turned;
 use registry_wire::Wanted;
 use std::alloc::{AllocError, Global};
+use std::marker::Model;
 
 /// What the registry answered, and wasn't noted yet.
 #[derive(Drop)]
@@ -22,7 +26,7 @@ struct Answered {
 
 /// A log: lines that wait, and where they are written. No call of it fails: where there is no memory
 /// for a line, or it can't be written, it is lost, and how many were is said in the log once it can
-/// be written.
+/// be written. Contracts see what waits, and what was answered and wasn't noted yet.
 #[derive(Drop)]
 pub struct Log<K: LogClock, W: LineSink> {
     alloc: Global,
@@ -34,9 +38,19 @@ pub struct Log<K: LogClock, W: LineSink> {
     is_cut: bool,
 }
 
+impl<K: LogClock, W: LineSink> Model for Log<K, W> {
+    ghost use Rattle.registry_log.specs.Logs.{Logging, logging};
+
+    ghost Value = { Logging };
+
+    ghost view = { λ l. logging l.waiting l.answered };
+}
+
 impl<K: LogClock + Drop, W: LineSink + Drop> Log<K, W> {
     /// A log in which nothing was written. An error comes where no memory is left.
-    pub fn new(alloc: Global, clock: K, sink: W) -> Result<Log<K, W>, AllocError> {
+    pub fn new(alloc: Global, clock: K, sink: W) -> Result<Log<K, W>, AllocError>
+        ensures { IfOk result (λ log. log ≡ logging (queue [] 0) None) }
+    {
         Ok(Log {
             alloc,
             clock,
@@ -51,7 +65,9 @@ impl<K: LogClock + Drop, W: LineSink + Drop> Log<K, W> {
 impl<K: LogClock, W: LineSink> Log<K, W> {
     /// Writes a line that is no request's, as `2026-11-26T10:00:00.000Z # ended`, and what waits
     /// before it.
-    pub fn say(&mut self, text: &str) {
+    pub fn say(&mut self, text: &str)
+        ensures { SaysLine text.now self.old self.new }
+    {
         let at = self.clock.moment();
         match said(self.alloc, at, text) {
             Ok(line) => self.add(line.as_bytes()),
@@ -61,24 +77,29 @@ impl<K: LogClock, W: LineSink> Log<K, W> {
     }
 
     /// When the registry begins to answer a request, for [`answered`](Log::answered).
-    pub fn begin(&mut self) -> u64 {
+    pub fn begin(&mut self) -> u64
+        ensures { self.new ≡ self.old }
+    {
         self.clock.micros()
     }
 
     /// The registry has answered a request, which was asked at this moment, by this user if it was
     /// one, and which it began to answer then.
-    pub fn answered(&mut self, at: Moment, user: Option<Ident>, begun: u64) {
+    pub fn answered(&mut self, at: Moment, user: Option<Ident>, begun: u64)
+        ensures { Remembers at user begun self.old self.new }
+    {
         let micros = self.clock.micros().saturating_sub(begun);
         self.answered = Some(Answered { at, user, micros });
     }
 
-    /// A turn was taken for this request, or for what is none. Its line waits.
-    pub fn note(&mut self, wanted: Option<&Wanted>, turned: &Turned) {
+    /// A turn was taken for this request, or for what is none. Its line waits: where the registry was
+    /// asked it has the moment of that, and its user and time, and else the moment that it is. A line
+    /// is lost where there is no memory or no room for it.
+    pub fn note(&mut self, wanted: Option<&Wanted>, turned: &Turned)
+        ensures { NotesTurn wanted.entry turned.now self.old self.new }
+    {
         let answered = self.answered.take();
-        let at = match &answered {
-            Some(answered) => answered.at,
-            None => self.clock.moment(),
-        };
+        let at = self.moment(&answered);
         match line(self.alloc, at, &answered, wanted, turned) {
             Ok(line) => self.add(line.as_slice()),
             Err(_) => self.waiting.lose(1),
@@ -86,14 +107,30 @@ impl<K: LogClock, W: LineSink> Log<K, W> {
     }
 
     /// A round of turns is over: what waits is written.
-    pub fn rest(&mut self) {
+    pub fn rest(&mut self)
+        ensures { Rests self.old self.new }
+    {
         // A command beside the server is answered, too, and has no line.
         self.answered = None;
         self.write();
     }
 
+    // The moment at which the registry was asked, or that it is, where it wasn't.
+    fn moment(&mut self, answered: &Option<Answered>) -> Moment
+        ensures asked { IfSome answered.now (λ a. result ≡ a.at) }
+        ensures keeps { self.new ≡ self.old }
+    {
+        match answered {
+            Some(answered) => answered.at,
+            None => self.clock.moment(),
+        }
+    }
+
     // A line waits. Where there is no room for it what waits is written first.
-    fn add(&mut self, line: &[u8]) {
+    fn add(&mut self, line: &[u8])
+        ensures put { IsPut line.now self.old.waiting self.new.waiting }
+        ensures keeps { self.new.answered ≡ self.old.answered }
+    {
         if !self.waiting.has_room(line.len()) {
             self.write();
         }
@@ -102,12 +139,11 @@ impl<K: LogClock, W: LineSink> Log<K, W> {
 
     // Writes what waits, and before it how many lines were lost, if some were. Where that can't be
     // said, what waits is lost, too.
-    fn write(&mut self) {
-        let is_told = self.tell_lost();
-        if self.waiting.as_slice().is_empty() {
-            return;
-        }
-        let written = if is_told {
+    fn write(&mut self)
+        ensures written { IsWritten self.old.waiting self.new.waiting }
+        ensures keeps { self.new.answered ≡ self.old.answered }
+    {
+        let written = if self.tell_lost() {
             put(&mut self.sink, &mut self.is_cut, self.waiting.as_slice())
         } else {
             0
@@ -116,7 +152,11 @@ impl<K: LogClock, W: LineSink> Log<K, W> {
     }
 
     // Says how many lines were lost, if some were: whether that is done.
-    fn tell_lost(&mut self) -> bool {
+    fn tell_lost(&mut self) -> bool
+        ensures told { self.new.waiting
+            ≡ (if result then queue self.old.waiting.bytes 0 else self.old.waiting) }
+        ensures keeps { self.new.answered ≡ self.old.answered }
+    {
         let lost = self.waiting.lost();
         if lost == 0 {
             return true;
@@ -134,10 +174,13 @@ impl<K: LogClock, W: LineSink> Log<K, W> {
     }
 }
 
-// Puts bytes behind what is written, and sees whether that ends within a line then.
+// Puts bytes behind what is written, if there are some, and sees whether that ends within a line then.
 fn put<W: LineSink>(sink: &mut W, is_cut: &mut bool, bytes: &[u8]) -> usize
     ensures { result ≤ length bytes.now }
 {
+    if bytes.is_empty() {
+        return 0;
+    }
     let count = sink.append(bytes);
     if let Some(last) = bytes[..count].last() {
         *is_cut = *last != b'\n';
@@ -145,51 +188,93 @@ fn put<W: LineSink>(sink: &mut W, is_cut: &mut bool, bytes: &[u8]) -> usize
     count
 }
 
-// The line of a turn.
+// The line of a turn at this moment.
 fn line(
     alloc: Global,
     at: Moment,
     answered: &Option<Answered>,
     wanted: Option<&Wanted>,
     turned: &Turned,
-) -> Result<Vec<u8>, Fault> {
-    let (user, micros) = match answered {
-        Some(answered) => (user_text(&answered.user), Some(answered.micros)),
-        None => ("", None),
-    };
-    let (method, target) = match wanted {
-        Some(wanted) => (Some(wanted.method), wanted.target.as_slice()),
-        None => (None, b"".as_slice()),
-    };
+) -> Result<Vec<u8>, Fault>
+    ensures ok { IfOk result (λ line.
+        line.items ≡ turn_line at answered.now wanted.entry turned.now) }
+    ensures err { IfErr result (λ fault. fault ≡ Fault.Memory) }
+{
     let entry = Entry {
         at,
-        user,
-        method,
-        target,
+        user: user_in(answered),
+        method: method_in(wanted),
+        target: target_in(wanted),
         status: turned.answer.status.as_u16(),
         length: turned.answer.body.as_slice().len() as u64,
-        micros,
+        micros: micros_in(answered),
     };
     entry.line(alloc)
 }
 
+// The user who asked. Empty where the registry wasn't asked, or by none.
+fn user_in(answered: &Option<Answered>) -> &str
+    ensures { result.now ≡ spec.user_in answered.now }
+{
+    match answered {
+        Some(answered) => user_text(&answered.user),
+        None => "",
+    }
+}
+
 // The name of a user, or nothing.
-fn user_text(user: &Option<Ident>) -> &str {
+fn user_text(user: &Option<Ident>) -> &str
+    ensures { result.now ≡ spec.name_in user.now }
+{
     match user {
         Some(user) => user.text(),
         None => "",
     }
 }
 
+// For how many microseconds the registry was asked, if it was.
+fn micros_in(answered: &Option<Answered>) -> Option<u64>
+    ensures { result ≡ spec.micros_in answered.now }
+{
+    match answered {
+        Some(answered) => Some(answered.micros),
+        None => None,
+    }
+}
+
+// The method of a request, if one was read.
+fn method_in(wanted: Option<&Wanted>) -> Option<Method>
+    ensures { result ≡ spec.method_in wanted.entry }
+{
+    match wanted {
+        Some(wanted) => Some(wanted.method),
+        None => None,
+    }
+}
+
+// Its target, if one was read.
+fn target_in<'a>(wanted: Option<&'a Wanted>) -> &'a [u8]
+    ensures { result.now ≡ spec.target_in wanted.entry }
+{
+    match wanted {
+        Some(wanted) => wanted.target.as_slice(),
+        None => b"",
+    }
+}
+
 // A line that is no request's.
-fn said(alloc: Global, at: Moment, text: &str) -> Result<String, Fault> {
+fn said(alloc: Global, at: Moment, text: &str) -> Result<String, Fault>
+    ensures { IfOk result (λ line. string_bytes line ≡ spec.said_line at text.now) }
+{
     let at = moment_text(alloc, at)?;
     Ok(format!(in alloc; "{} # {}\n", at.as_str(), text)?)
 }
 
 // The line that says how many lines were lost. Where what is written ends within a line, that is
 // ended first.
-fn lost_line(alloc: Global, at: Moment, lost: u64, is_cut: bool) -> Result<String, Fault> {
+fn lost_line(alloc: Global, at: Moment, lost: u64, is_cut: bool) -> Result<String, Fault>
+    ensures { IfOk result (λ line. string_bytes line ≡ spec.lost_line at lost is_cut) }
+{
     let before = if is_cut { "\n" } else { "" };
     let at = moment_text(alloc, at)?;
     Ok(format!(in alloc; "{}{} # lost lines: {}\n", before, at.as_str(), lost)?)

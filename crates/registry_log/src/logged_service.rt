@@ -1,9 +1,9 @@
 //! A registry as a service that may keep a log.
 
-ghost use Rattle.std.specs.Prelude.{◌≡◌};
+ghost use Rattle.std.specs.Prelude.{◌≡◌, true};
 ghost use Rattle.sqlite.specs.State.{Survives};
 ghost use Rattle.registry_desk.specs.Promises.{KeepsStored, WasOpen};
-ghost use Rattle.registry_http.specs.Services.{applied, shown};
+ghost use Rattle.registry_http.specs.Services.{EndsByFault, EndsIfShut, applied, shown};
 
 use crate::log::Log;
 use crate::log_clock::LogClock;
@@ -78,8 +78,14 @@ impl<S: Alter, K: LogClock, W: LineSink> Service for LoggedService<S, K, W> {
     ghost over = { λ s. s.is_over };
 
     /// Answers one request as a [`RegistryService`] does. Where a log is kept it is looked up before
-    /// who asks.
-    fn answer(&mut self, alloc: Global, request: &Request) -> Result<Reply, Fault> {
+    /// who asks. It is over as a [`RegistryService`] is: where the registry was seen to be shut, by
+    /// that fault alone, and then for good.
+    fn answer(&mut self, alloc: Global, request: &Request) -> Result<Reply, Fault>
+        ensures answers { applied (shown S.Store) self.old request.now result self.new }
+        ensures shut { EndsIfShut S.Store self.new result }
+        ensures ends { EndsByFault S.Store self.old self.new result }
+        ensures latched { self.old.is_over ≡ true → self.new.is_over ≡ true }
+    {
         match &mut self.log {
             Some(log) => asked(alloc, &mut self.inner, log, request),
             None => self.inner.answer(alloc, request),
@@ -112,7 +118,10 @@ fn asked<S: Alter, K: LogClock, W: LineSink>(
     log: &mut Log<K, W>,
     request: &Request,
 ) -> Result<Reply, Fault>
-    ensures { applied (shown S.Store) inner.old request.now result inner.new }
+    ensures answers { applied (shown S.Store) inner.old request.now result inner.new }
+    ensures shut { EndsIfShut S.Store inner.new result }
+    ensures ends { EndsByFault S.Store inner.old inner.new result }
+    ensures latched { inner.old.is_over ≡ true → inner.new.is_over ≡ true }
 {
     let user = user_of(alloc, inner, &request.who);
     let begun = log.begin();
@@ -130,6 +139,7 @@ fn user_of<S: Alter>(
     ensures opened { WasOpen (shown S.Store inner.old) (shown S.Store inner.new) }
     ensures stored { KeepsStored (shown S.Store inner.old) (shown S.Store inner.new) }
     ensures survives { Survives (shown S.Store inner.old) (shown S.Store inner.new) (λ _. ⊥) }
+    ensures over { inner.new.is_over ≡ inner.old.is_over }
 {
     match who {
         Credential::Token(digest) => match inner.user_of(alloc, digest) {

@@ -1,11 +1,11 @@
 -- How many bytes the packument has: those that are counted, and those of the rows that are left.
-use Rattle.std.proofs.Common.{◌≡◌, ℕ, ◌+◌, ◌^◌, ◌≤◌, ◌⊎◌, inl, inr, Bool, true, false, List, [], ◌∷◌, length, Option, Some, None, option_map, option_and_then, unwrap_or, refl, ap, sym, ◌∙◌, arith, append_assoc, length-append}
+use Rattle.std.proofs.Common.{◌≡◌, ℕ, ◌+◌, ◌^◌, ◌≤◌, ◌⊎◌, inl, inr, Bool, true, false, List, [], ◌∷◌, ◌++◌, length, Option, Some, None, option_map, option_and_then, unwrap_or, refl, ap, sym, ◌∙◌, arith, append_assoc, length-append}
 use Rattle.std.specs.Prelude.{nat_lt, if◌then◌else◌}
 use Rattle.std.proofs.lemmas.Bool.{le-ltb}
 use Rattle.std.proofs.lemmas.Option.{none-some}
 use Rattle.registry_packument.specs.ObjectTexts.{Pair, member_text, members_text, object_text}
 use Rattle.registry_packument.specs.Packuments.{version_pair, version_pairs, pack_pairs, opening_text, versions_text, pack_text, pack_len}
-use Rattle.registry_packument.specs.Writing.{IsFaultOf}
+use Rattle.registry_packument.specs.Writing.{Adds, IsFaultOf}
 use Rattle.registry_names.specs.declared.stop.Fault.{Fault}
 use Rattle.registry_names.specs.declared.stop.Fault.TheVariants.{Memory, Database}
 use Rattle.registry_packument.specs.Heads.{HeadParts}
@@ -90,3 +90,25 @@ pub opening_fault : (head : HeadParts) (rows : List VersionRow) (fault : Fault) 
 opening_fault head rows fault (inl memory) = rw memory tt
 opening_fault head rows fault (inr much) =
     is_fault fault _ (too_many_at (length (opening_text head)) false (version_pairs rows) (pack_text head rows) (with_left-start head rows (length (opening_text head)) refl) much)
+
+-- memory ran out, or the end is too much
+pub closing_fault : (head : HeadParts) (all rows : List VersionRow) (count : ℕ) (later : Bool) (fault : Fault) → rows ≡ [] → with_left count later rows ≡ whole_len head all
+    → (fault ≡ Memory) ⊎ (2 ^ 64 ≤ count + 2) → IsFaultOf (pack_len head all) fault
+closing_fault head all rows count later fault none left (inl memory) = rw memory tt
+closing_fault head all rows count later fault none left (inr much) = is_fault fault _ (too_long (pack_text head all) (count + 2) (rw none at left) much)
+
+-- ---- one row
+
+same_pair : (a p : Pair) → Some a ≡ Some p → a ≡ p
+same_pair a p e = ap (λ o. unwrap_or o a) e
+
+-- a member has as many bytes as its key and its document
+pub member_long : (later : Bool) (pair : Option Pair) (key document : List ℕ) → Adds (member_text later) pair [] (key ++ document) → (p : Pair) → pair ≡ Some p
+    → length (member_text later p) ≡ length key + length document
+member_long later pair key document (a, (is, w)) p e =
+    ap (λ q. length (member_text later q)) (sym (same_pair a p (sym is ∙ e))) ∙ sym (ap length w) ∙ length-append key document
+
+pub row_long : (later : Bool) (pair : Option Pair) (key document : List ℕ) (count sum : ℕ) → Adds (member_text later) pair [] (key ++ document) → sum ≡ count + length key + length document
+    → (p : Pair) × (pair ≡ Some p) × (sum ≡ count + length (member_text later p))
+row_long later pair key document count sum adds e =
+    (adds.0, adds.1.0, omega (arith, e, member_long later pair key document adds adds.0 adds.1.0))

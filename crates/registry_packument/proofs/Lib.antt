@@ -11,3 +11,4 @@ pub mod QuotedFacts
 pub mod SendingFacts
 pub mod StreamFacts
 pub mod ValueFacts
+pub mod WithinFacts

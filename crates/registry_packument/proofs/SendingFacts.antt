@@ -1,6 +1,6 @@
 -- What was written of a packument that is sent: what opens it, what comes before its first version,
 -- and the rest.
-use Rattle.std.proofs.Common.{◌≡◌, ℕ, zero, suc, ◌+◌, ◌-◌, ◌<◌, ◌≤◌, ◌^◌, Bool, true, false, nat_lt, if◌then◌else◌, List, [], ◌∷◌, ◌++◌, length, Option, Some, None, option_and_then, unwrap_or, refl, ap, sym, subst, ◌∙◌, arith, append_assoc, length-append, length-take-le, lit<, take, option_map}
+use Rattle.std.proofs.Common.{◌≡◌, ◌≢◌, ℕ, zero, suc, ◌+◌, ◌-◌, ◌<◌, ◌≤◌, ◌^◌, ◌⊎◌, inl, inr, Bool, true, false, nat_lt, if◌then◌else◌, List, [], ◌∷◌, ◌++◌, length, Option, Some, None, option_and_then, unwrap_or, refl, ap, sym, subst, ◌∙◌, arith, append_assoc, length-append, length-take-le, lit<, take, option_map}
 use Rattle.std.specs.Prelude.{Result, Ok, Err, OnOk, OnErr}
 use Rattle.std.proofs.Math.Seq.{take-append-add}
 use Rattle.std.proofs.lemmas.Option.{none-some}
@@ -9,13 +9,15 @@ use Rattle.registry_names.proofs.ByteStreamFacts.{Writes-append, Writes-nothing,
 use Rattle.json.specs.Print.{quoted}
 use Rattle.serde_json.specs.Data.{Members}
 use Rattle.serde_json.specs.Written.{comma_if}
+use Rattle.registry_names.specs.declared.stop.Fault.{Fault}
+use Rattle.registry_names.specs.declared.stop.Fault.TheVariants.{Memory, Database}
 use Rattle.registry_packument.specs.Documents.{documented, manifest_members}
 use Rattle.registry_packument.specs.Heads.{HeadParts}
 use Rattle.registry_packument.specs.ObjectTexts.{Pair, member_text, members_text, object_text}
-use Rattle.registry_packument.specs.Packuments.{opening_text, pack_len, pack_pairs, pack_text, version_pairs, versions_text}
+use Rattle.registry_packument.specs.Packuments.{opening_text, pack_len, pack_pairs, pack_text, version_pair, version_pairs, versions_text}
 use Rattle.registry_packument.specs.Sendings as sendings
 use Rattle.registry_packument.specs.Sendings.{WritesSome, opened}
-use Rattle.registry_packument.specs.Counted.{IsUnbroken, IsUnstopped, Takes, WritesWithin, end_of, row_text, rows_text}
+use Rattle.registry_packument.specs.Counted.{IfBroken, IsBreak, IsFaultOfLen, IsUnbroken, IsUnstopped, Takes, WritesWithin, end_of, row_text, rows_text}
 use Rattle.registry_packument.specs.Streams.{failures_after}
 use Rattle.registry_packument.specs.declared.opener.Sent.TheVariants.{Whole, WriteFault}
 use Rattle.registry_packument.specs.declared.stream.PackFault.{PackFault}
@@ -238,3 +240,59 @@ pub prefix_within : {a b : Option (List ℕ)} {s : Bool} (text : List ℕ) (left
     → (bytes : List ℕ) × ((length bytes < room + 1) × Writes a b s bytes)
 prefix_within text left room fits failed =
     (take failed.count text, (omega (arith, length-take-le failed.count text (omega (arith, failed.is_less)), failed.is_less, fits), failed.wrote))
+
+-- ---- what breaks it off
+
+-- the versions that are left have two bytes at least, since these end the packument
+pub two_at_least : (later : Bool) (rows : List VersionRow) → 2 ≤ length (rows_text later rows)
+two_at_least later [] = let two : length (rows_text later []) ≡ 2 = refl in omega (arith, two)
+two_at_least later (row ∷ rows) =
+    omega (arith, length-append (row_text later row) (rows_text true rows), two_at_least true rows)
+
+missing_at : (pair : Option Pair) (left : Option (List Pair)) → left ≡ None → option_and_then (λ p. option_map (λ ps. p ∷ ps) left) pair ≡ None
+missing_at None left none = refl
+missing_at (Some p) left none = ap (option_map (λ ps. p ∷ ps)) none
+
+-- where a document is missing behind a row, or the row's own, one of all is missing
+pub missing_behind : (row : VersionRow) (old rows : List VersionRow) → old ≡ row ∷ rows → version_pairs rows ≡ None → version_pairs old ≡ None
+missing_behind row old rows gives none = ap version_pairs gives ∙ missing_at (version_pair row) (version_pairs rows) none
+
+pub missing_first : (row : VersionRow) (old rows : List VersionRow) → old ≡ row ∷ rows → version_pair row ≡ None → version_pairs old ≡ None
+missing_first row old rows gives none =
+    ap version_pairs gives ∙ ap (λ pair. option_and_then (λ p. option_map (λ ps. p ∷ ps) (version_pairs rows)) pair) none
+
+-- a row isn't written: its document is missing, or it has more bytes than are left
+pub broken_at_row : (room left : ℕ) (later : Bool) (row : VersionRow) (all old rows : List VersionRow) → old ≡ row ∷ rows → (version_pairs old ≡ None → version_pairs all ≡ None)
+    → length (rows_text false all) + left ≡ room + length (rows_text later old) → (version_pair row ≡ None) ⊎ (left < length (row_text later row))
+    → (version_pairs all ≡ None) ⊎ (length (rows_text false all) ≢ room + 2)
+broken_at_row room left later row all old rows gives missing long (inl none) = inl (missing (missing_first row old rows gives none))
+broken_at_row room left later row all old rows gives missing long (inr more) =
+    inr (λ e. omega (arith, e, long, more, ap (λ rs. length (rows_text later rs)) gives, length-append (row_text later row) (rows_text true rows), two_at_least true rows))
+
+differs : (fault : Fault) (counted : ℕ) (has : Option ℕ) → has ≢ Some counted → IsFaultOfLen counted has fault
+differs Memory counted has differ = tt
+differs Database counted has differ = differ
+
+-- memory ran out before the first byte, or what comes before the first version leaves no room
+pub start_fault : (stopped : Option Fault) (head : HeadParts) (rows : List VersionRow) (len : ℕ) (fault : Fault) → (fault ≡ Memory) ⊎ (len < length (opening_text head) + 2)
+    → IsBreak stopped len (pack_len head rows) fault
+start_fault stopped head rows len fault (inl memory) = inr (rw memory tt)
+start_fault stopped head rows len fault (inr short) =
+    inr (differs fault len (pack_len head rows)
+    (λ counted. omega (arith, counted_long head rows len counted, length-append (opening_text head) (rows_text false rows), two_at_least false rows, short)))
+
+rows_fault : (stopped : Option Fault) (head : HeadParts) (rows : List VersionRow) (len room : ℕ) → length (opening_text head) + (room + 2) ≡ len
+    → (stopped ≡ Some Database) ⊎ ((version_pairs rows ≡ None) ⊎ (length (rows_text false rows) ≢ room + 2)) → IsBreak stopped len (pack_len head rows) Database
+rows_fault stopped head rows len room all (inl own) = inl own
+rows_fault stopped head rows len room all (inr (inl none)) =
+    inr (λ counted. none-some _ (sym (ap (option_map (λ ps. object_text (pack_pairs head ps))) none) ∙ counted_text head rows len counted))
+rows_fault stopped head rows len room all (inr (inr differ)) =
+    inr (λ counted. differ (omega (arith, counted_long head rows len counted, length-append (opening_text head) (rows_text false rows), all)))
+
+pub end_fault : {A : Type 0} (stopped : Option Fault) (head : HeadParts) (rows : List VersionRow) (len room : ℕ) → length (opening_text head) + (room + 2) ≡ len → (result : Result A PackFault)
+    → (result ≡ Err (Source Database) → (stopped ≡ Some Database) ⊎ ((version_pairs rows ≡ None) ⊎ (length (rows_text false rows) ≢ room + 2)))
+    → IfBroken (end_of result) (IsBreak stopped len (pack_len head rows))
+end_fault stopped head rows len room all (Ok done) says = tt
+end_fault stopped head rows len room all (Err Write) says = tt
+end_fault stopped head rows len room all (Err (Source Memory)) says = inr tt
+end_fault stopped head rows len room all (Err (Source Database)) says = rows_fault stopped head rows len room all (says refl)

@@ -1,7 +1,9 @@
 -- What a stream took of a packument that is sent, where it is known what its text is, or how many
 -- bytes it has.
-use Rattle.std.specs.Prelude.{◌≡◌, ◌<◌, ℕ, Bool, true, false, List, [], ◌∷◌, ◌++◌, length, Option, Result, Ok, Err, ⊤}
+use Rattle.std.specs.Prelude.{◌≡◌, ◌≢◌, ◌<◌, ◌⊎◌, ℕ, Bool, true, false, List, [], ◌∷◌, ◌++◌, length, Option, Some, Result, Ok, Err, ⊤}
 use Rattle.registry_names.specs.ByteStreams.{Writes, WritesPrefix}
+use Rattle.registry_names.specs.declared.stop.Fault.{Fault}
+use Rattle.registry_names.specs.declared.stop.Fault.TheVariants.{Memory, Database}
 use Rattle.registry_packument.specs.Documents.{documented}
 use Rattle.registry_packument.specs.ObjectTexts.{member_text}
 use Rattle.registry_packument.specs.Sendings.{WritesSome, opened}
@@ -12,8 +14,8 @@ use Rattle.registry_packument.specs.declared.stream.PackFault.{PackFault}
 use Rattle.registry_packument.specs.declared.stream.PackFault.TheVariants.{Write, Source}
 
 module _ (opens : ℕ → List ℕ) (IsText : List ℕ → Type 0) (old new : Option (List ℕ)) (unknown : Bool) where
-  -- The stream took what opens the text and the text, or a prefix of these. It is some text of which
-  -- `IsText` says so
+  -- Of some text for which `IsText` holds, the stream took what opens it and the text, or a prefix of
+  -- these
   abbrev pub Takes : Sent → Type 0
   Takes (Refused refusal) = ⊥
   Takes Whole = (text : List ℕ) × (IsText text × Writes old new unknown (opened opens text))
@@ -27,6 +29,23 @@ IsUnbroken (Refused refusal) = ⊤
 IsUnbroken Whole = ⊤
 IsUnbroken WriteFault = ⊤
 IsUnbroken (Broken fault has_started) = ⊥
+
+-- where it is broken off, it is by such a fault
+abbrev pub IfBroken : Sent → (Fault → Type 0) → Type 0
+IfBroken (Refused refusal) IsSuch = ⊤
+IfBroken Whole IsSuch = ⊤
+IfBroken WriteFault IsSuch = ⊤
+IfBroken (Broken fault has_started) IsSuch = IsSuch fault
+
+-- Of a packument so many bytes were counted, and its rows have so many, where there is one of them.
+-- Memory may run out in any case; the database is at fault only where they haven't those counted
+abbrev pub IsFaultOfLen : ℕ → Option ℕ → Fault → Type 0
+IsFaultOfLen counted has Memory = ⊤
+IsFaultOfLen counted has Database = has ≢ Some counted
+
+-- what breaks it off: the fault that the source stopped at, or one of these
+abbrev pub IsBreak : Option Fault → ℕ → Option ℕ → Fault → Type 0
+IsBreak stopped counted has fault = (stopped ≡ Some fault) ⊎ IsFaultOfLen counted has fault
 
 -- the machine didn't fail while the versions were written: all were, or a write failed
 abbrev pub IsUnstopped : {A : Type 0} → Result A PackFault → Type 0

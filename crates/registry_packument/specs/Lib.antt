@@ -13,4 +13,5 @@ pub mod Sendings
 pub mod Sources
 pub mod Streams
 pub mod TextValues
+pub mod Within
 pub mod Writing

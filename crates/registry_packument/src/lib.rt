@@ -10,7 +10,8 @@
 //! The versions of a packument come from a source, which gives them one after the other. Its text is
 //! made whole, once, into exact room: for that all its documents are held. Or it is written version
 //! by version, or its bytes are counted: for that one version is held at a time. A fault leaves a
-//! prefix of what is written, and nothing else.
+//! prefix of what is written, and nothing else. In one walk it is also made whole where it has no
+//! more bytes than a limit, and else only counted.
 #![tactic(auto)]
 
 mod document;
@@ -27,6 +28,7 @@ mod sending;
 mod source;
 mod stream;
 mod times;
+mod within;
 
 pub use crate::document::version_text;
 pub use crate::head::PackHead;
@@ -38,3 +40,4 @@ pub use crate::sending::{send_counted, send_text};
 pub use crate::source::{VersionRows, VersionSource};
 pub use crate::stream::{PackFault, packument_len, write_packument};
 pub use crate::times::{PackTimes, VersionTime};
+pub use crate::within::{PackumentWithin, packument_within};

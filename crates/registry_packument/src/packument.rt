@@ -67,7 +67,8 @@ impl VersionRow {
     /// The version's member in one piece, where its manifest is known to be one. Without a message the
     /// manifest isn't read.
     pub(crate) fn into_known_member(self, alloc: Global, later: bool) -> Result<String, Fault>
-        ensures { IfOk result (λ text. string_bytes text ≡ row_text later self) }
+        ensures ok { IfOk result (λ text. string_bytes text ≡ row_text later self) }
+        ensures err { IfErr result (IsFaultOf (version_pair self)) }
     {
         let VersionRow {
             version,

@@ -1,15 +1,16 @@
 //! Packuments that are sent: what opens one for its length, and its bytes.
 
-ghost use Rattle.std.specs.Prelude.{◌≡◌, ◌≢◌, ◌+◌, ◌++◌, true, false, Err, Some, None, length, string_bytes, OnOk, OnErr, IfOk, IfErr};
+ghost use Rattle.std.specs.Prelude.{◌≡◌, ◌≢◌, ◌+◌, ◌++◌, ◌<◌, ◌⊎◌, [], true, false, Err, Some, None, length, string_bytes, OnOk, OnErr, IfOk, IfErr};
 ghost use Rattle.registry_names.specs.ByteStreams as streams;
-ghost use Rattle.registry_names.specs.ByteStreams.{Writes, WritesPrefix};
-ghost use Rattle.registry_packument.specs.Packuments.{opening_text, pack_len, pack_text};
+ghost use Rattle.registry_names.specs.ByteStreams.{Writes, WritesPrefix, full_count};
+ghost use Rattle.registry_names.specs.declared.stop.Fault.TheVariants.{Memory, Database};
+ghost use Rattle.registry_packument.specs.Packuments.{opening_text, pack_len, pack_text, version_pair, version_pairs};
 ghost use Rattle.registry_packument.specs.Counted as counted;
-ghost use Rattle.registry_packument.specs.Counted.{IsUnbroken, IsUnstopped, Takes, WritesWithin, row_text, rows_text};
+ghost use Rattle.registry_packument.specs.Counted.{IfBroken, IsBreak, IsUnbroken, IsUnstopped, Takes, WritesWithin, row_text, rows_text};
 ghost use Rattle.registry_packument.specs.Sendings as sendings;
 ghost use Rattle.registry_packument.specs.Streams.{failures_after};
 ghost use Rattle.registry_packument.specs.declared.opener.Sent.TheVariants.{Whole, WriteFault};
-ghost use Rattle.registry_packument.specs.declared.stream.PackFault.TheVariants.{Write};
+ghost use Rattle.registry_packument.specs.declared.stream.PackFault.TheVariants.{Write, Source};
 
 use crate::head::PackHead;
 use crate::opener::{Opener, Sent};
@@ -51,6 +52,7 @@ pub fn send_text<W: ByteOut, O: Opener>(
 ) -> Sent
     ensures takes { Takes (O.opens opener.now) (λ bytes. bytes ≡ text.now)
         (W.bytes writer.old) (W.bytes writer.new) (W.is_unknown writer.new) result }
+    ensures fault { IfBroken result (λ fault. fault ≡ Memory) }
 
     ensures counted { W.failures writer.new ≡ sendings.failures_after result (W.failures writer.old) }
     ensures told { result ≢ WriteFault → W.is_unknown writer.new ≡ W.is_unknown writer.old }
@@ -73,7 +75,8 @@ pub fn send_text<W: ByteOut, O: Opener>(
 
 // How many bytes the members of the versions have, where all has so many and this comes before them.
 fn room_after(len: u64, before: &str) -> Result<u64, Fault>
-    ensures { IfOk result (λ room. length before.now + (room + 2) ≡ len) }
+    ensures ok { IfOk result (λ room. length before.now + (room + 2) ≡ len) }
+    ensures err { IfErr result (λ _. len < length before.now + 2) }
 {
     let Some(versions) = len.checked_sub(before.len() as u64) else {
         return Err(Fault::Database);
@@ -98,6 +101,8 @@ fn start_of<O: Opener>(alloc: Global, head: &PackHead, len: u64, opener: &O) -> 
         ≡ O.opens opener.now len ++ opening_text head.now) }
     ensures room { IfOk result (λ start.
         length (opening_text head.now) + (start.room + 2) ≡ len) }
+    ensures err { IfErr result (λ fault.
+        (fault ≡ Memory) ⊎ (len < length (opening_text head.now) + 2)) }
 {
     let before = opening(alloc, head)?;
     let room = room_after(len, before.as_str())?;
@@ -122,6 +127,8 @@ fn write_within<W: ByteOut>(
         (W.is_unknown writer.new) (row_text later row)) }
     ensures within { OnErr result (WritesWithin (room + 1) result (W.bytes writer.old)
         (W.bytes writer.new) (W.is_unknown writer.new)) }
+    ensures fault { result ≡ Err (Source Database)
+        → (version_pair row ≡ None) ⊎ (room < length (row_text later row)) }
 
     ensures counted { W.failures writer.new ≡ failures_after result (W.failures writer.old) }
     ensures told { result ≢ Err Write → W.is_unknown writer.new ≡ W.is_unknown writer.old }
@@ -152,6 +159,10 @@ fn write_counted<W: ByteOut, S: VersionSource>(
         (rows_text false (S.rows source.old))) }
     ensures long { S.is_known source.new → OnOk result
         (length (rows_text false (S.rows source.old)) ≡ room + 2) }
+    ensures fault { S.is_known source.new → result ≡ Err (Source Database)
+        → (S.stopped source.new ≡ Some Database) ⊎ ((version_pairs (S.rows source.old) ≡ None)
+        ⊎ (length (rows_text false (S.rows source.old)) ≢ room + 2)) }
+    ensures taken { S.is_known source.new → OnOk result (S.rows source.new ≡ []) }
 
     ensures known { S.is_known source.new → S.is_known source.old }
     ensures behind { S.leaves source.old source.new }
@@ -215,6 +226,9 @@ pub fn send_counted<W: ByteOut, S: VersionSource, O: Opener>(
     ensures takes { S.is_known source.new → pack_len head.now (S.rows source.old) ≡ Some len
         → Takes (O.opens opener.now) (λ text. pack_text head.now (S.rows source.old) ≡ Some text)
         (W.bytes writer.old) (W.bytes writer.new) (W.is_unknown writer.new) result }
+    ensures fault { S.is_known source.new → IfBroken result (IsBreak (S.stopped source.new) len
+        (pack_len head.now (S.rows source.old))) }
+    ensures taken { S.is_known source.new → result ≡ Whole → S.rows source.new ≡ [] }
 
     ensures known { S.is_known source.new → S.is_known source.old }
     ensures behind { S.leaves source.old source.new }
@@ -222,6 +236,7 @@ pub fn send_counted<W: ByteOut, S: VersionSource, O: Opener>(
         → S.stopped source.new ≡ None }
 
     ensures counted { W.failures writer.new ≡ sendings.failures_after result (W.failures writer.old) }
+    ensures full { W.failures writer.old ≡ full_count → result ≢ Whole }
     ensures told { result ≢ WriteFault → W.is_unknown writer.new ≡ W.is_unknown writer.old }
     ensures unknown { W.is_unknown writer.old ≡ true → W.is_unknown writer.new ≡ true }
 {

@@ -95,8 +95,9 @@ fn counted_row(alloc: Global, count: u64, later: bool, row: VersionRow) -> Resul
     ensures err { IfErr result (λ fault. (fault ≡ Fault.Memory) ⊎ ((p : Pair)
         → version_pair row ≡ Some p → 2 ^ 64 ≤ count + length (member_text later p))) }
 {
-    let member = member_string(alloc, later, row)?;
-    counted(count, member.as_str())
+    let member = row.into_member(alloc, later)?;
+    let key_end = counted(count, member.key.as_str())?;
+    counted(key_end, member.document.as_str())
 }
 
 /// How many bytes [`packument_text`](crate::packument_text) has of the rows that the source gives.

@@ -1,7 +1,7 @@
 //! What the registry answers.
 
-use registry_cache::SharedText;
-use registry_names::{Blob, Refusal};
+use registry_cache::{SharedBlob, SharedText};
+use registry_names::Refusal;
 
 /// The answer to a request.
 #[derive(Debug, PartialEq, Eq, Drop)]
@@ -14,8 +14,8 @@ pub enum Reply {
     Count(u64),
     /// A document in JSON (RFC 8259), which others may have too.
     Doc(SharedText),
-    /// The bytes of an archive.
-    Bytes(Blob),
+    /// The bytes of an archive, which others may have too.
+    Bytes(SharedBlob),
     /// The request is refused, and nothing has changed.
     Refused(Refusal),
 }

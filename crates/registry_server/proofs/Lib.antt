@@ -10,3 +10,4 @@ mod OrderFacts
 mod RestFacts
 mod HeldFacts
 mod RemainderFacts
+mod WokenFacts

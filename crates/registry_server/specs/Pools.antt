@@ -1,6 +1,6 @@
 -- Places for connections: which of them a new one takes, who is visited, and who is let go.
-use Rattle.std.specs.Prelude.{◌≡◌, ◌≢◌, ◌<◌, ◌≤◌, ◌+◌, ◌*◌, ◌∷◌, ⊤, [], ℕ, zero, suc, Bool, true, false, List, Option, Some, None, is_none, is_some, All, count_by, length, map, max, nat_le, nat_lt, position, replicate, slice_get, sum_by, MatchOption, ◌&&◌, ◌||◌, not, if◌then◌else◌}
-use Rattle.std.specs.List.{list_any}
+use Rattle.std.specs.Prelude.{◌≡◌, ◌≢◌, ◌<◌, ◌≤◌, ◌+◌, ◌*◌, ◌∷◌, ◌⊎◌, ⊤, [], ℕ, zero, suc, Bool, true, false, List, Option, Some, None, is_none, is_some, All, count_by, length, map, max, nat_le, nat_lt, position, replicate, slice_get, sum_by, MatchOption, ◌&&◌, ◌||◌, not, if◌then◌else◌}
+use Rattle.std.specs.List.{list_all, list_any}
 use Rattle.registry_wire.specs.Spelling.{request_limit}
 use Rattle.registry_service.specs.Turns.{Answering}
 use Rattle.registry_server.specs.ConnectionStates.{fresh}
@@ -35,6 +35,13 @@ new_at now socket = placed (Some (connected socket fresh (first_phase now) false
 -- it is to be visited
 abbrev pub woken : {S : Type 0} → Place S → Place S
 woken p = with_connection p p.connection true
+
+-- the same places, of which some more may be to be visited
+abbrev pub AreWoken : {S : Type 0} → List (Place S) → List (Place S) → Type 0
+AreWoken [] [] = ⊤
+AreWoken (p ∷ places) (q ∷ places2) = ((q ≡ p) ⊎ (q ≡ woken p)) × AreWoken places places2
+AreWoken [] (q ∷ places2) = ⊥
+AreWoken (p ∷ places) [] = ⊥
 
 -- the places, one of them changed, if it is one of them
 abbrev pub at_place : {A : Type 0} → (A → A) → List A → ℕ → List A
@@ -517,3 +524,23 @@ StopsLeaveUnderWay S = (places : List (Place S)) → All IsUnderWay (map (unless
 -- or else because as many connections as were to come in have come, and all have ended
 abbrev pub why_ended : Bool → Bool → Ended
 why_ended over stops = if over then ServiceOver else (if stops then Stopped else Enough)
+
+-- ---- how long a server goes on
+
+-- so many milliseconds a server waits at most, where nobody can go on at once
+abbrev pub look_time : ℕ
+look_time = 250
+
+-- so many of a round count at most, beside those in which it waited
+abbrev pub round_time : ℕ
+round_time = 25
+
+-- So many of a round count at most for the connections: none where the server was held, or is, and else
+-- as many as it waits at most, and a few more. It doesn't wait where somebody can go on at once.
+abbrev pub counted_time : Bool → Bool → Bool → ℕ
+counted_time was_held is_held busy = if was_held || is_held then 0 else (if busy then 0 else look_time) + round_time
+
+-- A server goes on while its service isn't over, and one more connection may come in, or somebody is
+-- there.
+abbrev pub goes_on : {S : Type 0} → Bool → Bool → List (Place S) → Bool → Bool
+goes_on over lets places nobody = not over && (lets || (not (list_all is_free places) || not nobody))

@@ -1,6 +1,7 @@
 //! Others than connections who ask the service of a server, or hold or stop the server itself.
 
-ghost use Rattle.std.specs.Prelude.{◌≡◌, Bool};
+ghost use Rattle.std.specs.Prelude.{◌≡◌, ℕ, Bool, List, Option, length};
+ghost use Rattle.registry_service.specs.Turns.{Answering};
 
 use mio::Registry;
 use registry_service::{Clock, Service};
@@ -25,6 +26,16 @@ pub trait Guests {
     // Whether the server is to end.
     ghost stops: { Self → Bool };
 
+    // Whether one of them can go on at once.
+    ghost busy: { Self → Bool };
+
+    // Whether nobody is there who asks the service.
+    ghost empty: { Self → Bool };
+
+    // What a visit of them makes of a service, by how it answers and whether it is over, and of the
+    // readings of a clock, where so many bytes are received at once at most.
+    ghost visits: { {D : Type 0} → Answering D → (D → Bool) → ℕ → Self → D → D → Option (List ℕ) → Option (List ℕ) → Type 0 };
+
     /// Whether one of them holds the server.
     fn holds(&self) -> bool
         ensures { result ≡ holds self.now };
@@ -41,10 +52,12 @@ pub trait Guests {
     fn wake(&mut self, number: usize);
 
     /// Whether one of them can go on at once. While the server is held that is who holds it.
-    fn is_busy(&self) -> bool;
+    fn is_busy(&self) -> bool
+        ensures { result ≡ busy self.now };
 
     /// Whether nobody is there who asks the service.
-    fn is_empty(&self) -> bool;
+    fn is_empty(&self) -> bool
+        ensures { result ≡ empty self.now };
 
     /// Goes on once with each of them who asks the service and is ready, and lets in who is there. A
     /// service that is over is asked nothing. No call may wait.
@@ -56,7 +69,9 @@ pub trait Guests {
         buffer: &mut [u8],
         registry: &Registry,
         now: u64,
-    );
+    )
+        ensures { visits D.answers D.over (length buffer.old) self.old service.old service.new
+            (C.readings clock.old) (C.readings clock.new) };
 }
 
 /// Nobody.
@@ -64,11 +79,17 @@ pub trait Guests {
 pub struct NoGuests;
 
 impl Guests for NoGuests {
-    ghost use Rattle.std.specs.Prelude.{false};
+    ghost use Rattle.std.specs.Prelude.{◌≡◌, false, true};
 
     ghost holds = { λ _. false };
 
     ghost stops = { λ _. false };
+
+    ghost busy = { λ _. false };
+
+    ghost empty = { λ _. true };
+
+    ghost visits = { λ answers over most guests M N readings readings2. (N ≡ M) × (readings2 ≡ readings) };
 
     fn holds(&self) -> bool {
         false

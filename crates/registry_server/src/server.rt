@@ -1,9 +1,9 @@
 //! The loop over all connections.
 
-ghost use Rattle.std.specs.Prelude.{◌≡◌, ◌≤◌, All, true, false, IfOk, OnOk, if◌then◌else◌};
+ghost use Rattle.std.specs.Prelude.{◌≡◌, ◌≤◌, ◌||◌, All, true, false, IfOk, OnOk, if◌then◌else◌};
 ghost use Rattle.registry_server.specs.Listening.{lets_in};
 ghost use Rattle.registry_server.specs.Pools as spec;
-ghost use Rattle.registry_server.specs.Pools.{IsUnderWay};
+ghost use Rattle.registry_server.specs.Pools.{AreWoken, IsUnderWay};
 
 use crate::clocks::{Timer, WallClock};
 use crate::guests::{FIRST_GUEST, GUEST_TOKENS, Guests, NoGuests};
@@ -133,14 +133,18 @@ impl Server {
     }
 
     // Waits until something is ready, and goes on with who holds or stops the server. So many
-    // milliseconds of the round count for the others: none where it was held, or is.
+    // milliseconds of the round count for the others: none where it was held, or is. Of connections
+    // it changes nothing but that some are to be visited.
     fn attend<R: time::Clock, G: Guests>(
         &mut self,
         timer: &mut Timer<'_, R>,
         guests: &mut G,
     ) -> io::Result<u64>
-        ensures was_held { G.holds guests.old ≡ true → IfOk result (λ most. most ≡ 0) }
-        ensures is_held { G.holds guests.new ≡ true → IfOk result (λ most. most ≡ 0) }
+        ensures counts { IfOk result (λ most. most
+            ≡ spec.counted_time (G.holds guests.old) (G.holds guests.new)
+            (G.busy guests.old || spec.is_busy self.old.pool.places.items)) }
+        ensures keeps { AreWoken self.old.pool.places.items self.new.pool.places.items }
+        ensures left { self.new.listener.left ≡ self.old.listener.left }
     {
         let was_held = guests.holds();
         let patience = if guests.is_busy() {
@@ -176,6 +180,9 @@ impl Server {
         ensures held_service { G.holds guests.old ≡ true → service.new ≡ service.old }
         ensures held_clock { G.holds guests.old ≡ true → C.readings clock.new ≡ C.readings clock.old }
         ensures held_listener { G.holds guests.old ≡ true → self.new.listener ≡ self.old.listener }
+        ensures goes_on { IfOk result (λ goes. goes ≡ (G.holds guests.old
+            || spec.goes_on (D.over service.new) (lets_in self.new.listener.left)
+            self.new.pool.places.items (G.empty guests.new))) }
     {
         if guests.holds() {
             return Ok(true);
@@ -214,20 +221,15 @@ impl Server {
         if self.pool.is_busy() { 0 } else { LOOK_TIME }
     }
 
-    // Waits for so many milliseconds until something is ready. What is ready is to be visited.
-    fn look<G: Guests>(&mut self, patience: u64, guests: &mut G) -> io::Result<()> {
+    // Waits for so many milliseconds until something is ready. What is ready is to be visited, and
+    // nothing else of connections is changed.
+    fn look<G: Guests>(&mut self, patience: u64, guests: &mut G) -> io::Result<()>
+        ensures keeps { AreWoken self.old.pool.places.items self.new.pool.places.items }
+        ensures left { self.new.listener.left ≡ self.old.listener.left }
+    {
         self.poll
             .poll(&mut self.events, Some(Duration::from_millis(patience)))?;
-        for event in self.events.iter() {
-            let token = event.token();
-            if token == LISTENER {
-                self.listener.ask();
-            } else if token.0 < FIRST_GUEST {
-                self.pool.wake(token.0);
-            } else {
-                guests.wake(token.0 - FIRST_GUEST);
-            }
-        }
+        wake_all(&self.events, &mut self.listener, &mut self.pool, guests);
         Ok(())
     }
 
@@ -295,6 +297,28 @@ impl Server {
         if self.next_look <= now {
             self.pool.end_late(now);
             self.next_look = now.saturating_add(LOOK_TIME);
+        }
+    }
+}
+
+// What is ready is to be visited.
+fn wake_all<G: Guests>(
+    events: &Events,
+    listener: &mut Listener,
+    pool: &mut ConnectionPool<TcpStream>,
+    guests: &mut G,
+)
+    ensures keeps { AreWoken pool.old.places.items pool.new.places.items }
+    ensures left { listener.new.left ≡ listener.old.left }
+{
+    for event in events.iter() {
+        let token = event.token();
+        if token == LISTENER {
+            listener.ask();
+        } else if token.0 < FIRST_GUEST {
+            pool.wake(token.0);
+        } else {
+            guests.wake(token.0 - FIRST_GUEST);
         }
     }
 }

@@ -338,7 +338,7 @@ module _ {D : Type 0} (answers : Answering D) where
         fault = fault;
         is_fault = comes.0;
         begun = begun;
-        may_begin = subst (λ (b : Bool). MayBegin answers mid.service b goes.cause begun) place comes.1.1;
+        may_begin = subst (λ (b : Bool). MayBegin answers mid.service b goes.cause begun fault new.service) place comes.1.1;
         sent = part.count;
         some = part.some;
         is_within = part.is_within;

@@ -120,7 +120,9 @@ module _ {D : Type 0} (answers : Answering D) where
           same = refl;
           asks = (r, reads, asks);
           document = (text, refl);
-          may = (may.0, record { answered = inl (r, reads, may.1); ends = ends-so text last closes w.closes ended (is text) same });
+          between = may.0;
+          may = record { answered = inl (r, reads, may.1); ends = ends-so text last closes w.closes ended (is text) same };
+          after = record { answered = inl (r, reads, may.2); ends = refl };
         },
         subst (λ (b : Bool). WritesSome out out2 unknown (response_to (Ok (Doc text)) b)) head wrote,
       ),

@@ -208,7 +208,7 @@ module _ {D : Type 0} (answers : Answering D) where
     pub fault : Fault
     pub is_fault : newest.outcome ≡ Err fault
     pub begun : Turn
-    pub may_begin : MayBegin answers course.follow.0 (length older + 1 == request_limit) newest.cause begun
+    pub may_begin : MayBegin answers course.follow.0 (length older + 1 == request_limit) newest.cause begun fault new.service
     pub sent : ℕ
     pub some : 0 < sent
     pub is_within : sent < length (response_of begun)

@@ -62,6 +62,7 @@ document_head closes len = head_bytes 200 content.Json len closes
 
 abbrev pub body_bytes : Body → List ℕ
 body_bytes (body.Short text) = text
+body_bytes (body.Text text) = text
 body_bytes (body.Doc text) = text
 body_bytes (body.Bytes bytes) = bytes
 

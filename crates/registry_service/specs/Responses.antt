@@ -1,7 +1,8 @@
 -- What came of the responses to turns, each of which is written as its turn is taken.
-use Rattle.std.specs.Prelude.{◌≡◌, ℕ, Bool, List, Option, Ok, Err}
+use Rattle.std.specs.Prelude.{◌≡◌, ℕ, Bool, List, Option, Some, Ok, Err}
 use Rattle.registry_names.specs.ByteStreams.{Writes, WritesPrefix}
 use Rattle.registry_names.specs.Texts.{Text}
+use Rattle.registry_names.specs.declared.stop.Fault.{Fault}
 use Rattle.registry_packument.specs.Sendings.{WritesSome}
 use Rattle.registry_rules.specs.declared.reply.Reply.TheVariants.{Doc}
 use Rattle.registry_rules.specs.declared.request.Request.{Request}
@@ -13,6 +14,7 @@ use Rattle.registry_service.specs.Turns.{Answering, Cause, IsTurn, IsTurnFor, Tu
 use Rattle.registry_service.specs.declared.responding.Responded.{Responded}
 use Rattle.registry_service.specs.declared.responding.Responded.TheVariants.{Whole, BrokenOff, CutShort}
 use Rattle.registry_service.specs.declared.turning.End.{End}
+use Rattle.registry_service.specs.declared.turning.End.TheVariants.{Faulted}
 
 -- it is the turn of a request for a packument
 abbrev pub AsksPackument : Cause → Type 0
@@ -24,26 +26,29 @@ abbrev pub turn_of : Cause → Outcome → Option End → Turn
 turn_of c o ended = record { cause = c; outcome = o; ended = ended }
 
 module _ {D : Type 0} (answers : Answering D) where
-  -- The turn that answers a packument, taken for the same cause, as it might have been
-  pub record MayBegin (M : D) (last : Bool) (c : Cause) (begun : Turn) : Type 0 where
+  -- The turn that answers a packument, taken for the same cause, as it might have been; and after it
+  -- a turn of the same request, which answers the fault and leaves N
+  pub record MayBegin (M : D) (last : Bool) (c : Cause) (begun : Turn) (fault : Fault) (N : D) : Type 0 where
     pub same : begun.cause ≡ c
     pub asks : AsksPackument c
     pub document : (text : Text) × (begun.outcome ≡ Ok (Doc text))
-    pub may : (N : D) × IsTurn answers M last begun N
+    pub between : D
+    pub may : IsTurn answers M last begun between
+    pub after : IsTurnFor answers c between last (Err fault) (Some (Faulted fault)) N
 
   -- Its response was written whole; or a part of it, and then a write failed; or it answers a fault
   -- that came in the midst of a packument, and of that a part was written
-  abbrev pub Comes : D → Bool → Turn → Option (List ℕ) → Option (List ℕ) → Bool → Responded → Type 0
-  Comes M last t out out2 unknown (Whole ended counts) = Writes out out2 unknown (response_of t) × (ended ≡ t.ended) × (counts ≡ is_request t.cause)
-  Comes M last t out out2 unknown BrokenOff = WritesPrefix out out2 unknown (response_of t)
-  Comes M last t out out2 unknown (CutShort fault) = (t.outcome ≡ Err fault) × ((begun : Turn) × MayBegin M last t.cause begun × WritesSome out out2 unknown (response_of begun))
+  abbrev pub Comes : D → Bool → Turn → D → Option (List ℕ) → Option (List ℕ) → Bool → Responded → Type 0
+  Comes M last t N out out2 unknown (Whole ended counts) = Writes out out2 unknown (response_of t) × (ended ≡ t.ended) × (counts ≡ is_request t.cause)
+  Comes M last t N out out2 unknown BrokenOff = WritesPrefix out out2 unknown (response_of t)
+  Comes M last t N out out2 unknown (CutShort fault) = (t.outcome ≡ Err fault) × ((begun : Turn) × MayBegin M last t.cause begun fault N × WritesSome out out2 unknown (response_of begun))
 
   -- a turn was taken for a cause, and this came of its response
   pub record Responds (M : D) (c : Cause) (last : Bool) (N : D) (out out2 : Option (List ℕ)) (unknown : Bool) (responded : Responded) : Type 0 where
     pub outcome : Outcome
     pub ended : Option End
     pub is_turn : IsTurnFor answers c M last outcome ended N
-    pub comes : Comes M last (turn_of c outcome ended) out out2 unknown responded
+    pub comes : Comes M last (turn_of c outcome ended) N out out2 unknown responded
 
   -- the same of a request in form, whichever whole request spells it
   abbrev pub RespondsTo : D → Request → Bool → Bool → D → Option (List ℕ) → Option (List ℕ) → Bool → Responded → Type 0

@@ -7,8 +7,8 @@ ghost use Rattle.registry_service.specs.HttpAnswers as spec;
 ghost use Rattle.registry_service.specs.HttpAnswers.{AnswersSo, answer_bytes, body_bytes};
 
 use http::StatusCode;
-use registry_cache::SharedText;
-use registry_names::{Blob, Fault, Refusal};
+use registry_cache::{SharedBlob, SharedText};
+use registry_names::{Fault, Refusal, Text};
 use registry_rules::Reply;
 use registry_wire::{ContentKind, Response, ShortText};
 
@@ -17,10 +17,12 @@ use registry_wire::{ContentKind, Response, ShortText};
 pub enum Body {
     /// A text that takes no memory.
     Short(ShortText),
+    /// A text of its own.
+    Text(Text),
     /// A document of the registry, which others may have too.
     Doc(SharedText),
-    /// The bytes of an archive.
-    Bytes(Blob),
+    /// The bytes of an archive, which others may have too.
+    Bytes(SharedBlob),
 }
 
 impl Body {
@@ -30,6 +32,7 @@ impl Body {
     {
         match self {
             Body::Short(text) => text.as_slice(),
+            Body::Text(text) => text.as_str().as_bytes(),
             Body::Doc(text) => text.as_str().as_bytes(),
             Body::Bytes(bytes) => bytes.as_slice(),
         }

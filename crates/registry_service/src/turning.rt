@@ -34,13 +34,23 @@ pub trait Service {
     fn is_over(&self) -> bool
         ensures { result ≡ over self.now };
 
-    /// A turn was taken: for this request, or for what is none or could not be read. Nothing that
-    /// contracts see of the service is changed. One that keeps a log says here what was answered.
+    /// A turn of a connection was taken: for this request, or for what is none or could not be
+    /// read.
+    ///
+    /// The server of many connections calls it, once for each turn: behind the call of
+    /// [`answer`](Service::answer), where the turn has one, and before anything of the response is
+    /// sent. Neither [`serve`](crate::serve) nor a command beside the server calls it.
+    ///
+    /// An implementation may keep a log of what was answered. It changes nothing that contracts see
+    /// of the service, and can't fail. It should not wait, since nobody is answered meanwhile. A
+    /// service that has none of its own does nothing.
     fn note(&mut self, _wanted: Option<&Wanted>, _turned: &Turned)
         ensures { self.new ≡ self.old }
     {}
 
-    /// A round of turns is over. Nothing that contracts see of the service is changed.
+    /// A round of turns is over. The server of many connections calls it once in each round in
+    /// which it isn't held, behind the turns of all connections and commands. An implementation may
+    /// write what it noted. It changes nothing that contracts see of the service.
     fn rest(&mut self)
         ensures { self.new ≡ self.old }
     {}

@@ -21,6 +21,7 @@ pub mod NamingFacts
 pub mod NeedFacts
 pub mod OpeningFacts
 pub mod OrganisationFacts
+pub mod ParentFacts
 pub mod ReadableFacts
 pub mod ReferenceFacts
 pub mod RetiredFacts

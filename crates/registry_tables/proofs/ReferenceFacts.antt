@@ -63,7 +63,7 @@ tag_values id (a ∷ b ∷ c ∷ []) r e h =
 tag_values id (a ∷ b ∷ c ∷ d ∷ vs) r e h = absurd h.1.1.1
 
 -- SQL's = of texts
-told : (t : Text) (x : Value) → x ≡ Stored (text_in x) → is_true (binary (Compare Eq Binary) x (Stored t)) ≡ true → t ≡ text_in x
+pub told : (t : Text) (x : Value) → x ≡ Stored (text_in x) → is_true (binary (Compare Eq Binary) x (Stored t)) ≡ true → t ≡ text_in x
 told t x is h = same_true text_key t (text_in x) (sym (text_test (text_in x) t) ∙ subst (λ y. is_true (binary (Compare Eq Binary) y (Stored t)) ≡ true) is h)
 
 to_archives : parent_key schema.tables (reference (3 ∷ []) (codes "archives") NoAction) ≡ Some (table.archives.tree, 0 ∷ [], plain)

@@ -1,5 +1,5 @@
 -- What a change makes of what is stored.
-use Rattle.std.specs.Prelude.{◌≡◌, ℕ, Bool, true, false, not, ◌&&◌, List, [], ◌∷◌, None, Some, is_some, if◌then◌else◌}
+use Rattle.std.specs.Prelude.{◌≡◌, ℕ, Bool, true, false, List, [], ◌∷◌, None, Some, is_some, if◌then◌else◌}
 use Rattle.registry_names.specs.Texts.{Text}
 use Rattle.std.specs.declared.cmp.Ordering.{Ordering}
 use Rattle.registry_names.specs.Maps.{MapBy, at, put, erase}
@@ -72,10 +72,6 @@ stored_by (DropTag p t) c = record c { tags = erase c.tags (p, t) }
 abbrev pub all_stored : List Change → Contents → Contents
 all_stored [] c = c
 all_stored (change ∷ changes) c = all_stored changes (stored_by change c)
-
--- the package has a status, and the version wasn't withdrawn
-abbrev pub is_unspent : FormParts → Contents → Bool
-is_unspent f c = is_some (at c.packages f.name) && not (is_some (at c.spent (f.name, version_of f)))
 
 -- ---- what a change asks of what is stored
 

@@ -104,6 +104,6 @@ module _ {S : Type 0} (store : Ghosts S) (p : Text) (h : Held S) (n : ℕ) where
   IsAt Over = HasCleanDisk (state store h) → length (documents_of (state store h) p) ≤ n
   IsAt (Stopped fault) = ⊤
 
--- they are those of a walk over the package that has given nothing yet
+-- the rows are those of a walk over the package that has given nothing yet
 abbrev pub Begins : {S : Type 0} (store : Ghosts S) → Text → Rows S store → Type 0
 Begins store p rows = IsGoing store p rows.conn.now 0

@@ -1,6 +1,6 @@
 //! What a caller is to a package.
 
-ghost use Rattle.std.specs.Prelude.{◌≡◌};
+ghost use Rattle.std.specs.Prelude.{◌≡◌, true};
 ghost use Rattle.registry_access.specs.Callers as callers;
 ghost use Rattle.registry_access.specs.Positions as positions;
 ghost use Rattle.registry_access.specs.RowsFor.{StandingTells};
@@ -24,7 +24,7 @@ use std::alloc::Global;
 ///
 /// A package without a scope is in no organisation, and only a member of an organisation is in its
 /// teams: of others no grant is asked for, nor of an owner or admin, whose role alone lets them
-/// write.
+/// write. An organisation in which the caller has a role is there, and isn't asked for.
 pub fn load_standing<S: Alter>(
     alloc: Global,
     tx: &mut Transaction<'_, S>,
@@ -37,8 +37,8 @@ pub fn load_standing<S: Alter>(
         → StandingTells standing (access_of c) caller.now name.now) }
 {
     let status = load_status(tx, name)?;
-    let organisation = has_scope(tx, name)?;
     let role = load_scope_role(tx, caller, name)?;
+    let organisation = has_scope(tx, name, role.is_some())?;
     let maintainer = maintains(tx, caller, name)?;
     let grants = load_granted(alloc, tx, caller, name, role)?;
     Ok(Standing {
@@ -50,13 +50,21 @@ pub fn load_standing<S: Alter>(
     })
 }
 
-// Whether the organisation of the package's scope is there.
-fn has_scope<S: Alter>(tx: &mut Transaction<'_, S>, name: &Name) -> Result<bool, Fault>
+// Whether the organisation of the package's scope is there, as it is where it has a member.
+fn has_scope<S: Alter>(
+    tx: &mut Transaction<'_, S>,
+    name: &Name,
+    has_member: bool,
+) -> Result<bool, Fault>
     requires in_form { InForm S.Store tx.old }
     ensures stays { Stays S.Store tx.old tx.new }
-    ensures knows { Knows S.Store tx.old tx.new result (λ there c. there
-        ≡ positions.has_scope (access_of c) (scope_of name.now)) }
+    ensures knows { Knows S.Store tx.old tx.new result (λ there c.
+        (has_member ≡ true → positions.has_scope (access_of c) (scope_of name.now) ≡ true)
+        → there ≡ positions.has_scope (access_of c) (scope_of name.now)) }
 {
+    if has_member {
+        return Ok(true);
+    }
     match name.scope() {
         Some(organisation) => has_organisation(tx, organisation),
         None => Ok(false),

@@ -1,6 +1,6 @@
 //! The table `versions`: the live versions of every package.
 
-ghost use Rattle.std.specs.Prelude.{◌≡◌, ℕ, IfOk, is_some, map, option_map};
+ghost use Rattle.std.specs.Prelude.{◌≡◌, ℕ, true, IfOk, is_some, map, option_map};
 ghost use Rattle.registry_names.specs.Maps.{at, of, put, seen};
 ghost use Rattle.registry_names.specs.Texts.{Text as Bytes};
 ghost use Rattle.registry_names.specs.Versions.{text_of_version};
@@ -8,7 +8,7 @@ ghost use Rattle.registry_rows.specs.Frames.{Stays};
 ghost use Rattle.registry_rules.specs.Actions as actions;
 ghost use Rattle.registry_rules.specs.State as state;
 ghost use Rattle.registry_rules.specs.Withdrawals.{live_versions, published_at};
-ghost use Rattle.registry_tables.specs.Changes.{IsFree, IsNew, is_unspent, row_of, version_put};
+ghost use Rattle.registry_tables.specs.Changes.{IsFree, IsNew, row_of, version_put};
 ghost use Rattle.registry_tables.specs.Contents.{live_of, registry_of};
 ghost use Rattle.registry_tables.specs.Effects.{InForm, Makes, OnlyWhere, Loads};
 ghost use Rattle.registry_packument.specs.Heads.{time_entry};
@@ -19,7 +19,6 @@ use crate::archives::put_archive;
 use crate::moments::MomentRow;
 use crate::needs::put_needs;
 use crate::spent::is_spent;
-use crate::statuses::load_status;
 use crate::texts::{read_back, texts_in};
 use registry_names::{Fault, Moment, Name, Text, Ver};
 use registry_packument::{VersionRow, VersionTime};
@@ -234,7 +233,7 @@ pub fn put_version<S: Alter>(
     ensures makes { Makes S.Store tx.old tx.new result (version_put form.now published) }
     ensures was_new { OnlyWhere S.Store tx.old tx.new result (IsNew form.now) }
 {
-    if !may_be_put(tx, form)? {
+    if is_spent(tx, form.name(), form.version().text())? {
         return Err(Fault::Database);
     }
     insert_version(tx, form, published)?;
@@ -242,17 +241,7 @@ pub fn put_version<S: Alter>(
     put_needs(tx, form.name().text(), form.version().text(), form.needs())
 }
 
-// Whether the package has a status, and the version was never withdrawn.
-fn may_be_put<S: Alter>(tx: &mut Transaction<'_, S>, form: &PublishForm) -> Result<bool, Fault>
-    requires in_form { InForm S.Store tx.old }
-    ensures stays { Stays S.Store tx.old tx.new }
-    ensures loads { Loads S.Store tx.old tx.new result (λ may c. may ≡ is_unspent form.now c) }
-{
-    let status = load_status(tx, form.name())?;
-    let spent = is_spent(tx, form.name(), form.version().text())?;
-    Ok(status.is_some() && !spent)
-}
-
+// Puts the row of a version. It refers to that of its package: one that has none is a fault.
 fn insert_version<S: Alter>(
     tx: &mut Transaction<'_, S>,
     form: &PublishForm,
@@ -266,6 +255,8 @@ fn insert_version<S: Alter>(
     }) }
     ensures was_new { OnlyWhere S.Store tx.old tx.new result
         (λ c. IsFree c.versions (form.now.name, actions.version_of form.now)) }
+    ensures has_status { OnlyWhere S.Store tx.old tx.new result
+        (λ c. is_some (at c.packages form.now.name) ≡ true) }
 {
     write(
         tx,

@@ -6,11 +6,12 @@ ghost use Rattle.registry_server.specs.Sockets.{MovesAtMost};
 use crate::outcome::same;
 use crate::parts::{as_text, text, texts};
 use crate::talk::connections::{FixedTags, Steps};
+use registry_cache::SharedBlob;
 use registry_guests::{
     Control, GUEST_COUNT, GUEST_TIME_LIMIT, Guest, HOLD_LIMIT, Hall, SILENCE_LIMIT, Said, Unsent,
     fits, hear, read, write,
 };
-use registry_names::{Blob, Fault, Refusal};
+use registry_names::{Fault, Refusal};
 use registry_rules::Reply;
 use registry_server::{Flow, Socket, Visit};
 use std::alloc::Global;
@@ -133,7 +134,7 @@ fn is_heard(rt: &impl Abort, alloc: Global, bytes: &[u8], status: u8, wanted: &s
 #[test]
 fn outcomes_are_said_as_they_are_printed(rt: HostRuntime) {
     let alloc = rt.alloc();
-    let archive = Blob::from_slice(alloc, b"bytes").expect(&rt, "memory");
+    let archive = SharedBlob::from_slice(alloc, b"bytes").expect(&rt, "memory");
     is_said(&rt, alloc, Said::of(Ok(Reply::Done)), 0, "{\"ok\":true}\n");
     is_said(
         &rt,

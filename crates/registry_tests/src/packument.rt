@@ -4,6 +4,7 @@ mod manifests;
 mod moments;
 mod sending;
 mod stream;
+mod within;
 
 use crate::outcome::same;
 use crate::packument::stream::{KIT, KIT_TAGS, KIT_VERSIONS, KIT_WITHOUT_VERSIONS};

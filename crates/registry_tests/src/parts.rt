@@ -1,6 +1,6 @@
 //! Values in form, of which the cases are made.
 
-use registry_cache::SharedText;
+use registry_cache::{SharedBlob, SharedText};
 use registry_names::{Blob, Ident, Name, Text, Ver};
 use std::alloc::Global;
 use std::fmt::Debug;
@@ -66,6 +66,10 @@ pub fn around(
 
 pub fn blob(rt: &impl Abort, alloc: Global, bytes: &[u8]) -> Blob {
     Blob::from_slice(alloc, bytes).expect(rt, "memory")
+}
+
+pub fn shared_blob(rt: &impl Abort, alloc: Global, bytes: &[u8]) -> SharedBlob {
+    SharedBlob::from_slice(alloc, bytes).expect(rt, "memory")
 }
 
 pub fn name(rt: &impl Abort, alloc: Global, text: &str) -> Name {

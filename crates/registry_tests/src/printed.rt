@@ -1,7 +1,7 @@
 //! What is printed of answers, and how roles, grants and statuses are spelled.
 
 use crate::outcome::{is_displayed, same};
-use crate::parts::{blob, shared};
+use crate::parts::{shared, shared_blob};
 use registry_access::{Grant, Role};
 use registry_cli::{Printed, print_reply, render};
 use registry_names::{Refusal, Rule, Status, ToWrite};
@@ -51,7 +51,7 @@ fn answers_are_printed(rt: HostRuntime) {
         0,
     );
     for bytes in ["", "abc", "abc\n"] {
-        let archive = blob(&rt, alloc, bytes.as_bytes());
+        let archive = shared_blob(&rt, alloc, bytes.as_bytes());
         is_printed(&rt, alloc, Reply::Bytes(archive), bytes, "", 0);
     }
 }

@@ -1,8 +1,8 @@
-//! A store of texts, step by step, and a text that is shared.
+//! A store of texts, step by step, and what is shared.
 
 use crate::outcome::same;
-use crate::parts::{shared, text};
-use registry_cache::{SharedText, TextCache};
+use crate::parts::{shared, shared_blob, text};
+use registry_cache::{BlobCache, Shared, SharedText, TextCache};
 use std::alloc::Global;
 use std::process::Abort;
 
@@ -343,4 +343,29 @@ fn a_shared_text_outlives_the_others(rt: HostRuntime) {
     same(&rt, "equal", text == copy, true);
     drop(text);
     same(&rt, "copy", copy.as_str(), "four");
+}
+
+#[test]
+fn a_shared_blob_outlives_the_others(rt: HostRuntime) {
+    let blob = shared_blob(&rt, rt.alloc(), b"\x00\xff");
+    let copy = blob.share().expect(&rt, "few owners");
+    same(&rt, "equal", blob == copy, true);
+    drop(blob);
+    same(&rt, "copy", copy.as_slice() == b"\x00\xff".as_slice(), true);
+}
+
+#[test]
+fn blobs_are_kept_as_texts_are(rt: HostRuntime) {
+    let mut store = BlobCache::new(rt.alloc(), 4).expect(&rt, "memory");
+    for name in ["a", "b", "c"] {
+        let blob = shared_blob(&rt, rt.alloc(), name.as_bytes());
+        store.put(name, blob).expect(&rt, "memory");
+    }
+    store.forget("b");
+    same(&rt, "size", store.size(), 2);
+    same(&rt, "forgotten", store.peek("b").is_none(), true);
+    match store.get("c").expect(&rt, "few owners") {
+        Some(found) => same(&rt, "kept", found.as_slice() == b"c".as_slice(), true),
+        None => panic!(&rt; "nothing is kept under c"),
+    }
 }

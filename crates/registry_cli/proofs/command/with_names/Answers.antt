@@ -9,5 +9,5 @@ pub returns-clause-app : goal.returns-clause-app
 returns-clause-app c =
     let db_is : rule_of c.default_value-db.result ≡ db = search rules in
     let user_is : rule_of c.help-user.result ≡ as_user = search rules in
-    let first : app_of c.in_ok-with_argument.field-0 ≡ with_rule (app_of c.args.command) db = c.in_ok-with_argument.ensures.app ∙ ap₂ with_rule refl db_is in
+    let first : app_of c.in_ok-command.command ≡ with_rule (app_of c.args.command) db = c.in_ok-command.ensures.app ∙ ap₂ with_rule refl db_is in
     IfOk-weaker c.with_argument-2.result _ _ (λ m h. h ∙ ap₂ with_rule first user_is) c.with_argument-2.ensures.app

@@ -1,15 +1,15 @@
-use Rattle.std.proofs.Common.{◌∙◌, ap, ◌≡◌, find, option_map, rules, tests}
+use Rattle.std.proofs.Common.{◌∙◌, ap, find, Bool, List, ◌++◌}
 use Rattle.std.specs.Str.{bytes_eq}
-use Rattle.std.proofs.lemmas.Iterator.{YieldsList-from_slice}
-use Rattle.std.proofs.lemmas.Iterator.Search.{find_from_yields_List}
-use Rattle.clap.proofs.WalkLemmas.{find-map}
+use Rattle.clap.specs.Walk.{Rule, Text}
+use Rattle.registry_cli.specs.Subcommands.{organisations, packages, queries, serving, teams}
 use Rattle.registry_cli.specs.Tables.{row_of}
-use Rattle.registry_cli.proofs.RowFacts.{mapped}
+use Rattle.registry_cli.proofs.RowFacts.{found_in_both}
 use Rattle.registry_cli.proofs.subcommand.called.Goals as goal
 
 pub returns : goal.returns
 returns c =
-    let name = c.args.name.now in
-    let rows = c.all.result.now in
-    let found : option_map (λ row. row.now) c.find.result ≡ find (λ row. bytes_eq row.name.now name) rows = find_from_yields_List (λ row. bytes_eq row.name.now name) _ _ c.find.result c.find.ensures.ran (YieldsList-from_slice rows cc) (λ x b q k. search (rules, tests)) in
-    mapped c.find.result ∙ ap (option_map row_of) found ∙ find-map (λ row. bytes_eq row.0 name) row_of rows ∙ ap (find (λ row. bytes_eq row.0 name)) c.all.ensures
+    let called : Text × List Rule → Bool = λ row. bytes_eq row.0 c.args.name.now in
+    let two = found_in_both (λ row. row_of row.now) called _ _ _ organisations teams c.or.ensures (c.called_in.ensures ∙ ap (find called) c.organisations.ensures) (c.called_in-2.ensures ∙ ap (find called) c.teams.ensures) in
+    let three = found_in_both (λ row. row_of row.now) called _ _ _ (organisations ++ teams) packages c.or-2.ensures two (c.called_in-3.ensures ∙ ap (find called) c.packages.ensures) in
+    let four = found_in_both (λ row. row_of row.now) called _ _ _ ((organisations ++ teams) ++ packages) queries c.or-3.ensures three (c.called_in-4.ensures ∙ ap (find called) c.queries.ensures) in
+    found_in_both (λ row. row_of row.now) called _ _ _ (((organisations ++ teams) ++ packages) ++ queries) serving c.or-4.ensures four (c.called_in-5.ensures ∙ ap (find called) c.serving.ensures)

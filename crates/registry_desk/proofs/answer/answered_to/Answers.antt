@@ -13,7 +13,7 @@ use Rattle.registry_history.specs.Answers.{answer}
 use Rattle.registry_desk.specs.Resting.{settled_by}
 use Rattle.registry_desk.specs.Caches.{IsSoundFor, LeavesCacheRight}
 use Rattle.registry_desk.proofs.AnswerFacts.{known_stands, refused}
-use Rattle.registry_desk.proofs.CacheFacts.{leaves_refused, sound_for}
+use Rattle.registry_desk.proofs.KeptFacts.{leaves_refused, sound_for}
 use Rattle.registry_desk.proofs.EarlyFacts.{known_refused}
 use Rattle.registry_desk.proofs.SettlingFacts.{refused_settles}
 use Rattle.registry_desk.proofs.answer.answered_to.Goals as goal
@@ -59,7 +59,7 @@ returns-in-Refused-clause-served g c clean = (c.in_ok-refusal.ensures.loads clea
 
 pub returns-in-Refused-clause-right : goal.returns-in-Refused-clause-right
 returns-in-Refused-clause-right g c clean =
-    leaves_refused (stored_in g.S.Store c.args.tx.now) (stored_in g.S.Store c.facts.new.tx) c.args.request.now.what c.args.cache.now c.in-Refused.refusal
+    leaves_refused (stored_in g.S.Store c.args.tx.now) (stored_in g.S.Store c.facts.new.tx) c.args.request.now.what c.args.caches.now c.in-Refused.refusal
     (ap (λ (d : Database). contents d.trees) (c.in_ok-refusal.ensures.loads clean).0.same)
 
 -- ---- decided
@@ -77,7 +77,7 @@ returns-in-About-clause-answers g c known sound needs right clean =
     let found = rw c.in-About.is at (told.1 sound needs) in
     let stands = known_stands (registry_of was) c.args.caller c.in-About.about r known found.1 in
     IfOk-weaker c.answered_by.result _ _ (λ _ e. e ∙ ap (λ (d : Contents). answer (registry_of d) r) same)
-    (c.answered_by.ensures.answers (subst (λ (d : Contents). FactsTell (record { caller = Some c.args.caller; about = c.in-About.about }) (registry_of d) r) (sym same) stands) (subst (λ (d : Contents). IsSoundFor r.what d c.args.cache.now) (sym same) (sound_for r.what was c.args.cache.now sound right)) clean)
+    (c.answered_by.ensures.answers (subst (λ (d : Contents). FactsTell (record { caller = Some c.args.caller; about = c.in-About.about }) (registry_of d) r) (sym same) stands) (subst (λ (d : Contents). IsSoundFor r.what d c.args.caches.now) (sym same) (sound_for r.what was c.args.caches.now sound right)) clean)
 
 pub returns-in-About-clause-settles : goal.returns-in-About-clause-settles
 returns-in-About-clause-settles g c known sound needs clean =
@@ -106,4 +106,4 @@ pub returns-in-About-clause-right : goal.returns-in-About-clause-right
 returns-in-About-clause-right g c clean =
     let were : HasCleanDisk (shown g.S.Store c.facts.new.tx) = omega (arith, c.answered_by.ensures.stays.survives.clean, clean) in
     let same : stored_in g.S.Store c.facts.new.tx ≡ stored_in g.S.Store c.args.tx.now = ap (λ (d : Database). contents d.trees) (c.in_ok-refusal.ensures.loads were).0.same in
-    subst (λ (d : Contents). IfOk c.answered_by.result (LeavesCacheRight d (stored_in g.S.Store c.answered_by.new.tx) c.args.request.now.what c.args.cache.now c.answered_by.new.cache)) same (c.answered_by.ensures.right clean)
+    subst (λ (d : Contents). IfOk c.answered_by.result (LeavesCacheRight d (stored_in g.S.Store c.answered_by.new.tx) c.args.request.now.what c.args.caches.now c.answered_by.new.caches)) same (c.answered_by.ensures.right clean)

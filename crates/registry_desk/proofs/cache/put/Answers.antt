@@ -3,8 +3,8 @@ use Rattle.registry_desk.proofs.CacheFacts.{is_put_as}
 use Rattle.registry_desk.proofs.cache.put.Goals as goal
 
 pub returns-in-Ok : goal.returns-in-Ok
-returns-in-Ok c =
-    is_put_as c.args.name.now c.args.text.now c.text.result.now c.in-Ok.text c.put-kept.result c.args.cache.now c.put-kept.new.self c.text.ensures.text c.in-Ok.ensures c.put-kept.ensures.ok c.put-kept.ensures.err
+returns-in-Ok g c =
+    is_put_as c.args.name.now (g.V.Shared.bytes c.args.value.now) c.args.name.now (g.V.Shared.bytes c.in-Ok.value) c.put-kept.result c.args.cache.now c.put-kept.new.self refl c.in-Ok.ensures c.put-kept.ensures.ok c.put-kept.ensures.err
 
 pub returns-in_default : goal.returns-in_default
-returns-in_default c = inr (inr refl)
+returns-in_default g c = inr (inr refl)

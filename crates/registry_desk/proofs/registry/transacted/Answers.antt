@@ -16,9 +16,9 @@ use Rattle.registry_desk.specs.Found.{NeedsFor}
 use Rattle.registry_desk.specs.Promises.{HoldsSoundFor}
 use Rattle.registry_desk.specs.Resting.{IsRegistryOf, Rests, next_stored, settled_by}
 use Rattle.registry_desk.proofs.CommitFacts.{commit_rests, failed_undone, registry_left, undone_open, undone_rests, undone_stored}
-use Rattle.registry_desk.specs.Caches.{ArePackuments, HasPackuments}
+use Rattle.registry_desk.specs.Caches.{AreAnswers, HasAnswers}
 use Rattle.registry_desk.proofs.SettlingFacts.{faulted_next, settled_next}
-use Rattle.registry_desk.proofs.CacheFacts.{reply_limit, right_answered, right_kept, right_unchanged, shown_answered}
+use Rattle.registry_desk.proofs.KeptFacts.{reply_archive_limit, reply_limit, right_answered, right_kept, right_unchanged, shown_answered}
 use Rattle.registry_desk.proofs.registry.transacted.Goals as goal
 
 pub returns-in-Ok-clause-rests : goal.returns-in-Ok-clause-rests
@@ -42,7 +42,7 @@ returns-in-Ok-clause-step g c =
     let first : HasCleanDisk old = omega (arith, (rw c.transaction-tx.ensures.begun at c.answered_inside.ensures.stays.survives).clean, were) in
     let was_open : IsTrue old.is_open = rw c.transaction-tx.ensures.begun at c.in_ok-reply.ensures.served were in
     let teams = subst AreTeamsSound (sym seen) (teams_sound old (c.requires.rests.in_form first was_open) sound.grants) in
-    let are = subst (λ (d : Contents). ArePackuments d c.args.cache.now) (sym seen) (c.requires.right first was_open) in
+    let are = subst (λ (d : Contents). AreAnswers d c.args.caches.now) (sym seen) (c.requires.right first was_open) in
     ap (λ (d : Database). contents d.trees) (c.in-Ok.ensures.ok clean).1.now_is ∙ (c.in_ok-reply.ensures.settles teams needs were).holds
     ∙ settled_next (stored begun) c.args.request.now c.in_ok-reply.reply (c.in_ok-reply.ensures.answers teams needs are were)
     ∙ ap (next_stored c.args.request.now (Ok c.in_ok-reply.reply)) seen in
@@ -208,12 +208,12 @@ returns-in-Ok-clause-answer g c =
     let first : HasCleanDisk old = omega (arith, (rw c.transaction-tx.ensures.begun at c.answered_inside.ensures.stays.survives).clean, were) in
     let was_open : IsTrue old.is_open = rw c.transaction-tx.ensures.begun at c.in_ok-reply.ensures.served were in
     let teams = subst AreTeamsSound (sym seen) (teams_sound old (c.requires.rests.in_form first was_open) sound.grants) in
-    let are = subst (λ (d : Contents). ArePackuments d c.args.cache.now) (sym seen) (c.requires.right first was_open) in
+    let are = subst (λ (d : Contents). AreAnswers d c.args.caches.now) (sym seen) (c.requires.right first was_open) in
     c.in_ok-reply.ensures.answers teams needs are were ∙ ap (λ (d : Contents). answer (registry_of d) c.args.request.now) seen in
     let same : c.commit.new.tx.0 ≡ c.conn-2-1.given.0 = search rules in
     subst (λ h. HoldsSoundFor c.args.request.now old → HasCleanDisk (state g.S.Store h) → c.in_ok-reply.reply ≡ answer (registry_of (stored old)) c.args.request.now) same told
 
--- ---- the texts that are kept
+-- ---- what is kept
 
 pub returns-in-Ok-clause-right : goal.returns-in-Ok-clause-right
 returns-in-Ok-clause-right g c =
@@ -223,28 +223,28 @@ returns-in-Ok-clause-right g c =
     let new = state g.S.Store c.commit.new.tx.0 in
     let what = c.args.request.now.what in
     let reply = c.in_ok-reply.reply in
-    let between = c.answered_inside.new.cache in
+    let between = c.answered_inside.new.caches in
     let seen : stored begun ≡ stored old = rw c.transaction-tx.ensures.begun refl in
-    let stay : HasPackuments new c.keep_reply.new.cache = λ clean on.
+    let stay : HasAnswers new c.keep_reply.new.caches = λ clean on.
     let were : HasCleanDisk mid = omega (arith, c.commit.ensures.survives.clean, clean) in
     let first : HasCleanDisk old = omega (arith, (rw c.transaction-tx.ensures.begun at c.answered_inside.ensures.stays.survives).clean, were) in
     let was_open : IsTrue old.is_open = rw c.transaction-tx.ensures.begun at c.in_ok-reply.ensures.served were in
-    let are = subst (λ (d : Contents). ArePackuments d c.args.cache.now) (sym seen) (c.requires.right first was_open) in
+    let are = subst (λ (d : Contents). AreAnswers d c.args.caches.now) (sym seen) (c.requires.right first was_open) in
     let leaves = c.in_ok-reply.ensures.right were in
     let left : stored new ≡ stored mid = ap (λ (d : Database). contents d.trees) (c.in-Ok.ensures.ok clean).1.now_is in
-    subst (λ (d : Contents). ArePackuments d c.keep_reply.new.cache) (sym left)
-    (right_kept (stored mid) what reply between c.keep_reply.new.cache
-    (right_answered (stored begun) (stored mid) what c.args.cache.now between reply leaves c.answered_inside.ensures.no_more are)
-    (shown_answered (stored begun) (stored mid) what c.args.cache.now between reply leaves are) c.keep_reply.ensures) in
+    subst (λ (d : Contents). AreAnswers d c.keep_reply.new.caches) (sym left)
+    (right_kept (stored mid) what reply between c.keep_reply.new.caches
+    (right_answered (stored begun) (stored mid) what c.args.caches.now between reply leaves c.answered_inside.ensures.no_more are)
+    (shown_answered (stored begun) (stored mid) what c.args.caches.now between reply leaves are) c.keep_reply.ensures) in
     let same : c.commit.new.tx.0 ≡ c.conn-2-1.given.0 = search rules in
-    subst (λ h. HasPackuments (state g.S.Store h) c.keep_reply.new.cache) same stay
+    subst (λ h. HasAnswers (state g.S.Store h) c.keep_reply.new.caches) same stay
 
 pub returns-in-Err-clause-right : goal.returns-in-Err-clause-right
 returns-in-Err-clause-right g c =
     let old = state g.S.Store c.args.conn.now in
     let mid = state g.S.Store c.answered_inside.new.tx.conn.now in
     let new = state g.S.Store c.commit.new.tx.0 in
-    let stay : HasPackuments new c.answered_inside.new.cache = right_unchanged old new c.args.cache.now c.answered_inside.new.cache (λ clean on.
+    let stay : HasAnswers new c.answered_inside.new.caches = right_unchanged old new c.args.caches.now c.answered_inside.new.caches (λ clean on.
     let were : HasCleanDisk mid = omega (arith, c.commit.ensures.survives.clean, clean) in
     let first : HasCleanDisk old = omega (arith, (rw c.transaction-tx.ensures.begun at c.answered_inside.ensures.stays.survives).clean, were) in
     let kept = rw c.transaction-tx.ensures.begun at c.answered_inside.ensures.stays.committed were in
@@ -252,26 +252,30 @@ returns-in-Err-clause-right g c =
     let back = failed_undone mid new _ (c.in_ok-reply.ensures.goes_on were).mode (c.in-Err.ensures.err clean).1 in
     (first, undone_open old mid new keeps back on, undone_stored old mid new c.requires.rests first keeps back on)) c.answered_inside.ensures.no_more c.requires.right in
     let same : c.commit.new.tx.0 ≡ c.conn-2-1.given.0 = search rules in
-    subst (λ h. HasPackuments (state g.S.Store h) c.answered_inside.new.cache) same stay
+    subst (λ h. HasAnswers (state g.S.Store h) c.answered_inside.new.caches) same stay
 
 pub returns-in_err-reply-clause-right : goal.returns-in_err-reply-clause-right
 returns-in_err-reply-clause-right g c =
     let old = state g.S.Store c.args.conn.now in
     let mid = state g.S.Store c.answered_inside.new.tx.conn.now in
     let new = state g.S.Store c.drop-tx.new.self.0 in
-    let stay : HasPackuments new c.answered_inside.new.cache = right_unchanged old new c.args.cache.now c.answered_inside.new.cache (λ clean on.
+    let stay : HasAnswers new c.answered_inside.new.caches = right_unchanged old new c.args.caches.now c.answered_inside.new.caches (λ clean on.
     let were : HasCleanDisk mid = omega (arith, c.drop-tx.ensures.survives.clean, clean) in
     let first : HasCleanDisk old = omega (arith, (rw c.transaction-tx.ensures.begun at c.answered_inside.ensures.stays.survives).clean, were) in
     let kept = rw c.transaction-tx.ensures.begun at c.answered_inside.ensures.stays.committed were in
     let keeps : KeepsCommit old mid = record { was_open = kept.was_open; committed = kept.committed } in
     (first, undone_open old mid new keeps (c.drop-tx.ensures.undone clean) on, undone_stored old mid new c.requires.rests first keeps (c.drop-tx.ensures.undone clean) on)) c.answered_inside.ensures.no_more c.requires.right in
     let same : c.drop-tx.new.self.0 ≡ c.conn-1.given.0 = search rules in
-    subst (λ h. HasPackuments (state g.S.Store h) c.answered_inside.new.cache) same stay
+    subst (λ h. HasAnswers (state g.S.Store h) c.answered_inside.new.caches) same stay
 
--- every step keeps the limit
+-- every step keeps the limits
 pub returns-in-Ok-clause-limit : goal.returns-in-Ok-clause-limit
 returns-in-Ok-clause-limit g c =
-    reply_limit c.args.request.now.what c.in_ok-reply.reply c.answered_inside.new.cache c.keep_reply.new.cache c.keep_reply.ensures ∙ c.answered_inside.ensures.no_more.limit
+    reply_limit c.args.request.now.what c.in_ok-reply.reply c.answered_inside.new.caches c.keep_reply.new.caches c.keep_reply.ensures ∙ c.answered_inside.ensures.no_more.packuments.limit
+
+pub returns-in-Ok-clause-archive_limit : goal.returns-in-Ok-clause-archive_limit
+returns-in-Ok-clause-archive_limit g c =
+    reply_archive_limit c.args.request.now.what c.in_ok-reply.reply c.answered_inside.new.caches c.keep_reply.new.caches c.keep_reply.ensures ∙ c.answered_inside.ensures.no_more.archives.limit
 
 -- ---- where no command was accepted
 
@@ -318,4 +322,4 @@ returns-in_err-reply-clause-unchanged g c =
 
 -- what is replied is kept after all else
 pub returns-in-Ok-clause-kept : goal.returns-in-Ok-clause-kept
-returns-in-Ok-clause-kept g c = (c.answered_inside.new.cache, c.answered_inside.ensures.no_more, c.keep_reply.ensures)
+returns-in-Ok-clause-kept g c = (c.answered_inside.new.caches, c.answered_inside.ensures.no_more, c.keep_reply.ensures)

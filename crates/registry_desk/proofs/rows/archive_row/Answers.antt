@@ -1,15 +1,12 @@
-use Rattle.std.proofs.Common.{◌∙◌, ap, option_map}
-use Rattle.registry_names.specs.Maps.{at}
-use Rattle.registry_names.specs.Texts.{Text}
-use Rattle.registry_rules.specs.State.{Release}
-use Rattle.registry_tables.specs.Contents.{live_of}
-use Rattle.registry_tables.specs.Effects.{stored_in}
+use Rattle.std.proofs.Common.{refl}
+use Rattle.registry_names.specs.Versions.{text_of_version}
+use Rattle.registry_tables.specs.Effects.{shown}
+use Rattle.registry_tables.proofs.EffectFacts.{as_it_was}
+use Rattle.registry_desk.specs.Caches.{archive_key}
 use Rattle.registry_desk.proofs.rows.archive_row.Goals as goal
 
--- a goal of its own, so that the archive of another version is refused at once
-pub returns-clause-loads : goal.returns-clause-loads
-returns-clause-loads g c clean =
-    let found = c.in_ok-archive.ensures.loads clean in (
-      found.0,
-      λ who. found.1 ∙ ap (λ (v : Text). option_map (λ (r : Release). r.archive) (at (live_of (stored_in g.S.Store c.args.tx.now)) (c.args.name.now, v))) c.text.ensures.text,
-    )
+pub returns-in-Some-clause-knows : goal.returns-in-Some-clause-knows
+returns-in-Some-clause-knows g c clean =
+    let name = c.args.name.now in
+    let version = text_of_version c.args.version.now in
+    (as_it_was (shown g.S.Store c.args.tx.now), λ who are. are.right (archive_key name version) _ c.in-Some.ensures.kept name version c.in-Some.ensures.name refl)

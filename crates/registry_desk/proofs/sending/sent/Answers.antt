@@ -1,22 +1,31 @@
 use Rattle.std.proofs.Common.{sym, subst}
 use Rattle.sqlite.specs.Held.{state}
-use Rattle.registry_desk.specs.Caches.{HasPackuments}
+use Rattle.registry_desk.specs.Caches.{KeepsNoMore}
 use Rattle.registry_desk.proofs.CacheFacts.{same_no_more}
+use Rattle.registry_desk.proofs.KeptFacts.{keep_same}
 use Rattle.registry_desk.proofs.SendingFacts.{asked_no_more, fault_sends, kept_sends, refused_sends, right_left, stored_sends, walk_leaves}
 use Rattle.registry_desk.proofs.sending.sent.Goals as goal
 
+pub origin_of-requires : goal.origin_of-requires
+origin_of-requires g c = record { rests = c.requires.rests; right = λ clean on. (c.requires.right clean on).packuments; asks = c.requires.asks }
+
 pub returns-in-Ok-Refused-clause-right : goal.returns-in-Ok-Refused-clause-right
 returns-in-Ok-Refused-clause-right g c =
-    right_left (state g.S.Store c.args.conn.now) (state g.S.Store c.origin_of.new.conn) c.args.cache.now c.args.cache.now c.origin_of.ensures.left (same_no_more c.args.cache.now) c.requires.right
+    right_left (state g.S.Store c.args.conn.now) (state g.S.Store c.origin_of.new.conn) c.args.caches.now c.args.caches.now c.origin_of.ensures.left (keep_same c.args.caches.now) c.requires.right
 
 pub returns-in-Err-clause-right : goal.returns-in-Err-clause-right
 returns-in-Err-clause-right g c =
-    right_left (state g.S.Store c.args.conn.now) (state g.S.Store c.origin_of.new.conn) c.args.cache.now c.args.cache.now c.origin_of.ensures.left (same_no_more c.args.cache.now) c.requires.right
+    right_left (state g.S.Store c.args.conn.now) (state g.S.Store c.origin_of.new.conn) c.args.caches.now c.args.caches.now c.origin_of.ensures.left (keep_same c.args.caches.now) c.requires.right
 
 pub returns-in-Ok-Kept-clause-right : goal.returns-in-Ok-Kept-clause-right
 returns-in-Ok-Kept-clause-right g c =
-    subst (HasPackuments (state g.S.Store c.origin_of.new.conn)) (sym c.ask-is_kept.ensures.asked)
-    (right_left (state g.S.Store c.args.conn.now) (state g.S.Store c.origin_of.new.conn) c.args.cache.now _ c.origin_of.ensures.left (asked_no_more c.args.cache.now c.args.name.now) c.requires.right)
+    let was = c.args.caches.now in
+    right_left (state g.S.Store c.args.conn.now) (state g.S.Store c.origin_of.new.conn) was _ c.origin_of.ensures.left
+    (record {
+      packuments = subst (KeepsNoMore was.packuments) (sym c.ask-is_kept.ensures.asked) (asked_no_more was.packuments c.text.result.now);
+      archives = same_no_more was.archives;
+    })
+    c.requires.right
 
 pub returns-in-Ok-Stored-clause-rests : goal.returns-in-Ok-Stored-clause-rests
 returns-in-Ok-Stored-clause-rests g c =
@@ -24,9 +33,9 @@ returns-in-Ok-Stored-clause-rests g c =
 
 pub returns-in-Ok-Stored-clause-right : goal.returns-in-Ok-Stored-clause-right
 returns-in-Ok-Stored-clause-right g c =
-    right_left (state g.S.Store c.args.conn.now) (state g.S.Store c.send_stored.new.conn) c.args.cache.now c.args.cache.now
+    right_left (state g.S.Store c.args.conn.now) (state g.S.Store c.send_stored.new.conn) c.args.caches.now c.args.caches.now
     (walk_leaves (state g.S.Store c.origin_of.new.conn) (state g.S.Store c.send_stored.new.conn) c.origin_of.ensures.left.rests c.send_stored.ensures.left (state g.S.Store c.args.conn.now) c.origin_of.ensures.left)
-    (same_no_more c.args.cache.now) c.requires.right
+    (keep_same c.args.caches.now) c.requires.right
 
 pub returns-in-Ok-Stored-clause-stored : goal.returns-in-Ok-Stored-clause-stored
 returns-in-Ok-Stored-clause-stored g c =

@@ -11,28 +11,36 @@ use Rattle.registry_desk.specs.Sending.{versions_in}
 use Rattle.registry_desk.proofs.SendingFacts.{walk_rests, walk_stored}
 use Rattle.registry_desk.proofs.texts.made_text.Goals as goal
 
+-- ---- a short one
+
+pub returns-in-Text-clause-text : goal.returns-in-Text-clause-text
+returns-in-Text-clause-text g c clean = (rw c.in-Text.is at (c.in_ok-within.ensures.within clean)).0
+
+-- ---- a long one
+
 pub written_text-requires : goal.written_text-requires
 written_text-requires g c =
     let old = state g.S.Store c.args.conn.now in
-    let mid = state g.S.Store c.stored_len.new.conn in
+    let mid = state g.S.Store c.stored_within.new.conn in
     record {
-      rests = walk_rests old mid c.requires.rests c.stored_len.ensures.left;
-      unshut = c.in_ok-len.ensures.unshut;
+      rests = walk_rests old mid c.requires.rests c.stored_within.ensures.left;
+      unshut = c.in_ok-within.ensures.unshut;
       counted = λ clean.
-          let stays : registry_in mid ≡ registry_in old = ap registry_of (walk_stored old mid c.requires.rests c.stored_len.ensures.left clean (c.in_ok-len.ensures.unshut clean)) in
-          subst (λ (T : State). pack_len c.args.head.now (versions_in T c.args.name.now) ≡ Some c.in_ok-len.len) (sym stays) (c.in_ok-len.ensures.len clean);
-      empty = c.in_ok-room.ensures.empty;
-      exact = c.in_ok-room.ensures.exact;
+          let stays : registry_in mid ≡ registry_in old = ap registry_of (walk_stored old mid c.requires.rests c.stored_within.ensures.left clean (c.in_ok-within.ensures.unshut clean)) in
+          let longer = rw c.in-Longer.is at (c.in_ok-within.ensures.within clean) in
+          subst (λ (T : State). pack_len c.args.head.now (versions_in T c.args.name.now) ≡ Some c.in-Longer.len) (sym stays) longer.0;
+      empty = c.in_ok-room-in-Longer.ensures.empty;
+      exact = c.in_ok-room-in-Longer.ensures.exact;
     }
 
-pub returns-clause-left : goal.returns-clause-left
-returns-clause-left g c =
-    left_then (state g.S.Store c.args.conn.now) (state g.S.Store c.stored_len.new.conn) (state g.S.Store c.written_text.new.conn) c.stored_len.ensures.left c.written_text.ensures.left
+pub returns-in_ok-room-in-Longer-clause-left : goal.returns-in_ok-room-in-Longer-clause-left
+returns-in_ok-room-in-Longer-clause-left g c =
+    left_then (state g.S.Store c.args.conn.now) (state g.S.Store c.stored_within.new.conn) (state g.S.Store c.written_text.new.conn) c.stored_within.ensures.left c.written_text.ensures.left
 
-pub returns-clause-text : goal.returns-clause-text
-returns-clause-text g c clean =
+pub returns-in_ok-room-in-Longer-clause-text : goal.returns-in_ok-room-in-Longer-clause-text
+returns-in_ok-room-in-Longer-clause-text g c clean =
     let old = state g.S.Store c.args.conn.now in
-    let mid = state g.S.Store c.stored_len.new.conn in
+    let mid = state g.S.Store c.stored_within.new.conn in
     let were : HasCleanDisk mid = omega (arith, c.written_text.ensures.left.survives.clean, clean) in
-    let stays : registry_in mid ≡ registry_in old = ap registry_of (walk_stored old mid c.requires.rests c.stored_len.ensures.left were (c.in_ok-len.ensures.unshut were)) in
+    let stays : registry_in mid ≡ registry_in old = ap registry_of (walk_stored old mid c.requires.rests c.stored_within.ensures.left were (c.in_ok-within.ensures.unshut were)) in
     IfOk-weaker c.written_text.result _ _ (λ text written. subst (λ (T : State). pack_text c.args.head.now (versions_in T c.args.name.now) ≡ Some text) stays written) (c.written_text.ensures.text clean)

@@ -1,4 +1,4 @@
-use Rattle.std.proofs.Common.{◌∙◌, inl, sym}
+use Rattle.std.proofs.Common.{◌∙◌, inl, refl, sym}
 use Rattle.registry_guests.proofs.GuestFacts.{none-left, sends-count, sends-none}
 use Rattle.registry_guests.proofs.guest.send.Goals as goal
 
@@ -21,3 +21,6 @@ returns-in-Broken-clause-sends g c = sends-none g.S.Socket.received g.S.Socket.s
 
 pub returns-then-is_empty-clause-over : goal.returns-then-is_empty-clause-over
 returns-then-is_empty-clause-over g c = λ _. inl (none-left c.advance.new.self (sym c.is_empty.ensures ∙ c.if-is_empty.true))
+
+pub returns-in-Ended-clause-over : goal.returns-in-Ended-clause-over
+returns-in-Ended-clause-over g c = λ _. absurd (c.in-Ended.ensures.goes_on refl)

@@ -1,7 +1,7 @@
 use Rattle.std.proofs.Common.{◌≡◌, ◌∙◌, ◌+◌, ℕ, List, Some, arith, false, length-append}
 use Rattle.registry_packument.specs.Packuments.{opening_text, pack_text}
 use Rattle.registry_packument.specs.Counted.{rows_text}
-use Rattle.registry_packument.proofs.SendingFacts.{counted_long, counted_text, ends_taking, ends_within, length-opening_text, start_takes, start_within, whole_long}
+use Rattle.registry_packument.proofs.SendingFacts.{counted_long, counted_text, end_fault, ends_taking, ends_within, length-opening_text, start_fault, start_takes, start_within, whole_long}
 use Rattle.registry_packument.proofs.sending.send_counted.Goals as goal
 
 pub returns-in-Ok-write_whole-clause-framed : goal.returns-in-Ok-write_whole-clause-framed
@@ -33,3 +33,12 @@ pub returns-in-Ok-write_whole-clause-long : goal.returns-in-Ok-write_whole-claus
 returns-in-Ok-write_whole-clause-long g c known whole =
     let rows = g.S.VersionSource.rows c.args.source.now in
     omega (arith, length-append (opening_text c.args.head.now) (rows_text false rows), c.in-Ok.ensures.room, whole_long c.write_counted.result (rw c.end_of.ensures at whole) (c.write_counted.ensures.long known))
+
+-- ---- what breaks it off
+
+pub returns-in-Err-clause-fault : goal.returns-in-Err-clause-fault
+returns-in-Err-clause-fault g c known = start_fault _ c.args.head.now (g.S.VersionSource.rows c.args.source.now) c.args.len c.in-Err.fault c.in-Err.ensures.err
+
+pub returns-in-Ok-write_whole-clause-fault : goal.returns-in-Ok-write_whole-clause-fault
+returns-in-Ok-write_whole-clause-fault g c known =
+    rw c.end_of.ensures (end_fault _ c.args.head.now (g.S.VersionSource.rows c.args.source.now) c.args.len c.in-Ok.start.room c.in-Ok.ensures.room c.write_counted.result (c.write_counted.ensures.fault known))

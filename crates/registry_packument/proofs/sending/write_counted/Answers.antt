@@ -1,9 +1,9 @@
-use Rattle.std.proofs.Common.{false, ◌≡◌, ◌∙◌, ◌++◌, ◌+◌, true, [], ◌∷◌, arith, ap, length, length-append, refl, sym}
+use Rattle.std.proofs.Common.{false, inr, ◌≡◌, ◌∙◌, ◌++◌, ◌+◌, true, [], ◌∷◌, arith, ap, length, length-append, refl, sym}
 use Rattle.std.proofs.lemmas.Result.{err_from_is_err_and}
 use Rattle.registry_names.proofs.ByteStreamFacts.{on_err, Writes-append, Writes-nothing}
 use Rattle.registry_packument.specs.Counted.{row_text, rows_text}
 use Rattle.registry_packument.proofs.StreamFacts.{HasLeft-all, HasLeft-piece, HasLeft-failed, HasLeft-stopped, HasLeft-none}
-use Rattle.registry_packument.proofs.SendingFacts.{length-rows_text, within_all, within_cut, within_end, within_more}
+use Rattle.registry_packument.proofs.SendingFacts.{broken_at_row, length-rows_text, missing_behind, within_all, within_cut, within_end, within_more}
 use Rattle.registry_packument.proofs.sending.write_counted.Goals as goal
 
 pub versions-init : goal.versions-init
@@ -12,6 +12,7 @@ versions-init g c = record {
   behind = g.met.S.VersionSource.leaves_itself c.args.source.now;
   prefix = λ known. HasLeft-all _ _ _;
   long = λ known. omega arith;
+  missing = λ known none. none;
   within = ([], (omega arith, Writes-nothing _ _));
   failures = refl;
   still_unknown = refl;
@@ -34,6 +35,9 @@ versions-preserved g c =
           let gives : old ≡ row ∷ left = rw c.in-Some.is at (c.in_ok-row.ensures.gives known) in
           let before = c.versions.invariant.long (c.in_ok-row.ensures.known known) in
           omega (arith, before, ap (λ rs. length (rows_text c.versions.later rs)) gives, length-append (row_text c.versions.later row) (rows_text true left), c.in_ok-left.ensures.left);
+      missing = λ known none.
+          let gives : old ≡ row ∷ left = rw c.in-Some.is at (c.in_ok-row.ensures.gives known) in
+          c.versions.invariant.missing (c.in_ok-row.ensures.known known) (missing_behind row old left gives none);
       within = (
         it.0 ++ row_text c.versions.later row,
         (omega (arith, length-append it.0 (row_text c.versions.later row), it.1.0, c.in_ok-left.ensures.left), Writes-append it.1.1 c.in_ok-left.ensures.ok c.in_ok-left.ensures.unknown),
@@ -68,6 +72,18 @@ returns-in_err-left-clause-err g c known =
     on_err c.from_residual-in_err-left.result
     (HasLeft-failed (row_text c.versions.later row) (rows_text true left) (c.versions.invariant.prefix (c.in_ok-row.ensures.known known))
     (ap (rows_text c.versions.later) gives) c.in_err-left.ensures.err c.in_err-left.ensures.unknown)
+
+pub returns-in_err-left-clause-fault : goal.returns-in_err-left-clause-fault
+returns-in_err-left-clause-fault g c known e =
+    let all = g.S.VersionSource.rows c.args.source.now in
+    let old = g.S.VersionSource.rows c.versions.source in
+    let left = g.S.VersionSource.rows c.next.new.self in
+    let row = c.in-Some.row in
+    let gives : old ≡ row ∷ left = rw c.in-Some.is at (c.in_ok-row.ensures.gives known) in
+    let before = c.in_ok-row.ensures.known known in
+    let q = err_from_is_err_and c.from_residual-in_err-left.result c.from_residual-in_err-left.ensures.1 in
+    inr (broken_at_row c.args.room c.versions.left c.versions.later row all old left gives (c.versions.invariant.missing before) (c.versions.invariant.long before)
+    (c.in_err-left.ensures.fault (cc (q.1, q.2, e))))
 
 pub returns-in_err-left-clause-within : goal.returns-in_err-left-clause-within
 returns-in_err-left-clause-within g c =

@@ -1,6 +1,7 @@
-use Rattle.std.proofs.Common.{◌≡◌, ◌+◌, List, ℕ, false, length}
+use Rattle.std.proofs.Common.{◌≡◌, ◌+◌, List, ℕ, false, length, None}
 use Rattle.registry_names.specs.ByteStreams.{Writes}
 use Rattle.registry_packument.specs.Counted.{rows_text}
+use Rattle.registry_packument.specs.Packuments.{version_pairs}
 use Rattle.registry_packument.proofs.StreamFacts.{HasLeft}
 use Rattle.registry_packument.proofs.sending.write_counted.Given as goal
 
@@ -13,6 +14,9 @@ invariant-versions g l = record {
   -- what was given has as many bytes as were written
   long : g.S.VersionSource.is_known l.source
       → length (rows_text false (g.S.VersionSource.rows l.fn.source)) + l.left ≡ l.room + length (rows_text l.later (g.S.VersionSource.rows l.source));
+  -- a document that is missing among the rows that are left is missing among all
+  missing : g.S.VersionSource.is_known l.source
+      → version_pairs (g.S.VersionSource.rows l.source) ≡ None → version_pairs (g.S.VersionSource.rows l.fn.source) ≡ None;
   -- so many bytes were written, and so many are left
   within : (bytes : List ℕ) × ((length bytes + l.left ≡ l.room) × Writes (g.W.ByteOut.bytes l.fn.writer) (g.W.ByteOut.bytes l.writer) (g.W.ByteOut.is_unknown l.writer) bytes);
   failures : g.W.ByteOut.failures l.writer ≡ g.W.ByteOut.failures l.fn.writer;

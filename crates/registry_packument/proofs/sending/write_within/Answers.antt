@@ -21,10 +21,10 @@ returns-in_default-clause-within g c = ([], (omega arith, Writes-nothing _ _))
 pub returns-in_err-write_whole-clause-err : goal.returns-in_err-write_whole-clause-err
 returns-in_err-write_whole-clause-err g c =
     on_err c.from_residual-in_err-write_whole.result
-    (rw (c.as_bytes.ensures.value ∙ c.in_ok-member.ensures) at c.in_err-write_whole.ensures.err)
+    (rw (c.as_bytes.ensures.value ∙ c.in_ok-member.ensures.ok) at c.in_err-write_whole.ensures.err)
 
 pub returns-clause-ok : goal.returns-clause-ok
-returns-clause-ok g c = rw (c.as_bytes.ensures.value ∙ c.in_ok-member.ensures) at c.in_ok-write_whole.ensures.ok
+returns-clause-ok g c = rw (c.as_bytes.ensures.value ∙ c.in_ok-member.ensures.ok) at c.in_ok-write_whole.ensures.ok
 
 pub returns-in_err-write_whole-clause-within : goal.returns-in_err-write_whole-clause-within
 returns-in_err-write_whole-clause-within g c =

@@ -1,4 +1,4 @@
-use Rattle.std.proofs.Common.{◌∙◌, ap, arith}
+use Rattle.std.proofs.Common.{◌∙◌, arith, is_some, ap, sym}
 use Rattle.sqlite.specs.Effect.{Database}
 use Rattle.sqlite.specs.State.{HasCleanDisk}
 use Rattle.registry_access.specs.Callers.{is_maintainer}
@@ -9,58 +9,61 @@ use Rattle.registry_tables.specs.Contents.{access_of, contents}
 use Rattle.registry_tables.specs.Effects.{shown}
 use Rattle.registry_tables.specs.Schema.{schema}
 use Rattle.registry_tables.proofs.EffectFacts.{reads_as_before}
-use Rattle.registry_tables.proofs.StandingFacts.{grants_before}
+use Rattle.registry_tables.proofs.StandingFacts.{grants_before, scope_there}
 use Rattle.registry_tables.proofs.standing.load_standing.Goals as goal
 
 pub returns-clause-loads : goal.returns-clause-loads
 returns-clause-loads g c clean =
     let at_maintainer : HasCleanDisk (shown g.S.Store c.maintains.new.tx) = omega (arith, c.load_granted.ensures.stays.survives.clean, clean) in
-    let at_role : HasCleanDisk (shown g.S.Store c.load_scope_role.new.tx) = omega (arith, c.maintains.ensures.stays.survives.clean, at_maintainer) in
-    let at_organisation : HasCleanDisk (shown g.S.Store c.has_scope.new.tx) = omega (arith, c.load_scope_role.ensures.stays.survives.clean, at_role) in
-    let at_status : HasCleanDisk (shown g.S.Store c.load_status.new.tx) = omega (arith, c.has_scope.ensures.stays.survives.clean, at_organisation) in
+    let at_organisation : HasCleanDisk (shown g.S.Store c.has_scope.new.tx) = omega (arith, c.maintains.ensures.stays.survives.clean, at_maintainer) in
+    let at_role : HasCleanDisk (shown g.S.Store c.load_scope_role.new.tx) = omega (arith, c.has_scope.ensures.stays.survives.clean, at_organisation) in
+    let at_status : HasCleanDisk (shown g.S.Store c.load_status.new.tx) = omega (arith, c.load_scope_role.ensures.stays.survives.clean, at_role) in
     let status = c.in_ok-status.ensures.loads at_status in
-    let organisation = c.in_ok-organisation.ensures.knows at_organisation in
     let role = c.in_ok-role.ensures.knows at_role in
+    let organisation = c.in_ok-organisation.ensures.knows at_organisation in
     let maintainer = c.in_ok-maintainer.ensures.knows at_maintainer in
     let grants = c.in_ok-grants.ensures.knows clean in
     let old = shown g.S.Store c.args.tx.now in
+    let asked = shown g.S.Store c.load_scope_role.new.tx in
     let one : Reads schema old (shown g.S.Store c.load_status.new.tx) = status.0 in
-    let two = reads_as_before old (shown g.S.Store c.load_status.new.tx) (shown g.S.Store c.has_scope.new.tx) one organisation.0 in
-    let three = reads_as_before old (shown g.S.Store c.has_scope.new.tx) (shown g.S.Store c.load_scope_role.new.tx) two role.0 in
-    let four = reads_as_before old (shown g.S.Store c.load_scope_role.new.tx) (shown g.S.Store c.maintains.new.tx) three maintainer.0 in
+    let two = reads_as_before old (shown g.S.Store c.load_status.new.tx) asked one role.0 in
+    let three = reads_as_before old asked (shown g.S.Store c.has_scope.new.tx) two organisation.0 in
+    let four = reads_as_before old (shown g.S.Store c.has_scope.new.tx) (shown g.S.Store c.maintains.new.tx) three maintainer.0 in
     let who = c.args.caller.now in
-    let name = c.args.name.now in (
+    let name = c.args.name.now in
+    let is_role = role.1 ∙ ap (λ (d : Database). scope_role (access_of (contents d.trees)) who (scope_of name)) one.same in
+    let is_asked = is_role ∙ sym (ap (λ (d : Database). scope_role (access_of (contents d.trees)) who (scope_of name)) two.same) in (
       reads_as_before old (shown g.S.Store c.maintains.new.tx) (shown g.S.Store c.load_granted.new.tx) four grants.0,
       λ sound. record {
-        organisation = organisation.1 ∙ ap (λ (d : Database). has_scope (access_of (contents d.trees)) (scope_of name)) one.same;
-        role = role.1 ∙ ap (λ (d : Database). scope_role (access_of (contents d.trees)) who (scope_of name)) two.same;
+        organisation = organisation.1 (λ there. scope_there asked two.ready who (scope_of name) (sym (c.is_some.ensures ∙ ap is_some is_asked) ∙ there))
+            ∙ ap (λ (d : Database). has_scope (access_of (contents d.trees)) (scope_of name)) two.same;
+        role = is_role;
         status = status.1;
         maintainer = maintainer.1 ∙ ap (λ (d : Database). is_maintainer (access_of (contents d.trees)) who name) three.same;
-        grants = grants_before who name _ _ (shown g.S.Store c.maintains.new.tx).now old.now four.same grants.1 sound
-            (role.1 ∙ ap (λ (d : Database). scope_role (access_of (contents d.trees)) who (scope_of name)) two.same);
+        grants = grants_before who name _ _ (shown g.S.Store c.maintains.new.tx).now old.now four.same grants.1 sound is_role;
       },
     )
 
-pub load_scope_role-requires : goal.load_scope_role-requires
-load_scope_role-requires g c = record {
+pub has_scope-requires : goal.has_scope-requires
+has_scope-requires g c = record {
   in_form = λ clean _.
-      let at_status : HasCleanDisk (shown g.S.Store c.load_status.new.tx) = omega (arith, c.has_scope.ensures.stays.survives.clean, clean) in
-      (c.in_ok-organisation.ensures.knows clean).0.ready (c.in_ok-status.ensures.loads at_status).0.ready;
+      let at_status : HasCleanDisk (shown g.S.Store c.load_status.new.tx) = omega (arith, c.load_scope_role.ensures.stays.survives.clean, clean) in
+      (c.in_ok-role.ensures.knows clean).0.ready (c.in_ok-status.ensures.loads at_status).0.ready;
 }
 
 pub maintains-requires : goal.maintains-requires
 maintains-requires g c = record {
   in_form = λ clean _.
-      let at_organisation : HasCleanDisk (shown g.S.Store c.has_scope.new.tx) = omega (arith, c.load_scope_role.ensures.stays.survives.clean, clean) in
-      let at_status : HasCleanDisk (shown g.S.Store c.load_status.new.tx) = omega (arith, c.has_scope.ensures.stays.survives.clean, at_organisation) in
-      (c.in_ok-role.ensures.knows clean).0.ready ((c.in_ok-organisation.ensures.knows at_organisation).0.ready (c.in_ok-status.ensures.loads at_status).0.ready);
+      let at_role : HasCleanDisk (shown g.S.Store c.load_scope_role.new.tx) = omega (arith, c.has_scope.ensures.stays.survives.clean, clean) in
+      let at_status : HasCleanDisk (shown g.S.Store c.load_status.new.tx) = omega (arith, c.load_scope_role.ensures.stays.survives.clean, at_role) in
+      (c.in_ok-organisation.ensures.knows clean).0.ready ((c.in_ok-role.ensures.knows at_role).0.ready (c.in_ok-status.ensures.loads at_status).0.ready);
 }
 
 pub load_granted-requires : goal.load_granted-requires
 load_granted-requires g c = record {
   in_form = λ clean _.
-      let at_role : HasCleanDisk (shown g.S.Store c.load_scope_role.new.tx) = omega (arith, c.maintains.ensures.stays.survives.clean, clean) in
-      let at_organisation : HasCleanDisk (shown g.S.Store c.has_scope.new.tx) = omega (arith, c.load_scope_role.ensures.stays.survives.clean, at_role) in
-      let at_status : HasCleanDisk (shown g.S.Store c.load_status.new.tx) = omega (arith, c.has_scope.ensures.stays.survives.clean, at_organisation) in
-      (c.in_ok-maintainer.ensures.knows clean).0.ready ((c.in_ok-role.ensures.knows at_role).0.ready ((c.in_ok-organisation.ensures.knows at_organisation).0.ready (c.in_ok-status.ensures.loads at_status).0.ready));
+      let at_organisation : HasCleanDisk (shown g.S.Store c.has_scope.new.tx) = omega (arith, c.maintains.ensures.stays.survives.clean, clean) in
+      let at_role : HasCleanDisk (shown g.S.Store c.load_scope_role.new.tx) = omega (arith, c.has_scope.ensures.stays.survives.clean, at_organisation) in
+      let at_status : HasCleanDisk (shown g.S.Store c.load_status.new.tx) = omega (arith, c.load_scope_role.ensures.stays.survives.clean, at_role) in
+      (c.in_ok-maintainer.ensures.knows clean).0.ready ((c.in_ok-organisation.ensures.knows at_organisation).0.ready ((c.in_ok-role.ensures.knows at_role).0.ready (c.in_ok-status.ensures.loads at_status).0.ready));
 }

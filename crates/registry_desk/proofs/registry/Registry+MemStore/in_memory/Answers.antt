@@ -20,8 +20,12 @@ use Rattle.registry_desk.proofs.registry.Registry+MemStore.in_memory.Goals as go
 pub invariant_of-result : goal.invariant_of-result
 invariant_of-result c = record {
   rests = c.in_ok-create_tables.ensures.rests;
-  right = λ clean on. subst (AreRight _) (sym c.in_ok-cache.ensures) (new_right _ _);
-  limited = ap (λ (s : Cache). s.limit) c.in_ok-cache.ensures;
+  right = λ clean on. record {
+    packuments = subst (AreRight _) (sym c.in_ok-caches.ensures.packuments) (new_right _ _);
+    archives = subst (AreRight _) (sym c.in_ok-caches.ensures.archives) (new_right _ _);
+  };
+  limited = ap (λ (s : Cache). s.limit) c.in_ok-caches.ensures.packuments;
+  archives_limited = ap (λ (s : Cache). s.limit) c.in_ok-caches.ensures.archives;
 }
 
 pub returns-clause-fresh : goal.returns-clause-fresh

@@ -19,4 +19,5 @@ invariant_of-self g c = record {
   rests = c.sent.ensures.rests;
   right = c.sent.ensures.right;
   limited = c.sent.ensures.limit ∙ c.self.invariant.limited;
+  archives_limited = c.sent.ensures.archive_limit ∙ c.self.invariant.archives_limited;
 }

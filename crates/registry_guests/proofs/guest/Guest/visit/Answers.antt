@@ -1,5 +1,5 @@
 use Rattle.std.proofs.Common.{◌∙◌, List, ℕ, inl, inr, length, refl, rules, subst}
-use Rattle.registry_guests.specs.Guests.{AnswersMessage, IsDue, OpenGuest, Visits, guest_at}
+use Rattle.registry_guests.specs.Guests.{AnswersMessage, OpenGuest, Visits, guest_at}
 use Rattle.registry_guests.proofs.GuestFacts.{more-held, visits-begun}
 use Rattle.registry_guests.proofs.guest.Guest.visit.Goals as goal
 
@@ -16,7 +16,7 @@ returns-in-Some-answer-clause-visits g c =
     let sends = c.begin.ensures.sends in
     subst (λ (x : OpenGuest g.row.S.Denot). Visits g.S.Socket.received g.S.Socket.sent g.S.Socket.is_ended answers (length c.args.buffer.now) x c.begin.new.self c.args.service.now c.answer.new.service (g.C.Clock.readings c.args.clock.now) (g.C.Clock.readings c.answer.new.clock)) c.self.view_is
     (visits-begun g.S.Socket.received g.S.Socket.sent g.S.Socket.is_ended answers (length c.args.buffer.now) old c.begin.new.self _ _ _ _ c.receive.new.socket _ said sends.0
-    c.in-None.is c.in-Ok-Ended.ensures.kept due sends.1 sends.2 c.begin.ensures.until)
+    c.in-None.is c.in-Ok-Ended.ensures.kept due sends.1 sends.2 (c.begin.ensures.held ∙ held) c.begin.ensures.until)
 
 pub returns-in-Err-clause-visits : goal.returns-in-Err-clause-visits
 returns-in-Err-clause-visits g c =
@@ -28,4 +28,4 @@ returns-in-Err-clause-visits g c =
     let sends = c.begin-in-Err.ensures.sends in
     subst (λ (x : OpenGuest g.row.S.Denot). Visits g.S.Socket.received g.S.Socket.sent g.S.Socket.is_ended answers (length c.args.buffer.now) x c.begin-in-Err.new.self c.args.service.now c.args.service.now (g.C.Clock.readings c.args.clock.now) (g.C.Clock.readings c.args.clock.now)) c.self.view_is
     (visits-begun g.S.Socket.received g.S.Socket.sent g.S.Socket.is_ended answers (length c.args.buffer.now) old c.begin-in-Err.new.self _ _ _ _ c.receive.new.socket _ _ sends.0
-    c.in-None.is lost.2 due sends.1 sends.2 c.begin-in-Err.ensures.until)
+    c.in-None.is lost.2 due sends.1 sends.2 (c.begin-in-Err.ensures.held ∙ c.in-Err.ensures.stays) c.begin-in-Err.ensures.until)

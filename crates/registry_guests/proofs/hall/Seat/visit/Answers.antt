@@ -13,12 +13,12 @@ returns-in_default g c =
 
 pub returns-in-Again : goal.returns-in-Again
 returns-in-Again g c =
-    visits-there g.S.Socket.received g.S.Socket.sent g.S.Socket.has_none g.S.Socket.is_full g.S.Socket.is_ended g.S.Socket.is_broken g.D.Service.answers g.D.Service.over _ c.args.self.now _ c.visit.new.self Again _ _ _ _ (search rules) (search rules) c.visit.ensures.visits (λ e. absurd (cc)) (λ e. absurd (cc))
+    visits-there g.S.Socket.received g.S.Socket.sent g.S.Socket.has_none g.S.Socket.is_full g.S.Socket.is_ended g.S.Socket.is_broken g.D.Service.answers g.D.Service.over _ c.args.self.now _ c.visit.new.self Again _ _ _ _ (search rules) (search rules) c.visit.ensures.visits c.in-Again.ensures.within (λ e. absurd (cc)) (λ e. absurd (cc))
 
 pub returns-in-Rests : goal.returns-in-Rests
 returns-in-Rests g c =
-    visits-there g.S.Socket.received g.S.Socket.sent g.S.Socket.has_none g.S.Socket.is_full g.S.Socket.is_ended g.S.Socket.is_broken g.D.Service.answers g.D.Service.over _ c.args.self.now _ c.visit.new.self Rests _ _ _ _ (search rules) (search rules) c.visit.ensures.visits c.in-Rests.ensures.waits (λ e. absurd (cc))
+    visits-there g.S.Socket.received g.S.Socket.sent g.S.Socket.has_none g.S.Socket.is_full g.S.Socket.is_ended g.S.Socket.is_broken g.D.Service.answers g.D.Service.over _ c.args.self.now _ c.visit.new.self Rests _ _ _ _ (search rules) (search rules) c.visit.ensures.visits c.in-Rests.ensures.within c.in-Rests.ensures.waits (λ e. absurd (cc))
 
 pub returns-in-Over : goal.returns-in-Over
 returns-in-Over g c =
-    visits-there g.S.Socket.received g.S.Socket.sent g.S.Socket.has_none g.S.Socket.is_full g.S.Socket.is_ended g.S.Socket.is_broken g.D.Service.answers g.D.Service.over _ c.args.self.now _ c.visit.new.self Over _ _ _ _ (search rules) (search rules) c.visit.ensures.visits (λ e. absurd (cc)) c.in-Over.ensures.over
+    visits-there g.S.Socket.received g.S.Socket.sent g.S.Socket.has_none g.S.Socket.is_full g.S.Socket.is_ended g.S.Socket.is_broken g.D.Service.answers g.D.Service.over _ c.args.self.now _ c.visit.new.self Over _ _ _ _ (search rules) (search rules) c.visit.ensures.visits c.in-Over.ensures.within (λ e. absurd (cc)) c.in-Over.ensures.over

@@ -30,7 +30,7 @@ returns-then-eq-2-clause-sends g c = (
   tt,
   (
     kit,
-    (c.args.self.now, tt),
+    (c.args.self.now, tt, tt),
     cut (g.O.Opener.opens c.args.opener.now 14)
         (some-of (g.O.Opener.opens c.args.opener.now 14) (rw (c.as_bytes-head.ensures.value ∙ c.as_str.ensures.text ∙ c.in-Ok.ensures.ok) at (sym c.is_empty.ensures ∙ c.if-is_empty.false)))
         (rw (c.as_bytes-head.ensures.value ∙ c.as_str.ensures.text ∙ c.in-Ok.ensures.ok) at c.in-Ok-write_whole.ensures.ok),

@@ -1,0 +1,127 @@
+-- All that is kept stays right: the texts of packuments, and the archives.
+use Rattle.std.proofs.Common.{◌≡◌, ℕ, false, List, [], Option, Some, None, Result, Ok, Err, OnOk, IfOk, IsTrue, refl, sym, ap, ◌∙◌, subst}
+use Rattle.sqlite.specs.State.{State as Shown, HasCleanDisk}
+use Rattle.registry_access.specs.declared.caller.Caller.{Caller}
+use Rattle.registry_names.specs.Texts.{Text}
+use Rattle.registry_names.specs.Versions.{VersionParts, text_of_version}
+use Rattle.registry_names.specs.declared.refusal.Refusal.{Refusal}
+use Rattle.registry_cache.specs.Caches.{Cache}
+use Rattle.registry_rules.specs.Actions.{is_command}
+use Rattle.registry_rules.specs.Changes.{Change}
+use Rattle.registry_rules.specs.declared.reply.Reply.{Reply}
+use Rattle.registry_rules.specs.declared.reply.Reply.TheVariants.{Bytes, Doc, Refused}
+use Rattle.registry_rules.specs.declared.request.Action.{Action}
+use Rattle.registry_rules.specs.declared.request.Action.TheVariants.{Archive, Packument, TeamPackages}
+use Rattle.registry_tables.specs.Archives.{HeldAreStored}
+use Rattle.registry_tables.specs.Changes.{all_stored}
+use Rattle.registry_tables.specs.Contents.{Contents, registry_of}
+use Rattle.registry_tables.specs.Effects.{stored}
+use Rattle.registry_tables.specs.Teams.{AreTeamsSound}
+use Rattle.registry_history.specs.Answers.{archive_in, packument_in, reply_to}
+use Rattle.registry_history.specs.Apart.{is_about}
+use Rattle.registry_history.specs.Runs.{Outcome}
+use Rattle.registry_desk.specs.Caches.{AreAnswers, AreArchives, AreLeftBy, ArePackuments, HasAnswers, IsSoundFor, KeepNoMore, KeepsReply, LeavesCacheRight, moves}
+use Rattle.registry_desk.specs.declared.cache.Caches.{Caches}
+use Rattle.registry_desk.proofs.ArchiveFacts.{archive_limit_stays, archives_answered, archives_kept, archives_leave, archives_refused, archives_unchanged}
+use Rattle.registry_desk.proofs.CacheFacts.{more_kept, same_no_more, texts_answered, texts_kept, texts_leave, texts_refused, texts_unchanged, untouched_no_more}
+
+pub keep_same : (s : Caches) → KeepNoMore s s
+keep_same s = record { packuments = same_no_more s.packuments; archives = same_no_more s.archives }
+
+pub left_no_more : (cs : List Change) (old new : Caches) → AreLeftBy cs old new → KeepNoMore old new
+left_no_more cs old new left = record {
+  packuments = untouched_no_more is_about cs old.packuments new.packuments left.packuments;
+  archives = untouched_no_more moves cs old.archives new.archives left.archives;
+}
+
+pub sound_for : (what : Action) (c : Contents) (caches : Caches) → AreTeamsSound c → AreAnswers c caches → IsSoundFor what c caches
+sound_for (Packument p) c caches sound are = are.packuments
+sound_for (Archive p v) c caches sound are = are.archives
+sound_for (TeamPackages o t) c caches sound are = sound
+sound_for _ c caches sound are = tt
+
+-- ---- what is kept of an answer
+
+pub reply_limit : (what : Action) (given : Reply) (old new : Caches) → KeepsReply what given old new → new.packuments.limit ≡ old.packuments.limit
+reply_limit (Packument name) (Doc text) old new keeps = (more_kept name text old.packuments new.packuments keeps.0).same_limit
+reply_limit (Archive p v) (Bytes bytes) old new keeps = ap (λ (s : Cache). s.limit) keeps.0
+reply_limit _ _ old new keeps = ap (λ (s : Caches). s.packuments.limit) keeps
+
+pub reply_archive_limit : (what : Action) (given : Reply) (old new : Caches) → KeepsReply what given old new → new.archives.limit ≡ old.archives.limit
+reply_archive_limit (Packument name) (Doc text) old new keeps = ap (λ (s : Cache). s.limit) keeps.1
+reply_archive_limit (Archive p v) (Bytes bytes) old new keeps = archive_limit_stays p (text_of_version v) bytes old.archives new.archives keeps.1
+reply_archive_limit _ _ old new keeps = ap (λ (s : Caches). s.archives.limit) keeps
+
+-- ---- what becomes of what is kept
+
+module _ (c d : Contents) (who : Option Caller) (what : Action) (cs : List Change) (old new : Caches) where
+  leaves_by : (given : Reply) → HeldAreStored c → d ≡ all_stored cs c → (is_command what ≡ false → cs ≡ []) → AreLeftBy cs old new
+      → (IsSoundFor what c old → given ≡ reply_to (registry_of c) who what) → LeavesCacheRight c d what old new given
+  leaves_by given held is query left told = record {
+    packuments = texts_leave c d who what cs old.packuments new.packuments given held is query left.packuments
+        (λ p asks are. told (subst (λ (w : Action). IsSoundFor w c old) (sym asks) are));
+    archives = archives_leave c d who what cs old.archives new.archives given held is query left.archives
+        (λ p v asks are. told (subst (λ (w : Action). IsSoundFor w c old) (sym asks) are));
+  }
+
+  -- the same of an outcome
+  pub leaves_accepted : (result : Outcome) (L : Type 0) → HeldAreStored c → (L → d ≡ all_stored cs c) → (is_command what ≡ false → cs ≡ [])
+      → OnOk result L → OnOk result (AreLeftBy cs old new) → (IsSoundFor what c old → IfOk result (λ given. given ≡ reply_to (registry_of c) who what)) → IfOk result (LeavesCacheRight c d what old new)
+  leaves_accepted (Ok given) L held is query done left told = leaves_by given held (is done) query left told
+  leaves_accepted (Err fault) L held is query done left told = tt
+
+-- what is refused changes nothing
+pub leaves_refused : (c d : Contents) (what : Action) (caches : Caches) (why : Refusal) → d ≡ c → LeavesCacheRight c d what caches caches (Refused why)
+leaves_refused c d what caches why same = record {
+  packuments = texts_refused c d what caches.packuments why same;
+  archives = archives_refused c d what caches.archives why same;
+}
+
+-- ---- what is right after a request
+
+-- nothing was stored otherwise, and nothing came
+pub right_unchanged : (old new : Shown) (was is_now : Caches) → (HasCleanDisk new → IsTrue new.is_open → HasCleanDisk old × IsTrue old.is_open × (stored new ≡ stored old)) → KeepNoMore was is_now → HasAnswers old was → HasAnswers new is_now
+right_unchanged old new was is_now same keeps right clean on =
+    let before = same clean on in
+    let are = right before.0 before.1 in
+    record {
+      packuments = texts_unchanged (stored old) (stored new) was.packuments is_now.packuments before.2 keeps.packuments are.packuments;
+      archives = archives_unchanged (stored old) (stored new) was.archives is_now.archives before.2 keeps.archives are.archives;
+    }
+
+-- the request was answered
+pub right_answered : (c d : Contents) (what : Action) (was is_now : Caches) (given : Reply) → LeavesCacheRight c d what was is_now given → KeepNoMore was is_now → AreAnswers c was → AreAnswers d is_now
+right_answered c d what was is_now given leaves keeps are = record {
+  packuments = texts_answered c d what was.packuments is_now.packuments given leaves.packuments keeps.packuments are.packuments;
+  archives = archives_answered c d what was.archives is_now.archives given leaves.archives keeps.archives are.archives;
+}
+
+-- a reply shows what is stored
+pub record ShowsStored (d : Contents) (what : Action) (given : Reply) : Type 0 where
+  pub packument : (p text : Text) → what ≡ Packument p → given ≡ Doc text → text ≡ packument_in (registry_of d) p
+  pub archive : (p : Text) (v : VersionParts) (bytes : List ℕ) → what ≡ Archive p v → given ≡ Bytes bytes → bytes ≡ archive_in (registry_of d) p (text_of_version v)
+
+pub shown_answered : (c d : Contents) (what : Action) (was is_now : Caches) (given : Reply) → LeavesCacheRight c d what was is_now given → AreAnswers c was → ShowsStored d what given
+shown_answered c d what was is_now given leaves are = record {
+  packument = λ p text asks h. leaves.packuments.shown p text are.packuments asks h ∙ sym (leaves.packuments.asked p asks);
+  archive = λ p v bytes asks h. leaves.archives.shown p v bytes are.archives asks h ∙ sym (leaves.archives.asked p v asks);
+}
+
+-- so does one to a query for a packument
+pub shown_packument : (d : Contents) (what : Action) (given : Reply) (name : Text) → what ≡ Packument name → ((p text : Text) → what ≡ Packument p → given ≡ Doc text → text ≡ packument_in (registry_of d) p) → ShowsStored d what given
+shown_packument d what given name asks_text shows = record {
+  packument = shows;
+  archive = λ p v bytes asks h. cc;
+}
+
+-- what is replied is kept
+pub right_kept : (d : Contents) (what : Action) (given : Reply) (was is_now : Caches) → AreAnswers d was → ShowsStored d what given → KeepsReply what given was is_now → AreAnswers d is_now
+right_kept d (Packument name) (Doc text) was is_now right shows keeps = record {
+  packuments = texts_kept d name text was.packuments is_now.packuments right.packuments (shows.packument name text refl refl) keeps.0;
+  archives = subst (AreArchives d) (sym keeps.1) right.archives;
+}
+right_kept d (Archive p v) (Bytes bytes) was is_now right shows keeps = record {
+  packuments = subst (ArePackuments d) (sym keeps.0) right.packuments;
+  archives = archives_kept d p (text_of_version v) bytes was.archives is_now.archives right.archives (shows.archive p v bytes refl refl) keeps.1;
+}
+right_kept d _ _ was is_now right shows keeps = subst (AreAnswers d) (sym keeps) right

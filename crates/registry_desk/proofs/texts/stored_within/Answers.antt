@@ -1,0 +1,19 @@
+use Rattle.std.proofs.Common.{◌≡◌, rules, arith, ap, subst, IfOk}
+use Rattle.sqlite.specs.Effect.{Database}
+use Rattle.sqlite.specs.Held.{state}
+use Rattle.sqlite.specs.State.{HasCleanDisk}
+use Rattle.registry_packument.specs.Within.{IsWithin}
+use Rattle.registry_rules.specs.State.{State}
+use Rattle.registry_tables.specs.Contents.{contents, registry_of}
+use Rattle.registry_tables.specs.Effects.{registry_in}
+use Rattle.registry_tables.specs.Walks.{shown_by}
+use Rattle.registry_desk.specs.Sending.{versions_in}
+use Rattle.registry_desk.proofs.texts.stored_within.Goals as goal
+
+pub returns-in-Ok-clause-within : goal.returns-in-Ok-clause-within
+returns-in-Ok-clause-within g c clean =
+    let same : c.conn-1.given.0 ≡ c.rows_within.new.rows.conn.now = search rules in
+    let cleanly : HasCleanDisk (shown_by g.S.Store c.rows_within.new.rows) = subst (λ held. HasCleanDisk (state g.S.Store held)) same clean in
+    let were : HasCleanDisk (shown_by g.S.Store c.in-Ok.rows) = omega (arith, c.rows_within.ensures.left.survives.clean, cleanly) in
+    let stays : registry_in (shown_by g.S.Store c.in-Ok.rows) ≡ registry_in (state g.S.Store c.args.conn.now) = ap (λ (d : Database). registry_of (contents d.trees)) (c.in-Ok.ensures.unchanged were).0.now_is in
+    subst (λ (T : State). IfOk c.rows_within.result (IsWithin c.args.limit c.args.head.now (versions_in T c.args.name.now))) stays (c.rows_within.ensures.within cleanly)

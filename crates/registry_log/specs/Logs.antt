@@ -1,0 +1,109 @@
+-- A log: which line is put for a turn, and what becomes of it.
+use Rattle.std.specs.Prelude.{◌≡◌, ◌≤◌, ◌⊎◌, ◌-◌, ℕ, Bool, true, false, List, [], ◌++◌, Option, Some, None, IfSome, codes, decimal, length, if◌then◌else◌}
+use Rattle.std.specs.Borrow.{Bor}
+use Rattle.registry_names.specs.Texts.{Text}
+use Rattle.registry_names.specs.declared.method.Method.{Method}
+use Rattle.registry_packument.specs.Calendar.{utc_text}
+use Rattle.registry_wire.specs.declared.wanted.Wanted.{Wanted}
+use Rattle.registry_service.specs.HttpAnswers.{body_bytes}
+use Rattle.registry_service.specs.declared.turning.Turned.{Turned}
+use Rattle.registry_log.specs.Lines.{line_with}
+use Rattle.registry_log.specs.Waitings.{Queue, adding, has_room, losing, queue, settling}
+use Rattle.registry_log.specs.declared.log.Answered.{Answered}
+
+-- what waits to be written, and what the registry answered and wasn't noted yet
+pub record Logging : Type 0 where
+  pub waiting : Queue
+  pub answered : Option Answered
+
+abbrev pub logging : Queue → Option Answered → Logging
+logging waiting answered = record { waiting = waiting; answered = answered }
+
+-- ---- the line of a turn
+
+-- a user's name, or nothing
+abbrev pub name_in : Option Text → Text
+name_in None = []
+name_in (Some name) = name
+
+-- who asked the registry, if it was asked by a user
+abbrev pub user_in : Option Answered → Text
+user_in None = []
+user_in (Some a) = name_in a.user
+
+-- for how long it was asked, if it was
+abbrev pub micros_in : Option Answered → Option ℕ
+micros_in None = None
+micros_in (Some a) = Some a.micros
+
+-- what the request asks for, if one was read
+abbrev pub method_in : Option (Bor Wanted) → Option Method
+method_in None = None
+method_in (Some w) = Some w.now.method
+
+abbrev pub target_in : Option (Bor Wanted) → List ℕ
+target_in None = []
+target_in (Some w) = w.now.target
+
+-- The line of a turn at this moment: of who asked, what was asked for, and what was answered.
+abbrev pub turn_line : ℕ → Option Answered → Option (Bor Wanted) → Turned → List ℕ
+turn_line at answered wanted turned =
+    line_with at (user_in answered) (method_in wanted) (target_in wanted) turned.answer.status (length (body_bytes turned.answer.body)) (micros_in answered)
+
+-- ---- lines that are no request's
+
+abbrev pub said_line : ℕ → Text → List ℕ
+said_line at text = utc_text at ++ codes " # " ++ text ++ codes "\n"
+
+-- so many lines were lost; where what is written ends within a line that is ended first
+abbrev pub lost_line : ℕ → ℕ → Bool → List ℕ
+lost_line at lost cut = (if cut then codes "\n" else []) ++ utc_text at ++ codes " # lost lines: " ++ decimal lost ++ codes "\n"
+
+-- ---- what becomes of a line
+
+-- What waits was written, up to some byte, once it was said how many lines were lost, if some were. Where
+-- that can't be said nothing is written, and what waits is lost, too.
+pub record IsWritten (old new : Queue) : Type 0 where
+  pub told : Bool
+  pub written : ℕ
+  pub few : written ≤ length old.bytes
+  pub none : told ≡ false → written ≡ 0
+  pub left : new ≡ settling written (if told then queue old.bytes 0 else old)
+
+abbrev pub PutsIf : Bool → List ℕ → Queue → Queue → Type 0
+PutsIf true line old new = new ≡ adding line old
+PutsIf false line old new = (between : Queue) × IsWritten old between × (new ≡ adding line between)
+
+-- A line waits behind the others. Where there is no room for it what waits is written first, and where
+-- there is none then, either, it is lost.
+abbrev pub IsPut : List ℕ → Queue → Queue → Type 0
+IsPut line old new = PutsIf (has_room (length line) old) line old new
+
+-- so it is, or there was no memory for it, and it is lost
+abbrev pub IsNoted : List ℕ → Queue → Queue → Type 0
+IsNoted line old new = IsPut line old new ⊎ (new ≡ losing 1 old)
+
+-- A turn was noted: exactly its line waits, or is lost. Its moment is that at which the registry was
+-- asked, where it was.
+pub record NotesTurn (wanted : Option (Bor Wanted)) (turned : Turned) (old new : Logging) : Type 0 where
+  pub at : ℕ
+  pub asked : IfSome old.answered (λ a. at ≡ a.at)
+  pub noted : IsNoted (turn_line at old.answered wanted turned) old.waiting new.waiting
+  pub taken : new.answered ≡ None
+
+-- a line that is no request's was noted, and what waits was written
+pub record SaysLine (text : Text) (old new : Logging) : Type 0 where
+  pub at : ℕ
+  pub between : Queue
+  pub noted : IsNoted (said_line at text) old.waiting between
+  pub written : IsWritten between new.waiting
+  pub answered : new.answered ≡ old.answered
+
+-- what the registry answered is known, until it is noted
+abbrev pub Remembers : ℕ → Option Text → ℕ → Logging → Logging → Type 0
+Remembers at user begun old new =
+    (now : ℕ) × (new ≡ logging old.waiting (Some (record { at = at; user = user; micros = now - begun })))
+
+-- what waits was written, and nothing was answered that is to be noted
+abbrev pub Rests : Logging → Logging → Type 0
+Rests old new = IsWritten old.waiting new.waiting × (new.answered ≡ None)

@@ -1,0 +1,84 @@
+-- What the rows of a table refer to by their first column: the organisation of a member is there,
+-- and the package of a version.
+use Rattle.std.proofs.Common.{◌≡◌, ◌||◌, ℕ, [], ◌∷◌, drop, inl, true, false, Some, is_some, refl, sym, ap, subst, ◌∙◌, codes}
+use Rattle.std.proofs.lemmas.Bool.{and_parts}
+use Rattle.sqlite.specs.declared.types.Value.{Value}
+use Rattle.sqlite.specs.declared.types.Value.TheVariants.{Text as Stored}
+use Rattle.sqlite.specs.State.{State}
+use Rattle.sqlite_value.specs.Order.{Row, column}
+use Rattle.sqlite_value.specs.declared.keys.Collation.TheVariants.{Binary}
+use Rattle.sqlite_value.specs.Keys.{plain, first_key}
+use Rattle.sqlite_sql.specs.declared.ops.BinaryOp.TheVariants.{Compare}
+use Rattle.sqlite_sql.specs.declared.ops.CompareOp.TheVariants.{Eq}
+use Rattle.sqlite_sql.specs.Ops.{binary, is_null, is_true}
+use Rattle.sqlite_schema.specs.declared.schema.Action.{Action}
+use Rattle.sqlite_schema.specs.declared.schema.Action.TheVariants.{NoAction}
+use Rattle.sqlite_schema.specs.declared.schema.Table.{Table}
+use Rattle.sqlite_schema.specs.Rules.{parent_key}
+use Rattle.sqlite_tied.specs.Compute.{everything}
+use Rattle.sqlite_rules.specs.Lists.{Has}
+use Rattle.sqlite_rules.proofs.ListLemmas.{all_has, has_got}
+use Rattle.registry_names.specs.Keys.{Pair}
+use Rattle.registry_names.specs.Texts.{Text}
+use Rattle.registry_names.specs.Maps.{at, put}
+use Rattle.registry_names.proofs.KeyFacts.{pair_key}
+use Rattle.registry_names.proofs.MapFacts.{at-put_same}
+use Rattle.registry_access.specs.declared.role.Role.{Role}
+use Rattle.registry_rules.specs.State.{Release}
+use Rattle.registry_rows.specs.Rows.{key_of, map_of}
+use Rattle.registry_rows.specs.TextKeys.{TextsMap}
+use Rattle.registry_rows.specs.Ready.{IsMapped, IsReady, Leaves}
+use Rattle.registry_rows.specs.Tables.{reference}
+use Rattle.registry_rows.proofs.KeyedFacts.{by_texts_given, texts_of}
+use Rattle.registry_rows.proofs.OneRowFacts.{table_rowids}
+use Rattle.registry_rows.proofs.ReferenceFacts.{parent_of}
+use Rattle.registry_rows.proofs.StatementFacts.{rows_tell_by}
+use Rattle.registry_rows.proofs.TextKeyFacts.{row_parts}
+use Rattle.registry_tables.specs.Contents.{Contents, contents}
+use Rattle.registry_tables.specs.Effects.{stored}
+use Rattle.registry_tables.specs.Schema as table
+use Rattle.registry_tables.specs.Schema.{schema}
+use Rattle.registry_tables.proofs.MappedFacts.{members_mapped, organisations_mapped, packages_mapped, versions_mapped}
+use Rattle.registry_tables.proofs.ReferenceFacts.{told}
+
+-- a table whose first column refers to the key of another
+module _ {X Y : Type 0} {place above : ℕ} {child parent : Table} {value : Row → X} {said : Row → Y} {change : Contents → TextsMap 1 X → Contents} {alter : Contents → TextsMap 0 Y → Contents}
+    (lower : IsMapped schema contents place child 1 value change) (upper : IsMapped schema contents above parent 0 said alter) (name : Text) (action : Action)
+    (named : Has child.references (reference (1 ∷ []) name action)) (to : parent_key schema.tables (reference (1 ∷ []) name action) ≡ Some (parent.tree, 1 ∷ [], plain)) (s : State) (ready : IsReady schema s) where
+  parent_there : (a b : Text) (x : X) → at (map_of 1 value (s.now.trees child.tree)) (a, b) ≡ Some x → is_some (at (map_of 0 said (s.now.trees parent.tree)) a) ≡ true
+  unfolding first_key
+  parent_there a b x e =
+      let row = (rows_tell_by (by_texts_given lower) s ready (a, b) x).0 e in
+      let r = row.0 in
+      let cut = row_parts r (all_has _ (s.now.trees child.tree) r (table_rowids schema s place child ready lower.found).1 row.1) in
+      let first : column r 1 ≡ Stored a = ap (λ (y : Row). column y 1) cut.1 ∙ (texts_of lower s ready r row.1).0 ∙ ap (λ (k : Pair). Stored k.0) row.2 in
+      let met = parent_of schema s ready child (has_got schema.tables place child lower.found) (reference (1 ∷ []) name action) named parent.tree (1 ∷ []) to r row.1 (subst (λ (v : Value). (is_null v || false) ≡ false) (sym first) refl) in
+      let p = met.0 in
+      let parts = row_parts p (all_has _ (s.now.trees parent.tree) p (table_rowids schema s above parent ready upper.found).1 met.1) in
+      let agrees : is_true (binary (Compare Eq Binary) (column p 1) (Stored a)) ≡ true = subst (λ (v : Value). is_true (binary (Compare Eq Binary) (column p 1) v) ≡ true) first (and_parts _ _ met.2).0 in
+      let same : a ≡ key_of 0 p = told a (column (drop 1 p) 0) (texts_of upper s ready p met.1) (subst (λ (y : Row). is_true (binary (Compare Eq Binary) (column y 1) (Stored a)) ≡ true) parts.1 agrees) in
+      let there = (rows_tell_by (by_texts_given upper) s ready (key_of 0 p) (said (drop 1 p))).1 (p, met.1, refl, refl) in
+      ap (λ (q : Text). is_some (at (map_of 0 said (s.now.trees parent.tree)) q)) same ∙ ap is_some there
+
+to_organisations : parent_key schema.tables (reference (1 ∷ []) (codes "orgs") NoAction) ≡ Some (table.organisations.tree, 1 ∷ [], plain)
+unfolding everything
+to_organisations = refl
+
+to_packages : parent_key schema.tables (reference (1 ∷ []) (codes "packages") NoAction) ≡ Some (table.packages.tree, 1 ∷ [], plain)
+unfolding everything
+to_packages = refl
+
+module _ (s : State) (ready : IsReady schema s) where
+  -- the organisation in which a user has a role
+  pub organisation_there : (o u : Text) (role : Role) → at (stored s).members (o, u) ≡ Some role → is_some (at (stored s).organisations o) ≡ true
+  organisation_there = parent_there members_mapped organisations_mapped (codes "orgs") NoAction (inl refl) to_organisations s ready
+
+  -- the package of which a version lives
+  pub package_there : (p v : Text) (release : Release) → at (stored s).versions (p, v) ≡ Some release → is_some (at (stored s).packages p) ≡ true
+  package_there = parent_there versions_mapped packages_mapped (codes "packages") NoAction (inl refl) to_packages s ready
+
+-- a version was put where its package was
+pub version_has_package : (p v : Text) (release : Release) (c : Contents) (s : State) → Leaves schema contents (record c { versions = put c.versions (p, v) release }) s → is_some (at c.packages p) ≡ true
+version_has_package p v release c s left =
+    let there : at (stored s).versions (p, v) ≡ Some release = ap (λ (d : Contents). at d.versions (p, v)) left.holds ∙ at-put_same pair_key c.versions (p, v) release in
+    sym (ap (λ (d : Contents). is_some (at d.packages p)) left.holds) ∙ package_there s left.ready p v release there
