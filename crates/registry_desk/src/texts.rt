@@ -204,6 +204,14 @@ fn written_text<S: Alter>(
     text_sent(sent, room.bytes)
 }
 
+// A copy of the text in room for just its bytes. The C library maps the room in which a large text
+// grew, and gives its pages back; room for just its bytes is used again for the next one.
+fn exact(alloc: Global, text: Text) -> Result<Text, Fault>
+    ensures { IfOk result (λ copy. copy ≡ text) }
+{
+    Ok(Text::from_str(alloc, text.as_str())?)
+}
+
 // The text of the packument with this head: in one walk, or in two where it is long.
 fn made_text<S: Alter>(
     alloc: Global,
@@ -223,7 +231,7 @@ fn made_text<S: Alter>(
 {
     let within = stored_within(alloc, conn, name, head, ONE_WALK)?;
     match within {
-        PackumentWithin::Text(text) => Ok(text),
+        PackumentWithin::Text(text) => exact(alloc, text),
         PackumentWithin::Longer(len) => {
             let room = room_for(alloc, len)?;
             written_text(alloc, conn, name, head, len, room)
