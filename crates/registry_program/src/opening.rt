@@ -74,13 +74,17 @@ pub fn close<D: Disk + Drop>(conn: Connection<FileStore<D>>) {
 // Why the file at the path wasn't opened: it is tried once more, as any database.
 fn obstacle(rt: &HostRuntime, path: &str) -> Obstacle {
     match Connection::open_with_sums(rt, path) {
-        Ok(mut conn) => {
-            let obstacle = obstacle_in(rt.alloc(), &mut conn);
-            close(conn);
-            obstacle
-        }
+        Ok(conn) => obstacle_behind(rt.alloc(), conn),
         Err(error) => obstacle_of(error),
     }
+}
+
+// What keeps the database behind a connection, which is let go of, from being a registry.
+fn obstacle_behind<D: Disk + Drop>(alloc: Global, conn: Connection<FileStore<D>>) -> Obstacle {
+    let mut conn = conn;
+    let obstacle = obstacle_in(alloc, &mut conn);
+    close(conn);
+    obstacle
 }
 
 /// What keeps an open database from being a registry. One that has nothing yet is a registry's that

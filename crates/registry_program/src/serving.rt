@@ -81,17 +81,38 @@ pub fn serve<'a, O: ByteOut, E: ByteOut>(
         return Err(Ending::Wrong(NO_NUMBER));
     };
     let log = log_at(rt, alloc, entrance.log)?;
-    // Who asked for the end is behind the door until it is dropped: at the end of this function.
+    serve_behind(rt, alloc, entrance, log, output, errors)
+}
+
+// Serves behind a door. Who asked for the end is behind it until it is dropped: at the end of this
+// function.
+fn serve_behind<K: LogClock + Drop, W: LineSink + Drop, O: ByteOut, E: ByteOut>(
+    rt: &HostRuntime,
+    alloc: Global,
+    entrance: Entrance<'_>,
+    log: Option<Log<K, W>>,
+    output: &mut O,
+    errors: &mut E,
+) -> Result<u8, Ending> {
     let mut door = Door::shut(alloc)?;
-    let ended = match open(rt, entrance.path) {
-        Ok(registry) => {
-            serve_registry(
-                rt, alloc, entrance, log, registry, &mut door, output, errors,
-            )
-        }
-        Err(ending) => Err(ending),
-    };
+    let ended = serve_file(rt, alloc, entrance, log, &mut door, output, errors);
     end(ended?, errors)
+}
+
+// Opens the file, and serves its registry.
+fn serve_file<K: LogClock + Drop, W: LineSink + Drop, O: ByteOut, E: ByteOut>(
+    rt: &HostRuntime,
+    alloc: Global,
+    entrance: Entrance<'_>,
+    log: Option<Log<K, W>>,
+    door: &mut Door,
+    output: &mut O,
+    errors: &mut E,
+) -> Result<Ended, Ending> {
+    match open(rt, entrance.path) {
+        Ok(registry) => { serve_registry(rt, alloc, entrance, log, registry, door, output, errors) }
+        Err(ending) => Err(ending),
+    }
 }
 
 // The log at the path, if one is to be kept.
@@ -174,12 +195,24 @@ fn serve_at<S: Alter, K: LogClock, W: LineSink, O: ByteOut, E: ByteOut>(
     };
     require_log(rt, alloc, entrance)?;
     let server = Server::bind(rt, alloc, entrance.port, entrance.connections)?;
-    if let Err(error) = door.open(rt, alloc, server.registry(), entrance.path) {
-        warn(&error, errors);
-    }
+    open_door(rt, alloc, &server, entrance.path, door, errors);
     match announce(alloc, &server, output) {
         Ok(()) => run(rt, alloc, server, at, service, door),
         Err(ending) => Err(ending),
+    }
+}
+
+// Opens the door of the server, or says that it stays shut.
+fn open_door<E: ByteOut>(
+    rt: &HostRuntime,
+    alloc: Global,
+    server: &Server,
+    path: &str,
+    door: &mut Door,
+    errors: &mut E,
+) {
+    if let Err(error) = door.open(rt, alloc, server.registry(), path) {
+        warn(&error, errors);
     }
 }
 
