@@ -1,8 +1,8 @@
 -- A query for a packument that is answered as one text: its reply is the machine's, and changes
 -- nothing that is stored.
-use Rattle.std.proofs.Common.{◌≡◌, ◌∙◌, ℕ, false, List, [], Option, Some, Ok, Err, Result, IfOk, OnOk, IsTrue, refl, sym, ap, subst, subst₂}
+use Rattle.std.proofs.Common.{◌≡◌, ◌∙◌, ℕ, false, List, [], Option, Some, Ok, Err, Result, IfOk, OnOk, refl, sym, ap, subst, subst₂}
 use Rattle.sqlite.proofs.StateLemmas.{survives_weaker}
-use Rattle.sqlite.specs.State.{State as Shown, HasCleanDisk}
+use Rattle.sqlite.specs.State.{State as Shown}
 use Rattle.registry_names.specs.Texts.{Text}
 use Rattle.registry_packument.specs.Counted.{Takes}
 use Rattle.registry_packument.specs.declared.opener.Sent.{Sent}
@@ -14,7 +14,7 @@ use Rattle.registry_rules.specs.declared.reply.Reply.TheVariants.{Doc}
 use Rattle.registry_rules.specs.declared.request.Action.{Action}
 use Rattle.registry_rules.specs.declared.request.Action.TheVariants.{Packument}
 use Rattle.registry_rules.specs.declared.request.Request.{Request}
-use Rattle.registry_tables.specs.Effects.{registry_in, stored}
+use Rattle.registry_tables.specs.Effects.{stored}
 use Rattle.registry_history.specs.Answers.{answer, packument_in}
 use Rattle.registry_history.specs.Runs.{Outcome}
 use Rattle.registry_desk.specs.Promises.{Stepped, SurvivesOne, Unchanged}
