@@ -204,8 +204,8 @@ fn written_text<S: Alter>(
     text_sent(sent, room.bytes)
 }
 
-// A copy of the text in room for just its bytes. The C library maps the room in which a large text
-// grew, and gives its pages back; room for just its bytes is used again for the next one.
+// A copy of the text in room for just its bytes: a text that grew has room for up to twice as many,
+// and what is cached is to take no more memory than it counts for.
 fn exact(alloc: Global, text: Text) -> Result<Text, Fault>
     ensures { IfOk result (λ copy. copy ≡ text) }
 {

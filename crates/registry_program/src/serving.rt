@@ -14,7 +14,7 @@ use registry_names::{ByteOut, Moment, Text, write_whole};
 use registry_server::{Ended, Server};
 use sqlite::{Alter, FileStore, Files};
 use sqlite_disk::Disk;
-use std::alloc::Global;
+use std::alloc::{AllocError, Global};
 use std::io;
 use std::io::ErrorKind;
 
@@ -29,6 +29,9 @@ const ENOUGH: &str = "ended: as many connections came as --connections says\n";
 
 /// What is said where a server ends since a command asked for it.
 const STOPPED: &str = "ended: a command told it to stop\n";
+
+/// How much room is taken and let go of before the first request, in bytes: that of the largest body.
+const ROOM: usize = 4_194_304;
 
 /// What is said of a door that stays shut.
 const SHUT_DOOR: &str = "no command beside this server is answered: ";
@@ -80,8 +83,17 @@ pub fn serve<'a, O: ByteOut, E: ByteOut>(
     let Some(entrance) = Entrance::of(line, log) else {
         return Err(Ending::Wrong(NO_NUMBER));
     };
+    keep_room(alloc);
     let log = log_at(rt, alloc, entrance.log)?;
     serve_behind(rt, alloc, entrance, log, output, errors)
+}
+
+// Has the C library keep the room that a request took for the next one. It gives back what is free
+// at the end of its heap, where that is more than twice the largest block that it mapped and let go
+// of. Each page that comes again costs a page fault.
+fn keep_room(alloc: Global) {
+    let room: Result<Vec<u8>, AllocError> = Vec::with_capacity(alloc, ROOM);
+    drop(room);
 }
 
 // Serves behind a door. Who asked for the end is behind it until it is dropped: at the end of this
