@@ -1,10 +1,9 @@
 //! Serving the registry in a file over HTTP.
 
-use crate::copying::unclosed;
 use crate::ending::{Ending, Failure};
 use crate::logging::{LogFile, MachineClock, may_log};
 use crate::moment::read_moment;
-use crate::opening::open;
+use crate::opening::{close_files, open};
 use registry_cli::Line;
 use registry_desk::Registry;
 use registry_guests::{Door, close};
@@ -12,7 +11,7 @@ use registry_http::RegistryService;
 use registry_log::{LineSink, Log, LogClock, LoggedService};
 use registry_names::{ByteOut, Moment, Text, write_whole};
 use registry_server::{Ended, Server};
-use sqlite::{Alter, FileStore, Files};
+use sqlite::{Alter, FileStore};
 use sqlite_disk::Disk;
 use std::alloc::{AllocError, Global};
 use std::io;
@@ -144,8 +143,16 @@ fn log_at(
     Ok(Some(Log::new(alloc, clock, file)?))
 }
 
-// Serves a registry, and lets go of it. The door is taken away as long as its files are locked, so
-// that no other server has one there.
+// How a server of a registry ended.
+enum Served<S: Alter> {
+    // A command stopped it, and the registry's log is to be copied. The door is still there.
+    Stopped(Registry<S>),
+    // It ended otherwise, or wasn't begun. The registry is let go of.
+    Otherwise(Result<Ended, Ending>),
+}
+
+// Serves a registry, and lets go of it. After a stop its log is copied into its file, which is a
+// fault where it fails; else the next open does what is to be done.
 fn serve_registry<D: Disk + Drop, K: LogClock + Drop, W: LineSink + Drop, O: ByteOut, E: ByteOut>(
     rt: &HostRuntime,
     alloc: Global,
@@ -156,38 +163,58 @@ fn serve_registry<D: Disk + Drop, K: LogClock + Drop, W: LineSink + Drop, O: Byt
     output: &mut O,
     errors: &mut E,
 ) -> Result<Ended, Ending> {
+    match serve_until_end(rt, alloc, entrance, log, registry, door, output, errors) {
+        Served::Stopped(registry) => close_stopped(rt, alloc, entrance.path, registry, door),
+        Served::Otherwise(ended) => ended,
+    }
+}
+
+// Serves a registry until the server ends.
+fn serve_until_end<S: Alter + Drop, K: LogClock + Drop, W: LineSink + Drop, O: ByteOut, E: ByteOut>(
+    rt: &HostRuntime,
+    alloc: Global,
+    entrance: Entrance<'_>,
+    log: Option<Log<K, W>>,
+    registry: Registry<S>,
+    door: &mut Door,
+    output: &mut O,
+    errors: &mut E,
+) -> Served<S> {
     let mut service = LoggedService::new(RegistryService::new(registry), log);
     let ended = serve_at(rt, alloc, entrance, &mut service, door, output, errors);
-    let left = leave(service.into_inner().into_registry(), &ended);
-    if door.is_open() {
-        let _ = close(rt, alloc, entrance.path);
+    let registry = service.into_inner().into_registry();
+    if matches!(ended, Ok(Ended::Stopped)) {
+        return Served::Stopped(registry);
     }
+    take_away(rt, alloc, entrance.path, door);
+    drop(registry);
+    Served::Otherwise(ended)
+}
+
+// Copies the log of a registry whose server was stopped into its file, and lets go of it.
+fn close_stopped<D: Disk + Drop>(
+    rt: &HostRuntime,
+    alloc: Global,
+    path: &str,
+    registry: Registry<FileStore<D>>,
+    door: &Door,
+) -> Result<Ended, Ending> {
+    let left = close_files(registry);
+    take_away(rt, alloc, path, door);
     match left {
         Ok(files) => {
             drop(files);
-            ended
+            Ok(Ended::Stopped)
         }
         Err(ending) => Err(ending),
     }
 }
 
-// Gives the files of a registry that was served, which are locked until they are dropped. After a
-// stop its log is copied into its file, which is a fault where it fails; else the next open does
-// what is to be done.
-fn leave<D: Disk + Drop>(
-    registry: Registry<FileStore<D>>,
-    ended: &Result<Ended, Ending>,
-) -> Result<Files<D>, Ending> {
-    let conn = registry.release();
-    if !matches!(ended, Ok(Ended::Stopped)) {
-        return Ok(conn.into_store().close());
-    }
-    match conn.close_files() {
-        Ok(files) => Ok(files),
-        Err((error, store)) => {
-            drop(store.close());
-            Err(unclosed(error))
-        }
+// Takes the door away, if it is open. The registry's files are still locked, so no other server has a
+// door there.
+fn take_away(rt: &HostRuntime, alloc: Global, path: &str, door: &Door) {
+    if door.is_open() {
+        let _ = close(rt, alloc, path);
     }
 }
 
