@@ -89,21 +89,49 @@ fn print_answer<R: Registries, O: ByteOut, E: ByteOut>(
     requires asks { asks_to_serve line.now.what ≡ false }
 {
     let body = body_of(rt, alloc, line)?;
-    let request = request(rt, alloc, line, &body)?;
-    let question = Question {
-        path: line.db.as_str(),
-        request: &request,
-        arguments,
-        body: &body,
-    };
-    match answer_to(rt, alloc, registries, question)? {
+    match ask_line(rt, alloc, registries, line, arguments, &body) {
+        Ok(answer) => print_given(alloc, answer, output, errors),
+        Err(ending) => Err(ending),
+    }
+}
+
+fn print_given<O: ByteOut, E: ByteOut>(
+    alloc: Global,
+    answer: Answer,
+    output: &mut O,
+    errors: &mut E,
+) -> Result<u8, Ending> {
+    match answer {
         Answer::Reply(reply) => Ok(print_reply(&reply, output, errors)?),
         Answer::Sent(bytes) => print_sent(alloc, &bytes, output, errors),
     }
 }
 
-/// What a line asks for, with the bytes of the file that it names, and when.
-pub fn request(rt: &HostRuntime, alloc: Global, line: &Line, body: &[u8]) -> Result<Request, Ending>
+/// Asks for what a line means, with the bytes of the file that it names. A server is asked by the
+/// arguments.
+pub fn ask_line<R: Registries>(
+    rt: &HostRuntime,
+    alloc: Global,
+    registries: &mut R,
+    line: &Line,
+    arguments: &[Text],
+    body: &[u8],
+) -> Result<Answer, Ending>
+    requires whole { IsWhole line.now.what }
+    requires asks { asks_to_serve line.now.what ≡ false }
+{
+    let request = request(rt, alloc, line, body)?;
+    let question = Question {
+        path: line.db.as_str(),
+        request: &request,
+        arguments,
+        body,
+    };
+    answer_to(rt, alloc, registries, question)
+}
+
+// What a line asks for, with the bytes of the file that it names, and when.
+fn request(rt: &HostRuntime, alloc: Global, line: &Line, body: &[u8]) -> Result<Request, Ending>
     requires whole { IsWhole line.now.what }
     requires asks { asks_to_serve line.now.what ≡ false }
 {
