@@ -18,3 +18,4 @@ pub mod AnswerFacts
 mod StopFacts
 pub mod StoredFacts
 mod KeptFacts
+mod TakenFacts
