@@ -5,6 +5,7 @@ mod EarlyFacts
 mod GrantFacts
 mod KeepingFacts
 mod LifeFacts
+mod LivingFacts
 mod LoadedFacts
 mod LookFacts
 mod MakingFacts

@@ -11,8 +11,6 @@ ghost use Rattle.registry_packument.specs.Sendings.{failures_after};
 ghost use Rattle.registry_packument.specs.Within.{IsWithin};
 ghost use Rattle.registry_packument.specs.declared.opener.Sent.TheVariants.{WriteFault};
 ghost use Rattle.registry_rows.specs.Frames.{Stays};
-ghost use Rattle.registry_rules.specs.Facts.{FactsTell};
-ghost use Rattle.registry_rules.specs.Refusals.{refusal};
 ghost use Rattle.registry_rules.specs.State.{State};
 ghost use Rattle.registry_rules.specs.declared.request.Action.TheVariants as asked;
 ghost use Rattle.registry_tables.specs.Contents.{registry_of};
@@ -28,8 +26,9 @@ ghost use Rattle.registry_desk.specs.Resting.{Rests};
 ghost use Rattle.registry_desk.specs.Sending.{IsFrom, IsOrigin, IsShownBy, LeavesAll, Sends, answers_as_apply, head_in, versions_in};
 
 use crate::cache::{Caches, ask};
-use crate::packages::seen_package;
+use crate::policy::standing_if_allowed;
 use crate::rows::{cached_text, pack_times};
+use registry_access::Ask;
 use registry_cache::{SharedText, TextCache};
 use registry_hidden::laws::unread_packages_are_unheard_of;
 use registry_names::{ByteOut, DistTag, Fault, Name, Refusal, Text};
@@ -37,8 +36,10 @@ use registry_packument::{
     Opener, PackHead, PackTimes, PackumentWithin, Sent, packument_within, send_counted, send_text,
 };
 use registry_rows::{commit, fault_of};
-use registry_rules::{Facts, Request, may_ask};
-use registry_tables::{LiveRows, VersionWalk, load_caller, load_tags, load_times, walk_versions};
+use registry_rules::Request;
+use registry_tables::{
+    LiveRows, VersionWalk, has_live, load_caller, load_tags, load_times, walk_versions,
+};
 use sqlite::{Alter, Connection, Transaction};
 use std::alloc::Global;
 
@@ -93,7 +94,26 @@ fn loaded_head<S: Alter>(
     head_of(alloc, name, tags, times)
 }
 
-// What a packument comes from, where nothing refuses the query.
+// What a packument that isn't kept comes from, where the policy allows the query.
+fn stored_from<S: Alter>(
+    alloc: Global,
+    tx: &mut Transaction<'_, S>,
+    name: &Name,
+) -> Result<Origin, Fault>
+    requires in_form { InForm S.Store tx.old }
+    ensures stays { Stays S.Store tx.old tx.new }
+    ensures loads { Loads S.Store tx.old tx.new result
+        (λ origin c. IsShownBy origin (registry_of c) name.now) }
+{
+    if has_live(tx, name)? {
+        Ok(Origin::Stored(loaded_head(alloc, tx, name)?))
+    } else {
+        Ok(Origin::Refused(Refusal::NotFound))
+    }
+}
+
+// What a packument comes from, where the policy allows the query. Of a package whose packument is
+// kept some version lives, so that isn't asked.
 fn shown_from<S: Alter>(
     alloc: Global,
     tx: &mut Transaction<'_, S>,
@@ -107,17 +127,7 @@ fn shown_from<S: Alter>(
 {
     match cached_text(cache, name) {
         Some(text) => Ok(Origin::Kept(text)),
-        None => Ok(Origin::Stored(loaded_head(alloc, tx, name)?)),
-    }
-}
-
-// Why a request is refused, if it is.
-fn refusal_of(facts: &Facts, request: &Request) -> Option<Refusal>
-    ensures { (S : State) → FactsTell facts.now S request.now → result ≡ refusal S request.now }
-{
-    match may_ask(facts, request) {
-        Ok(()) => None,
-        Err(refusal) => Some(refusal),
+        None => stored_from(alloc, tx, name),
     }
 }
 
@@ -142,14 +152,9 @@ fn find_origin<S: Alter>(
     let Some(caller) = load_caller(alloc, tx, &request.who)? else {
         return Ok(Origin::Refused(Refusal::NoCaller));
     };
-    let about = seen_package(alloc, tx, &caller, name)?;
-    let facts = Facts {
-        caller: Some(caller),
-        about,
-    };
-    match refusal_of(&facts, request) {
-        Some(refusal) => Ok(Origin::Refused(refusal)),
-        None => shown_from(alloc, tx, cache, name),
+    match standing_if_allowed(alloc, tx, &caller, name, &Ask::Read(name))? {
+        Ok(_standing) => shown_from(alloc, tx, cache, name),
+        Err(refusal) => Ok(Origin::Refused(refusal)),
     }
 }
 
