@@ -1,5 +1,5 @@
 -- All that is kept stays right: the texts of packuments, and the archives.
-use Rattle.std.proofs.Common.{◌≡◌, ℕ, false, List, [], Option, Ok, Err, OnOk, IfOk, IsTrue, refl, sym, ap, ◌∙◌, subst}
+use Rattle.std.proofs.Common.{◌≡◌, ℕ, false, List, [], Option, Some, Ok, Err, OnOk, IfOk, IsTrue, refl, sym, ap, ◌∙◌, subst}
 use Rattle.sqlite.specs.State.{State as Shown, HasCleanDisk}
 use Rattle.registry_access.specs.declared.caller.Caller.{Caller}
 use Rattle.registry_names.specs.Texts.{Text}
