@@ -1,10 +1,11 @@
 //! All rows of each table, in the order of its key.
 
-ghost use Rattle.std.specs.Prelude.{◌≡◌, map};
+ghost use Rattle.std.specs.Prelude.{◌≡◌, IfOk, IsErr, map};
 ghost use Rattle.registry_access.specs.RowMaps.{grant_entry, maintainer_entry, member_entry, organisation_entry, package_entry, team_entry, team_member_entry};
 ghost use Rattle.registry_names.specs.Maps.{entries};
 ghost use Rattle.registry_rows.specs.Frames.{Stays};
 ghost use Rattle.registry_tables.specs.Effects.{InForm, Loads};
+ghost use Rattle.registry_check.specs.Loaded.{Finds};
 ghost use Rattle.registry_check.specs.Rows.{archive_entry, held_entry, live_entry, need_entry, token_entry, user_entry};
 
 use crate::archives::{Archives, Held};
@@ -14,9 +15,23 @@ use crate::tables::{ArchiveRow, HeldRow, LiveRow, NeedRow, TokenRow};
 use crate::versions::{Live, Needs};
 use registry_access::{GrantRow, MaintainerRow, MemberRow, PackageRow, TeamMemberRow, TeamRow};
 use registry_names::{Fault, Text};
-use registry_rows::{read, values_of_rows};
+use registry_rows::{RowKind, read, values_of_rows};
 use sqlite::{Alter, Transaction, params};
 use std::alloc::Global;
+
+// The rows that a query answers, as values of this kind.
+fn load<K: RowKind, S: Alter>(
+    alloc: Global,
+    tx: &mut Transaction<'_, S>,
+    text: &str,
+) -> Result<Vec<K::Value>, Fault>
+    ensures same_reference { tx.new.conn.ghost_name ≡ tx.old.conn.ghost_name }
+    ensures finds { Finds S.Store text.now tx.old tx.new (λ rows. IfOk result (λ values.
+        map K.seen values.items ≡ map K.spelled rows)) (IsErr result) }
+{
+    let rows = read(tx, text, params![])?;
+    values_of_rows::<K>(alloc, &rows)
+}
 
 pub(crate) fn load_users<S: Alter>(
     alloc: Global,
@@ -27,8 +42,7 @@ pub(crate) fn load_users<S: Alter>(
     ensures loads { Loads S.Store tx.old tx.new result
         (λ rows c. map user_entry rows.items ≡ entries c.users) }
 {
-    let rows = read(tx, "SELECT name FROM users ORDER BY name", params![])?;
-    values_of_rows::<Users>(alloc, &rows)
+    load::<Users, S>(alloc, tx, "SELECT name FROM users ORDER BY name")
 }
 
 pub(crate) fn load_tokens<S: Alter>(
@@ -40,12 +54,7 @@ pub(crate) fn load_tokens<S: Alter>(
     ensures loads { Loads S.Store tx.old tx.new result
         (λ rows c. map token_entry rows.items ≡ entries c.tokens) }
 {
-    let rows = read(
-        tx,
-        "SELECT digest, user FROM tokens ORDER BY digest",
-        params![],
-    )?;
-    values_of_rows::<Tokens>(alloc, &rows)
+    load::<Tokens, S>(alloc, tx, "SELECT digest, user FROM tokens ORDER BY digest")
 }
 
 pub(crate) fn load_organisations<S: Alter>(
@@ -57,8 +66,7 @@ pub(crate) fn load_organisations<S: Alter>(
     ensures loads { Loads S.Store tx.old tx.new result
         (λ rows c. map organisation_entry rows.items ≡ entries c.organisations) }
 {
-    let rows = read(tx, "SELECT name FROM orgs ORDER BY name", params![])?;
-    values_of_rows::<Organisations>(alloc, &rows)
+    load::<Organisations, S>(alloc, tx, "SELECT name FROM orgs ORDER BY name")
 }
 
 pub(crate) fn load_members<S: Alter>(
@@ -70,12 +78,11 @@ pub(crate) fn load_members<S: Alter>(
     ensures loads { Loads S.Store tx.old tx.new result
         (λ rows c. map member_entry rows.items ≡ entries c.members) }
 {
-    let rows = read(
+    load::<Members, S>(
+        alloc,
         tx,
         "SELECT org, user, role FROM members ORDER BY org, user",
-        params![],
-    )?;
-    values_of_rows::<Members>(alloc, &rows)
+    )
 }
 
 pub(crate) fn load_teams<S: Alter>(
@@ -87,12 +94,7 @@ pub(crate) fn load_teams<S: Alter>(
     ensures loads { Loads S.Store tx.old tx.new result
         (λ rows c. map team_entry rows.items ≡ entries c.teams) }
 {
-    let rows = read(
-        tx,
-        "SELECT org, team FROM teams ORDER BY org, team",
-        params![],
-    )?;
-    values_of_rows::<Teams>(alloc, &rows)
+    load::<Teams, S>(alloc, tx, "SELECT org, team FROM teams ORDER BY org, team")
 }
 
 pub(crate) fn load_team_members<S: Alter>(
@@ -104,12 +106,11 @@ pub(crate) fn load_team_members<S: Alter>(
     ensures loads { Loads S.Store tx.old tx.new result
         (λ rows c. map team_member_entry rows.items ≡ entries c.team_members) }
 {
-    let rows = read(
+    load::<TeamMembers, S>(
+        alloc,
         tx,
         "SELECT org, team, user FROM team_members ORDER BY org, team, user",
-        params![],
-    )?;
-    values_of_rows::<TeamMembers>(alloc, &rows)
+    )
 }
 
 pub(crate) fn load_published<S: Alter>(
@@ -121,12 +122,7 @@ pub(crate) fn load_published<S: Alter>(
     ensures loads { Loads S.Store tx.old tx.new result
         (λ rows c. map package_entry rows.items ≡ entries c.packages) }
 {
-    let rows = read(
-        tx,
-        "SELECT name, status FROM packages ORDER BY name",
-        params![],
-    )?;
-    values_of_rows::<Published>(alloc, &rows)
+    load::<Published, S>(alloc, tx, "SELECT name, status FROM packages ORDER BY name")
 }
 
 pub(crate) fn load_grants<S: Alter>(
@@ -138,12 +134,11 @@ pub(crate) fn load_grants<S: Alter>(
     ensures loads { Loads S.Store tx.old tx.new result
         (λ rows c. map grant_entry rows.items ≡ entries c.grants) }
 {
-    let rows = read(
+    load::<Grants, S>(
+        alloc,
         tx,
         "SELECT org, team, package, level FROM grants ORDER BY org, team, package",
-        params![],
-    )?;
-    values_of_rows::<Grants>(alloc, &rows)
+    )
 }
 
 pub(crate) fn load_maintainers<S: Alter>(
@@ -155,12 +150,11 @@ pub(crate) fn load_maintainers<S: Alter>(
     ensures loads { Loads S.Store tx.old tx.new result
         (λ rows c. map maintainer_entry rows.items ≡ entries c.owners) }
 {
-    let rows = read(
+    load::<Maintainers, S>(
+        alloc,
         tx,
         "SELECT package, user FROM owners ORDER BY package, user",
-        params![],
-    )?;
-    values_of_rows::<Maintainers>(alloc, &rows)
+    )
 }
 
 pub(crate) fn load_live<S: Alter>(
@@ -172,12 +166,11 @@ pub(crate) fn load_live<S: Alter>(
     ensures loads { Loads S.Store tx.old tx.new result
         (λ rows c. map live_entry rows.items ≡ entries c.versions) }
 {
-    let rows = read(
+    load::<Live, S>(
+        alloc,
         tx,
         "SELECT package, version, published, manifest, deprecated, archive FROM versions ORDER BY package, version",
-        params![],
-    )?;
-    values_of_rows::<Live>(alloc, &rows)
+    )
 }
 
 pub(crate) fn load_needs<S: Alter>(
@@ -189,12 +182,11 @@ pub(crate) fn load_needs<S: Alter>(
     ensures loads { Loads S.Store tx.old tx.new result
         (λ rows c. map need_entry rows.items ≡ entries c.need_ranges) }
 {
-    let rows = read(
+    load::<Needs, S>(
+        alloc,
         tx,
         "SELECT package, version, target, range FROM need_ranges ORDER BY package, version, target, range",
-        params![],
-    )?;
-    values_of_rows::<Needs>(alloc, &rows)
+    )
 }
 
 pub(crate) fn load_held<S: Alter>(
@@ -206,12 +198,11 @@ pub(crate) fn load_held<S: Alter>(
     ensures loads { Loads S.Store tx.old tx.new result
         (λ rows c. map held_entry rows.items ≡ entries c.held) }
 {
-    let rows = read(
+    load::<Held, S>(
+        alloc,
         tx,
         "SELECT package, version, archive FROM held ORDER BY package, version",
-        params![],
-    )?;
-    values_of_rows::<Held>(alloc, &rows)
+    )
 }
 
 pub(crate) fn load_archives<S: Alter>(
@@ -223,10 +214,9 @@ pub(crate) fn load_archives<S: Alter>(
     ensures loads { Loads S.Store tx.old tx.new result
         (λ rows c. map archive_entry rows.items ≡ entries c.archives) }
 {
-    let rows = read(
+    load::<Archives, S>(
+        alloc,
         tx,
         "SELECT id, integrity, bytes FROM archives ORDER BY id",
-        params![],
-    )?;
-    values_of_rows::<Archives>(alloc, &rows)
+    )
 }

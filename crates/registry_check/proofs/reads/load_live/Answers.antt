@@ -1,16 +1,14 @@
-use Rattle.std.proofs.Common.{◌∙◌, ap, map}
-use Rattle.std.proofs.lemmas.Result.{IfOk-weaker}
-use Rattle.registry_rows.proofs.QuietFacts.{read_stays}
+use Rattle.std.proofs.Common.{map}
+use Rattle.registry_names.specs.Maps.{entries}
 use Rattle.registry_tables.specs.Effects.{shown}
+use Rattle.registry_check.specs.Rows.{live_entry}
 use Rattle.registry_check.specs.Spelled.{live_spelled}
+use Rattle.registry_check.proofs.LoadFacts.{loaded}
 use Rattle.registry_check.proofs.QueryFacts.{live_listed}
 use Rattle.registry_check.proofs.reads.load_live.Goals as goal
 
 pub returns : goal.returns
 returns g c =
-    let call = c.in_ok-rows.ensures.shown in
-    let it = live_listed (shown g.S.Store c.args.tx.now) (shown g.S.Store c.read.new.tx) _ c.requires.in_form call in
-    record {
-      stays = read_stays g.S.Store _ _ _ c.args.tx.now c.read.new.tx _ c.in_ok-rows.ensures.same_reference call (λ clean. (it clean).0);
-      loads = λ clean. IfOk-weaker c.values_of_rows.result _ _ (λ _ e. ((it clean).0, e ∙ ap (map live_spelled) c.deref.ensures.value ∙ (it clean).1)) c.values_of_rows.ensures;
-    }
+    let it = loaded g.S.Store _ c.args.tx.now c.load.new.tx c.load.result (λ rows. map live_entry rows.items) live_spelled (λ d. entries d.versions)
+    (λ rows call. live_listed (shown g.S.Store c.args.tx.now) (shown g.S.Store c.load.new.tx) rows c.requires.in_form call) c.load.ensures.same_reference c.load.ensures.finds in
+    record { stays = it.0; loads = it.1 }
