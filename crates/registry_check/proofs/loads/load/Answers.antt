@@ -1,6 +1,6 @@
 use Rattle.std.proofs.Common.{◌∙◌, ap, inl, inr, map, rules}
 use Rattle.std.proofs.lemmas.Result.{IfOk-weaker}
-use Rattle.registry_check.proofs.reads.load.Goals as goal
+use Rattle.registry_check.proofs.loads.load.Goals as goal
 
 pub returns-in_err-rows-clause-finds : goal.returns-in_err-rows-clause-finds
 returns-in_err-rows-clause-finds g c = inr (c.in_err-rows.ensures.failed, search (rules, c.from_residual.ensures))
