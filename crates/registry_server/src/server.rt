@@ -116,6 +116,20 @@ impl Server {
     ) -> io::Result<Ended>
         ensures { IfOk result (λ ended. ended ≡ spec.why_ended (D.over service.new) (G.stops guests.new)) }
     {
+        self.run_rounds(rt, alloc, at, service, guests)
+    }
+
+    // Goes on round by round until the last one, and says why that was it.
+    fn run_rounds<R: time::Clock, D: Service, G: Guests>(
+        &mut self,
+        rt: &R,
+        alloc: Global,
+        at: Moment,
+        service: &mut D,
+        guests: &mut G,
+    ) -> io::Result<Ended>
+        ensures { IfOk result (λ ended. ended ≡ spec.why_ended (D.over service.new) (G.stops guests.new)) }
+    {
         let start = Instant::now(rt)?;
         // One goes on while the server is held, and one doesn't.
         let mut attending = Timer::new(rt, start);
@@ -187,6 +201,22 @@ impl Server {
         if guests.holds() {
             return Ok(true);
         }
+        self.serve_all(alloc, service, clock, buffer, guests, now)
+    }
+
+    // Does so where the server isn't held.
+    fn serve_all<D: Service, C: Clock, G: Guests>(
+        &mut self,
+        alloc: Global,
+        service: &mut D,
+        clock: &mut C,
+        buffer: &mut [u8],
+        guests: &mut G,
+        now: u64,
+    ) -> io::Result<bool>
+        ensures { IfOk result (λ goes. goes ≡ spec.goes_on (D.over service.new) (lets_in self.new.listener.left)
+            self.new.pool.places.items (G.empty guests.new)) }
+    {
         self.pool.visit_all(alloc, service, clock, buffer, now);
         guests.visit(alloc, service, clock, buffer, self.poll.registry(), now);
         service.rest();
@@ -198,7 +228,14 @@ impl Server {
             self.stop(guests)?;
         }
         self.let_in(alloc, now, guests)?;
-        Ok(!self.listener.is_shut() || !self.pool.is_empty() || !guests.is_empty())
+        Ok(self.goes_on(guests))
+    }
+
+    // Whether somebody may come in, or is there.
+    fn goes_on<G: Guests>(&self, guests: &G) -> bool
+        ensures { result ≡ spec.goes_on false (lets_in self.now.listener.left) self.now.pool.places.items (G.empty guests.now) }
+    {
+        !self.listener.is_shut() || !self.pool.is_empty() || !guests.is_empty()
     }
 
     // Lets nobody in any more, and ends the connections on which nothing is begun. It is looked first
