@@ -63,6 +63,11 @@ impl Server {
     pub fn bind<R: Net>(rt: &R, alloc: Global, port: u16, count: u64) -> io::Result<Server> {
         let poll = Poll::new(rt)?;
         let listener = Listener::open(rt, poll.registry(), LISTENER, port, count)?;
+        Server::over(alloc, poll, listener)
+    }
+
+    // A server over a listener that is registered, with every place free.
+    fn over(alloc: Global, poll: Poll, listener: Listener) -> io::Result<Server> {
         Ok(Server {
             poll,
             events: Events::with_capacity(alloc, EVENT_COUNT)?,
@@ -228,14 +233,7 @@ impl Server {
             self.stop(guests)?;
         }
         self.let_in(alloc, now, guests)?;
-        Ok(self.goes_on(guests))
-    }
-
-    // Whether somebody may come in, or is there.
-    fn goes_on<G: Guests>(&self, guests: &G) -> bool
-        ensures { result ≡ spec.goes_on false (lets_in self.now.listener.left) self.now.pool.places.items (G.empty guests.now) }
-    {
-        !self.listener.is_shut() || !self.pool.is_empty() || !guests.is_empty()
+        Ok(!self.listener.is_shut() || !self.pool.is_empty() || !guests.is_empty())
     }
 
     // Lets nobody in any more, and ends the connections on which nothing is begun. It is looked first
