@@ -108,6 +108,11 @@ pub earliest-of : (idle : ℕ → Option ℕ) (n count : ℕ) (r : Option (ℕ �
 earliest-of idle n count r k t h all is =
     earliest-place idle count (k, t) (subst (λ (m : ℕ). IsEarliestOf idle m (Some (k, t))) all (subst (λ (o : Option (ℕ × ℕ)). IsEarliestOf idle n o) is h))
 
+-- none of all places has a time
+pub first-of-none : (times : ℕ → Option ℕ) (n len : ℕ) (best : Option (ℕ × ℕ)) → IsEarliestOf times n best → n ≡ len → best ≡ None → IsFirstOfEarliest times len None
+first-of-none times n len best earliest all is =
+    subst (λ (m : ℕ). IsFirstOfEarliest times m None) all (subst (λ (b : Option (ℕ × ℕ)). IsEarliestOf times n b) is earliest)
+
 -- ---- one place changed
 
 pub at-put : {A : Type 0} (xs : List A) (k : ℕ) (y : A) → k < length xs → set xs k y ≡ at_place (λ _. y) xs k
@@ -131,11 +136,19 @@ at-none change (y ∷ xs) (suc k) beyond = ap (λ (l : List _). y ∷ l) (at-non
 pub ends-idle : {S : Type 0} (old : List (Place S)) (k : ℕ) (p : Place S) → IsFirstOfEarliest (idle_times old) (length old) (Some k) → p ≡ get_or old k p → EndsIdle old (set old k (emptied p)) true
 ends-idle old k p first at = record { which = Some k; first = first; places = at-set emptied old k p first.1 at; found = refl }
 
+-- nothing is begun on none
+pub ends-none : {S : Type 0} (old : List (Place S)) → IsFirstOfEarliest (idle_times old) (length old) None → EndsIdle old old false
+ends-none old first = record { which = None; first = first; places = refl; found = refl }
+
 -- ---- which bodies are read
 
 -- one more is chosen
 pub chooses-next : {S : Type 0} (old : List (Place S)) (k : ℕ) (p : Place S) → IsFirstOfEarliest (waiting_times old) (length old) (Some k) → p ≡ get_or old k p → ChoosesNext old (set old k (chosen p))
 chooses-next old k p first at = record { next = Some k; first = first; places = at-set chosen old k p first.1 at }
+
+-- none waits
+pub chooses-none : {S : Type 0} (old : List (Place S)) → IsFirstOfEarliest (waiting_times old) (length old) None → ChoosesNext old old
+chooses-none old first = record { next = None; first = first; places = refl }
 
 -- of a crowd one more is chosen where there is room
 pub looks-at : {S : Type 0} (may crowd : Bool) (old middle new : List (Place S)) → crowd ≡ is_crowd old → may ≡ (crowd && has_room old) → middle ≡ map settled old → ChoosesIf may middle new → LooksAtBodies old new
