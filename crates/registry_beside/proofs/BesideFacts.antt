@@ -10,7 +10,6 @@ use Rattle.registry_history.specs.Runs.{Outcome}
 use Rattle.registry_history.proofs.RunFacts.{headline_from, history_says, run_says}
 use Rattle.registry_desk.specs.Lives.{HasAnswered, HasRun}
 use Rattle.registry_desk.proofs.StoredFacts.{has_run_more, has_run_none, refers_for_each}
-use Rattle.registry_wire.specs.declared.wanted.Wanted.{Wanted}
 use Rattle.registry_service.specs.Histories.{FollowAll, LogEntry}
 use Rattle.registry_service.specs.Turns.{Answering, Cause, IsTurnFor, Turn, bad_input, no_memory, request}
 use Rattle.registry_service.specs.declared.turning.End.{End}

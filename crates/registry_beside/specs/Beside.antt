@@ -1,5 +1,5 @@
 -- Turns of connections and of commands beside them, and the run of a registry that they come to.
-use Rattle.std.specs.Prelude.{◌≡◌, ◌⊎◌, ◌++◌, ◌∷◌, [], ℕ, Bool, Err, List, Ok, map, unwrap_or}
+use Rattle.std.specs.Prelude.{◌≡◌, ◌⊎◌, ◌++◌, ◌∷◌, [], Bool, Err, List, Ok, map, unwrap_or}
 use Rattle.sqlite.specs.State.{State as Shown}
 use Rattle.registry_names.specs.declared.stop.Stop.{Stop}
 use Rattle.registry_rules.specs.declared.request.Request.{Request}

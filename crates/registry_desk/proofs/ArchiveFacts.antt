@@ -2,7 +2,7 @@
 use Rattle.std.proofs.Common.{◌≡◌, ◌⊎◌, inl, inr, ℕ, Bool, true, false, cond, ◌==◌, ◌&&◌, ◌||◌, List, [], ◌∷◌, ◌++◌, Option, Some, None, option_map, unwrap_or, is_some, refl, sym, ap, ap₂, ◌∙◌, subst, true≢false}
 use Rattle.std.specs.List.{list_all, list_any}
 use Rattle.registry_access.specs.declared.caller.Caller.{Caller}
-use Rattle.registry_names.specs.Idents.{is_ident, is_ident_char}
+use Rattle.registry_names.specs.Idents.{is_ident_char}
 use Rattle.registry_names.specs.Keys.{pair_is}
 use Rattle.registry_names.specs.Maps.{at}
 use Rattle.registry_names.specs.Names.{IsName, is_name_char}

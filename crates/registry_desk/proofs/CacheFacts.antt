@@ -23,8 +23,8 @@ use Rattle.registry_tables.specs.Contents.{Contents, registry_of}
 use Rattle.registry_tables.proofs.StepFacts.{changes_make}
 use Rattle.registry_history.specs.Answers.{packument_in, reply_to}
 use Rattle.registry_history.specs.Apart.{is_about}
-use Rattle.registry_history.proofs.ApartFacts.{changes_of_others}
-use Rattle.registry_desk.specs.Caches.{ArePackuments, IsPut, KeepsLatest, KeepsNoMore, LeavesTextsRight, ShowsPackument, without_changed, without_touched}
+use Rattle.registry_desk.specs.Caches.{ArePackuments, IsPut, KeepsLatest, KeepsNoMore, LeavesTextsRight, ShowsPackument, live_packument, without_changed, without_touched}
+use Rattle.registry_desk.proofs.LivingFacts.{live_of_others}
 
 -- ---- what is forgotten
 
@@ -141,10 +141,10 @@ module _ (name text : Text) where
 
 -- ---- what changes make of the texts that are kept
 
-made_still : (c : Contents) (cs : List Change) (cache : Cache) → HeldAreStored c → (p text : Text) → kept (without_changed cs cache) p ≡ Some text → packument_in (registry_of (all_stored cs c)) p ≡ packument_in (registry_of c) p
+made_still : (c : Contents) (cs : List Change) (cache : Cache) → HeldAreStored c → (p text : Text) → kept (without_changed cs cache) p ≡ Some text → live_packument (registry_of (all_stored cs c)) p ≡ live_packument (registry_of c) p
 made_still c cs cache held p text h =
-    ap (λ S. packument_in S p) (changes_make cs c held)
-    ∙ changes_of_others (registry_of c) cs p (untouched_found is_about cs cache p text h).0
+    ap (λ S. live_packument S p) (changes_make cs c held)
+    ∙ live_of_others (registry_of c) cs p (untouched_found is_about cs cache p text h).0
 
 -- ---- what is answered
 
@@ -164,7 +164,7 @@ pub texts_leave : (c d : Contents) (who : Option Caller) (what : Action) (cs : L
     → (is_command what ≡ false → cs ≡ []) → new ≡ without_changed cs old
     → ((p : Text) → what ≡ Packument p → ArePackuments c old → given ≡ reply_to (registry_of c) who what) → LeavesTextsRight c d what old new given
 texts_leave c d who what cs old new given held is query left told = record {
-  still = λ p text h. ap (λ (e : Contents). packument_in (registry_of e) p) is ∙ made_still c cs old held p text (ap (λ (s : Cache). kept s p) (sym left) ∙ h);
+  still = λ p text h. ap (λ (e : Contents). live_packument (registry_of e) p) is ∙ made_still c cs old held p text (ap (λ (s : Cache). kept s p) (sym left) ∙ h);
   shown = shows_packument c old who what given told;
   asked = λ p asks. ap (λ (e : Contents). packument_in (registry_of e) p) (is ∙ ap (λ changes. all_stored changes c) (query (ap is_command asks)));
 }
@@ -172,7 +172,7 @@ texts_leave c d who what cs old new given held is query left told = record {
 -- what is refused changes nothing
 pub texts_refused : (c d : Contents) (what : Action) (cache : Cache) (why : Refusal) → d ≡ c → LeavesTextsRight c d what cache cache (Refused why)
 texts_refused c d what cache why same = record {
-  still = λ p text h. ap (λ (e : Contents). packument_in (registry_of e) p) same;
+  still = λ p text h. ap (λ (e : Contents). live_packument (registry_of e) p) same;
   shown = λ p text are asks h. cc;
   asked = λ p asks. ap (λ (e : Contents). packument_in (registry_of e) p) same;
 }
@@ -182,19 +182,19 @@ texts_refused c d what cache why same = record {
 -- nothing was stored otherwise, and no text came
 pub texts_unchanged : (c d : Contents) (was is_now : Cache) → d ≡ c → KeepsNoMore was is_now → ArePackuments c was → ArePackuments d is_now
 texts_unchanged c d was is_now same keeps are =
-    record { right = λ p text h. are.right p text (keeps.before p text h) ∙ ap (λ (e : Contents). packument_in (registry_of e) p) (sym same) }
+    record { right = λ p text h. ap (λ (e : Contents). live_packument (registry_of e) p) same ∙ are.right p text (keeps.before p text h) }
 
 -- the request was answered
 pub texts_answered : (c d : Contents) (what : Action) (was is_now : Cache) (given : Reply) → LeavesTextsRight c d what was is_now given → KeepsNoMore was is_now → ArePackuments c was → ArePackuments d is_now
-texts_answered c d what was is_now given leaves keeps are = record { right = λ p text h. are.right p text (keeps.before p text h) ∙ sym (leaves.still p text h) }
+texts_answered c d what was is_now given leaves keeps are = record { right = λ p text h. leaves.still p text h ∙ are.right p text (keeps.before p text h) }
 
 -- what is replied is kept
-pub texts_kept : (d : Contents) (name text : Text) (was is_now : Cache) → ArePackuments d was → text ≡ packument_in (registry_of d) name → KeepsLatest name text was is_now → ArePackuments d is_now
+pub texts_kept : (d : Contents) (name text : Text) (was is_now : Cache) → ArePackuments d was → live_packument (registry_of d) name ≡ Some text → KeepsLatest name text was is_now → ArePackuments d is_now
 texts_kept d name text was is_now right shown keeps =
     let more = more_kept name text was is_now keeps in
     record {
       right = λ p found h. elim (more.found p found h) [
         | inl before ↦ right.right p found before
-        | inr same ↦ sym same.1 ∙ shown ∙ ap (packument_in (registry_of d)) same.0
+        | inr same ↦ ap (live_packument (registry_of d)) (sym same.0) ∙ shown ∙ ap (λ (t : Text). Some t) same.1
       ];
     }

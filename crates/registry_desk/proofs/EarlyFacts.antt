@@ -15,7 +15,7 @@ use Rattle.registry_access.specs.declared.caller.Caller.{Caller}
 use Rattle.registry_access.specs.declared.rows.AccessRows.{AccessRows}
 use Rattle.registry_rules.specs.Callers.{caller_of}
 use Rattle.registry_rules.specs.Facts.{AboutTells}
-use Rattle.registry_rules.specs.Refusals.{refuse, refusal, refusal_by, refusal_for, state_refusal, withdraw_refusal}
+use Rattle.registry_rules.specs.Refusals.{refuse, refusal, refusal_for, state_refusal, withdraw_refusal}
 use Rattle.registry_rules.specs.State.{State}
 use Rattle.registry_rules.specs.Withdrawals.{is_depended, is_too_old, published_at}
 use Rattle.registry_rules.specs.declared.facts.About.{About}

@@ -1,5 +1,5 @@
 -- All that is kept stays right: the texts of packuments, and the archives.
-use Rattle.std.proofs.Common.{◌≡◌, ℕ, false, List, [], Option, Some, None, Result, Ok, Err, OnOk, IfOk, IsTrue, refl, sym, ap, ◌∙◌, subst}
+use Rattle.std.proofs.Common.{◌≡◌, ℕ, false, List, [], Option, Some, Ok, Err, OnOk, IfOk, IsTrue, refl, sym, ap, ◌∙◌, subst}
 use Rattle.sqlite.specs.State.{State as Shown, HasCleanDisk}
 use Rattle.registry_access.specs.declared.caller.Caller.{Caller}
 use Rattle.registry_names.specs.Texts.{Text}
@@ -17,10 +17,11 @@ use Rattle.registry_tables.specs.Changes.{all_stored}
 use Rattle.registry_tables.specs.Contents.{Contents, registry_of}
 use Rattle.registry_tables.specs.Effects.{stored}
 use Rattle.registry_tables.specs.Teams.{AreTeamsSound}
-use Rattle.registry_history.specs.Answers.{archive_in, packument_in, reply_to}
+use Rattle.registry_history.specs.Answers.{archive_in, reply_to}
 use Rattle.registry_history.specs.Apart.{is_about}
 use Rattle.registry_history.specs.Runs.{Outcome}
-use Rattle.registry_desk.specs.Caches.{AreAnswers, AreArchives, AreLeftBy, ArePackuments, HasAnswers, IsSoundFor, KeepNoMore, KeepsReply, LeavesCacheRight, moves}
+use Rattle.registry_desk.specs.Caches.{AreAnswers, AreArchives, AreLeftBy, ArePackuments, HasAnswers, IsSoundFor, KeepNoMore, KeepsReply, LeavesCacheRight, live_packument, moves}
+use Rattle.registry_desk.specs.Sending.{IsPackument}
 use Rattle.registry_desk.specs.declared.cache.Caches.{Caches}
 use Rattle.registry_desk.proofs.ArchiveFacts.{archive_limit_stays, archives_answered, archives_kept, archives_leave, archives_refused, archives_unchanged}
 use Rattle.registry_desk.proofs.CacheFacts.{more_kept, same_no_more, texts_answered, texts_kept, texts_leave, texts_refused, texts_unchanged, untouched_no_more}
@@ -96,19 +97,20 @@ right_answered c d what was is_now given leaves keeps are = record {
   archives = archives_answered c d what was.archives is_now.archives given leaves.archives keeps.archives are.archives;
 }
 
--- a reply shows what is stored
+-- a reply shows what is stored, and a packument is of a package of which a version lives
 pub record ShowsStored (d : Contents) (what : Action) (given : Reply) : Type 0 where
-  pub packument : (p text : Text) → what ≡ Packument p → given ≡ Doc text → text ≡ packument_in (registry_of d) p
+  pub packument : (p text : Text) → what ≡ Packument p → given ≡ Doc text → live_packument (registry_of d) p ≡ Some text
   pub archive : (p : Text) (v : VersionParts) (bytes : List ℕ) → what ≡ Archive p v → given ≡ Bytes bytes → bytes ≡ archive_in (registry_of d) p (text_of_version v)
 
-pub shown_answered : (c d : Contents) (what : Action) (was is_now : Caches) (given : Reply) → LeavesCacheRight c d what was is_now given → AreAnswers c was → ShowsStored d what given
-shown_answered c d what was is_now given leaves are = record {
-  packument = λ p text asks h. leaves.packuments.shown p text are.packuments asks h ∙ sym (leaves.packuments.asked p asks);
+-- so does one to another request than for a packument
+pub shown_answered : (c d : Contents) (what : Action) (was is_now : Caches) (given : Reply) → ¬ IsPackument what → LeavesCacheRight c d what was is_now given → AreAnswers c was → ShowsStored d what given
+shown_answered c d what was is_now given other leaves are = record {
+  packument = λ p text asks h. absurd (other (p, asks));
   archive = λ p v bytes asks h. leaves.archives.shown p v bytes are.archives asks h ∙ sym (leaves.archives.asked p v asks);
 }
 
--- so does one to a query for a packument
-pub shown_packument : (d : Contents) (what : Action) (given : Reply) (name : Text) → what ≡ Packument name → ((p text : Text) → what ≡ Packument p → given ≡ Doc text → text ≡ packument_in (registry_of d) p) → ShowsStored d what given
+-- and one to a query for a packument
+pub shown_packument : (d : Contents) (what : Action) (given : Reply) (name : Text) → what ≡ Packument name → ((p text : Text) → what ≡ Packument p → given ≡ Doc text → live_packument (registry_of d) p ≡ Some text) → ShowsStored d what given
 shown_packument d what given name asks_text shows = record {
   packument = shows;
   archive = λ p v bytes asks h. cc;

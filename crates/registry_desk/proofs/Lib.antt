@@ -5,6 +5,7 @@ mod EarlyFacts
 mod GrantFacts
 mod KeepingFacts
 mod LifeFacts
+mod LivingFacts
 mod LoadedFacts
 mod LookFacts
 mod MakingFacts
@@ -18,3 +19,4 @@ pub mod AnswerFacts
 mod StopFacts
 pub mod StoredFacts
 mod KeptFacts
+mod TakenFacts

@@ -1,8 +1,8 @@
 -- A query for a packument that is answered as one text: its reply is the machine's, and changes
 -- nothing that is stored.
-use Rattle.std.proofs.Common.{◌≡◌, ◌∙◌, ℕ, false, List, [], Option, Some, Ok, Err, Result, IfOk, OnOk, IsTrue, refl, sym, ap, subst, subst₂}
+use Rattle.std.proofs.Common.{◌≡◌, ◌∙◌, ℕ, false, List, [], Option, Some, Ok, Err, Result, IfOk, OnOk, refl, sym, ap, subst, subst₂}
 use Rattle.sqlite.proofs.StateLemmas.{survives_weaker}
-use Rattle.sqlite.specs.State.{State as Shown, HasCleanDisk}
+use Rattle.sqlite.specs.State.{State as Shown}
 use Rattle.registry_names.specs.Texts.{Text}
 use Rattle.registry_packument.specs.Counted.{Takes}
 use Rattle.registry_packument.specs.declared.opener.Sent.{Sent}
@@ -14,13 +14,15 @@ use Rattle.registry_rules.specs.declared.reply.Reply.TheVariants.{Doc}
 use Rattle.registry_rules.specs.declared.request.Action.{Action}
 use Rattle.registry_rules.specs.declared.request.Action.TheVariants.{Packument}
 use Rattle.registry_rules.specs.declared.request.Request.{Request}
-use Rattle.registry_tables.specs.Effects.{registry_in, stored}
-use Rattle.registry_history.specs.Answers.{answer, packument_in}
+use Rattle.registry_tables.specs.Effects.{stored}
+use Rattle.registry_history.specs.Answers.{answer}
 use Rattle.registry_history.specs.Runs.{Outcome}
+use Rattle.registry_desk.specs.Caches.{live_packument}
 use Rattle.registry_desk.specs.Promises.{Stepped, SurvivesOne, Unchanged}
 use Rattle.registry_desk.specs.Sending.{IsFrom, IsMadeOf, IsOrigin, IsShownBy, LeavesAll, ShowsAlone}
 use Rattle.registry_desk.specs.declared.sending.Origin.{Origin}
 use Rattle.registry_desk.specs.declared.sending.Origin.TheVariants as origin
+use Rattle.registry_desk.proofs.LivingFacts.{live_shown}
 use Rattle.registry_desk.proofs.SendingFacts.{packument_from, query_settles, query_stays}
 
 -- ---- the text
@@ -54,10 +56,10 @@ pub made_shows : (given : Reply) (from : Origin) (S : State) (p : Text) → IsMa
 made_shows given (origin.Refused why) S p made is text h = cc
 made_shows given (origin.Kept found) S p made is text h =
     let same : found ≡ text = cc in
-    sym same ∙ is
+    is ∙ ap (λ (t : Text). Some t) same
 made_shows given (origin.Stored head) S p made is text h =
     let same : made.0 ≡ text = cc (made.1) in
-    sym same ∙ packument_from S p head made.0 is made.2
+    live_shown S p is.0 ∙ ap (λ (t : Text). Some t) (sym (packument_from S p head made.0 is.1 made.2) ∙ same)
 
 -- ---- nothing that is stored is changed
 
@@ -77,6 +79,6 @@ named : (p q : Text) → Packument p ≡ Packument q → p ≡ q
 named p q e = cc
 
 pub alone_shows : (S T : State) (what : Action) (name : Text) (given : Reply) → T ≡ S → what ≡ Packument name → ShowsAlone S name given
-    → (p text : Text) → what ≡ Packument p → given ≡ Doc text → text ≡ packument_in T p
+    → (p text : Text) → what ≡ Packument p → given ≡ Doc text → live_packument T p ≡ Some text
 alone_shows S T what name given same asks shows p text again h =
-    shows text h ∙ ap (packument_in S) (named name p (sym asks ∙ again)) ∙ ap (λ (U : State). packument_in U p) (sym same)
+    ap (λ (U : State). live_packument U p) same ∙ ap (live_packument S) (sym (named name p (sym asks ∙ again))) ∙ shows text h

@@ -1,4 +1,5 @@
 -- What a packument that is sent comes to: it is a query that is answered, and leaves all as it was.
+use Rattle.std.specs.Option.{option_or}
 use Rattle.std.proofs.Common.{◌≡◌, ◌⊎◌, ◌∙◌, ◌&&◌, arith, inl, inr, ℕ, Bool, true, false, if◌then◌else◌, List, [], map, Option, Some, None, Ok, Err, unwrap_or, IsTrue, refl, sym, ap, subst}
 use Rattle.sqlite.proofs.Callers.{survives_begin}
 use Rattle.sqlite.proofs.InsideLemmas.{keeps_then}
@@ -28,14 +29,12 @@ use Rattle.registry_rows.specs.Ready.{Reads}
 use Rattle.registry_rules.specs.Actions.{is_command}
 use Rattle.registry_rules.specs.Callers.{caller_of}
 use Rattle.registry_rules.specs.Effects.{step}
-use Rattle.registry_rules.specs.Facts.{AboutTells}
 use Rattle.registry_rules.specs.Kept.{IsKept, IsSound}
-use Rattle.registry_rules.specs.Refusals.{refusal}
-use Rattle.registry_rules.specs.State.{State}
-use Rattle.registry_rules.specs.declared.facts.About.{About}
+use Rattle.registry_rules.specs.Permissions.{permission}
+use Rattle.registry_rules.specs.Refusals.{refusal, refusal_by, refusal_for, state_refusal, unless_allowed, unless_there}
+use Rattle.registry_rules.specs.State.{State, has_live}
 use Rattle.registry_rules.specs.declared.reply.Reply.TheVariants as reply
 use Rattle.registry_rules.specs.declared.reply.Reply.TheVariants.{Doc}
-use Rattle.registry_rules.specs.declared.request.Action.{Action}
 use Rattle.registry_rules.specs.declared.request.Action.TheVariants.{Packument}
 use Rattle.registry_rules.specs.declared.request.Request.{Request}
 use Rattle.registry_tables.specs.Archives.{HoldsArchives}
@@ -44,7 +43,7 @@ use Rattle.registry_tables.specs.Effects.{IsAsBefore, registry_in, stored}
 use Rattle.registry_tables.specs.Needs.{HoldsNeeds}
 use Rattle.registry_tables.specs.Schema.{schema}
 use Rattle.registry_tables.specs.Spelled.{document, row_entry}
-use Rattle.registry_tables.specs.Teams.{AreTeamsSound, GrantsInScope}
+use Rattle.registry_tables.specs.Teams.{GrantsInScope}
 use Rattle.registry_tables.specs.Walks.{IsLeftAlone}
 use Rattle.registry_history.specs.Answers as answers
 use Rattle.registry_history.specs.Answers.{answer, packument_in, reply_to}
@@ -61,9 +60,10 @@ use Rattle.registry_desk.specs.Sending.{AnswersAsApply, BrokenBeginTheAnswer, Is
 use Rattle.registry_desk.specs.declared.cache.Caches.{Caches}
 use Rattle.registry_desk.specs.declared.sending.Origin.{Origin}
 use Rattle.registry_desk.specs.declared.sending.Origin.TheVariants as origin
-use Rattle.registry_desk.proofs.AnswerFacts.{unrefused, versions_are}
+use Rattle.registry_desk.proofs.AnswerFacts.{refused, unrefused, versions_are}
 use Rattle.registry_desk.proofs.KeptFacts.{right_unchanged}
 use Rattle.registry_desk.proofs.CommitFacts.{commit_rests, ready_again, registry_left, rests_sure, undone_open, undone_rests, undone_stored}
+use Rattle.registry_desk.proofs.LivingFacts.{live_so}
 use Rattle.registry_desk.proofs.SettlingFacts.{settled_next}
 use Rattle.registry_desk.proofs.StoredFacts.{refers_for_one}
 
@@ -89,22 +89,28 @@ reads_before a b c reads before = record {
 
 -- ---- what a packument comes from
 
--- what was found of the package decides the query
-pub asked_tells : (was one : Shown) → one.now ≡ was.now → (about : About) (who : Caller) (what : Action) (p : Text) → what ≡ Packument p
-    → (AreTeamsSound (stored one) → AboutTells about (registry_in one) who (Packument p)) → AreTeamsSound (stored was) → AboutTells about (registry_in was) who what
-asked_tells was one same about who what p asks told sound =
-    subst (λ (w : Action). AboutTells about (registry_in was) who w) (sym asks)
-    (subst (λ (d : Database). AboutTells about (registry_of (contents d.trees)) who (Packument p)) same (told (subst (λ (d : Database). AreTeamsSound (contents d.trees)) (sym same) sound)))
+-- why a query for a packument is refused
+query_refusal : (S : State) (r : Request) (p : Text) (who : Caller) → r.what ≡ Packument p → Some who ≡ caller_of S r.who → refusal S r ≡ refusal_by S r.at who (Packument p)
+query_refusal S r p who asks known = ap (λ (o : Option Caller). refusal_for S r.at o r.what) (sym known) ∙ ap (refusal_by S r.at who) asks
 
--- the answer to a query that nothing refuses
-pub packument_answer : (S : State) (r : Request) (p : Text) (who : Caller) → r.what ≡ Packument p → refusal S r ≡ None → Some who ≡ caller_of S r.who → answer S r ≡ Doc (packument_in S p)
-packument_answer S r p who asks none known =
-    unrefused S r none ∙ ap (λ (o : Option Caller). reply_to S o r.what) (sym known) ∙ ap (answers.reply S who) asks
+-- by the policy, or since no version lives
+module _ (S : State) (r : Request) (p : Text) (who : Caller) (asks : r.what ≡ Packument p) (known : Some who ≡ caller_of S r.who) where
+  pub query_denied : (why : Refusal) → unless_allowed (permission S.access who (Packument p)) ≡ Some why → answer S r ≡ reply.Refused why
+  query_denied why denied = refused S r why (query_refusal S r p who asks known ∙ ap (λ (o : Option Refusal). option_or o (state_refusal S r.at (Packument p))) denied)
 
-pub origin_is : (from : Origin) (S : State) (r : Request) (p : Text) → answer S r ≡ Doc (packument_in S p) → IsShownBy from S p → IsOrigin from S r p
-origin_is (origin.Refused why) S r p told shown = absurd shown
-origin_is (origin.Kept text) S r p told shown = told ∙ ap Doc (sym shown)
-origin_is (origin.Stored head) S r p told shown = (told, shown)
+  -- the query that the policy allows
+  module _ (may : unless_allowed (permission S.access who (Packument p)) ≡ None) where
+    allowed_refusal : refusal S r ≡ unless_there (has_live S p)
+    allowed_refusal = query_refusal S r p who asks known ∙ ap (λ (o : Option Refusal). option_or o (state_refusal S r.at (Packument p))) may
+
+    live_answer : has_live S p ≡ true → answer S r ≡ Doc (packument_in S p)
+    live_answer lives =
+        unrefused S r (allowed_refusal ∙ ap unless_there lives) ∙ ap (λ (o : Option Caller). reply_to S o r.what) (sym known) ∙ ap (answers.reply S who) asks
+
+    pub origin_is : (from : Origin) → IsShownBy from S p → IsOrigin from S r p
+    origin_is (origin.Refused why) shown = refused S r why (allowed_refusal ∙ ap unless_there shown.1 ∙ ap (λ (w : Refusal). Some w) (sym shown.0))
+    origin_is (origin.Kept text) shown = let lives = live_so S p text shown in live_answer lives.0 ∙ ap Doc (sym lives.1)
+    origin_is (origin.Stored head) shown = (live_answer shown.0, shown.1)
 
 -- the text that is made of what is stored is the packument
 pub packument_from : (S : State) (p : Text) (head : HeadParts) (text : Text) → head ≡ head_in S p → pack_text head (versions_in S p) ≡ Some text → text ≡ packument_in S p

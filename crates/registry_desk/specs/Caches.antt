@@ -1,6 +1,6 @@
 -- What a registry keeps of its answers, and what that has to do with what is stored. `old` and `new`
 -- are what is kept at the entry and at the exit.
-use Rattle.std.specs.Prelude.{◌≡◌, ◌⊎◌, ◌^◌, ℕ, Bool, false, not, List, ◌∷◌, ◌++◌, IfNone, IfSome, IsTrue, Some}
+use Rattle.std.specs.Prelude.{◌≡◌, ◌⊎◌, ◌^◌, ℕ, Bool, false, not, if◌then◌else◌, List, ◌∷◌, ◌++◌, IfNone, IfSome, IsTrue, Option, None, Some}
 use Rattle.std.specs.List.{list_any}
 use Rattle.sqlite.specs.State.{State as Shown, HasCleanDisk}
 use Rattle.registry_names.specs.Names.{IsName}
@@ -9,6 +9,7 @@ use Rattle.registry_names.specs.Versions.{VersionParts, text_of_version}
 use Rattle.registry_cache.specs.Caches.{Cache, AreRight, asked, kept, kept_where, with_room, with_text}
 use Rattle.registry_rules.specs.Actions.{version_of}
 use Rattle.registry_rules.specs.Changes.{Change, AddUser, AddToken, AddOrg, PutMember, DropMember, AddTeam, PutTeamMember, DropTeamMember, DropTeam, PutGrant, DropGrant, PutOwner, DropOwner, PutStatus, AddVersion, RetireVersion, PutDeprecation, PutTag, DropTag}
+use Rattle.registry_rules.specs.State.{State, has_live}
 use Rattle.registry_rules.specs.declared.reply.Reply.{Reply}
 use Rattle.registry_rules.specs.declared.reply.Reply.TheVariants.{Bytes, Doc}
 use Rattle.registry_rules.specs.declared.request.Action.{Action}
@@ -17,15 +18,19 @@ use Rattle.registry_tables.specs.Contents.{Contents, registry_of}
 use Rattle.registry_tables.specs.Effects.{stored}
 use Rattle.registry_tables.specs.Teams.{AreTeamsSound}
 use Rattle.registry_history.specs.Answers.{archive_in, packument_in}
-use Rattle.registry_history.specs.Apart.{are_about, is_about}
+use Rattle.registry_history.specs.Apart.{is_about}
 use Rattle.registry_desk.specs.Resting.{Rests}
 use Rattle.registry_desk.specs.declared.cache.Caches.{Caches}
 
 -- ---- what is right
 
--- each text is the packument of its name
+-- the packument of a package of which a version lives; None of another
+abbrev pub live_packument : State → Text → Option Text
+live_packument S p = if has_live S p then Some (packument_in S p) else None
+
+-- each text is the packument of its name, and a version of that lives
 abbrev pub ArePackuments : Contents → Cache → Type 0
-ArePackuments c cache = AreRight (λ p text. text ≡ packument_in (registry_of c) p) cache
+ArePackuments c cache = AreRight (λ p text. live_packument (registry_of c) p ≡ Some text) cache
 
 -- that is so of an open connection whose disk is clean
 abbrev pub HasPackuments : Shown → Cache → Type 0
@@ -196,15 +201,19 @@ ShowsArchive c cache what given = (p : Text) (v : VersionParts) (bytes : List �
 abbrev pub IsSamePackument : Contents → Contents → Text → Type 0
 IsSamePackument c d p = packument_in (registry_of d) p ≡ packument_in (registry_of c) p
 
+-- and so is whether a version of it lives
+abbrev pub IsSameLive : Contents → Contents → Text → Type 0
+IsSameLive c d p = live_packument (registry_of d) p ≡ live_packument (registry_of c) p
+
 -- the archive of the version is the same in both
 abbrev pub IsSameArchive : Contents → Contents → Text → Text → Type 0
 IsSameArchive c d p v = archive_in (registry_of d) p v ≡ archive_in (registry_of c) p v
 
--- The contents go from c to d: what is kept is of packages whose packuments stay, and a packument
--- that is answered is the package's, before and after
+-- The contents go from c to d: what is kept is of packages whose packuments stay, and of which a
+-- version lives as before; and a packument that is answered is the package's, before and after
 pub record LeavesTextsRight (c d : Contents) (what : Action) (old new : Cache) (given : Reply)
     : Type 0 where
-  pub still : (p text : Text) → kept new p ≡ Some text → IsSamePackument c d p
+  pub still : (p text : Text) → kept new p ≡ Some text → IsSameLive c d p
   pub shown : ShowsPackument c old what given
   pub asked : (p : Text) → what ≡ Packument p → IsSamePackument c d p
 

@@ -6,6 +6,7 @@ use Rattle.sqlite_trees.specs.declared.store.Store.{Ghosts}
 use Rattle.registry_names.specs.ByteStreams.{Writes, WritesPrefix}
 use Rattle.registry_names.specs.Maps.{of}
 use Rattle.registry_names.specs.Texts.{Text}
+use Rattle.registry_names.specs.declared.refusal.Refusal.TheVariants.{NotFound}
 use Rattle.registry_names.specs.declared.stop.Fault.{Fault}
 use Rattle.registry_packument.specs.Sendings.{WritesSome, opened}
 use Rattle.registry_packument.specs.Heads.{HeadParts}
@@ -13,7 +14,7 @@ use Rattle.registry_packument.specs.Packuments.{pack_text}
 use Rattle.registry_packument.specs.declared.opener.Sent.{Sent}
 use Rattle.registry_packument.specs.declared.opener.Sent.TheVariants.{Refused, Whole, WriteFault, Broken}
 use Rattle.registry_packument.specs.declared.packument.VersionRow.{VersionRow}
-use Rattle.registry_rules.specs.State.{State}
+use Rattle.registry_rules.specs.State.{State, has_live}
 use Rattle.registry_rules.specs.declared.reply.Reply.{Reply}
 use Rattle.registry_rules.specs.declared.reply.Reply.TheVariants as reply
 use Rattle.registry_rules.specs.declared.reply.Reply.TheVariants.{Doc}
@@ -26,6 +27,7 @@ use Rattle.registry_tables.specs.Needs.{HoldsNeeds}
 use Rattle.registry_tables.specs.Teams.{GrantsInScope}
 use Rattle.registry_history.specs.Answers.{answer, head_of, packument_in, version_row}
 use Rattle.registry_history.specs.Runs.{Outcome}
+use Rattle.registry_desk.specs.Caches.{live_packument}
 use Rattle.registry_desk.specs.Lives.{HasAnswered}
 use Rattle.registry_desk.specs.Promises.{Answered, GrowsHistory, HidesUnread, HoldsReferences, HoldsSoundFor, Keeps, KeepsForm, KeepsStored, Moves, Served, StaysSure, Stepped, SurvivesOne, Unchanged, WasOpen}
 use Rattle.registry_desk.specs.Resting.{IsRegistryOf, Rests}
@@ -107,17 +109,18 @@ head_in S p = head_of p (of S.tags p) (of S.live p) (of S.spent p)
 abbrev pub versions_in : State → Text → List VersionRow
 versions_in S p = map version_row (of S.live p)
 
--- the packument of the package comes from this, where nothing refuses the query
+-- the packument of the package comes from this, where the policy allows the query: it isn't there
+-- where no version lives
 abbrev pub IsShownBy : Origin → State → Text → Type 0
-IsShownBy (origin.Refused why) S p = ⊥
-IsShownBy (origin.Kept text) S p = text ≡ packument_in S p
-IsShownBy (origin.Stored head) S p = head ≡ head_in S p
+IsShownBy (origin.Refused why) S p = (why ≡ NotFound) × (has_live S p ≡ false)
+IsShownBy (origin.Kept text) S p = live_packument S p ≡ Some text
+IsShownBy (origin.Stored head) S p = (has_live S p ≡ true) × (head ≡ head_in S p)
 
 -- the packument of the package comes from this, unless the query is refused
 abbrev pub IsFrom : Origin → State → Text → Type 0
 IsFrom (origin.Refused why) S p = ⊤
-IsFrom (origin.Kept text) S p = text ≡ packument_in S p
-IsFrom (origin.Stored head) S p = head ≡ head_in S p
+IsFrom (origin.Kept text) S p = live_packument S p ≡ Some text
+IsFrom (origin.Stored head) S p = (has_live S p ≡ true) × (head ≡ head_in S p)
 
 -- the query for the packument of the package comes to this: why it is refused, or, where it isn't,
 -- what its packument comes from
@@ -132,9 +135,9 @@ IsMadeOf given (origin.Refused why) S p = given ≡ reply.Refused why
 IsMadeOf given (origin.Kept text) S p = given ≡ Doc text
 IsMadeOf given (origin.Stored head) S p = (text : Text) × (given ≡ Doc text) × (pack_text head (versions_in S p) ≡ Some text)
 
--- a document that is replied is the packument of the package
+-- a document that is replied is the packument of the package, and a version of that lives
 abbrev pub ShowsAlone : State → Text → Reply → Type 0
-ShowsAlone S p given = (text : Text) → given ≡ Doc text → text ≡ packument_in S p
+ShowsAlone S p given = (text : Text) → given ≡ Doc text → live_packument S p ≡ Some text
 
 -- ---- what a query leaves
 

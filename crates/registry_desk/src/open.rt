@@ -8,9 +8,10 @@ ghost use Rattle.sqlite.specs.State.{HasCleanDisk, Survives};
 ghost use Rattle.sqlite_std_file.specs.File.{IsFresh, file_is_usable};
 ghost use Rattle.sqlite_store.specs.FileStore.{view};
 ghost use Rattle.sqlite_wal.specs.Files.{image_at};
-ghost use Rattle.registry_rows.specs.Ready.{Ready};
+ghost use Rattle.registry_rows.specs.Frames.{Stays};
+ghost use Rattle.registry_rows.specs.Ready.{Reads, Ready};
 ghost use Rattle.registry_rows.specs.Tables.{no_tables};
-ghost use Rattle.registry_tables.specs.Effects.{stored};
+ghost use Rattle.registry_tables.specs.Effects.{GoesOn, InForm, OnlyWhere, shown, stored};
 ghost use Rattle.registry_tables.specs.Fresh.{CountsArchivesAlone};
 ghost use Rattle.registry_tables.specs.Schema as tables;
 ghost use Rattle.registry_migration.specs.Older.{schema_of};
@@ -26,7 +27,8 @@ use registry_names::Fault;
 use registry_rows::{commit, fault_of};
 use registry_tables::{counts_archives_alone, opened};
 use sqlite::{
-    Alter, Connection, File, FileFrom, FileStore, Files, Leftover, Options, Start, Unknown,
+    Alter, Connection, File, FileFrom, FileStore, Files, Leftover, Options, Start, Transaction,
+    Unknown,
 };
 use sqlite_disk::Disk;
 use sqlite_schema::schema::Schema;
@@ -439,11 +441,25 @@ fn check_contents<S: Alter>(conn: &mut Connection<S>) -> Result<(), Fault>
         × (db ≡ (state S.Store conn.old).now.trees)) }
 {
     let mut tx = conn.transaction();
-    if opened(&mut tx)? != Some(SCHEMA) {
-        return Err(Fault::Database);
-    }
-    if !counts_archives_alone(&mut tx)? {
-        return Err(Fault::Database);
-    }
+    check_rows(&mut tx)?;
     commit(tx)
+}
+
+// The same of the rows, inside a transaction.
+fn check_rows<S: Alter>(tx: &mut Transaction<'_, S>) -> Result<(), Fault>
+    requires in_form { InForm S.Store tx.old }
+    requires going { HasCleanDisk (shown S.Store tx.old) → GoesOn S.Store tx.old }
+    ensures stays { Stays S.Store tx.old tx.new }
+    ensures reads { HasCleanDisk (shown S.Store tx.new)
+        → OnOk result (Reads tables.schema (shown S.Store tx.old) (shown S.Store tx.new)) }
+    ensures numbered { OnlyWhere S.Store tx.old tx.new result IsNumbered }
+    ensures counted { OnlyWhere S.Store tx.old tx.new result CountsArchivesAlone }
+{
+    if opened(tx)? != Some(SCHEMA) {
+        return Err(Fault::Database);
+    }
+    if !counts_archives_alone(tx)? {
+        return Err(Fault::Database);
+    }
+    Ok(())
 }

@@ -1,10 +1,11 @@
 //! What decides an action about packages, their versions and their tags.
 
-ghost use Rattle.std.specs.Prelude.{◌≡◌, ℕ};
+ghost use Rattle.std.specs.Prelude.{◌≡◌, ◌||◌, ℕ, true};
+ghost use Rattle.registry_names.specs.Tags.{latest};
 ghost use Rattle.registry_names.specs.declared.status.Status.{Status};
 ghost use Rattle.registry_rows.specs.Frames.{Stays};
 ghost use Rattle.registry_tables.specs.Contents.{registry_of};
-ghost use Rattle.registry_tables.specs.Effects.{InForm, Loads};
+ghost use Rattle.registry_tables.specs.Effects.{InForm, Knows, Loads};
 ghost use Rattle.registry_tables.specs.Teams.{AreTeamsSound};
 ghost use Rattle.registry_desk.specs.Found.{AreTaken};
 ghost use Rattle.registry_rules.specs.Facts.{AboutTells};
@@ -71,7 +72,8 @@ pub(crate) fn new_version<S: Alter>(
     })))
 }
 
-// What exists already of what is to be published, and of its package.
+// What exists already of what is to be published, and of its package. Where the version lives, or
+// `latest` names one, some version lives.
 #[derive(Drop)]
 struct Taken {
     version_lives: bool,
@@ -89,14 +91,65 @@ fn find_taken<S: Alter>(tx: &mut Transaction<'_, S>, form: &PublishForm) -> Resu
         (λ taken c. AreTaken taken (registry_of c) form.now) }
 {
     let (name, version) = (form.name(), form.version().text());
+    let version_lives = has_version(tx, name, version)?;
+    let version_spent = is_spent(tx, name, version)?;
+    let tag_stands = has_tag(tx, name, form.tag().text())?;
+    let latest_stands = has_latest(tx, form, tag_stands)?;
+    let lives = has_some(tx, name, one_lives(version_lives, latest_stands))?;
+    let last_withdrawal = load_last_withdrawal(tx, name)?;
     Ok(Taken {
-        version_lives: has_version(tx, name, version)?,
-        version_spent: is_spent(tx, name, version)?,
-        tag_stands: has_tag(tx, name, form.tag().text())?,
-        latest_stands: has_tag(tx, name, LATEST)?,
-        lives: has_live(tx, name)?,
-        last_withdrawal: load_last_withdrawal(tx, name)?,
+        version_lives,
+        version_spent,
+        tag_stands,
+        latest_stands,
+        lives,
+        last_withdrawal,
     })
+}
+
+// Whether the package has the tag `latest`, which may be the tag of the form.
+fn has_latest<S: Alter>(
+    tx: &mut Transaction<'_, S>,
+    form: &PublishForm,
+    tag_stands: bool,
+) -> Result<bool, Fault>
+    requires in_form { InForm S.Store tx.old }
+    ensures stays { Stays S.Store tx.old tx.new }
+    ensures knows { Knows S.Store tx.old tx.new result (λ has c.
+        tag_stands ≡ state.stands (registry_of c) form.now.name form.now.tag
+        → has ≡ state.stands (registry_of c) form.now.name latest) }
+{
+    if form.tag().text() == LATEST {
+        Ok(tag_stands)
+    } else {
+        has_tag(tx, form.name(), LATEST)
+    }
+}
+
+// Whether a version is known to live: this one, or the one that `latest` names.
+fn one_lives(version_lives: bool, latest_stands: bool) -> bool
+    ensures { result ≡ (version_lives || latest_stands) }
+{
+    version_lives || latest_stands
+}
+
+// Whether a version of the package lives, as it does where one is known to live.
+fn has_some<S: Alter>(
+    tx: &mut Transaction<'_, S>,
+    name: &Name,
+    is_known: bool,
+) -> Result<bool, Fault>
+    requires in_form { InForm S.Store tx.old }
+    ensures stays { Stays S.Store tx.old tx.new }
+    ensures knows { Knows S.Store tx.old tx.new result (λ lives c.
+        (is_known ≡ true → state.has_live (registry_of c) name.now ≡ true)
+        → lives ≡ state.has_live (registry_of c) name.now) }
+{
+    if is_known {
+        Ok(true)
+    } else {
+        has_live(tx, name)
+    }
 }
 
 /// Of a tag that is to name a version.

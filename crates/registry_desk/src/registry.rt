@@ -47,7 +47,8 @@ const PROBE: &str = "COMMIT";
 /// committed. A fault of the disk may shut it for good: then every request is answered by a fault.
 ///
 /// It keeps the texts of the packuments that were asked for last, and the archives. Between requests
-/// each is the packument of its package, or the archive of its version, by what is stored.
+/// each is the packument of its package, of which a version lives, or the archive of its version, by
+/// what is stored.
 pub struct Registry<S: Alter> {
     pub(crate) conn: Connection<S>,
     pub(crate) caches: Caches,
@@ -364,8 +365,8 @@ fn answered<S: Alter>(
     }
 }
 
-// The same in one transaction, which rolls back where `?` drops it. What is replied is kept after
-// the commit.
+// The same of another request, in one transaction, which rolls back where `?` drops it. What is
+// replied is kept after the commit.
 fn transacted<S: Alter>(
     alloc: Global,
     conn: &mut Connection<S>,
@@ -374,6 +375,7 @@ fn transacted<S: Alter>(
 ) -> Result<Reply, Fault>
     requires rests { Rests (state S.Store conn.old) }
     requires right { HasAnswers (state S.Store conn.old) caches.old }
+    requires other { ¬ IsPackument request.now.what }
     ensures rests { Rests (state S.Store conn.new) }
     ensures right { HasAnswers (state S.Store conn.new) caches.new }
     ensures limit { caches.new.packuments.limit ≡ caches.old.packuments.limit }

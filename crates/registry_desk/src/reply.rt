@@ -20,7 +20,7 @@ ghost use Rattle.registry_desk.specs.Found.{AreRowsOf, AreTimesOf};
 
 use crate::rows::Rows;
 use registry_cache::{SharedBlob, SharedText};
-use registry_names::{DistTag, Fault, Name, Text, Ver};
+use registry_names::{Blob, DistTag, Fault, Name, Text, Ver};
 use registry_packument::{
     Granted, List, Member, PackHead, PackTimes, VersionRow, VersionRows, list_text, packument_text,
     version_text,
@@ -36,28 +36,39 @@ pub(crate) fn reply(alloc: Global, what: &Action, rows: Rows) -> Result<Reply, F
         → told ≡ answers.reply S who what.now) }
     ensures accepts { IfOk result (λ told. accepts (Ok told) ≡ true) }
 {
+    match what {
+        Action::Publish { .. } => Ok(Reply::Created),
+        Action::UserAdd { .. }
+        | Action::TokenAdd { .. }
+        | Action::OrgCreate { .. }
+        | Action::OrgSet { .. }
+        | Action::OrgRemove { .. }
+        | Action::TeamCreate { .. }
+        | Action::TeamDestroy { .. }
+        | Action::TeamAdd { .. }
+        | Action::TeamRemove { .. }
+        | Action::Grant { .. }
+        | Action::Revoke { .. }
+        | Action::SetAccess { .. }
+        | Action::OwnerAdd { .. }
+        | Action::OwnerRemove { .. }
+        | Action::TagSet { .. }
+        | Action::TagRemove { .. }
+        | Action::Withdraw { .. } => Ok(Reply::Done),
+        Action::Deprecate { .. } | Action::Packument { .. } | Action::Archive { .. } => {
+            reply_of(alloc, what, rows)
+        }
+        _ => doc(text_of(alloc, what, rows)?),
+    }
+}
+
+// The reply to a deprecation, and to a query for a packument or an archive.
+fn reply_of(alloc: Global, what: &Action, rows: Rows) -> Result<Reply, Fault>
+    ensures is { IfOk result (λ told. (S : State) (who : Caller) → AreRowsOf rows S who what.now
+        → told ≡ answers.reply S who what.now) }
+    ensures accepts { IfOk result (λ told. accepts (Ok told) ≡ true) }
+{
     match (what, rows) {
-        (Action::Publish { .. }, _) => Ok(Reply::Created),
-        (
-            Action::UserAdd { .. }
-            | Action::TokenAdd { .. }
-            | Action::OrgCreate { .. }
-            | Action::OrgSet { .. }
-            | Action::OrgRemove { .. }
-            | Action::TeamCreate { .. }
-            | Action::TeamDestroy { .. }
-            | Action::TeamAdd { .. }
-            | Action::TeamRemove { .. }
-            | Action::Grant { .. }
-            | Action::Revoke { .. }
-            | Action::SetAccess { .. }
-            | Action::OwnerAdd { .. }
-            | Action::OwnerRemove { .. }
-            | Action::TagSet { .. }
-            | Action::TagRemove { .. }
-            | Action::Withdraw { .. },
-            _,
-        ) => Ok(Reply::Done),
         (Action::Deprecate { selector, .. }, Rows::Live(live)) => {
             Ok(Reply::Count(count(selector, &live)))
         }
@@ -70,17 +81,8 @@ pub(crate) fn reply(alloc: Global, what: &Action, rows: Rows) -> Result<Reply, F
             },
         ) => doc(packument(alloc, package, versions, tags, times)?),
         (Action::Packument { .. }, Rows::Known(text)) => Ok(Reply::Doc(text)),
-        (Action::VersionDoc { .. }, Rows::Document(Some(row))) => { doc(document(alloc, &row)?) }
-        (Action::Archive { .. }, Rows::Archive(Some(archive))) => {
-            Ok(Reply::Bytes(SharedBlob::from_blob(alloc, archive)?))
-        }
+        (Action::Archive { .. }, Rows::Archive(Some(archive))) => bytes(alloc, archive),
         (Action::Archive { .. }, Rows::KnownArchive(archive)) => Ok(Reply::Bytes(archive)),
-        (Action::Tags { .. }, Rows::Tags(tags)) => doc(tags_of(alloc, tags)?),
-        (Action::Members { .. }, Rows::Members(members)) => { doc(members_of(alloc, members)?) }
-        (Action::Teams { .. } | Action::TeamMembers { .. }, Rows::Names(names)) => {
-            doc(list_text(alloc, &List::Names(names))?)
-        }
-        (Action::TeamPackages { .. }, Rows::Grants(granted)) => { doc(grants_of(alloc, granted)?) }
         _ => Err(Fault::Database),
     }
 }
@@ -90,6 +92,30 @@ fn doc(text: Text) -> Result<Reply, Fault>
     ensures { IfOk result (λ told. told ≡ Reply.Doc text) }
 {
     Ok(Reply::Doc(SharedText::from_text(text)?))
+}
+
+// The reply that is this archive, which others may share.
+fn bytes(alloc: Global, archive: Blob) -> Result<Reply, Fault>
+    ensures { IfOk result (λ told. told ≡ Reply.Bytes archive) }
+{
+    Ok(Reply::Bytes(SharedBlob::from_blob(alloc, archive)?))
+}
+
+// The text that is the reply to another query.
+fn text_of(alloc: Global, what: &Action, rows: Rows) -> Result<Text, Fault>
+    ensures { IfOk result (λ text. (S : State) (who : Caller) → AreRowsOf rows S who what.now
+        → Reply.Doc text ≡ answers.reply S who what.now) }
+{
+    match (what, rows) {
+        (Action::VersionDoc { .. }, Rows::Document(Some(row))) => document(alloc, &row),
+        (Action::Tags { .. }, Rows::Tags(tags)) => tags_of(alloc, tags),
+        (Action::Members { .. }, Rows::Members(members)) => members_of(alloc, members),
+        (Action::Teams { .. } | Action::TeamMembers { .. }, Rows::Names(names)) => {
+            list_text(alloc, &List::Names(names))
+        }
+        (Action::TeamPackages { .. }, Rows::Grants(granted)) => grants_of(alloc, granted),
+        _ => Err(Fault::Database),
+    }
 }
 
 // How many of the versions the selector selects.
@@ -150,7 +176,7 @@ fn tags_of(alloc: Global, tags: Vec<DistTag>) -> Result<Text, Fault>
         → map tag_entry tags.items ≡ of S.tags p
         → text ≡ tags_in S p) }
 {
-    Ok(list_text(alloc, &List::Tags(tags))?)
+    list_text(alloc, &List::Tags(tags))
 }
 
 // The text of an organisation's members.
@@ -159,7 +185,7 @@ fn members_of(alloc: Global, members: Vec<Member>) -> Result<Text, Fault>
         → map member_entry members.items ≡ of S.access.roles o
         → text ≡ members_in S o) }
 {
-    Ok(list_text(alloc, &List::Members(members))?)
+    list_text(alloc, &List::Members(members))
 }
 
 // The text of what a team is granted, on packages that the caller reads.
@@ -170,5 +196,5 @@ fn grants_of(alloc: Global, granted: Vec<Granted>) -> Result<Text, Fault>
         (parts (pairs_of S.access.grants o) t)
         → text ≡ team_packages_in S who o t) }
 {
-    Ok(list_text(alloc, &List::Grants(granted))?)
+    list_text(alloc, &List::Grants(granted))
 }

@@ -8,10 +8,9 @@ ghost use Rattle.registry_names.specs.Maps.{of};
 ghost use Rattle.registry_packument.specs.Counted.{IsUnbroken, Takes};
 ghost use Rattle.registry_packument.specs.Packuments.{pack_len, pack_text};
 ghost use Rattle.registry_packument.specs.Sendings.{failures_after};
+ghost use Rattle.registry_packument.specs.Within.{IsWithin};
 ghost use Rattle.registry_packument.specs.declared.opener.Sent.TheVariants.{WriteFault};
 ghost use Rattle.registry_rows.specs.Frames.{Stays};
-ghost use Rattle.registry_rules.specs.Facts.{FactsTell};
-ghost use Rattle.registry_rules.specs.Refusals.{refusal};
 ghost use Rattle.registry_rules.specs.State.{State};
 ghost use Rattle.registry_rules.specs.declared.request.Action.TheVariants as asked;
 ghost use Rattle.registry_tables.specs.Contents.{registry_of};
@@ -27,19 +26,26 @@ ghost use Rattle.registry_desk.specs.Resting.{Rests};
 ghost use Rattle.registry_desk.specs.Sending.{IsFrom, IsOrigin, IsShownBy, LeavesAll, Sends, answers_as_apply, head_in, versions_in};
 
 use crate::cache::{Caches, ask};
-use crate::packages::seen_package;
+use crate::policy::standing_if_allowed;
 use crate::rows::{cached_text, pack_times};
+use registry_access::Ask;
 use registry_cache::{SharedText, TextCache};
 use registry_hidden::laws::unread_packages_are_unheard_of;
 use registry_names::{ByteOut, DistTag, Fault, Name, Refusal, Text};
 use registry_packument::{
-    Opener, PackHead, PackTimes, Sent, packument_len, send_counted, send_text,
+    Opener, PackHead, PackTimes, PackumentWithin, Sent, packument_within, send_counted, send_text,
 };
 use registry_rows::{commit, fault_of};
-use registry_rules::{Facts, Request, may_ask};
-use registry_tables::{LiveRows, VersionWalk, load_caller, load_tags, load_times, walk_versions};
+use registry_rules::Request;
+use registry_tables::{
+    LiveRows, VersionWalk, has_live, load_caller, load_tags, load_times, walk_versions,
+};
 use sqlite::{Alter, Connection, Transaction};
 use std::alloc::Global;
+
+/// A packument of no more bytes would be gathered, and sent as one text. None is: of all that are
+/// sent, the first walk only counts the bytes.
+const SENT_AS_TEXT: u64 = 0;
 
 /// What a query for a packument comes to, before a byte of it is written.
 #[derive(Drop)]
@@ -88,7 +94,26 @@ fn loaded_head<S: Alter>(
     head_of(alloc, name, tags, times)
 }
 
-// What a packument comes from, where nothing refuses the query.
+// What a packument that isn't kept comes from, where the policy allows the query.
+fn stored_from<S: Alter>(
+    alloc: Global,
+    tx: &mut Transaction<'_, S>,
+    name: &Name,
+) -> Result<Origin, Fault>
+    requires in_form { InForm S.Store tx.old }
+    ensures stays { Stays S.Store tx.old tx.new }
+    ensures loads { Loads S.Store tx.old tx.new result
+        (λ origin c. IsShownBy origin (registry_of c) name.now) }
+{
+    if has_live(tx, name)? {
+        Ok(Origin::Stored(loaded_head(alloc, tx, name)?))
+    } else {
+        Ok(Origin::Refused(Refusal::NotFound))
+    }
+}
+
+// What a packument comes from, where the policy allows the query. Of a package whose packument is
+// kept some version lives, so that isn't asked.
 fn shown_from<S: Alter>(
     alloc: Global,
     tx: &mut Transaction<'_, S>,
@@ -102,17 +127,7 @@ fn shown_from<S: Alter>(
 {
     match cached_text(cache, name) {
         Some(text) => Ok(Origin::Kept(text)),
-        None => Ok(Origin::Stored(loaded_head(alloc, tx, name)?)),
-    }
-}
-
-// Why a request is refused, if it is.
-fn refusal_of(facts: &Facts, request: &Request) -> Option<Refusal>
-    ensures { (S : State) → FactsTell facts.now S request.now → result ≡ refusal S request.now }
-{
-    match may_ask(facts, request) {
-        Ok(()) => None,
-        Err(refusal) => Some(refusal),
+        None => stored_from(alloc, tx, name),
     }
 }
 
@@ -137,14 +152,9 @@ fn find_origin<S: Alter>(
     let Some(caller) = load_caller(alloc, tx, &request.who)? else {
         return Ok(Origin::Refused(Refusal::NoCaller));
     };
-    let about = seen_package(alloc, tx, &caller, name)?;
-    let facts = Facts {
-        caller: Some(caller),
-        about,
-    };
-    match refusal_of(&facts, request) {
-        Some(refusal) => Ok(Origin::Refused(refusal)),
-        None => shown_from(alloc, tx, cache, name),
+    match standing_if_allowed(alloc, tx, &caller, name, &Ask::Read(name))? {
+        Ok(_standing) => shown_from(alloc, tx, cache, name),
+        Err(refusal) => Ok(Origin::Refused(refusal)),
     }
 }
 
@@ -180,30 +190,32 @@ pub(crate) fn origin_of<S: Alter>(
 
 // ---- in walks over the versions, outside a transaction
 
-// How many bytes the packument with this head has, and the versions that a walk has left.
-fn walk_len<R: LiveRows>(
+// The packument with this head, and the versions that a walk has left, within a limit.
+fn walk_within<R: LiveRows>(
     alloc: Global,
     head: &PackHead,
     walk: &mut VersionWalk<'_, R>,
-) -> Result<u64, Fault>
+    limit: u64,
+) -> Result<PackumentWithin, Fault>
     ensures same_rows { (lent R.LiveRows walk.new).ghost_name
         ≡ (lent R.LiveRows walk.old).ghost_name }
     ensures goes_on { HasGoneOn R.store (lent R.LiveRows walk.old) (lent R.LiveRows walk.new)
         (stopped_at R.LiveRows walk.new) }
     ensures unstopped { OnOk result (stopped_at R.LiveRows walk.new ≡ None) }
-    ensures len { HasCleanDisk (seen_by R.LiveRows walk.new) → IfOk result (λ len.
-        pack_len head.now (rows_left R.LiveRows walk.old) ≡ Some len) }
+    ensures within { HasCleanDisk (seen_by R.LiveRows walk.new) → IfOk result
+        (IsWithin limit head.now (rows_left R.LiveRows walk.old)) }
 {
-    packument_len(alloc, head, walk)
+    packument_within(alloc, head, walk, limit)
 }
 
-// How many bytes the packument with this head has, and the versions that were asked for.
-fn rows_len<R: LiveRows>(
+// The packument with this head, and the versions that were asked for, within a limit.
+fn rows_within<R: LiveRows>(
     alloc: Global,
     name: &Name,
     head: &PackHead,
     rows: &mut R,
-) -> Result<u64, Fault>
+    limit: u64,
+) -> Result<PackumentWithin, Fault>
     requires begun { Begins R.store name.now (R.rows rows.old) }
     ensures same_reference { reference R.store (R.rows rows.new)
         ≡ reference R.store (R.rows rows.old) }
@@ -211,32 +223,33 @@ fn rows_len<R: LiveRows>(
         (shown_by R.store (R.rows rows.new)) }
     ensures unshut { HasCleanDisk (shown_by R.store (R.rows rows.new))
         → OnOk result (IsTrue (shown_by R.store (R.rows rows.new)).is_open) }
-    ensures len { HasCleanDisk (shown_by R.store (R.rows rows.new)) → IfOk result (λ len.
-        pack_len head.now (versions_in (registry_in (shown_by R.store (R.rows rows.old))) name.now)
-        ≡ Some len) }
+    ensures within { HasCleanDisk (shown_by R.store (R.rows rows.new)) → IfOk result
+        (IsWithin limit head.now
+        (versions_in (registry_in (shown_by R.store (R.rows rows.old))) name.now)) }
 {
     let mut walk = VersionWalk::over(rows, name);
-    walk_len(alloc, head, &mut walk)
+    walk_within(alloc, head, &mut walk, limit)
 }
 
-// How many bytes the packument with this head has.
-fn stored_len<S: Alter>(
+/// The packument with this head, within a limit.
+pub(crate) fn stored_within<S: Alter>(
     alloc: Global,
     conn: &mut Connection<S>,
     name: &Name,
     head: &PackHead,
-) -> Result<u64, Fault>
+    limit: u64,
+) -> Result<PackumentWithin, Fault>
     requires rests { Rests (state S.Store conn.old) }
     requires unshut { HasCleanDisk (state S.Store conn.old)
         → IsTrue (state S.Store conn.old).is_open }
     ensures left { IsLeftAlone (state S.Store conn.old) (state S.Store conn.new) }
     ensures unshut { HasCleanDisk (state S.Store conn.new)
         → OnOk result (IsTrue (state S.Store conn.new).is_open) }
-    ensures len { HasCleanDisk (state S.Store conn.new) → IfOk result (λ len. pack_len head.now
-        (versions_in (registry_in (state S.Store conn.old)) name.now) ≡ Some len) }
+    ensures within { HasCleanDisk (state S.Store conn.new) → IfOk result (IsWithin limit head.now
+        (versions_in (registry_in (state S.Store conn.old)) name.now)) }
 {
     match walk_versions(conn, name) {
-        Ok(mut rows) => rows_len(alloc, name, head, &mut rows),
+        Ok(mut rows) => rows_within(alloc, name, head, &mut rows, limit),
         Err(error) => Err(fault_of(error)),
     }
 }
@@ -363,8 +376,11 @@ fn send_stored<S: Alter, W: ByteOut, O: Opener>(
     ensures told { result ≢ WriteFault → W.is_unknown writer.new ≡ W.is_unknown writer.old }
     ensures unknown { W.is_unknown writer.old ≡ true → W.is_unknown writer.new ≡ true }
 {
-    match stored_len(alloc, conn, name, head) {
-        Ok(len) => send_again(alloc, conn, name, head, len, writer, opener),
+    match stored_within(alloc, conn, name, head, SENT_AS_TEXT) {
+        Ok(PackumentWithin::Text(text)) => send_text(alloc, text.as_str(), writer, opener),
+        Ok(PackumentWithin::Longer(len)) => {
+            send_again(alloc, conn, name, head, len, writer, opener)
+        }
         Err(fault) => Sent::Broken {
             fault,
             has_started: false,

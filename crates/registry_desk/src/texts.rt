@@ -2,30 +2,26 @@
 //! versions where it is short. Where it is long, that walk only counts its bytes, and a second one
 //! writes them, once, into room for so many. No list of versions is held.
 
-ghost use Rattle.std.specs.Prelude.{◌≡◌, [], IfOk, IsTrue, None, OnErr, OnOk, Some, vec_capacity};
+ghost use Rattle.std.specs.Prelude.{◌≡◌, [], IfOk, IsTrue, OnErr, OnOk, Some, vec_capacity};
 ghost use Rattle.sqlite.specs.Held.{state};
 ghost use Rattle.sqlite.specs.State.{HasCleanDisk};
 ghost use Rattle.registry_packument.specs.Packuments.{pack_len, pack_text};
-ghost use Rattle.registry_packument.specs.Within.{IsWithin};
 ghost use Rattle.registry_packument.specs.declared.opener.Sent.TheVariants.{Whole};
 ghost use Rattle.registry_rules.specs.declared.request.Action.TheVariants as asked;
 ghost use Rattle.registry_history.specs.Answers.{answer};
 ghost use Rattle.registry_tables.specs.Effects.{registry_in};
-ghost use Rattle.registry_tables.specs.Walking.{lent, rows_left, seen_by, stopped_at};
-ghost use Rattle.registry_tables.specs.Walks.{Begins, HasGoneOn, IsLeftAlone, reference, shown_by};
+ghost use Rattle.registry_tables.specs.Walks.{IsLeftAlone};
 ghost use Rattle.registry_desk.specs.Caches.{HasAnswers, HasPackuments, KeepNoMore, KeepsAnswer};
 ghost use Rattle.registry_desk.specs.Promises.{Answered, HoldsSoundFor, Served};
 ghost use Rattle.registry_desk.specs.Resting.{Rests};
 ghost use Rattle.registry_desk.specs.Sending.{IsMadeOf, LeavesAll, ShowsAlone, versions_in};
 
 use crate::cache::{Caches, keep_reply};
-use crate::sending::{Origin, origin_of, send_again};
+use crate::sending::{Origin, origin_of, send_again, stored_within};
 use registry_cache::{SharedText, TextCache};
 use registry_names::{ByteOut, Fault, Name, Text, WriteFailed};
-use registry_packument::{Opener, PackHead, PackumentWithin, Sent, packument_within};
-use registry_rows::fault_of;
+use registry_packument::{Opener, PackHead, PackumentWithin, Sent};
 use registry_rules::{Reply, Request};
-use registry_tables::{LiveRows, VersionWalk, walk_versions};
 use sqlite::{Alter, Connection};
 use std::alloc::{AllocError, Global};
 
@@ -104,72 +100,6 @@ fn text_sent(sent: Sent, bytes: Vec<u8>) -> Result<Text, Fault>
     }
 }
 
-// ---- the text in one walk, or how long it is
-
-// The packument with this head, and the versions that a walk has left, within a limit.
-fn walk_within<R: LiveRows>(
-    alloc: Global,
-    head: &PackHead,
-    walk: &mut VersionWalk<'_, R>,
-    limit: u64,
-) -> Result<PackumentWithin, Fault>
-    ensures same_rows { (lent R.LiveRows walk.new).ghost_name
-        ≡ (lent R.LiveRows walk.old).ghost_name }
-    ensures goes_on { HasGoneOn R.store (lent R.LiveRows walk.old) (lent R.LiveRows walk.new)
-        (stopped_at R.LiveRows walk.new) }
-    ensures unstopped { OnOk result (stopped_at R.LiveRows walk.new ≡ None) }
-    ensures within { HasCleanDisk (seen_by R.LiveRows walk.new) → IfOk result
-        (IsWithin limit head.now (rows_left R.LiveRows walk.old)) }
-{
-    packument_within(alloc, head, walk, limit)
-}
-
-// The packument with this head, and the versions that were asked for, within a limit.
-fn rows_within<R: LiveRows>(
-    alloc: Global,
-    name: &Name,
-    head: &PackHead,
-    rows: &mut R,
-    limit: u64,
-) -> Result<PackumentWithin, Fault>
-    requires begun { Begins R.store name.now (R.rows rows.old) }
-    ensures same_reference { reference R.store (R.rows rows.new)
-        ≡ reference R.store (R.rows rows.old) }
-    ensures left { IsLeftAlone (shown_by R.store (R.rows rows.old))
-        (shown_by R.store (R.rows rows.new)) }
-    ensures unshut { HasCleanDisk (shown_by R.store (R.rows rows.new))
-        → OnOk result (IsTrue (shown_by R.store (R.rows rows.new)).is_open) }
-    ensures within { HasCleanDisk (shown_by R.store (R.rows rows.new)) → IfOk result
-        (IsWithin limit head.now
-        (versions_in (registry_in (shown_by R.store (R.rows rows.old))) name.now)) }
-{
-    let mut walk = VersionWalk::over(rows, name);
-    walk_within(alloc, head, &mut walk, limit)
-}
-
-// The packument with this head, within a limit.
-fn stored_within<S: Alter>(
-    alloc: Global,
-    conn: &mut Connection<S>,
-    name: &Name,
-    head: &PackHead,
-    limit: u64,
-) -> Result<PackumentWithin, Fault>
-    requires rests { Rests (state S.Store conn.old) }
-    requires unshut { HasCleanDisk (state S.Store conn.old)
-        → IsTrue (state S.Store conn.old).is_open }
-    ensures left { IsLeftAlone (state S.Store conn.old) (state S.Store conn.new) }
-    ensures unshut { HasCleanDisk (state S.Store conn.new)
-        → OnOk result (IsTrue (state S.Store conn.new).is_open) }
-    ensures within { HasCleanDisk (state S.Store conn.new) → IfOk result (IsWithin limit head.now
-        (versions_in (registry_in (state S.Store conn.old)) name.now)) }
-{
-    match walk_versions(conn, name) {
-        Ok(mut rows) => rows_within(alloc, name, head, &mut rows, limit),
-        Err(error) => Err(fault_of(error)),
-    }
-}
-
 // ---- the text
 
 // Writes the packument with this head, which was counted to have so many bytes, into room for just
@@ -204,6 +134,14 @@ fn written_text<S: Alter>(
     text_sent(sent, room.bytes)
 }
 
+// A copy of the text in room for just its bytes: a text that grew has room for up to twice as many,
+// and what is cached is to take no more memory than it counts for.
+fn exact(alloc: Global, text: Text) -> Result<Text, Fault>
+    ensures { IfOk result (λ copy. copy ≡ text) }
+{
+    Ok(Text::from_str(alloc, text.as_str())?)
+}
+
 // The text of the packument with this head: in one walk, or in two where it is long.
 fn made_text<S: Alter>(
     alloc: Global,
@@ -223,7 +161,7 @@ fn made_text<S: Alter>(
 {
     let within = stored_within(alloc, conn, name, head, ONE_WALK)?;
     match within {
-        PackumentWithin::Text(text) => Ok(text),
+        PackumentWithin::Text(text) => exact(alloc, text),
         PackumentWithin::Longer(len) => {
             let room = room_for(alloc, len)?;
             written_text(alloc, conn, name, head, len, room)

@@ -1,5 +1,5 @@
 -- No token is in a masked target.
-use Rattle.std.proofs.Common.{◌≡◌, ℕ, List, [], ◌∷◌, ◌++◌, Bool, ap, codes, inl, inr, refl, subst, sym, if◌then◌else◌}
+use Rattle.std.proofs.Common.{◌≡◌, ℕ, List, [], ◌∷◌, ◌++◌, codes, inl, inr, refl, subst, sym, if◌then◌else◌}
 use Rattle.registry_log.specs.Lines.{hides, masked}
 use Rattle.registry_log.specs.Laws.{IsTokenWord}
 

@@ -11,7 +11,7 @@ use crate::beside::{TRIES, busy, hold_server, is_busy, pause};
 use crate::checking_beside::problems_beside;
 use crate::ending::{Ending, Failure, Obstacle};
 use crate::errands::print_done;
-use crate::opening::{close, open, require_file};
+use crate::opening::{open, require_file};
 use crate::run::{obstacle_text, print_line};
 use registry_check::{Problem, Thing, check};
 use registry_desk::Registry;
@@ -90,13 +90,18 @@ pub fn problems_in<D: Disk + Drop>(
     alloc: Global,
     registry: Registry<FileStore<D>>,
 ) -> Result<Vec<Problem>, Ending> {
-    let mut conn = registry.release();
-    let problems = problems_of(alloc, &mut conn);
-    close(conn);
-    match problems {
+    match problems_within(alloc, registry) {
         Ok(problems) => Ok(problems),
         Err(fault) => Err(Ending::from(fault)),
     }
+}
+
+fn problems_within<S: Alter + Drop>(
+    alloc: Global,
+    registry: Registry<S>,
+) -> Result<Vec<Problem>, Fault> {
+    let mut conn = registry.release();
+    problems_of(alloc, &mut conn)
 }
 
 // What is wrong behind a connection that is between requests. Nothing is exactly where all that

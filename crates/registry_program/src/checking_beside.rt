@@ -4,9 +4,9 @@ use crate::beside::require_held;
 use crate::checking::problems_in;
 use crate::ending::{Ending, Failure, Obstacle, Snag};
 use crate::held::{copy_files, new_file, snag};
-use crate::opening::{obstacle_in, open_obstacle};
+use crate::opening::{obstacle_left, open_obstacle};
 use registry_check::Problem;
-use registry_desk::{Registry, Unopened};
+use registry_desk::Registry;
 use registry_guests::Hold;
 use registry_names::Fault;
 use sqlite::{File, Files, Options, Unknown};
@@ -94,20 +94,5 @@ fn problems_in_files<D: Disk + Drop>(
         Err((Fault::Database, left)) => Err(Ending::Fault(Failure::Opening(obstacle_left(
             alloc, left,
         )))),
-    }
-}
-
-// What keeps the files from being opened of which this is left.
-fn obstacle_left<D: Disk + Drop>(alloc: Global, left: Unopened<D>) -> Obstacle {
-    let mut left = left;
-    let found = match &mut left {
-        Unopened::Database(conn) => Some(obstacle_in(alloc, conn)),
-        Unopened::Files(_) => None,
-    };
-    let met = left.into_files().tally();
-    match found {
-        Some(obstacle) => obstacle,
-        None if met.refused > 0 => Obstacle::Full,
-        None => Obstacle::Foreign,
     }
 }

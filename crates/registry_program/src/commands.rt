@@ -88,27 +88,70 @@ fn print_answer<R: Registries, O: ByteOut, E: ByteOut>(
     requires whole { IsWhole line.now.what }
     requires asks { asks_to_serve line.now.what ≡ false }
 {
-    let body = body_of(rt, alloc, line)?;
-    let request = request(rt, alloc, line, &body)?;
-    let question = Question {
-        path: line.db.as_str(),
-        request: &request,
-        arguments,
-        body: &body,
-    };
-    match answer_to(rt, alloc, registries, question)? {
+    let given = given_to(rt, alloc, line)?;
+    match ask_line(rt, alloc, registries, line, arguments, &given) {
+        Ok(answer) => print_given(alloc, answer, output, errors),
+        Err(ending) => Err(ending),
+    }
+}
+
+fn print_given<O: ByteOut, E: ByteOut>(
+    alloc: Global,
+    answer: Answer,
+    output: &mut O,
+    errors: &mut E,
+) -> Result<u8, Ending> {
+    match answer {
         Answer::Reply(reply) => Ok(print_reply(&reply, output, errors)?),
         Answer::Sent(bytes) => print_sent(alloc, &bytes, output, errors),
     }
 }
 
-/// What a line asks for, with the bytes of the file that it names, and when.
-pub fn request(rt: &HostRuntime, alloc: Global, line: &Line, body: &[u8]) -> Result<Request, Ending>
+/// What a line asks with, besides its words.
+#[derive(Drop)]
+pub struct Given {
+    // The moment that it says, or else that of the clock.
+    at: Moment,
+    // The bytes of the file that it names. Without a file there are none.
+    body: Vec<u8>,
+}
+
+/// What a line asks with. The clock is read first, and then the file.
+pub fn given_to(rt: &HostRuntime, alloc: Global, line: &Line) -> Result<Given, Ending> {
+    let at = asked_at(rt, line)?;
+    let body = body_of(rt, alloc, line)?;
+    Ok(Given { at, body })
+}
+
+/// Asks for what a line means, with what is given. A server is asked by the arguments.
+pub fn ask_line<R: Registries>(
+    rt: &HostRuntime,
+    alloc: Global,
+    registries: &mut R,
+    line: &Line,
+    arguments: &[Text],
+    given: &Given,
+) -> Result<Answer, Ending>
     requires whole { IsWhole line.now.what }
     requires asks { asks_to_serve line.now.what ≡ false }
 {
-    let at = asked_at(rt, line)?;
-    let (who, what) = action_of(alloc, line, body)?;
+    let request = request(alloc, line, given)?;
+    let question = Question {
+        path: line.db.as_str(),
+        request: &request,
+        arguments,
+        body: &given.body,
+    };
+    answer_to(rt, alloc, registries, question)
+}
+
+// What a line asks for, with what is given, and when.
+fn request(alloc: Global, line: &Line, given: &Given) -> Result<Request, Ending>
+    requires whole { IsWhole line.now.what }
+    requires asks { asks_to_serve line.now.what ≡ false }
+{
+    let (who, what) = action_of(alloc, line, &given.body)?;
+    let at = given.at;
     Ok(Request { at, who, what })
 }
 

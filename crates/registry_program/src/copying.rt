@@ -9,11 +9,10 @@ ghost use Rattle.registry_program.specs.Copies.{IsCopy};
 use crate::beside::{TRIES, busy, hold_server, is_busy, pause, require_held};
 use crate::ending::{Ending, Failure, Obstacle, Snag};
 use crate::held::{copy_files, new_file, snag, snagged, written};
-use crate::opening::{obstacle_of, open, require_file};
+use crate::opening::{close_files, open, require_file};
 use registry_desk::Registry;
 use registry_guests::Hold;
-use registry_names::Fault;
-use sqlite::{Error, ErrorCode, FileStore, Files};
+use sqlite::{FileStore, Files};
 use sqlite_disk::Disk;
 use std::alloc::{AllocError, Global};
 use std::fs::File;
@@ -191,11 +190,11 @@ pub fn write_copy<D: Disk + Drop, W: Write>(
     ensures copied { IfOk result (λ files. AreClean D.Disk files.log files.db
         → IsCopy (file_state registry) (W.contents output.old) (W.contents output.new)) }
 {
-    match registry.release().close_files() {
+    match close_files(registry) {
         Ok(files) => write_files(files, output),
-        Err((error, store)) => {
-            drop(store.close());
-            Err(unclosed(error))
+        Err((ending, files)) => {
+            drop(files);
+            Err(ending)
         }
     }
 }
@@ -236,14 +235,6 @@ fn write_disk<D: Disk, W: Write>(disk: &mut D, output: &mut W) -> io::Result<()>
     Ok(())
 }
 
-/// What it says that a registry's log can't be copied into its file.
-pub fn unclosed(error: Error) -> Ending {
-    match error {
-        Error::SqliteFailure(ErrorCode::OutOfMemory) => Ending::from(Fault::Memory),
-        error => Ending::Fault(Failure::Opening(obstacle_of(error))),
-    }
-}
-
 // The copy opens as a registry, and is closed again, which copies its log into it.
 fn see_whole(rt: &HostRuntime, copy: &str) -> Result<(), Ending> {
     match open(rt, copy) {
@@ -255,9 +246,21 @@ fn see_whole(rt: &HostRuntime, copy: &str) -> Result<(), Ending> {
 }
 
 fn close_whole<D: Disk + Drop>(registry: Registry<FileStore<D>>) -> Result<(), Ending> {
-    match registry.release().close() {
-        Ok(()) => Ok(()),
-        Err(Error::SqliteFailure(ErrorCode::DiskFull)) => Err(snag(Snag::Full)),
-        Err(_) => Err(snag(Snag::Unwritable)),
+    match close_files(registry) {
+        Ok(files) => {
+            drop(files);
+            Ok(())
+        }
+        Err((ending, files)) => {
+            drop(files);
+            Err(snag(why_unclosed(&ending)))
+        }
+    }
+}
+
+fn why_unclosed(ending: &Ending) -> Snag {
+    match ending {
+        Ending::Fault(Failure::Opening(Obstacle::Full)) => Snag::Full,
+        _ => Snag::Unwritable,
     }
 }

@@ -1,9 +1,9 @@
 //! What the program does for whoever runs the registry, beside requests.
 
-use crate::asking::{Answer, Question, answer_to};
+use crate::asking::Answer;
 use crate::beside::print_sent_token;
 use crate::checking::print_check;
-use crate::commands::request;
+use crate::commands::{ask_line, given_to};
 use crate::copying::back_up;
 use crate::ending::{Ending, Failure};
 use crate::registries::Registries;
@@ -88,12 +88,6 @@ fn add_token<R: Registries>(
 ) -> Result<Answer, Ending> {
     let arguments = new.arguments(alloc, token)?;
     let line = new.line(alloc, Text::from_str(alloc, token)?)?;
-    let request = request(rt, alloc, &line, &[])?;
-    let question = Question {
-        path: line.db.as_str(),
-        request: &request,
-        arguments: &arguments,
-        body: &[],
-    };
-    answer_to(rt, alloc, registries, question)
+    let given = given_to(rt, alloc, &line)?;
+    ask_line(rt, alloc, registries, &line, &arguments, &given)
 }

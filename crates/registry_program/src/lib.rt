@@ -21,6 +21,5 @@ mod stopping;
 
 pub use crate::copying::write_copy;
 pub use crate::ending::{Ending, Failure, Obstacle, Snag, Trouble};
-pub use crate::opening::let_go;
 pub use crate::registries::{InFiles, Registries, reply_of};
 pub use crate::run::{program, program_over, report};

@@ -1,12 +1,18 @@
 //! Opening the file that keeps the registry, and letting go of it.
 
+ghost use Rattle.std.specs.Prelude.{IfOk, IsTrue};
+ghost use Rattle.sqlite.specs.Closing.{IsCopied};
+ghost use Rattle.sqlite.specs.Files.{file_state};
+ghost use Rattle.sqlite_wal.specs.Reads.{AreClean};
+ghost use Rattle.registry_desk.specs.Resting.{Rests};
+
 use crate::ending::{Ending, Failure, Obstacle};
-use registry_desk::{Registry, SCHEMA};
+use registry_desk::{Registry, SCHEMA, Unopened};
 use registry_migration::older_schema;
 use registry_names::Fault;
 use sqlite::types::ValueRef;
-use sqlite::{Alter, Connection, Error, ErrorCode, File, FileStore, Unknown};
-use sqlite_disk::Disk;
+use sqlite::{Alter, Connection, Error, ErrorCode, File, FileStore, Files, Unknown};
+use sqlite_disk::{Disk, Tally};
 use sqlite_std_file::OpenError;
 use std::alloc::Global;
 use std::fs;
@@ -59,33 +65,68 @@ fn missing() -> Ending {
     Ending::Fault(Failure::Opening(Obstacle::Missing))
 }
 
-/// Lets go of a registry's files. Its log isn't copied into the database file: the next open does
-/// what is to be done.
-pub fn let_go<D: Disk + Drop>(registry: Registry<FileStore<D>>) {
-    close(registry.release());
+/// Closes a registry, whose log is copied into its file, and gives the files, which are locked until
+/// they are dropped. They come with a fault where the log can't be copied: the next open does that.
+pub fn close_files<D: Disk + Drop>(
+    registry: Registry<FileStore<D>>,
+) -> Result<Files<D>, (Ending, Files<D>)>
+    ensures rests { Rests (file_state registry) }
+    ensures usable { IfOk result (λ files. IsTrue (D.Disk.is_usable files.db)) }
+    ensures copied { IfOk result (λ files. AreClean D.Disk files.log files.db
+        → IsCopied registry files) }
+{
+    match registry.release().close_files() {
+        Ok(files) => Ok(files),
+        Err((error, store)) => Err((unclosed(error), store.close())),
+    }
 }
 
-/// Lets go of a connection's files, as [`let_go`] does.
-// The store's own `close` leaves only the files to be dropped, and none of what is built on them.
-pub fn close<D: Disk + Drop>(conn: Connection<FileStore<D>>) {
-    drop(conn.into_store().close());
+// What it says that a registry's log can't be copied into its file.
+fn unclosed(error: Error) -> Ending {
+    match error {
+        Error::SqliteFailure(ErrorCode::OutOfMemory) => Ending::from(Fault::Memory),
+        error => Ending::Fault(Failure::Opening(obstacle_of(error))),
+    }
 }
 
 // Why the file at the path wasn't opened: it is tried once more, as any database.
 fn obstacle(rt: &HostRuntime, path: &str) -> Obstacle {
     match Connection::open_with_sums(rt, path) {
-        Ok(mut conn) => {
-            let obstacle = obstacle_in(rt.alloc(), &mut conn);
-            close(conn);
-            obstacle
-        }
+        Ok(conn) => obstacle_left(rt.alloc(), Unopened::Database(conn)),
         Err(error) => obstacle_of(error),
     }
 }
 
-/// What keeps an open database from being a registry. One that has nothing yet is a registry's that
-/// couldn't be written.
-pub fn obstacle_in<S: Alter>(alloc: Global, conn: &mut Connection<S>) -> Obstacle {
+/// What keeps the files from being opened of which this is left. They are let go of, and nothing is
+/// copied.
+pub fn obstacle_left<D: Disk + Drop>(alloc: Global, left: Unopened<D>) -> Obstacle {
+    let mut left = left;
+    match obstacle_inside(alloc, &mut left) {
+        Some(obstacle) => obstacle,
+        None => obstacle_met(left.into_files().tally()),
+    }
+}
+
+// What keeps a database from being a registry, if one was opened.
+fn obstacle_inside<D: Disk>(alloc: Global, left: &mut Unopened<D>) -> Option<Obstacle> {
+    match left {
+        Unopened::Database(conn) => Some(obstacle_in(alloc, conn)),
+        Unopened::Files(_) => None,
+    }
+}
+
+// What keeps files without a database from being opened, by what the calls of their disk met.
+fn obstacle_met(met: Tally) -> Obstacle {
+    if met.refused > 0 {
+        Obstacle::Full
+    } else {
+        Obstacle::Foreign
+    }
+}
+
+// What keeps an open database from being a registry. One that has nothing yet is a registry's that
+// couldn't be written.
+fn obstacle_in<S: Alter>(alloc: Global, conn: &mut Connection<S>) -> Obstacle {
     if has_nothing(conn) {
         Obstacle::Unreachable
     } else if is_newer(conn) {
@@ -120,8 +161,8 @@ fn is_older<S: Alter>(alloc: Global, conn: &Connection<S>) -> bool {
     matches!(older_schema(alloc, conn.schema()), Ok(Some(_)))
 }
 
-/// What keeps a database that gives this error from being opened.
-pub fn obstacle_of(error: Error) -> Obstacle {
+// What keeps a database that gives this error from being opened.
+fn obstacle_of(error: Error) -> Obstacle {
     match error {
         Error::SqliteFailure(ErrorCode::DatabaseBusy) => Obstacle::Busy,
         Error::SqliteFailure(ErrorCode::DiskFull) => Obstacle::Full,

@@ -1,9 +1,10 @@
 //! The registries that command lines name by their paths.
 
 use crate::ending::Ending;
-use crate::opening::{let_go, open};
+use crate::opening::open;
 use registry_desk::Registry;
 use registry_http::RegistryService;
+use registry_names::Fault;
 use registry_rules::{Reply, Request};
 use registry_service::Service;
 use sqlite::{Alter, FileStore};
@@ -42,16 +43,26 @@ impl Registries for InFiles {
     }
 }
 
-// The reply of a registry, which is let go.
+// The reply of a registry, which is let go of. Its log isn't copied into its file: the next open does
+// what is to be done.
 fn reply_in<D: Disk + Drop>(
     alloc: Global,
     registry: Registry<FileStore<D>>,
     request: &Request,
 ) -> Result<Reply, Ending> {
+    match outcome_in(alloc, registry, request) {
+        Ok(reply) => Ok(reply),
+        Err(fault) => Err(Ending::from(fault)),
+    }
+}
+
+fn outcome_in<S: Alter + Drop>(
+    alloc: Global,
+    registry: Registry<S>,
+    request: &Request,
+) -> Result<Reply, Fault> {
     let mut service = RegistryService::new(registry);
-    let reply = reply_of(alloc, &mut service, request);
-    let_go(service.into_registry());
-    reply
+    service.answer(alloc, request)
 }
 
 /// The reply of a service, which answers as `Registry::apply` does, by a contract of one clause.

@@ -1,10 +1,9 @@
 //! Serving the registry in a file over HTTP.
 
-use crate::copying::unclosed;
 use crate::ending::{Ending, Failure};
 use crate::logging::{LogFile, MachineClock, may_log};
 use crate::moment::read_moment;
-use crate::opening::open;
+use crate::opening::{close_files, open};
 use registry_cli::Line;
 use registry_desk::Registry;
 use registry_guests::{Door, close};
@@ -12,9 +11,9 @@ use registry_http::RegistryService;
 use registry_log::{LineSink, Log, LogClock, LoggedService};
 use registry_names::{ByteOut, Moment, Text, write_whole};
 use registry_server::{Ended, Server};
-use sqlite::{Alter, FileStore, Files};
+use sqlite::{Alter, FileStore};
 use sqlite_disk::Disk;
-use std::alloc::Global;
+use std::alloc::{AllocError, Global};
 use std::io;
 use std::io::ErrorKind;
 
@@ -29,6 +28,9 @@ const ENOUGH: &str = "ended: as many connections came as --connections says\n";
 
 /// What is said where a server ends since a command asked for it.
 const STOPPED: &str = "ended: a command told it to stop\n";
+
+/// How much room is taken and let go of before the first request, in bytes: that of the largest body.
+const ROOM: usize = 4_194_304;
 
 /// What is said of a door that stays shut.
 const SHUT_DOOR: &str = "no command beside this server is answered: ";
@@ -81,17 +83,49 @@ pub fn serve<'a, O: ByteOut, E: ByteOut>(
         return Err(Ending::Wrong(NO_NUMBER));
     };
     let log = log_at(rt, alloc, entrance.log)?;
-    // Who asked for the end is behind the door until it is dropped: at the end of this function.
+    serve_behind(rt, alloc, entrance, log, output, errors)
+}
+
+// Has the C library keep the room that a request took for the next one. It gives back what is free
+// at the end of its heap where that is more than twice the largest block that it mapped and let go
+// of, and each page that is taken again costs a page fault.
+fn keep_room(alloc: Global) {
+    let room: Result<Vec<u8>, AllocError> = Vec::with_capacity(alloc, ROOM);
+    drop(room);
+}
+
+// Serves behind a door. Who asked for the end is behind it until it is dropped: at the end of this
+// function.
+fn serve_behind<K: LogClock + Drop, W: LineSink + Drop, O: ByteOut, E: ByteOut>(
+    rt: &HostRuntime,
+    alloc: Global,
+    entrance: Entrance<'_>,
+    log: Option<Log<K, W>>,
+    output: &mut O,
+    errors: &mut E,
+) -> Result<u8, Ending> {
     let mut door = Door::shut(alloc)?;
-    let ended = match open(rt, entrance.path) {
+    let ended = serve_file(rt, alloc, entrance, log, &mut door, output, errors);
+    end(ended?, errors)
+}
+
+// Opens the file, and serves its registry.
+fn serve_file<K: LogClock + Drop, W: LineSink + Drop, O: ByteOut, E: ByteOut>(
+    rt: &HostRuntime,
+    alloc: Global,
+    entrance: Entrance<'_>,
+    log: Option<Log<K, W>>,
+    door: &mut Door,
+    output: &mut O,
+    errors: &mut E,
+) -> Result<Ended, Ending> {
+    match open(rt, entrance.path) {
         Ok(registry) => {
-            serve_registry(
-                rt, alloc, entrance, log, registry, &mut door, output, errors,
-            )
+            keep_room(alloc);
+            serve_registry(rt, alloc, entrance, log, registry, door, output, errors)
         }
         Err(ending) => Err(ending),
-    };
-    end(ended?, errors)
+    }
 }
 
 // The log at the path, if one is to be kept.
@@ -111,8 +145,16 @@ fn log_at(
     Ok(Some(Log::new(alloc, clock, file)?))
 }
 
-// Serves a registry, and lets go of it. The door is taken away as long as its files are locked, so
-// that no other server has one there.
+// How a server of a registry ended.
+enum Served<S: Alter> {
+    // A command stopped it, and the registry's log is to be copied. The door is still there.
+    Stopped(Registry<S>),
+    // It ended otherwise, or wasn't begun. The registry is let go of.
+    Otherwise(Result<Ended, Ending>),
+}
+
+// Serves a registry, and lets go of it. After a stop its log is copied into its file, which is a
+// fault where it fails; else the next open does what is to be done.
 fn serve_registry<D: Disk + Drop, K: LogClock + Drop, W: LineSink + Drop, O: ByteOut, E: ByteOut>(
     rt: &HostRuntime,
     alloc: Global,
@@ -123,38 +165,61 @@ fn serve_registry<D: Disk + Drop, K: LogClock + Drop, W: LineSink + Drop, O: Byt
     output: &mut O,
     errors: &mut E,
 ) -> Result<Ended, Ending> {
-    let mut service = LoggedService::new(RegistryService::new(registry), log);
-    let ended = serve_at(rt, alloc, entrance, &mut service, door, output, errors);
-    let left = leave(service.into_inner().into_registry(), &ended);
-    if door.is_open() {
-        let _ = close(rt, alloc, entrance.path);
-    }
-    match left {
-        Ok(files) => {
-            drop(files);
-            ended
-        }
-        Err(ending) => Err(ending),
+    match serve_until_end(rt, alloc, entrance, log, registry, door, output, errors) {
+        Served::Stopped(registry) => close_stopped(rt, alloc, entrance.path, registry, door),
+        Served::Otherwise(ended) => ended,
     }
 }
 
-// Gives the files of a registry that was served, which are locked until they are dropped. After a
-// stop its log is copied into its file, which is a fault where it fails; else the next open does
-// what is to be done.
-fn leave<D: Disk + Drop>(
-    registry: Registry<FileStore<D>>,
-    ended: &Result<Ended, Ending>,
-) -> Result<Files<D>, Ending> {
-    let conn = registry.release();
-    if !matches!(ended, Ok(Ended::Stopped)) {
-        return Ok(conn.into_store().close());
+// Serves a registry until the server ends.
+fn serve_until_end<S: Alter + Drop, K: LogClock + Drop, W: LineSink + Drop, O: ByteOut, E: ByteOut>(
+    rt: &HostRuntime,
+    alloc: Global,
+    entrance: Entrance<'_>,
+    log: Option<Log<K, W>>,
+    registry: Registry<S>,
+    door: &mut Door,
+    output: &mut O,
+    errors: &mut E,
+) -> Served<S> {
+    let mut service = LoggedService::new(RegistryService::new(registry), log);
+    let ended = serve_at(rt, alloc, entrance, &mut service, door, output, errors);
+    let registry = service.into_inner().into_registry();
+    if matches!(ended, Ok(Ended::Stopped)) {
+        return Served::Stopped(registry);
     }
-    match conn.close_files() {
-        Ok(files) => Ok(files),
-        Err((error, store)) => {
-            drop(store.close());
-            Err(unclosed(error))
+    take_away(rt, alloc, entrance.path, door);
+    drop(registry);
+    Served::Otherwise(ended)
+}
+
+// Copies the log of a registry whose server was stopped into its file, and lets go of it.
+fn close_stopped<D: Disk + Drop>(
+    rt: &HostRuntime,
+    alloc: Global,
+    path: &str,
+    registry: Registry<FileStore<D>>,
+    door: &Door,
+) -> Result<Ended, Ending> {
+    let left = close_files(registry);
+    take_away(rt, alloc, path, door);
+    match left {
+        Ok(files) => {
+            drop(files);
+            Ok(Ended::Stopped)
         }
+        Err((ending, files)) => {
+            drop(files);
+            Err(ending)
+        }
+    }
+}
+
+// Takes the door away, if it is open. The registry's files are still locked, so no other server has a
+// door there.
+fn take_away(rt: &HostRuntime, alloc: Global, path: &str, door: &Door) {
+    if door.is_open() {
+        let _ = close(rt, alloc, path);
     }
 }
 
@@ -174,12 +239,24 @@ fn serve_at<S: Alter, K: LogClock, W: LineSink, O: ByteOut, E: ByteOut>(
     };
     require_log(rt, alloc, entrance)?;
     let server = Server::bind(rt, alloc, entrance.port, entrance.connections)?;
-    if let Err(error) = door.open(rt, alloc, server.registry(), entrance.path) {
-        warn(&error, errors);
-    }
+    open_door(rt, alloc, &server, entrance.path, door, errors);
     match announce(alloc, &server, output) {
         Ok(()) => run(rt, alloc, server, at, service, door),
         Err(ending) => Err(ending),
+    }
+}
+
+// Opens the door of the server, or says that it stays shut.
+fn open_door<E: ByteOut>(
+    rt: &HostRuntime,
+    alloc: Global,
+    server: &Server,
+    path: &str,
+    door: &mut Door,
+    errors: &mut E,
+) {
+    if let Err(error) = door.open(rt, alloc, server.registry(), path) {
+        warn(&error, errors);
     }
 }
 

@@ -1,6 +1,6 @@
 //! The decision on a request.
 
-ghost use Rattle.std.specs.Prelude.{◌≡◌, ◌↔◌, ℕ, IfOk, IfErr, Ok, Err, Some, None, [], false, map};
+ghost use Rattle.std.specs.Prelude.{◌≡◌, ◌↔◌, ◌∷◌, ℕ, IfOk, IfErr, Ok, Err, Some, None, [], false, map};
 ghost use Rattle.registry_rules.specs.Actions.{is_command};
 ghost use Rattle.registry_rules.specs.Changes.{change_of};
 ghost use Rattle.registry_rules.specs.Effects.{effects, effects_of};
@@ -239,12 +239,11 @@ fn changes<'a>(
         → IfOk result (λ changes. changes.items ≡ []) }
 {
     match (about, &request.what) {
-        (About::UserAdd { .. }, Action::UserAdd { user }) => {
-            Ok(vec![in alloc; Change::AddUser { user }]?)
-        }
-        (About::TokenAdd { .. }, Action::TokenAdd { user, digest }) => {
-            Ok(vec![in alloc; Change::AddToken { digest, user }]?)
-        }
+        (About::UserAdd { .. }, Action::UserAdd { user }) => only(alloc, Change::AddUser { user }),
+        (About::TokenAdd { .. }, Action::TokenAdd { user, digest }) => only(
+            alloc,
+            Change::AddToken { digest, user },
+        ),
         (
             About::OrgCreate { .. },
             Action::OrgCreate {
@@ -262,15 +261,15 @@ fn changes<'a>(
         ) => { membership(alloc, organisation, user, *role, *old) }
         (About::OrgRemove { .. }, Action::OrgRemove { organisation, user }) => {
             let organisation = organisation.text();
-            Ok(vec![in alloc; Change::DropMember { organisation, user }]?)
+            only(alloc, Change::DropMember { organisation, user })
         }
         (About::TeamCreate { .. }, Action::TeamCreate { organisation, team }) => {
             let (organisation, team) = (organisation.text(), team.text());
-            Ok(vec![in alloc; Change::AddTeam { organisation, team }]?)
+            only(alloc, Change::AddTeam { organisation, team })
         }
         (About::TeamDestroy { .. }, Action::TeamDestroy { organisation, team }) => {
             let (organisation, team) = (organisation.text(), team.text());
-            Ok(vec![in alloc; Change::DropTeam { organisation, team }]?)
+            only(alloc, Change::DropTeam { organisation, team })
         }
         (
             About::TeamAdd { is_in_team, .. },
@@ -289,13 +288,14 @@ fn changes<'a>(
             },
         ) => {
             let (organisation, team) = (organisation.text(), team.text());
-            Ok(vec![in alloc;
+            only(
+                alloc,
                 Change::DropTeamMember {
                     organisation,
                     team,
-                    user
+                    user,
                 },
-            ]?)
+            )
         }
         (
             About::Grant { stands, .. },
@@ -313,7 +313,7 @@ fn changes<'a>(
                 grant: *grant,
                 stands: *stands,
             };
-            Ok(vec![in alloc; change]?)
+            only(alloc, change)
         }
         (
             About::Revoke { .. },
@@ -324,13 +324,14 @@ fn changes<'a>(
             },
         ) => {
             let (organisation, team) = (organisation.text(), team.text());
-            Ok(vec![in alloc;
+            only(
+                alloc,
                 Change::DropGrant {
                     organisation,
                     team,
-                    package
+                    package,
                 },
-            ]?)
+            )
         }
         (About::SetAccess { standing }, Action::SetAccess { package, status }) => {
             let change = Change::PutStatus {
@@ -338,14 +339,15 @@ fn changes<'a>(
                 status: *status,
                 stands: standing.status.is_some(),
             };
-            Ok(vec![in alloc; change]?)
+            only(alloc, change)
         }
         (About::OwnerAdd { is_maintainer, .. }, Action::OwnerAdd { package, user }) => {
             maintaining(alloc, package, user, *is_maintainer)
         }
-        (About::OwnerRemove { .. }, Action::OwnerRemove { package, user }) => {
-            Ok(vec![in alloc; Change::DropOwner { package, user }]?)
-        }
+        (About::OwnerRemove { .. }, Action::OwnerRemove { package, user }) => only(
+            alloc,
+            Change::DropOwner { package, user },
+        ),
         (About::Publish(facts), Action::Publish { form }) => {
             publish_changes(alloc, caller, facts, form, &request.at)
         }
@@ -363,14 +365,14 @@ fn changes<'a>(
                 version,
                 stands: *tag_stands,
             };
-            Ok(vec![in alloc; change]?)
+            only(alloc, change)
         }
         (About::TagRemove { .. }, Action::TagRemove { package, tag }) => {
             let change = Change::DropTag {
                 package,
                 tag: tag.text(),
             };
-            Ok(vec![in alloc; change]?)
+            only(alloc, change)
         }
         (
             About::Withdraw {
@@ -391,4 +393,11 @@ fn changes<'a>(
         ) => { deprecation(alloc, package, live, selector, message) }
         _ => Ok(Vec::new(alloc)),
     }
+}
+
+// A change alone.
+fn only<'a>(alloc: Global, change: Change<'a>) -> Result<Changes<'a>, AllocError>
+    ensures { IfOk result (λ changes. map change_of changes.items ≡ change_of change.entry ∷ []) }
+{
+    Ok(vec![in alloc; change]?)
 }

@@ -5,6 +5,7 @@ ghost use Rattle.sqlite.specs.Files.{file_state};
 ghost use Rattle.registry_desk.specs.Adopted.{CanBeAdopted};
 
 use registry_desk::Registry;
+use registry_names::Fault;
 use sqlite::{Connection, FileStore, Files, Options};
 use sqlite_disk::{Crash, Disk, Fuse, Memory};
 use std::alloc::Global;
@@ -50,7 +51,7 @@ impl StoppingDisk for Fuse<Memory> {
 }
 
 /// Which of the two files stops.
-#[derive(Clone, Copy, Debug, PartialEq, Eq)]
+#[derive(Clone, Copy, Debug)]
 pub(crate) enum Stopping {
     /// The database file.
     Database,
@@ -108,10 +109,24 @@ pub(crate) fn copied<D: StoppingDisk>(
     calls: u64,
 ) -> Result<Files<D>, Fail> {
     let (log, db) = stopping.calls(calls);
-    Ok(Files {
-        log: D::holding(alloc, files.log.written(), log)?,
-        db: D::holding(alloc, files.db.written(), db)?,
-    })
+    let log = D::holding(alloc, files.log.written(), log)?;
+    beside(alloc, log, files.db.written(), db)
+}
+
+// A log, and a database file that holds these bytes and passes so many calls.
+fn beside<D: StoppingDisk>(
+    alloc: Global,
+    log: D,
+    bytes: &[u8],
+    calls: u64,
+) -> Result<Files<D>, Fail> {
+    let db = D::holding(alloc, bytes, calls)?;
+    Ok(Files { log, db })
+}
+
+/// A database of these bytes, with an empty log. No file stops.
+pub(crate) fn files_of<D: StoppingDisk>(alloc: Global, bytes: &[u8]) -> Result<Files<D>, Fail> {
+    beside(alloc, D::empty(alloc, NEVER), bytes, NEVER)
 }
 
 /// The files that a stop leaves of these. They don't stop any more.
@@ -120,18 +135,18 @@ pub(crate) fn left_of<D: StoppingDisk>(
     files: Files<D>,
     leaves: Leaves,
 ) -> Result<Files<D>, Fail> {
-    let Files { mut log, mut db } = files;
     match leaves {
-        Leaves::Synced => {
-            log.crash();
-            db.crash();
-            Ok(Files { log, db })
-        }
-        Leaves::Written => Ok(Files {
-            log: D::holding(alloc, log.written(), NEVER)?,
-            db: D::holding(alloc, db.written(), NEVER)?,
-        }),
+        Leaves::Synced => Ok(synced(files)),
+        Leaves::Written => copied(alloc, &files, Stopping::Both, NEVER),
     }
+}
+
+// The files after a crash.
+fn synced<D: StoppingDisk>(files: Files<D>) -> Files<D> {
+    let Files { mut log, mut db } = files;
+    log.crash();
+    db.crash();
+    Files { log, db }
 }
 
 /// The registry in the files, or else what is left of them.
@@ -139,17 +154,42 @@ pub(crate) fn opened<D: Disk + Drop>(
     alloc: Global,
     files: Files<D>,
 ) -> Result<Registry<FileStore<D>>, Files<D>> {
-    let connection = connected(alloc, files)?;
-    match Registry::adopt(alloc, connection) {
+    match open(alloc, files) {
         Ok(registry) => Ok(registry),
-        Err((_, connection)) => {
-            let Closed { files, .. } = close(connection);
-            Err(files)
-        }
+        Err((_, files)) => Err(files),
     }
 }
 
-/// A connection to the database in the files, or else what is left of them.
+/// Whether a registry opens from the files.
+pub(crate) fn opens<D: Disk + Drop>(alloc: Global, files: Files<D>) -> bool {
+    refused(alloc, files).is_none()
+}
+
+/// The fault of an open of the files, and what is left of them, or nothing where a registry opens.
+pub(crate) fn refused<D: Disk + Drop>(alloc: Global, files: Files<D>) -> Option<(Fault, Files<D>)> {
+    match open(alloc, files) {
+        Ok(_registry) => None,
+        Err(refused) => Some(refused),
+    }
+}
+
+// The registry in the files, or else a fault and what is left of them. `open_files` says far more
+// than a test needs, and each caller of it is checked with all of that: so this is the only one.
+fn open<D: Disk + Drop>(
+    alloc: Global,
+    files: Files<D>,
+) -> Result<Registry<FileStore<D>>, (Fault, Files<D>)> {
+    if !files.may_be_used() {
+        return Err((Fault::Database, files));
+    }
+    match Registry::open_files(alloc, files, options()) {
+        Ok(registry) => Ok(registry),
+        Err((fault, left)) => Err((fault, left.into_files())),
+    }
+}
+
+/// A connection to the database in the files, or else what is left of them. It is the only caller of
+/// `connect`, as [`open`] of `open_files`.
 pub(crate) fn connected<D: Disk + Drop>(
     alloc: Global,
     files: Files<D>,
@@ -165,8 +205,8 @@ pub(crate) fn connected<D: Disk + Drop>(
     }
 }
 
-/// How the files are read and written.
-pub(crate) fn options() -> Options {
+// How the files are read and written.
+fn options() -> Options {
     Options {
         cache_pages: CACHE_PAGES,
         checkpoint_frames: CHECKPOINT_FRAMES,
@@ -175,6 +215,11 @@ pub(crate) fn options() -> Options {
 }
 
 /// The files of a registry that ends.
+pub(crate) fn ended<D: Disk + Drop>(registry: Registry<FileStore<D>>) -> Closed<D> {
+    close(registry.release())
+}
+
+/// The files of a connection that ends.
 pub(crate) fn close<D: Disk + Drop>(connection: Connection<FileStore<D>>) -> Closed<D> {
     match connection.close_files() {
         Ok(files) => Closed {

@@ -5,9 +5,10 @@
 //! After each stop the files are opened again. What was answered is there, of the request that was
 //! stopped all or nothing is, and the requests that follow are answered as in memory.
 //!
-//! What opens, asks and closes a registry has its disk as a parameter: a function that is given or
-//! gives a registry over a disk of its own, such as `Fuse<Memory>`, is checked for a quarter of a
-//! minute, and one over any disk for a second.
+//! What asks a registry has its store as a parameter, and what opens and closes one has its disk. A
+//! call from the second to the first is checked for a quarter of a minute, so there are few, and a
+//! function over any store for a second or two. Where a registry or files are alive, a function has
+//! one `?` as a rule.
 #![tactic(auto)]
 
 #[cfg(test)]

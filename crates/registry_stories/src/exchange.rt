@@ -7,11 +7,9 @@ use crate::registry::{DB, StoryRegistry};
 use registry_desk::Registry;
 use registry_http::RegistryService;
 use registry_names::{Fault, Moment};
-use registry_program::let_go;
 use registry_server::{ConnectionState, Progress};
 use registry_service::{End, REQUESTS_PER_CONNECTION, Service};
-use sqlite::FileStore;
-use sqlite_disk::Disk;
+use sqlite::Alter;
 use std::alloc::{AllocError, Global};
 
 /// From so many bytes on, what comes in pieces comes in large ones.
@@ -57,18 +55,16 @@ pub fn answered(
     }
 }
 
-// What a registry in a file answers, which is let go.
-fn answered_in<D: Disk + Drop>(
+// What a registry answers, which is let go.
+fn answered_in<S: Alter + Drop>(
     alloc: Global,
-    registry: Registry<FileStore<D>>,
+    registry: Registry<S>,
     at: Moment,
     asked: &[u8],
     pace: Pace,
 ) -> Result<Answer, AllocError> {
     let mut service = RegistryService::new(registry);
-    let answered = Exchange::new(alloc, at).carry(alloc, &mut service, asked, pace);
-    let_go(service.into_registry());
-    answered
+    Exchange::new(alloc, at).carry(alloc, &mut service, asked, pace)
 }
 
 /// A connection, its clock, what it has answered so far, and how it ended, if it did.

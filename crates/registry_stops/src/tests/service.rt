@@ -3,12 +3,14 @@
 
 use crate::disks::{Stopping, StoppingDisk, empty_files, opened};
 use crate::requests::{ADD_ANN, TAGS_OF_NONE};
+use registry_desk::Registry;
 use registry_http::RegistryService;
 use registry_names::Fault;
 use registry_rules::Request;
 use registry_service::Service;
 use registry_test_requests::request_of;
 use registry_test_support::same;
+use sqlite::Alter;
 use sqlite_disk::{Fuse, Memory};
 use std::alloc::Global;
 use std::test::Fail;
@@ -17,7 +19,7 @@ use std::test::Fail;
 const ENOUGH: u64 = 1_000;
 
 /// What comes of a registry in files, and of one request to it.
-#[derive(Clone, Copy, Debug, PartialEq, Eq)]
+#[derive(Clone, Copy)]
 enum Comes {
     /// It doesn't open.
     Unopened,
@@ -68,12 +70,19 @@ fn both_are_seen(alloc: Global, asked: &Asked) -> Result<(), Fail> {
 // What comes of a registry whose log fails after so many calls.
 fn comes_of<D: StoppingDisk>(alloc: Global, calls: u64, asked: &Asked) -> Result<Comes, Fail> {
     match opened(alloc, empty_files::<D>(alloc, Stopping::Log, calls)) {
-        Ok(registry) => {
-            let mut service = RegistryService::new(registry);
-            answers(alloc, calls, &mut service, asked)
-        }
+        Ok(registry) => served(alloc, calls, registry, asked),
         Err(_files) => Ok(Comes::Unopened),
     }
+}
+
+fn served<S: Alter + Drop>(
+    alloc: Global,
+    calls: u64,
+    registry: Registry<S>,
+    asked: &Asked,
+) -> Result<Comes, Fail> {
+    let mut service = RegistryService::new(registry);
+    answers(alloc, calls, &mut service, asked)
 }
 
 fn answers<S: Service>(
@@ -82,34 +91,51 @@ fn answers<S: Service>(
     service: &mut S,
     asked: &Asked,
 ) -> Result<Comes, Fail> {
-    match service.answer(alloc, &asked.add) {
-        Ok(_) => {
-            let is_over = service.is_over();
-            same(("an answered request ends it", calls), is_over, false)?;
-            Ok(Comes::Answered)
-        }
-        Err(fault) => {
-            same(("a disk that fails", calls), fault, Fault::Database)?;
-            after_the_fault(alloc, calls, service, asked)
-        }
+    match fault_of(alloc, service, &asked.add) {
+        None => answered(calls, service.is_over()),
+        Some(fault) => after_the_fault(alloc, calls, fault, service, &asked.query),
     }
 }
 
-// Whether the service is over exactly if its registry answers nothing more.
+// The fault that answers a request, if one does.
+fn fault_of<S: Service>(alloc: Global, service: &mut S, request: &Request) -> Option<Fault> {
+    match service.answer(alloc, request) {
+        Ok(_reply) => None,
+        Err(fault) => Some(fault),
+    }
+}
+
+// A request that is answered doesn't end the service.
+fn answered(calls: u64, is_over: bool) -> Result<Comes, Fail> {
+    same(("an answered request ends it", calls), is_over, false)?;
+    Ok(Comes::Answered)
+}
+
+// Whether the service is over exactly if its registry answers nothing more, and is still so after
+// one more request. The fault is that of a disk that fails.
 fn after_the_fault<S: Service>(
     alloc: Global,
     calls: u64,
+    fault: Fault,
     service: &mut S,
-    asked: &Asked,
+    query: &Request,
 ) -> Result<Comes, Fail> {
     let is_over = service.is_over();
-    let is_shut = service.answer(alloc, &asked.query).is_err();
-    same(("after the fault", calls), is_over, is_shut)?;
-    let is_still_over = service.is_over();
-    same(("after one more request", calls), is_still_over, is_shut)?;
-    Ok(if is_over {
+    let is_shut = fault_of(alloc, service, query).is_some();
+    let are_over = (is_over, service.is_over());
+    same(
+        ("after the fault and one more request", calls),
+        (fault, are_over),
+        (Fault::Database, (is_shut, is_shut)),
+    )?;
+    Ok(ending(is_over))
+}
+
+// What a fault comes to.
+fn ending(is_over: bool) -> Comes {
+    if is_over {
         Comes::IsOver
     } else {
         Comes::GoesOn
-    })
+    }
 }

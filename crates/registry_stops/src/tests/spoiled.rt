@@ -1,7 +1,9 @@
 //! A disk that gives back another byte than it was given: the file is refused, and its page is never
 //! read as data.
 
-use crate::disks::{Closed, NEVER, Stopping, StoppingDisk, close, empty_files, opened, options};
+use crate::disks::{
+    Closed, NEVER, Stopping, StoppingDisk, empty_files, ended, files_of, opened, refused,
+};
 use crate::requests::{ADD_ANN, COMMANDS, QUERIES, TAGS_OF_NONE};
 use registry_desk::Registry;
 use registry_names::{Fault, Refusal};
@@ -61,9 +63,13 @@ fn a_byte_changed_in_any_page_is_never_read(rt: HostRuntime) -> Result<(), Fail>
 fn lasts<D: StoppingDisk>(alloc: Global) -> Result<(), Fail> {
     let files = empty_files::<D>(alloc, Stopping::Both, NEVER);
     let files = told_in(alloc, files, ANN_IS_ADDED)?;
-    let files = told_in(alloc, files, ANN_IS_THERE)?;
-    let _files = told_in(alloc, files, NONE_IS_FOUND)?;
+    let _files = told_again(alloc, files)?;
     Ok(())
+}
+
+fn told_again<D: Disk + Drop>(alloc: Global, files: Files<D>) -> Result<Files<D>, Fail> {
+    let files = told_in(alloc, files, ANN_IS_THERE)?;
+    told_in(alloc, files, NONE_IS_FOUND)
 }
 
 // No registry opens from files with one byte of the head changed. The first page ends in a sum of
@@ -72,30 +78,31 @@ fn lasts<D: StoppingDisk>(alloc: Global) -> Result<(), Fail> {
 fn no_changed_head_opens<D: StoppingDisk>(alloc: Global) -> Result<(), Fail> {
     let files = empty_files::<D>(alloc, Stopping::Both, NEVER);
     let files = told_in(alloc, files, ANN_IS_ADDED)?;
-    let whole = files.db.written();
-    let _files = told_in(alloc, files_of::<D>(alloc, whole)?, ANN_IS_THERE)?;
+    whole_alone_opens::<D>(alloc, files.db.written())
+}
+
+// A registry opens from these bytes, and none where one of the head is changed.
+fn whole_alone_opens<D: StoppingDisk>(alloc: Global, whole: &[u8]) -> Result<(), Fail> {
+    opens_whole::<D>(alloc, whole)?;
     for place in &HEAD {
-        opens_none(alloc, *place, changed_at::<D>(alloc, whole, *place)?)?;
+        opens_changed_at::<D>(alloc, whole, *place)?;
     }
     Ok(())
 }
 
-// A database of these bytes, with an empty log.
-fn files_of<D: StoppingDisk>(alloc: Global, bytes: &[u8]) -> Result<Files<D>, Fail> {
-    Ok(Files {
-        log: D::empty(alloc, NEVER),
-        db: D::holding(alloc, bytes, NEVER)?,
-    })
+fn opens_whole<D: StoppingDisk>(alloc: Global, whole: &[u8]) -> Result<(), Fail> {
+    let _files = told_in(alloc, files_of::<D>(alloc, whole)?, ANN_IS_THERE)?;
+    Ok(())
 }
 
-// The same with the byte at this place changed.
-fn changed_at<D: StoppingDisk>(
+// The byte at this place is changed.
+fn opens_changed_at<D: StoppingDisk>(
     alloc: Global,
     whole: &[u8],
     place: usize,
-) -> Result<Files<D>, Fail> {
+) -> Result<(), Fail> {
     let bytes = spoiled(alloc, whole, place)?;
-    files_of(alloc, &bytes)
+    opens_none(alloc, place, files_of::<D>(alloc, &bytes)?)
 }
 
 fn spoiled(alloc: Global, whole: &[u8], place: usize) -> Result<Vec<u8>, AllocError> {
@@ -112,11 +119,9 @@ fn opens_none<D: Disk + Drop>(alloc: Global, place: usize, files: Files<D>) -> R
     if !files.may_be_used() {
         return Err(Fail::new(format_args!("the files can't be used")));
     }
-    match Registry::open_files(alloc, files, options()) {
-        Ok(_registry) => Err(Fail::new(format_args!(
-            "a registry opens, with byte {place} changed"
-        ))),
-        Err((fault, _left)) => same(place, fault, Fault::Database),
+    match refused(alloc, files) {
+        None => Err(Fail::new(format_args!("a registry opens, with byte {place} changed"))),
+        Some((fault, _files)) => same(place, fault, Fault::Database),
     }
 }
 
@@ -133,38 +138,66 @@ fn told_closed<D: Disk + Drop>(
     registry: Registry<FileStore<D>>,
     told: Told,
 ) -> Result<Files<D>, Fail> {
-    let mut registry = registry;
-    let comes_out = is_told(alloc, &mut registry, told);
-    let Closed { is_whole, files } = close(registry.release());
-    same("the reply", comes_out?, true)?;
+    let Closed { is_whole, files } = ended(told_by(alloc, registry, told)?);
     same("the close", is_whole, true)?;
     Ok(files)
+}
+
+fn told_by<S: Alter + Drop>(
+    alloc: Global,
+    registry: Registry<S>,
+    told: Told,
+) -> Result<Registry<S>, Fail> {
+    let mut registry = registry;
+    answers_as_told(alloc, &mut registry, told)?;
+    Ok(registry)
+}
+
+fn answers_as_told<S: Alter>(
+    alloc: Global,
+    registry: &mut Registry<S>,
+    told: Told,
+) -> Result<(), Fail> {
+    let is_told = is_told(alloc, registry, told)?;
+    same("the reply", is_told, true)
 }
 
 // Whether a registry answers as it should.
 fn is_told<S: Alter>(alloc: Global, registry: &mut Registry<S>, told: Told) -> Result<bool, Fail> {
     let (words, refusal) = told;
     let request = request_of(alloc, words)?;
-    Ok(match outcome_of(alloc, registry, &request) {
+    Ok(is_reply(&outcome_of(alloc, registry, &request), refusal))
+}
+
+fn is_reply(outcome: &Outcome, refusal: Option<Refusal>) -> bool {
+    match outcome {
         Ok(Reply::Done) => refusal.is_none(),
-        Ok(Reply::Refused(given)) => refusal == Some(given),
+        Ok(Reply::Refused(given)) => refusal == Some(*given),
         _ => false,
-    })
+    }
 }
 
 // Makes the file, of which the queries show the same until a byte is changed.
 fn no_changed_byte_is_read(rt: &HostRuntime) -> Result<(), Fail> {
     let queries = requests_of(rt.alloc(), QUERIES)?;
+    whole_file_alone_opens(rt, &queries)
+}
+
+fn whole_file_alone_opens(rt: &HostRuntime, queries: &[Request]) -> Result<(), Fail> {
     let outcomes = made(rt)?;
     are_replies(&outcomes)?;
     let first = outcomes.len().saturating_sub(queries.len());
-    no_changed_page_opens(rt, &queries, outcomes.get(first..).unwrap_or(&[]))
+    no_changed_page_opens(rt, queries, outcomes.get(first..).unwrap_or(&[]))
 }
 
 // Makes the file. What comes of the commands, and then of the queries.
 fn made(rt: &HostRuntime) -> Result<Vec<Outcome>, Fail> {
     let text = format!(in rt.alloc(); "{COMMANDS}{QUERIES}")?;
-    let requests = requests_of(rt.alloc(), &text)?;
+    made_by(rt, &text)
+}
+
+fn made_by(rt: &HostRuntime, text: &str) -> Result<Vec<Outcome>, Fail> {
+    let requests = requests_of(rt.alloc(), text)?;
     Ok(outcomes_at(rt, &requests)?)
 }
 
@@ -181,15 +214,34 @@ fn no_changed_page_opens(
     queries: &[Request],
     shown: &[Outcome],
 ) -> Result<(), Fail> {
-    let found = outcomes_at(rt, queries)?;
-    same("what is shown", found.as_slice() == shown, true)?;
+    are_shown(rt, queries, shown)?;
     let whole = fs::read(rt, PATH)?;
     for place in (PAGE_LEN / 2..whole.len()).step_by(PAGE_LEN) {
-        let bytes = spoiled(rt.alloc(), &whole, place)?;
-        fs::write(rt, PATH, bytes.as_slice())?;
-        same(place, outcomes_at(rt, queries).err(), Some(Fault::Database))?;
+        no_file_opens(rt, queries, &whole, place)?;
     }
     Ok(())
+}
+
+fn are_shown(rt: &HostRuntime, queries: &[Request], shown: &[Outcome]) -> Result<(), Fail> {
+    let found = outcomes_at(rt, queries)?;
+    same("what is shown", found.as_slice() == shown, true)
+}
+
+// The file has these bytes, and the one at this place is changed.
+fn no_file_opens(
+    rt: &HostRuntime,
+    queries: &[Request],
+    whole: &[u8],
+    place: usize,
+) -> Result<(), Fail> {
+    write_spoiled(rt, whole, place)?;
+    let fault = outcomes_at(rt, queries).err();
+    same(place, fault, Some(Fault::Database))
+}
+
+fn write_spoiled(rt: &HostRuntime, whole: &[u8], place: usize) -> Result<(), Fail> {
+    let bytes = spoiled(rt.alloc(), whole, place)?;
+    Ok(fs::write(rt, PATH, bytes.as_slice())?)
 }
 
 // The outcomes of these requests at a registry from the file, which is closed. A fault comes where
@@ -206,15 +258,29 @@ fn outcomes_closed<D: Disk + Drop>(
     registry: Registry<FileStore<D>>,
     requests: &[Request],
 ) -> Result<Vec<Outcome>, Fault> {
-    let mut registry = registry;
-    let outcomes = outcomes_of(alloc, &mut registry, requests);
-    let Closed {
-        is_whole,
-        files: _files,
-    } = close(registry.release());
-    if is_whole {
-        Ok(outcomes?)
+    let (outcomes, registry) = outcomes_by(alloc, registry, requests)?;
+    if is_whole_at_the_end(registry) {
+        Ok(outcomes)
     } else {
         Err(Fault::Database)
     }
+}
+
+fn outcomes_by<S: Alter + Drop>(
+    alloc: Global,
+    registry: Registry<S>,
+    requests: &[Request],
+) -> Result<(Vec<Outcome>, Registry<S>), Fault> {
+    let mut registry = registry;
+    let outcomes = outcomes_of(alloc, &mut registry, requests)?;
+    Ok((outcomes, registry))
+}
+
+// Whether all is done where a registry ends.
+fn is_whole_at_the_end<D: Disk + Drop>(registry: Registry<FileStore<D>>) -> bool {
+    let Closed {
+        is_whole,
+        files: _files,
+    } = ended(registry);
+    is_whole
 }

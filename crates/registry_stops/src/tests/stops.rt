@@ -2,14 +2,14 @@
 //! that follows stops at each of its calls, too.
 
 use crate::disks::{
-    Closed, Leaves, Stopping, StoppingDisk, close, copied, empty_files, left_of, opened,
+    Closed, Leaves, Stopping, StoppingDisk, copied, empty_files, ended, left_of, opened,
 };
 use crate::requests::{COMMANDS, QUERIES};
 use registry_desk::Registry;
 use registry_rules::{Reply, Request};
 use registry_test_requests::{Outcome, outcome_of, outcomes_of, requests_of};
 use registry_test_support::same;
-use sqlite::{Alter, Files};
+use sqlite::{Alter, FileStore, Files};
 use sqlite_disk::{Disk, Fuse, Memory};
 use std::alloc::{AllocError, Global};
 use std::env;
@@ -85,6 +85,15 @@ struct Run<D: Disk> {
     files: Files<D>,
 }
 
+/// What a registry shows after a stop.
+#[derive(Clone, Copy)]
+struct Shown {
+    /// What the answered commands made.
+    is_before: bool,
+    /// What they and one more made.
+    is_after: bool,
+}
+
 #[test]
 fn a_lost_database_file_loses_no_answer(rt: HostRuntime) -> Result<(), Fail> {
     no_stop_loses_an_answer(&rt, Stopping::Database, Leaves::Synced)
@@ -129,9 +138,7 @@ fn no_stop_loses_an_answer(
         every: every(rt),
     };
     let story = story_in_memory(rt.alloc())?;
-    let made = stops_made::<Fuse<Memory>>(rt.alloc(), &story, stops)?;
-    show(rt, stops, &story, &made);
-    are_stopped(&story, stopping, &made.stopped)
+    goes_on_after_stops(rt, &story, stops)
 }
 
 // After one of how many stops the next open stops, too: `STOPS_EVERY` says so in `make stops`.
@@ -142,16 +149,31 @@ fn every(rt: &HostRuntime) -> u64 {
     }
 }
 
+fn goes_on_after_stops(rt: &HostRuntime, story: &Story, stops: Stops) -> Result<(), Fail> {
+    let mut made = Made {
+        stopped: Vec::new(rt.alloc()),
+        in_opens: 0,
+    };
+    make_stops::<Fuse<Memory>>(rt.alloc(), story, stops, &mut made)?;
+    show(rt, stops, &made);
+    show_places(rt, story.commands.len(), &made.stopped);
+    are_stopped(story, stops.stopping, &made.stopped)
+}
+
 // Prints how many stops there were.
-fn show(rt: &HostRuntime, stops: Stops, story: &Story, made: &Made) {
-    let (stopping, leaves, in_opens) = (stops.stopping, stops.leaves, made.in_opens);
-    let (count, commands) = (made.stopped.len(), story.commands.len());
-    let (first, last) = (
-        count_at(&made.stopped, 0),
-        count_at(&made.stopped, commands),
-    );
+fn show(rt: &HostRuntime, stops: Stops, made: &Made) {
+    let (stopping, leaves) = (stops.stopping, stops.leaves);
+    let (count, in_opens) = (made.stopped.len(), made.in_opens);
     let _ = eprintln!(rt;
-        "{stopping:?}, {leaves:?}: {count} stops, {first} before the first of {commands} commands was answered and {last} after the last, and {in_opens} of opens after a stop"
+        "{stopping:?}, {leaves:?}: {count} stops, and {in_opens} of opens after a stop"
+    );
+}
+
+// Prints at which commands the stops came.
+fn show_places(rt: &HostRuntime, commands: usize, stopped: &[usize]) {
+    let (first, last) = (count_at(stopped, 0), count_at(stopped, commands));
+    let _ = eprintln!(rt;
+        "{first} before the first of {commands} commands was answered, {last} after the last"
     );
 }
 
@@ -166,14 +188,15 @@ fn count_at(stopped: &[usize], commands: usize) -> usize {
     count
 }
 
-fn stops_made<D: StoppingDisk>(alloc: Global, story: &Story, stops: Stops) -> Result<Made, Fail> {
-    let mut made = Made {
-        stopped: Vec::new(alloc),
-        in_opens: 0,
-    };
+fn make_stops<D: StoppingDisk>(
+    alloc: Global,
+    story: &Story,
+    stops: Stops,
+    made: &mut Made,
+) -> Result<(), Fail> {
     for calls in 0..MOST_CALLS {
-        if !is_stopped_after::<D>(alloc, calls, story, stops, &mut made)? {
-            return Ok(made);
+        if !is_stopped_after::<D>(alloc, calls, story, stops, made)? {
+            return Ok(());
         }
     }
     Err(Fail::new(format_args!("it stops after {MOST_CALLS} calls, too")))
@@ -195,14 +218,42 @@ fn is_stopped_after<D: StoppingDisk>(
     } = run_until_stopped(alloc, files, &story.commands);
     let left = left_of(alloc, files, stops.leaves)?;
     if is_stopped {
-        made.stopped.push(answered)?;
-        if calls.checked_rem(stops.every) == Some(0) {
-            let count = stops_of_open(alloc, &left, story, stops, answered)?;
-            made.in_opens = made.in_opens.saturating_add(count);
-        }
+        after_the_stop(alloc, calls, left, story, stops, answered, made)?;
+    } else {
+        goes_on(alloc, calls, left, story, answered)?;
     }
-    goes_on(alloc, calls, left, story, answered)?;
     Ok(is_stopped)
+}
+
+// What a stop leaves goes on, and where the next open is to stop, too, it does so first.
+fn after_the_stop<D: StoppingDisk>(
+    alloc: Global,
+    calls: u64,
+    left: Files<D>,
+    story: &Story,
+    stops: Stops,
+    answered: usize,
+    made: &mut Made,
+) -> Result<(), Fail> {
+    made.stopped.push(answered)?;
+    if calls.checked_rem(stops.every) == Some(0) {
+        stop_opens(alloc, &left, story, stops, answered, &mut made.in_opens)?;
+    }
+    goes_on(alloc, calls, left, story, answered)
+}
+
+// Lets opens of what a stop left stop, and counts them.
+fn stop_opens<D: StoppingDisk>(
+    alloc: Global,
+    left: &Files<D>,
+    story: &Story,
+    stops: Stops,
+    answered: usize,
+    in_opens: &mut u64,
+) -> Result<(), Fail> {
+    let count = stops_of_open(alloc, left, story, stops, answered)?;
+    *in_opens = in_opens.saturating_add(count);
+    Ok(())
 }
 
 // How many stops an open of what a stop left has. After each of them what the first one left is
@@ -215,60 +266,103 @@ fn stops_of_open<D: StoppingDisk>(
     answered: usize,
 ) -> Result<u64, Fail> {
     for calls in 0..MOST_CALLS {
-        match opened(alloc, copied(alloc, left, stops.stopping, calls)?) {
-            Ok(mut registry) => {
-                shows(alloc, calls, &mut registry, story, answered)?;
-                return Ok(calls);
-            }
-            Err(files) => {
-                let files = left_of(alloc, files, stops.leaves)?;
-                opens_again(alloc, calls, files, story, answered)?;
-            }
+        if !is_open_stopped(alloc, calls, left, story, stops, answered)? {
+            return Ok(calls);
         }
     }
     Err(Fail::new(format_args!("an open stops after {MOST_CALLS} calls, too")))
 }
 
-// A registry opens from the files, and shows what the first stop left.
-fn opens_again<D: Disk + Drop>(
+// Whether an open is stopped where what stops passes so many calls.
+fn is_open_stopped<D: StoppingDisk>(
+    alloc: Global,
+    calls: u64,
+    left: &Files<D>,
+    story: &Story,
+    stops: Stops,
+    answered: usize,
+) -> Result<bool, Fail> {
+    let files = copied(alloc, left, stops.stopping, calls)?;
+    match opened(alloc, files) {
+        Ok(registry) => shows_left(alloc, calls, registry, story, answered)?,
+        Err(files) => {
+            opens_again(alloc, calls, files, story, stops.leaves, answered)?;
+            return Ok(true);
+        }
+    }
+    Ok(false)
+}
+
+// A registry opens from what a second stop leaves of the files, and shows what the first one left.
+fn opens_again<D: StoppingDisk>(
     alloc: Global,
     calls: u64,
     files: Files<D>,
     story: &Story,
+    leaves: Leaves,
     answered: usize,
 ) -> Result<(), Fail> {
-    match opened(alloc, files) {
-        Ok(mut registry) => shows(alloc, calls, &mut registry, story, answered),
+    match opened(alloc, left_of(alloc, files, leaves)?) {
+        Ok(registry) => shows_left(alloc, calls, registry, story, answered),
         Err(_files) => Err(Fail::new(format_args!("nothing opens after a second stop"))),
     }
 }
 
-// A registry shows what so many answered commands made, or one more.
-fn shows<S: Alter>(
+fn shows_left<D: Disk + Drop>(
     alloc: Global,
     calls: u64,
-    registry: &mut Registry<S>,
+    registry: Registry<FileStore<D>>,
     story: &Story,
     answered: usize,
 ) -> Result<(), Fail> {
+    shows(alloc, calls, registry, story, answered)
+}
+
+// A registry shows what so many answered commands made, or one more.
+fn shows<S: Alter + Drop>(
+    alloc: Global,
+    calls: u64,
+    registry: Registry<S>,
+    story: &Story,
+    answered: usize,
+) -> Result<(), Fail> {
+    let mut registry = registry;
+    let shown = shown_by(alloc, &mut registry, story, answered)?;
+    same(
+        (calls, "after a second stop"),
+        shown.is_before || shown.is_after,
+        true,
+    )
+}
+
+// Whether a registry shows what so many commands made, and whether it shows what one more made.
+fn shown_by<S: Alter>(
+    alloc: Global,
+    registry: &mut Registry<S>,
+    story: &Story,
+    answered: usize,
+) -> Result<Shown, AllocError> {
     let found = outcomes_of(alloc, registry, &story.queries)?;
-    let is_before = story.answers.shown.get(answered) == Some(&found);
-    let is_after = story.answers.shown.get(answered.saturating_add(1)) == Some(&found);
-    same((calls, "after a second stop"), is_before || is_after, true)
+    Ok(Shown {
+        is_before: is_at(&story.answers.shown, answered, &found),
+        is_after: is_at(&story.answers.shown, answered.saturating_add(1), &found),
+    })
+}
+
+// Whether these are what the queries show after so many commands.
+fn is_at(shown: &[Vec<Outcome>], commands: usize, found: &Vec<Outcome>) -> bool {
+    shown.get(commands) == Some(found)
 }
 
 // Each command that isn't refused is among those that were stopped, if it writes what stops.
 fn are_stopped(story: &Story, stopping: Stopping, stopped: &[usize]) -> Result<(), Fail> {
-    if stopping == Stopping::Database {
+    if matches!(stopping, Stopping::Database) {
         return Ok(());
     }
     for (place, reply) in story.answers.replies.iter().enumerate() {
         let is_refused = matches!(reply, Ok(Reply::Refused(_)));
-        same(
-            (place, "stopped"),
-            is_refused || stopped.contains(&place),
-            true,
-        )?;
+        let is_stopped = is_refused || stopped.contains(&place);
+        same((place, "stopped"), is_stopped, true)?;
     }
     Ok(())
 }
@@ -276,7 +370,15 @@ fn are_stopped(story: &Story, stopping: Stopping, stopped: &[usize]) -> Result<(
 // What is asked, and what a registry in memory answers.
 fn story_in_memory(alloc: Global) -> Result<Story, Fail> {
     let commands = requests_of(alloc, COMMANDS)?;
+    story_of(alloc, commands)
+}
+
+fn story_of(alloc: Global, commands: Vec<Request>) -> Result<Story, Fail> {
     let queries = requests_of(alloc, QUERIES)?;
+    story_with(alloc, commands, queries)
+}
+
+fn story_with(alloc: Global, commands: Vec<Request>, queries: Vec<Request>) -> Result<Story, Fail> {
     let answers = answers_in_memory(alloc, &commands, &queries)?;
     Ok(Story {
         commands,
@@ -290,26 +392,38 @@ fn answers_in_memory(
     commands: &[Request],
     queries: &[Request],
 ) -> Result<Answers, Fail> {
-    let mut registry = Registry::in_memory(alloc)?;
-    answers_of(alloc, &mut registry, commands, queries)
+    let registry = Registry::in_memory(alloc)?;
+    answers_of(alloc, registry, commands, queries)
 }
 
-fn answers_of<S: Alter>(
+fn answers_of<S: Alter + Drop>(
     alloc: Global,
-    registry: &mut Registry<S>,
+    registry: Registry<S>,
     commands: &[Request],
     queries: &[Request],
 ) -> Result<Answers, Fail> {
+    let mut registry = registry;
     let mut answers = Answers {
         replies: Vec::new(alloc),
         again: Vec::new(alloc),
         shown: Vec::new(alloc),
     };
-    answers.shown.push(outcomes_of(alloc, registry, queries)?)?;
-    for command in commands {
-        push_answers(alloc, registry, command, queries, &mut answers)?;
-    }
+    push_all_answers(alloc, &mut registry, commands, queries, &mut answers)?;
     Ok(answers)
+}
+
+fn push_all_answers<S: Alter>(
+    alloc: Global,
+    registry: &mut Registry<S>,
+    commands: &[Request],
+    queries: &[Request],
+    answers: &mut Answers,
+) -> Result<(), AllocError> {
+    push_shown(alloc, registry, queries, &mut answers.shown)?;
+    for command in commands {
+        push_answers(alloc, registry, command, queries, answers)?;
+    }
+    Ok(())
 }
 
 fn push_answers<S: Alter>(
@@ -319,10 +433,28 @@ fn push_answers<S: Alter>(
     queries: &[Request],
     answers: &mut Answers,
 ) -> Result<(), AllocError> {
-    answers.replies.push(outcome_of(alloc, registry, command))?;
-    answers.shown.push(outcomes_of(alloc, registry, queries)?)?;
-    answers.again.push(outcome_of(alloc, registry, command))?;
-    Ok(())
+    push_outcome(alloc, registry, command, &mut answers.replies)?;
+    push_shown(alloc, registry, queries, &mut answers.shown)?;
+    push_outcome(alloc, registry, command, &mut answers.again)
+}
+
+fn push_outcome<S: Alter>(
+    alloc: Global,
+    registry: &mut Registry<S>,
+    command: &Request,
+    outcomes: &mut Vec<Outcome>,
+) -> Result<(), AllocError> {
+    Ok(outcomes.push(outcome_of(alloc, registry, command))?)
+}
+
+fn push_shown<S: Alter>(
+    alloc: Global,
+    registry: &mut Registry<S>,
+    queries: &[Request],
+    shown: &mut Vec<Vec<Outcome>>,
+) -> Result<(), AllocError> {
+    let outcomes = outcomes_of(alloc, registry, queries)?;
+    Ok(shown.push(outcomes)?)
 }
 
 // Asks a registry in these files the commands until one meets a fault, and closes the files.
@@ -332,21 +464,37 @@ fn run_until_stopped<D: Disk + Drop>(
     commands: &[Request],
 ) -> Run<D> {
     match opened(alloc, files) {
-        Ok(mut registry) => {
-            let answered = answered(alloc, &mut registry, commands);
-            let Closed { is_whole, files } = close(registry.release());
-            Run {
-                answered,
-                is_stopped: !is_whole || answered < commands.len(),
-                files,
-            }
-        }
+        Ok(registry) => run_to_the_end(alloc, registry, commands),
         Err(files) => Run {
             answered: 0,
             is_stopped: true,
             files,
         },
     }
+}
+
+fn run_to_the_end<D: Disk + Drop>(
+    alloc: Global,
+    registry: Registry<FileStore<D>>,
+    commands: &[Request],
+) -> Run<D> {
+    let (answered, registry) = answered_by(alloc, registry, commands);
+    let Closed { is_whole, files } = ended(registry);
+    Run {
+        answered,
+        is_stopped: !is_whole || answered < commands.len(),
+        files,
+    }
+}
+
+fn answered_by<S: Alter + Drop>(
+    alloc: Global,
+    registry: Registry<S>,
+    commands: &[Request],
+) -> (usize, Registry<S>) {
+    let mut registry = registry;
+    let answered = answered(alloc, &mut registry, commands);
+    (answered, registry)
 }
 
 // How many commands are answered before one meets a fault.
@@ -368,9 +516,20 @@ fn goes_on<D: Disk + Drop>(
     answered: usize,
 ) -> Result<(), Fail> {
     match opened(alloc, files) {
-        Ok(mut registry) => holds(alloc, calls, &mut registry, story, answered),
+        Ok(registry) => holds_all(alloc, calls, registry, story, answered),
         Err(_files) => Err(Fail::new(format_args!("after {calls} calls nothing opens"))),
     }
+}
+
+fn holds_all<S: Alter + Drop>(
+    alloc: Global,
+    calls: u64,
+    registry: Registry<S>,
+    story: &Story,
+    answered: usize,
+) -> Result<(), Fail> {
+    let mut registry = registry;
+    holds(alloc, calls, &mut registry, story, answered)
 }
 
 // A registry holds what so many answered commands made, or one more, and the commands that follow
@@ -382,22 +541,36 @@ fn holds<S: Alter>(
     story: &Story,
     answered: usize,
 ) -> Result<(), Fail> {
-    let found = outcomes_of(alloc, registry, &story.queries)?;
-    let next = answered.saturating_add(1);
-    let is_before = story.answers.shown.get(answered) == Some(&found);
-    let is_after = story.answers.shown.get(next) == Some(&found);
-    same((calls, "what is shown"), is_before || is_after, true)?;
-    if let Some(command) = story.commands.get(answered) {
-        let once_more = outcome_of(alloc, registry, command);
-        let is_first = is_before && story.answers.replies.get(answered) == Some(&once_more);
-        let is_again = is_after && story.answers.again.get(answered) == Some(&once_more);
-        same((calls, "the stopped command"), is_first || is_again, true)?;
-    }
-    follow(alloc, calls, registry, story, next)?;
-    shows_the_end(alloc, calls, registry, story)
+    let shown = shown_by(alloc, registry, story, answered)?;
+    let is_told = is_told_again(alloc, registry, story, answered, shown);
+    same(
+        (calls, "what is shown, and the stopped command"),
+        (shown.is_before || shown.is_after, is_told),
+        (true, true),
+    )?;
+    follow(alloc, calls, registry, story, answered.saturating_add(1))
 }
 
-// The commands from this place on are answered as in memory.
+// Whether the stopped command is answered as in memory: for the first time where it wasn't done, and
+// as it is asked once more where it was. After the last command there is none.
+fn is_told_again<S: Alter>(
+    alloc: Global,
+    registry: &mut Registry<S>,
+    story: &Story,
+    answered: usize,
+    shown: Shown,
+) -> bool {
+    let Some(command) = story.commands.get(answered) else {
+        return true;
+    };
+    let outcome = outcome_of(alloc, registry, command);
+    let is_first = story.answers.replies.get(answered) == Some(&outcome);
+    let is_again = story.answers.again.get(answered) == Some(&outcome);
+    (shown.is_before && is_first) || (shown.is_after && is_again)
+}
+
+// The commands from this place on are answered as in memory, and then all is shown that the last one
+// leaves there.
 fn follow<S: Alter>(
     alloc: Global,
     calls: u64,
@@ -405,11 +578,31 @@ fn follow<S: Alter>(
     story: &Story,
     from: usize,
 ) -> Result<(), Fail> {
-    let told = story.commands.iter().zip(&story.answers.replies);
-    for (place, (command, reply)) in told.enumerate().skip(from) {
-        same((calls, place), &outcome_of(alloc, registry, command), reply)?;
+    for place in from..story.commands.len() {
+        is_answered_at(alloc, calls, registry, story, place)?;
     }
-    Ok(())
+    shows_the_end(alloc, calls, registry, story)
+}
+
+// The command at this place is answered as in memory.
+fn is_answered_at<S: Alter>(
+    alloc: Global,
+    calls: u64,
+    registry: &mut Registry<S>,
+    story: &Story,
+    place: usize,
+) -> Result<(), Fail> {
+    match story.commands.get(place) {
+        Some(command) => {
+            let outcome = outcome_of(alloc, registry, command);
+            same(
+                (calls, place),
+                Some(&outcome),
+                story.answers.replies.get(place),
+            )
+        }
+        None => Ok(()),
+    }
 }
 
 // All is shown that the last command leaves in memory.
@@ -419,10 +612,6 @@ fn shows_the_end<S: Alter>(
     registry: &mut Registry<S>,
     story: &Story,
 ) -> Result<(), Fail> {
-    let found = outcomes_of(alloc, registry, &story.queries)?;
-    same(
-        (calls, "what is shown at the end"),
-        story.answers.shown.last() == Some(&found),
-        true,
-    )
+    let shown = shown_by(alloc, registry, story, story.commands.len())?;
+    same((calls, "what is shown at the end"), shown.is_before, true)
 }

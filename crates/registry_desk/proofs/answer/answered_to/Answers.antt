@@ -5,7 +5,6 @@ use Rattle.sqlite.specs.State.{HasCleanDisk}
 use Rattle.registry_rows.specs.Ready.{Leaves}
 use Rattle.registry_rows.proofs.QuietFacts.{on_answer, stays_then}
 use Rattle.registry_rules.specs.Facts.{FactsTell}
-use Rattle.registry_rules.specs.declared.reply.Reply.TheVariants.{Refused}
 use Rattle.registry_tables.specs.Contents.{Contents, contents, registry_of}
 use Rattle.registry_tables.specs.Effects.{shown, stored_in}
 use Rattle.registry_tables.specs.Schema.{schema}

@@ -1,17 +1,16 @@
 use Rattle.std.proofs.Common.{◌≡◌, ◌∙◌, ap, arith, refl, rules, subst, sym, IsTrue, OnErr, OnOk}
 use Rattle.sqlite.specs.Effect.{Database}
 use Rattle.sqlite.specs.Held.{state}
-use Rattle.sqlite.specs.State.{HasCleanDisk, KeepsCommit, Survives}
+use Rattle.sqlite.specs.State.{HasCleanDisk, Survives}
 use Rattle.sqlite.proofs.StateLemmas.{survives_then}
 use Rattle.sqlite.proofs.Callers.{survives_begin}
 use Rattle.sqlite_trees.specs.Tree.{Trees}
-use Rattle.registry_rows.specs.Ready.{Ready}
 use Rattle.registry_rows.proofs.QuietFacts.{on_answer}
 use Rattle.registry_tables.specs.Contents.{contents}
 use Rattle.registry_tables.specs.Effects.{stored}
 use Rattle.registry_tables.proofs.EffectFacts.{on_any}
 use Rattle.registry_migration.specs.Migration.{MayMigrate, Migrates}
-use Rattle.registry_migration.specs.Older.{contents_of, schema_of}
+use Rattle.registry_migration.specs.Older.{contents_of}
 use Rattle.registry_desk.specs.Adopted.{IsUndone}
 use Rattle.registry_desk.specs.Opened.{IsMigrated, LeavesMigrated}
 use Rattle.registry_desk.specs.Resting.{Rests}

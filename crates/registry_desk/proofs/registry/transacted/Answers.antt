@@ -235,7 +235,7 @@ returns-in-Ok-clause-right g c =
     subst (λ (d : Contents). AreAnswers d c.keep_reply.new.caches) (sym left)
     (right_kept (stored mid) what reply between c.keep_reply.new.caches
     (right_answered (stored begun) (stored mid) what c.args.caches.now between reply leaves c.answered_inside.ensures.no_more are)
-    (shown_answered (stored begun) (stored mid) what c.args.caches.now between reply leaves are) c.keep_reply.ensures) in
+    (shown_answered (stored begun) (stored mid) what c.args.caches.now between reply c.requires.other leaves are) c.keep_reply.ensures) in
     let same : c.commit.new.tx.0 ≡ c.conn-2-1.given.0 = search rules in
     subst (λ h. HasAnswers (state g.S.Store h) c.keep_reply.new.caches) same stay
 

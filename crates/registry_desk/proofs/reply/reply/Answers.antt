@@ -1,29 +1,6 @@
-use Rattle.std.proofs.Common.{◌∙◌, ap, sym, subst₂}
+use Rattle.std.proofs.Common.{◌∙◌}
 use Rattle.std.proofs.lemmas.Result.{IfOk-weaker}
-use Rattle.registry_names.specs.Texts.{Text}
-use Rattle.registry_rules.specs.declared.reply.Reply.TheVariants.{Doc}
-use Rattle.registry_rules.specs.declared.request.Action.{Action}
-use Rattle.registry_history.specs.Answers.{reply}
-use Rattle.registry_desk.specs.Found.{AreRowsOf}
-use Rattle.registry_desk.specs.declared.rows.Rows.{Rows}
 use Rattle.registry_desk.proofs.reply.reply.Goals as goal
 
-pub returns-in_ok-packument-in-Packument-Packument-clause-is : goal.returns-in_ok-packument-in-Packument-Packument-clause-is
-returns-in_ok-packument-in-Packument-Packument-clause-is c = IfOk-weaker c.doc.result _ _ (λ told is S who found.
-    let shown = subst₂ (λ (rows : Rows) (what : Action). AreRowsOf rows S who what) c.in-Packument-Packument.is-1 c.in-Packument-Packument.is-0 found in
-    is ∙ ap (λ (text : Text). Doc text) (c.in_ok-packument-in-Packument-Packument.ensures S shown.0 shown.1.0 shown.1.1) ∙ ap (reply S who) (sym c.in-Packument-Packument.is-0)) c.doc.ensures
-
-pub returns-in_ok-tags_of-in-Tags-Tags-clause-is : goal.returns-in_ok-tags_of-in-Tags-Tags-clause-is
-returns-in_ok-tags_of-in-Tags-Tags-clause-is c = IfOk-weaker c.doc-in-Tags-Tags.result _ _ (λ told is S who found.
-    let shown = subst₂ (λ (rows : Rows) (what : Action). AreRowsOf rows S who what) c.in-Tags-Tags.is-1 c.in-Tags-Tags.is-0 found in
-    is ∙ ap (λ (text : Text). Doc text) (c.in_ok-tags_of-in-Tags-Tags.ensures S _ shown) ∙ ap (reply S who) (sym c.in-Tags-Tags.is-0)) c.doc-in-Tags-Tags.ensures
-
-pub returns-in_ok-members_of-in-Members-Members-clause-is : goal.returns-in_ok-members_of-in-Members-Members-clause-is
-returns-in_ok-members_of-in-Members-Members-clause-is c = IfOk-weaker c.doc-in-Members-Members.result _ _ (λ told is S who found.
-    let shown = subst₂ (λ (rows : Rows) (what : Action). AreRowsOf rows S who what) c.in-Members-Members.is-1 c.in-Members-Members.is-0 found in
-    is ∙ ap (λ (text : Text). Doc text) (c.in_ok-members_of-in-Members-Members.ensures S _ shown) ∙ ap (reply S who) (sym c.in-Members-Members.is-0)) c.doc-in-Members-Members.ensures
-
-pub returns-in_ok-grants_of-in-TeamPackages-Grants-clause-is : goal.returns-in_ok-grants_of-in-TeamPackages-Grants-clause-is
-returns-in_ok-grants_of-in-TeamPackages-Grants-clause-is c = IfOk-weaker c.doc-in-TeamPackages-Grants.result _ _ (λ told is S who found.
-    let shown = subst₂ (λ (rows : Rows) (what : Action). AreRowsOf rows S who what) c.in-TeamPackages-Grants.is-1 c.in-TeamPackages-Grants.is-0 found in
-    is ∙ ap (λ (text : Text). Doc text) (c.in_ok-grants_of-in-TeamPackages-Grants.ensures S who _ _ shown) ∙ ap (reply S who) (sym c.in-TeamPackages-Grants.is-0)) c.doc-in-TeamPackages-Grants.ensures
+pub returns-in_ok-text_of-in_default-clause-is : goal.returns-in_ok-text_of-in_default-clause-is
+returns-in_ok-text_of-in_default-clause-is c = IfOk-weaker c.doc.result _ _ (λ told is S who found. is ∙ c.in_ok-text_of-in_default.ensures S who found) c.doc.ensures

@@ -4,26 +4,26 @@ use Rattle.sqlite.specs.Effect.{Database}
 use Rattle.sqlite.specs.State.{HasCleanDisk}
 use Rattle.registry_names.specs.declared.refusal.Refusal.TheVariants.{NoCaller}
 use Rattle.registry_rules.specs.Callers.{caller_of}
-use Rattle.registry_rules.specs.Facts.{AboutTells}
-use Rattle.registry_rules.specs.Refusals.{refusal}
-use Rattle.registry_tables.specs.Contents.{contents, registry_of}
+use Rattle.registry_rules.specs.Permissions.{permission}
+use Rattle.registry_rules.specs.Refusals.{unless_allowed}
+use Rattle.registry_rules.specs.declared.request.Action.TheVariants.{Packument}
+use Rattle.registry_tables.specs.Contents.{access_of, contents, registry_of}
 use Rattle.registry_tables.specs.Effects.{shown, stored_in}
+use Rattle.registry_tables.specs.Teams.{AreTeamsSound}
 use Rattle.registry_desk.specs.Caches.{ArePackuments}
 use Rattle.registry_desk.specs.Sending.{IsShownBy}
-use Rattle.registry_desk.proofs.AnswerFacts.{known_stands, nobody_is_refused, refused}
+use Rattle.registry_desk.proofs.AnswerFacts.{nobody_is_refused, refused}
 use Rattle.registry_desk.proofs.QueryFacts.{shown_is_from}
-use Rattle.registry_desk.proofs.SendingFacts.{asked_tells, before_reads, origin_is, packument_answer, reads_before}
+use Rattle.registry_desk.proofs.SendingFacts.{before_reads, origin_is, query_denied, reads_before}
 use Rattle.registry_desk.proofs.sending.find_origin.Goals as goal
 
-pub seen_package-requires : goal.seen_package-requires
-seen_package-requires g c = record {
-  in_form = λ clean on.
-      let before = (c.in_ok-caller.ensures.knows clean).0 in
-      before.ready (c.requires.in_form (omega (arith, c.load_caller.ensures.stays.survives.clean, clean)) (before.committed.was_open on));
-}
+pub standing_if_allowed-requires-clause-in_form : goal.standing_if_allowed-requires-clause-in_form
+standing_if_allowed-requires-clause-in_form g c clean on =
+    let before = (c.in_ok-caller.ensures.knows clean).0 in
+    before.ready (c.requires.in_form (omega (arith, c.load_caller.ensures.stays.survives.clean, clean)) (before.committed.was_open on))
 
 pub shown_from-requires : goal.shown_from-requires
-shown_from-requires g c = record { in_form = λ clean on. (c.in_ok-about.ensures.packument clean).0.ready }
+shown_from-requires g c = record { in_form = λ clean on. (c.in_ok-_standing.ensures.loads clean).0.ready }
 
 -- ---- nobody asks
 
@@ -35,45 +35,48 @@ returns-in_default-clause-loads g c clean =
 
 -- ---- the policy refuses it, or not
 
-pub returns-in-Some-refusal_of-clause-loads : goal.returns-in-Some-refusal_of-clause-loads
-returns-in-Some-refusal_of-clause-loads g c clean =
-    let was = shown g.S.Store c.args.tx.now in
-    let one = shown g.S.Store c.load_caller.new.tx in
-    let new = shown g.S.Store c.seen_package.new.tx in
-    let r = c.args.request.now in
-    let S = registry_of (contents was.now.trees) in
-    let were : HasCleanDisk one = omega (arith, c.seen_package.ensures.stays.survives.clean, clean) in
-    let before = c.in_ok-caller.ensures.knows were in
-    let about = c.in_ok-about.ensures.packument clean in
-    let known : Some c.in-Some.caller ≡ caller_of S r.who = sym c.in-Some.is ∙ before.1 in (
-      before_reads was one new before.0 about.0,
-      λ sound right.
-          let tells : AboutTells c.in_ok-about.about S c.in-Some.caller r.what = asked_tells was one before.0.same c.in_ok-about.about c.in-Some.caller r.what c.args.name.now c.requires.asks about.1 sound in
-          refused S r c.in-Some-refusal_of.refusal (sym (c.refusal_of.ensures S (known_stands S c.in-Some.caller c.in_ok-about.about r known tells)) ∙ c.in-Some-refusal_of.is),
-    )
-
 pub returns-clause-loads : goal.returns-clause-loads
 returns-clause-loads g c clean =
     let was = shown g.S.Store c.args.tx.now in
     let one = shown g.S.Store c.load_caller.new.tx in
-    let mid = shown g.S.Store c.seen_package.new.tx in
+    let new = shown g.S.Store c.standing_if_allowed.new.tx in
+    let r = c.args.request.now in
+    let p = c.args.name.now in
+    let who = c.in-Some.caller in
+    let were : HasCleanDisk one = omega (arith, c.standing_if_allowed.ensures.stays.survives.clean, clean) in
+    let before = c.in_ok-caller.ensures.knows were in
+    let placed = c.in_ok-_standing.ensures.loads clean in
+    let known : Some who ≡ caller_of (registry_of (contents was.now.trees)) r.who = sym c.in-Some.is ∙ before.1 in (
+      before_reads was one new before.0 placed.0,
+      λ sound right.
+          let denied = rw c.in-Err.is at (placed.1 (subst (λ (d : Database). AreTeamsSound (contents d.trees)) (sym before.0.same) sound)) in
+          query_denied (registry_of (contents was.now.trees)) r p who c.requires.asks known c.in-Err.refusal
+          (subst (λ (d : Database). unless_allowed (permission (access_of (contents d.trees)) who (Packument p)) ≡ Some c.in-Err.refusal) before.0.same denied),
+    )
+
+pub returns-in-Ok-clause-loads : goal.returns-in-Ok-clause-loads
+returns-in-Ok-clause-loads g c clean =
+    let was = shown g.S.Store c.args.tx.now in
+    let one = shown g.S.Store c.load_caller.new.tx in
+    let mid = shown g.S.Store c.standing_if_allowed.new.tx in
     let new = shown g.S.Store c.shown_from.new.tx in
     let r = c.args.request.now in
     let p = c.args.name.now in
+    let who = c.in-Some.caller in
     let S = registry_of (contents was.now.trees) in
     let clean_mid : HasCleanDisk mid = omega (arith, c.shown_from.ensures.stays.survives.clean, clean) in
-    let were : HasCleanDisk one = omega (arith, c.seen_package.ensures.stays.survives.clean, clean_mid) in
+    let were : HasCleanDisk one = omega (arith, c.standing_if_allowed.ensures.stays.survives.clean, clean_mid) in
     let before = c.in_ok-caller.ensures.knows were in
-    let about = c.in_ok-about.ensures.packument clean_mid in
-    let known : Some c.in-Some.caller ≡ caller_of S r.who = sym c.in-Some.is ∙ before.1 in
-    let reads = before_reads was one mid before.0 about.0 in
+    let placed = c.in_ok-_standing.ensures.loads clean_mid in
+    let known : Some who ≡ caller_of S r.who = sym c.in-Some.is ∙ before.1 in
+    let reads = before_reads was one mid before.0 placed.0 in
     IfOk-weaker c.shown_from.result _ _
     (λ from it. (
       reads_before was mid new reads it.0,
       λ sound right.
-          let tells : AboutTells c.in_ok-about.about S c.in-Some.caller r.what = asked_tells was one before.0.same c.in_ok-about.about c.in-Some.caller r.what p c.requires.asks about.1 sound in
-          let none : refusal S r ≡ None = sym (c.refusal_of.ensures S (known_stands S c.in-Some.caller c.in_ok-about.about r known tells)) ∙ c.in-None.is in
-          origin_is from S r p (packument_answer S r p c.in-Some.caller c.requires.asks none known)
+          let allowed = rw c.in-Ok.is at (placed.1 (subst (λ (d : Database). AreTeamsSound (contents d.trees)) (sym before.0.same) sound)) in
+          let may = subst (λ (d : Database). unless_allowed (permission (access_of (contents d.trees)) who (Packument p)) ≡ None) before.0.same allowed.0 in
+          origin_is S r p who c.requires.asks known may from
           (subst (λ (d : Database). IsShownBy from (registry_of (contents d.trees)) p) reads.same (it.1 (subst (λ (d : Database). ArePackuments (contents d.trees) c.args.cache.now) (sym reads.same) right))),
     ))
     (c.shown_from.ensures.knows clean)
@@ -83,19 +86,18 @@ returns-clause-loads g c clean =
 pub returns-in_default-clause-shows : goal.returns-in_default-clause-shows
 returns-in_default-clause-shows g c clean are = tt
 
-pub returns-in-Some-refusal_of-clause-shows : goal.returns-in-Some-refusal_of-clause-shows
-returns-in-Some-refusal_of-clause-shows g c clean are = tt
-
 pub returns-clause-shows : goal.returns-clause-shows
-returns-clause-shows g c clean =
+returns-clause-shows g c clean are = tt
+
+pub returns-in-Ok-clause-shows : goal.returns-in-Ok-clause-shows
+returns-in-Ok-clause-shows g c clean =
     let was = shown g.S.Store c.args.tx.now in
     let one = shown g.S.Store c.load_caller.new.tx in
-    let mid = shown g.S.Store c.seen_package.new.tx in
-    let new = shown g.S.Store c.shown_from.new.tx in
+    let mid = shown g.S.Store c.standing_if_allowed.new.tx in
     let p = c.args.name.now in
     let clean_mid : HasCleanDisk mid = omega (arith, c.shown_from.ensures.stays.survives.clean, clean) in
-    let were : HasCleanDisk one = omega (arith, c.seen_package.ensures.stays.survives.clean, clean_mid) in
-    let reads = before_reads was one mid (c.in_ok-caller.ensures.knows were).0 (c.in_ok-about.ensures.packument clean_mid).0 in
+    let were : HasCleanDisk one = omega (arith, c.standing_if_allowed.ensures.stays.survives.clean, clean_mid) in
+    let reads = before_reads was one mid (c.in_ok-caller.ensures.knows were).0 (c.in_ok-_standing.ensures.loads clean_mid).0 in
     IfOk-weaker c.shown_from.result _ _
     (λ from it are. shown_is_from from (registry_of (contents was.now.trees)) p
     (subst (λ (d : Database). IsShownBy from (registry_of (contents d.trees)) p) reads.same (it.1 (subst (λ (d : Database). ArePackuments (contents d.trees) c.args.cache.now) (sym reads.same) are))))

@@ -1,4 +1,4 @@
-use Rattle.std.proofs.Common.{◌≡◌, arith, ap, sym, subst, Some}
+use Rattle.std.proofs.Common.{◌≡◌, ◌∙◌, arith, ap, sym, subst, Some}
 use Rattle.std.proofs.lemmas.Result.{IfOk-weaker}
 use Rattle.sqlite.specs.Held.{state}
 use Rattle.sqlite.specs.State.{HasCleanDisk}
@@ -14,7 +14,8 @@ use Rattle.registry_desk.proofs.texts.made_text.Goals as goal
 -- ---- a short one
 
 pub returns-in-Text-clause-text : goal.returns-in-Text-clause-text
-returns-in-Text-clause-text g c clean = (rw c.in-Text.is at (c.in_ok-within.ensures.within clean)).0
+returns-in-Text-clause-text g c clean =
+    IfOk-weaker c.exact.result _ _ (λ copy is. (rw c.in-Text.is at (c.in_ok-within.ensures.within clean)).0 ∙ ap Some (sym is)) c.exact.ensures
 
 -- ---- a long one
 

@@ -1,7 +1,6 @@
 use Rattle.std.proofs.Common.{◌≡◌, ◌∙◌, ℕ, arith, ap, false, sym, subst, Option}
 use Rattle.sqlite.specs.Effect.{Database}
 use Rattle.sqlite.specs.State.{HasCleanDisk}
-use Rattle.registry_names.specs.Versions.{text_of_version}
 use Rattle.registry_rows.proofs.QuietFacts.{reads_then, stays_then}
 use Rattle.registry_rules.specs.Refusals.{withdraw_refusal}
 use Rattle.registry_rules.specs.Withdrawals.{published_at}

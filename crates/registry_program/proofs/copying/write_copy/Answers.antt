@@ -1,8 +1,5 @@
-use Rattle.std.proofs.Common.{subst}
 use Rattle.std.proofs.lemmas.Result.{IfOk-weaker}
-use Rattle.sqlite.specs.Files.{file_state}
 use Rattle.registry_program.proofs.CopyFacts.{is_copy}
-use Rattle.registry_program.specs.Copies.{IsCopy}
 use Rattle.registry_program.proofs.copying.write_copy.Goals as goal
 
 pub returns-in-Ok : goal.returns-in-Ok
@@ -13,7 +10,6 @@ returns-in-Ok g c =
       copied = IfOk-weaker c.write_files.result _ _
           (λ left h clean.
           let it = h clean in
-          subst (λ r. IsCopy (file_state r) old new) c.release.ensures.same
-          (is_copy {g = g.D.Disk} c.release.result c.in-Ok.files old new c.release.ensures.rests (c.in-Ok.ensures.copied it.0) it.1))
+          is_copy {g = g.D.Disk} c.args.registry c.in-Ok.files old new c.close_files.ensures.rests (c.in-Ok.ensures.copied it.0) it.1)
           c.write_files.ensures.wrote;
     }

@@ -8,7 +8,7 @@ use Rattle.registry_tables.specs.Walking.{lent, rows_left}
 use Rattle.registry_tables.specs.Walks.{IsLeftAlone, reference, shown_by}
 use Rattle.registry_desk.specs.Sending.{versions_in}
 use Rattle.registry_desk.proofs.SendingFacts.{walk_rows}
-use Rattle.registry_desk.proofs.texts.rows_within.Goals as goal
+use Rattle.registry_desk.proofs.sending.rows_within.Goals as goal
 
 pub returns-clause-same_reference : goal.returns-clause-same_reference
 returns-clause-same_reference g c =

@@ -8,7 +8,7 @@ use Rattle.registry_tables.specs.Contents.{contents, registry_of}
 use Rattle.registry_tables.specs.Effects.{registry_in}
 use Rattle.registry_tables.specs.Walks.{shown_by}
 use Rattle.registry_desk.specs.Sending.{versions_in}
-use Rattle.registry_desk.proofs.texts.stored_within.Goals as goal
+use Rattle.registry_desk.proofs.sending.stored_within.Goals as goal
 
 pub returns-in-Ok-clause-within : goal.returns-in-Ok-clause-within
 returns-in-Ok-clause-within g c clean =

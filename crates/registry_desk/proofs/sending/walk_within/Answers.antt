@@ -1,4 +1,4 @@
-use Rattle.registry_desk.proofs.texts.walk_within.Goals as goal
+use Rattle.registry_desk.proofs.sending.walk_within.Goals as goal
 
 pub returns-clause-same_rows : goal.returns-clause-same_rows
 returns-clause-same_rows g c = c.packument_within.ensures.behind.same_rows

@@ -1,0 +1,78 @@
+-- Whether a version of a package lives, and its packument where one does.
+use Rattle.std.proofs.Common.{◌≡◌, Bool, true, false, cond, if◌then◌else◌, ◌&&◌, ◌||◌, List, [], ◌∷◌, not, is_some, Option, Some, None, option_map, refl, ap, ap₂, ◌∙◌, true≢false}
+use Rattle.registry_names.specs.Keys.{pair_is}
+use Rattle.registry_names.specs.Texts.{Text, is}
+use Rattle.registry_names.specs.Maps.{at, of}
+use Rattle.registry_names.proofs.KeyFacts.{text_key, pair_key}
+use Rattle.registry_names.proofs.MapFacts.{at-revise}
+use Rattle.registry_names.proofs.PartFacts.{part-put, part-erase, same_part}
+use Rattle.registry_rules.specs.Actions.{version_of}
+use Rattle.registry_rules.specs.Changes.{Change, AddUser, AddToken, AddOrg, PutMember, DropMember, AddTeam, PutTeamMember, DropTeamMember, DropTeam, PutGrant, DropGrant, PutOwner, DropOwner, PutStatus, AddVersion, RetireVersion, PutDeprecation, PutTag, DropTag, made, all_made, release_of}
+use Rattle.registry_rules.specs.Operations.{with_member, with_role, with_grant, regranted, with_status, restated, with_tag, moved}
+use Rattle.registry_rules.specs.State.{State, Release, has_live, is_empty}
+use Rattle.registry_history.specs.Answers.{packument_in}
+use Rattle.registry_history.specs.Apart.{are_about, is_about}
+use Rattle.registry_history.proofs.ApartFacts.{changes_of_others}
+use Rattle.registry_desk.specs.Caches.{live_packument}
+
+-- ---- the packument of a package of which a version lives
+
+some_if : (b : Bool) (packument text : Text) → (if b then Some packument else None) ≡ Some text → (b ≡ true) × (text ≡ packument)
+some_if true packument text e = (refl, cc)
+some_if false packument text e = (cc, cc)
+
+pub live_so : (S : State) (p text : Text) → live_packument S p ≡ Some text → (has_live S p ≡ true) × (text ≡ packument_in S p)
+live_so S p text e = some_if (has_live S p) (packument_in S p) text e
+
+pub live_shown : (S : State) (p : Text) → has_live S p ≡ true → live_packument S p ≡ Some (packument_in S p)
+live_shown S p lives = ap (λ (b : Bool). if b then Some (packument_in S p) else None) lives
+
+-- ---- changes of no version and no tag of the package
+
+either : (b : Bool) (S T U : State) (p : Text) → of T.live p ≡ of S.live p → of U.live p ≡ of S.live p → of (cond b T U).live p ≡ of S.live p
+either true S T U p one other = one
+either false S T U p one other = other
+
+unmarked : (b : Bool) (mark : Release → Release) (o : Option Release) → b ≡ false → option_map (λ (r : Release). cond b (mark r) r) o ≡ o
+unmarked b mark None e = refl
+unmarked true mark (Some r) e = absurd (true≢false e)
+unmarked false mark (Some r) e = refl
+
+same_live : (S : State) (change : Change) (p : Text) → is_about change p ≡ false → of (made S change).live p ≡ of S.live p
+same_live S (AddUser u) p e = refl
+same_live S (AddToken digest u) p e = refl
+same_live S (AddOrg o) p e = refl
+same_live S (PutMember o u role stands) p e = either stands S (with_role S o u role) (with_member S o u role) p (either (is_some (at S.access.roles (o, u))) S (with_member S o u role) S p refl refl) refl
+same_live S (DropMember o u) p e = refl
+same_live S (AddTeam o t) p e = refl
+same_live S (PutTeamMember o t u) p e = refl
+same_live S (DropTeamMember o t u) p e = refl
+same_live S (DropTeam o t) p e = refl
+same_live S (PutGrant o t q grant stands) p e =
+    either stands S (regranted S o t q grant) (with_grant S o t q grant) p (either (is_some (at S.access.grants (o, (t, q)))) S (with_grant S o t q grant) S p refl refl) refl
+same_live S (DropGrant o t q) p e = refl
+same_live S (PutOwner q u) p e = refl
+same_live S (DropOwner q u) p e = refl
+same_live S (PutStatus q status stands) p e = either stands S (restated S q status) (with_status S q status) p (either (is_some (at S.access.statuses q)) S (with_status S q status) S p refl refl) refl
+same_live S (AddVersion f now) p e = part-put text_key S.live f.name (version_of f) (release_of f now) p e
+same_live S (RetireVersion q v published withdrawn) p e = part-erase text_key S.live q v p e
+same_live S (PutDeprecation q v message) p e =
+    same_part text_key _ S.live p (λ w. at-revise pair_key S.live (λ k (r : Release). cond (pair_is (q, v) k) (record r { message = message }) r) (p, w)
+    ∙ unmarked (pair_is (q, v) (p, w)) (λ r. record r { message = message }) (at S.live (p, w)) (ap (λ b. b && is v w) e))
+same_live S (PutTag q t v stands) p e = either stands S (moved S q t v) (with_tag S q t v) p (either (is_some (at S.tags (q, t))) S (with_tag S q t v) S p refl refl) refl
+same_live S (DropTag q t) p e = refl
+
+neither : (a b : Bool) → (a || b) ≡ false → (a ≡ false) × (b ≡ false)
+neither true b e = absurd (true≢false e)
+neither false b e = (refl, e)
+
+all_live : (S : State) (changes : List Change) (p : Text) → are_about changes p ≡ false → of (all_made S changes).live p ≡ of S.live p
+all_live S [] p e = refl
+all_live S (change ∷ changes) p e =
+    let apart = neither (is_about change p) (are_about changes p) e in
+    all_live (made S change) changes p apart.1 ∙ same_live S change p apart.0
+
+-- they change neither its packument nor whether a version lives
+pub live_of_others : (S : State) (changes : List Change) (p : Text) → are_about changes p ≡ false → live_packument (all_made S changes) p ≡ live_packument S p
+live_of_others S changes p e =
+    ap₂ (λ (b : Bool) (text : Text). if b then Some text else None) (ap (λ es. not (is_empty es)) (all_live S changes p e)) (changes_of_others S changes p e)
