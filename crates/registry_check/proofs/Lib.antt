@@ -4,3 +4,4 @@ mod PremiseFacts
 mod QueryFacts
 mod ScopeFacts
 mod SearchFacts
+mod StepFacts

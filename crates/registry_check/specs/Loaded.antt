@@ -1,8 +1,14 @@
 -- When loaded rows are those of all that is stored.
-use Rattle.std.specs.Prelude.{◌≡◌, map}
+use Rattle.std.specs.Prelude.{◌≡◌, ◌⊎◌, ℕ, List, [], map}
+use Rattle.sqlite_value.specs.Order.{Row}
+use Rattle.sqlite_trees.specs.declared.store.Store.{Ghosts}
+use Rattle.sqlite.specs.declared.transaction.Transaction.{Transaction}
 use Rattle.registry_access.specs.RowMaps.{grant_entry, maintainer_entry, member_entry, organisation_entry, package_entry, team_entry, team_member_entry}
 use Rattle.registry_names.specs.Maps.{entries}
+use Rattle.registry_rows.specs.Frames.{Stays}
+use Rattle.registry_rows.specs.Ready.{Queried}
 use Rattle.registry_tables.specs.Contents.{Contents}
+use Rattle.registry_tables.specs.Effects.{shown}
 use Rattle.registry_check.specs.Premises.{rows_in}
 use Rattle.registry_check.specs.Rows.{archive_entry, held_entry, live_entry, need_entry, rows_of, token_entry, user_entry}
 use Rattle.registry_check.specs.declared.tables.Accounts.{Accounts}
@@ -10,6 +16,10 @@ use Rattle.registry_check.specs.declared.tables.Groups.{Groups}
 use Rattle.registry_check.specs.declared.tables.Packages.{Packages}
 use Rattle.registry_check.specs.declared.tables.Tables.{Tables}
 use Rattle.registry_check.specs.declared.tables.Versions.{Versions}
+
+-- A query with no parameters was answered, and of its rows this is so; or it failed, and that is so.
+abbrev pub Finds : {S : Type 0} → Ghosts S → List ℕ → Transaction S → Transaction S → (List Row → Type 0) → Type 0 → Type 0
+Finds store sql old new is_told failed = ((rows : List Row) × (Queried sql [] (shown store old) (shown store new) rows × is_told rows)) ⊎ (Stays store old new × failed)
 
 pub record AreAccounts (accounts : Accounts) (c : Contents) : Type 0 where
   pub users : map user_entry accounts.users.items ≡ entries c.users

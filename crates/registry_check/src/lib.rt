@@ -14,7 +14,6 @@ mod loads;
 mod packages;
 mod people;
 mod problem;
-mod reads;
 mod rule;
 mod scope;
 mod search;

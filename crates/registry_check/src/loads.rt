@@ -1,16 +1,18 @@
 //! All rows of all tables.
 
+ghost use Rattle.std.specs.Prelude.{◌≡◌, IfOk, IsErr, map};
 ghost use Rattle.registry_rows.specs.Frames.{Stays};
 ghost use Rattle.registry_tables.specs.Effects.{InForm, Loads};
-ghost use Rattle.registry_check.specs.Loaded.{AreAccounts, AreGroups, ArePackages, AreTables, AreVersions};
+ghost use Rattle.registry_check.specs.Loaded.{AreAccounts, AreGroups, ArePackages, AreTables, AreVersions, Finds};
 
-use crate::reads::{
-    load_archives, load_grants, load_held, load_live, load_maintainers, load_members, load_needs,
-    load_organisations, load_published, load_team_members, load_teams, load_tokens, load_users,
-};
+use crate::archives::{Archives, Held};
+use crate::packages::{Grants, Maintainers, Published};
+use crate::people::{Members, Organisations, TeamMembers, Teams, Tokens, Users};
 use crate::tables::{Accounts, Groups, Packages, Tables, Versions};
+use crate::versions::{Live, Needs};
 use registry_names::Fault;
-use sqlite::{Alter, Transaction};
+use registry_rows::{RowKind, read, values_of_rows};
+use sqlite::{Alter, Transaction, params};
 use std::alloc::Global;
 
 /// The rows of all tables, in the order of their keys.
@@ -39,9 +41,9 @@ fn load_accounts<S: Alter>(alloc: Global, tx: &mut Transaction<'_, S>) -> Result
     ensures stays { Stays S.Store tx.old tx.new }
     ensures loads { Loads S.Store tx.old tx.new result AreAccounts }
 {
-    let users = load_users(alloc, tx)?;
-    let tokens = load_tokens(alloc, tx)?;
-    let organisations = load_organisations(alloc, tx)?;
+    let users = load::<Users, S>(alloc, tx, "SELECT name FROM users ORDER BY name")?;
+    let tokens = load::<Tokens, S>(alloc, tx, "SELECT digest, user FROM tokens ORDER BY digest")?;
+    let organisations = load::<Organisations, S>(alloc, tx, "SELECT name FROM orgs ORDER BY name")?;
     Ok(Accounts {
         users,
         tokens,
@@ -54,9 +56,17 @@ fn load_groups<S: Alter>(alloc: Global, tx: &mut Transaction<'_, S>) -> Result<G
     ensures stays { Stays S.Store tx.old tx.new }
     ensures loads { Loads S.Store tx.old tx.new result AreGroups }
 {
-    let members = load_members(alloc, tx)?;
-    let teams = load_teams(alloc, tx)?;
-    let team_members = load_team_members(alloc, tx)?;
+    let members = load::<Members, S>(
+        alloc,
+        tx,
+        "SELECT org, user, role FROM members ORDER BY org, user",
+    )?;
+    let teams = load::<Teams, S>(alloc, tx, "SELECT org, team FROM teams ORDER BY org, team")?;
+    let team_members = load::<TeamMembers, S>(
+        alloc,
+        tx,
+        "SELECT org, team, user FROM team_members ORDER BY org, team, user",
+    )?;
     Ok(Groups {
         members,
         teams,
@@ -69,9 +79,21 @@ fn load_packages<S: Alter>(alloc: Global, tx: &mut Transaction<'_, S>) -> Result
     ensures stays { Stays S.Store tx.old tx.new }
     ensures loads { Loads S.Store tx.old tx.new result ArePackages }
 {
-    let published = load_published(alloc, tx)?;
-    let grants = load_grants(alloc, tx)?;
-    let maintainers = load_maintainers(alloc, tx)?;
+    let published = load::<Published, S>(
+        alloc,
+        tx,
+        "SELECT name, status FROM packages ORDER BY name",
+    )?;
+    let grants = load::<Grants, S>(
+        alloc,
+        tx,
+        "SELECT org, team, package, level FROM grants ORDER BY org, team, package",
+    )?;
+    let maintainers = load::<Maintainers, S>(
+        alloc,
+        tx,
+        "SELECT package, user FROM owners ORDER BY package, user",
+    )?;
     Ok(Packages {
         published,
         grants,
@@ -84,14 +106,44 @@ fn load_versions<S: Alter>(alloc: Global, tx: &mut Transaction<'_, S>) -> Result
     ensures stays { Stays S.Store tx.old tx.new }
     ensures loads { Loads S.Store tx.old tx.new result AreVersions }
 {
-    let live = load_live(alloc, tx)?;
-    let needs = load_needs(alloc, tx)?;
-    let held = load_held(alloc, tx)?;
-    let archives = load_archives(alloc, tx)?;
+    let live = load::<Live, S>(
+        alloc,
+        tx,
+        "SELECT package, version, published, manifest, deprecated, archive FROM versions ORDER BY package, version",
+    )?;
+    let needs = load::<Needs, S>(
+        alloc,
+        tx,
+        "SELECT package, version, target, range FROM need_ranges ORDER BY package, version, target, range",
+    )?;
+    let held = load::<Held, S>(
+        alloc,
+        tx,
+        "SELECT package, version, archive FROM held ORDER BY package, version",
+    )?;
+    let archives = load::<Archives, S>(
+        alloc,
+        tx,
+        "SELECT id, integrity, bytes FROM archives ORDER BY id",
+    )?;
     Ok(Versions {
         live,
         needs,
         held,
         archives,
     })
+}
+
+// The rows that a query answers, as values of this kind.
+fn load<K: RowKind, S: Alter>(
+    alloc: Global,
+    tx: &mut Transaction<'_, S>,
+    text: &str,
+) -> Result<Vec<K::Value>, Fault>
+    ensures same_reference { tx.new.conn.ghost_name ≡ tx.old.conn.ghost_name }
+    ensures finds { Finds S.Store text.now tx.old tx.new (λ rows. IfOk result (λ values.
+        map K.seen values.items ≡ map K.spelled rows)) (IsErr result) }
+{
+    let rows = read(tx, text, params![])?;
+    values_of_rows::<K>(alloc, &rows)
 }

@@ -37,8 +37,9 @@ IfBroken Whole IsSuch = ⊤
 IfBroken WriteFault IsSuch = ⊤
 IfBroken (Broken fault has_started) IsSuch = IsSuch fault
 
--- Of a packument so many bytes were counted, and its rows have so many, where there is one of them.
--- Memory may run out in any case; the database is at fault only where they haven't those counted
+-- So many bytes were counted, and the packument of the rows has so many, where the rows make one.
+-- Memory may run out in any case. The database is at fault only where the packument's bytes aren't
+-- those that were counted
 abbrev pub IsFaultOfLen : ℕ → Option ℕ → Fault → Type 0
 IsFaultOfLen counted has Memory = ⊤
 IsFaultOfLen counted has Database = has ≢ Some counted

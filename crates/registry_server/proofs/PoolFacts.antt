@@ -1,10 +1,10 @@
 -- The place of the earliest time, looked for from the first place on, and the visits of the places.
-use Rattle.std.proofs.Common.{◌≡◌, ◌≢◌, ◌<◌, ◌≤◌, ◌+◌, ◌-◌, ◌==◌, ◌++◌, ◌∷◌, [], ◌∙◌, ℕ, zero, suc, Bool, true, false, List, Option, None, Some, cond, fold, length, nat_le, get_or, map, nat_lt, set, sum_by, take, drop, refl, ap, sym, subst, arith, below_more, ◌&&◌, not}
+use Rattle.std.proofs.Common.{◌≡◌, ◌≢◌, ◌<◌, ◌≤◌, ◌+◌, ◌-◌, ◌==◌, ◌++◌, ◌∷◌, [], ◌∙◌, ℕ, zero, suc, Bool, true, false, List, Option, None, Some, cond, fold, length, nat_le, get_or, map, nat_lt, set, sum_by, take, drop, refl, ap, sym, subst, arith, append-nil, below_more, ◌&&◌, not}
 use Rattle.std.specs.List.{list_any}
 use Rattle.std.proofs.lemmas.Bool.{and_parts, false≢true}
 use Rattle.std.proofs.lemmas.Bool.Decides.{nat_tests}
 use Rattle.std.proofs.lemmas.Option.{slice_get_read}
-use Rattle.std.proofs.lemmas.List.{drop-drop, drop-set-lt, get_or-drop, take_more, take_more_set}
+use Rattle.std.proofs.lemmas.List.{drop-drop, drop-set-lt, drop_all, get_or-drop, take_all, take_more, take_more_set}
 use Rattle.registry_service.specs.Turns.{Answering}
 use Rattle.registry_server.specs.Pools.{ChoosesIf, ChoosesNext, EndsIdle, IsEarliestOf, IsFirstOfEarliest, LooksAtBodies, VisitsAll, VisitsAt, VisitsIf, VisitsThere, after_visit, at_place, body_with, chosen, earlier, emptied, has_body_at, has_room, held_at, held_limit, idle_at, idle_in, idle_times, is_busy, is_crowd, is_due, is_held_back, read_count, read_together, settled, waiting_at, waiting_times, waits_since, waits_since_at, with_connection}
 use Rattle.registry_server.specs.Connections.{IsDone, IsLost, LeavesLittle, OpenConnection, Visits, has_body, has_body_in, must_wait}
@@ -108,6 +108,11 @@ pub earliest-of : (idle : ℕ → Option ℕ) (n count : ℕ) (r : Option (ℕ �
 earliest-of idle n count r k t h all is =
     earliest-place idle count (k, t) (subst (λ (m : ℕ). IsEarliestOf idle m (Some (k, t))) all (subst (λ (o : Option (ℕ × ℕ)). IsEarliestOf idle n o) is h))
 
+-- none of all places has a time
+pub first-of-none : (times : ℕ → Option ℕ) (n len : ℕ) (best : Option (ℕ × ℕ)) → IsEarliestOf times n best → n ≡ len → best ≡ None → IsFirstOfEarliest times len None
+first-of-none times n len best earliest all is =
+    subst (λ (m : ℕ). IsFirstOfEarliest times m None) all (subst (λ (b : Option (ℕ × ℕ)). IsEarliestOf times n b) is earliest)
+
 -- ---- one place changed
 
 pub at-put : {A : Type 0} (xs : List A) (k : ℕ) (y : A) → k < length xs → set xs k y ≡ at_place (λ _. y) xs k
@@ -131,11 +136,19 @@ at-none change (y ∷ xs) (suc k) beyond = ap (λ (l : List _). y ∷ l) (at-non
 pub ends-idle : {S : Type 0} (old : List (Place S)) (k : ℕ) (p : Place S) → IsFirstOfEarliest (idle_times old) (length old) (Some k) → p ≡ get_or old k p → EndsIdle old (set old k (emptied p)) true
 ends-idle old k p first at = record { which = Some k; first = first; places = at-set emptied old k p first.1 at; found = refl }
 
+-- nothing is begun on none
+pub ends-none : {S : Type 0} (old : List (Place S)) → IsFirstOfEarliest (idle_times old) (length old) None → EndsIdle old old false
+ends-none old first = record { which = None; first = first; places = refl; found = refl }
+
 -- ---- which bodies are read
 
 -- one more is chosen
 pub chooses-next : {S : Type 0} (old : List (Place S)) (k : ℕ) (p : Place S) → IsFirstOfEarliest (waiting_times old) (length old) (Some k) → p ≡ get_or old k p → ChoosesNext old (set old k (chosen p))
 chooses-next old k p first at = record { next = Some k; first = first; places = at-set chosen old k p first.1 at }
+
+-- none waits
+pub chooses-none : {S : Type 0} (old : List (Place S)) → IsFirstOfEarliest (waiting_times old) (length old) None → ChoosesNext old old
+chooses-none old first = record { next = None; first = first; places = refl }
 
 -- of a crowd one more is chosen where there is room
 pub looks-at : {S : Type 0} (may crowd : Bool) (old middle new : List (Place S)) → crowd ≡ is_crowd old → may ≡ (crowd && has_room old) → middle ≡ map settled old → ChoosesIf may middle new → LooksAtBodies old new
@@ -235,3 +248,22 @@ module _ {S : Type 0} (received sent : S → Option (List ℕ)) (has_none is_ful
 pub rest-step : {A : Type 0} (old items : List A) (i : ℕ) (q : A) → drop i items ≡ drop i old → drop (i + 1) (set items i q) ≡ drop (i + 1) old
 rest-step old items i q rest =
     drop-set-lt (i + 1) items i q (omega arith) ∙ sym (drop-drop 1 i items) ∙ ap (drop 1) rest ∙ drop-drop 1 i old
+
+-- all places are written back once the last one was passed
+pub all-back : {A : Type 0} (old items : List A) (i len : ℕ) → length items ≡ length old → length old ≤ i → len ≡ length old → take len (items ++ drop (length items) old) ≡ take i items
+all-back {A = A} old items i len size past whole =
+    ap (λ (l : List A). take len (items ++ l)) (drop_all (length items) old (omega (arith, size)))
+    ∙ ap (take len) (append-nil items)
+    ∙ take_all len items (omega (arith, size, whole))
+    ∙ sym (take_all i items (omega (arith, size, past)))
+
+-- and each was changed
+pub all-mapped : {A : Type 0} (f : A → A) (old items : List A) (i len : ℕ) → length items ≡ length old → length old ≤ i → len ≡ length old
+    → items ≡ map f (take i old) ++ drop i old → take len (items ++ drop (length items) old) ≡ map f old
+all-mapped {A = A} f old items i len size past whole is =
+    all-back old items i len size past whole
+    ∙ take_all i items (omega (arith, size, past))
+    ∙ is
+    ∙ ap (λ (l : List A). map f (take i old) ++ l) (drop_all i old past)
+    ∙ append-nil (map f (take i old))
+    ∙ ap (map f) (take_all i old past)

@@ -7,7 +7,7 @@ use Rattle.registry_wire.specs.Spelling.{IsUnfinished}
 use Rattle.registry_service.specs.Turns.{Answering}
 use Rattle.registry_service.specs.declared.turning.End.{End}
 use Rattle.registry_server.specs.ConnectionStates.{IsStarved, MayTakeTurn, Pending, TakesNone, holding, sending}
-use Rattle.registry_server.specs.Connections.{AnswersOnce, Drops, Keeps, MayReceive, OpenConnection, Receives, SendsDue, StarvesOnce, TakesOne, Visits, must_wait_in}
+use Rattle.registry_server.specs.Connections.{AnswersOnce, Drops, Keeps, MayReceive, OpenConnection, Receives, SendsDue, StarvesOnce, TakesOne, Visits, connected, must_wait_in}
 use Rattle.registry_server.specs.Phases.{LookedAt, SentAt, receives, takes_turns}
 use Rattle.registry_server.specs.Sockets.{moved}
 use Rattle.registry_server.specs.declared.phase.Phase.{Phase}
@@ -81,6 +81,35 @@ waits-for-more Drains none full turning is = absurd (false≢true turning)
 
 nothing-kept : (p due : Pending) (over : Bool) → Keeps [] p over p due
 nothing-kept p due over = elim (ends-or-not p.ends) [ inl none ↦ inl (none, none-held p, λ _. refl) | inr some ↦ inr (refl, inl some) ]
+
+module _ {S : Type 0} (received sent : S → Option (List ℕ)) where
+  -- nothing was received
+  pub receives-none : (now most : ℕ) (old : OpenConnection S) (socket : S) (over : Bool) → received socket ≡ append_known (received old.socket) [] → sent socket ≡ sent old.socket
+      → (old.is_over ≡ true → over ≡ true) → Receives received sent now most old (connected socket old.state old.phase over) true
+  receives-none now most old socket over gave unsent still = record {
+    got = [];
+    few = omega arith;
+    gave = gave;
+    unsent = unsent;
+    state = none-held old.state;
+    none = λ _. refl;
+    over = still;
+    times = inl refl;
+  }
+
+  -- what came was dropped
+  pub drops-moved : (most : ℕ) (old : OpenConnection S) (socket : S) (over : Bool) (flow : Flow) (bytes : List ℕ) → length (moved flow bytes) ≤ most
+      → received socket ≡ append_known (received old.socket) (moved flow bytes) → sent socket ≡ sent old.socket → (old.is_over ≡ true → over ≡ true)
+      → Drops received sent most old (connected socket old.state old.phase over)
+  drops-moved most old socket over flow bytes few gave unsent still = record {
+    got = moved flow bytes;
+    few = few;
+    gave = gave;
+    unsent = unsent;
+    state = refl;
+    over = still;
+    times = refl;
+  }
 
 module _ {S : Type 0} (received sent : S → Option (List ℕ)) {D : Type 0} (answers : Answering D) where
   none-taken : (p : Pending) (M : D) (r : Option (List ℕ)) → TakesNone answers p p M M r r

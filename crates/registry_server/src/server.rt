@@ -63,6 +63,11 @@ impl Server {
     pub fn bind<R: Net>(rt: &R, alloc: Global, port: u16, count: u64) -> io::Result<Server> {
         let poll = Poll::new(rt)?;
         let listener = Listener::open(rt, poll.registry(), LISTENER, port, count)?;
+        Server::over(alloc, poll, listener)
+    }
+
+    // A server over a listener that is registered, with every place free.
+    fn over(alloc: Global, poll: Poll, listener: Listener) -> io::Result<Server> {
         Ok(Server {
             poll,
             events: Events::with_capacity(alloc, EVENT_COUNT)?,
@@ -108,6 +113,20 @@ impl Server {
     /// answers what is under way, and ends once nobody is there.
     pub fn run_beside<R: time::Clock, D: Service, G: Guests>(
         mut self,
+        rt: &R,
+        alloc: Global,
+        at: Moment,
+        service: &mut D,
+        guests: &mut G,
+    ) -> io::Result<Ended>
+        ensures { IfOk result (λ ended. ended ≡ spec.why_ended (D.over service.new) (G.stops guests.new)) }
+    {
+        self.run_rounds(rt, alloc, at, service, guests)
+    }
+
+    // Goes on round by round until the last one, and says why that was it.
+    fn run_rounds<R: time::Clock, D: Service, G: Guests>(
+        &mut self,
         rt: &R,
         alloc: Global,
         at: Moment,
@@ -187,6 +206,22 @@ impl Server {
         if guests.holds() {
             return Ok(true);
         }
+        self.serve_all(alloc, service, clock, buffer, guests, now)
+    }
+
+    // Does so where the server isn't held.
+    fn serve_all<D: Service, C: Clock, G: Guests>(
+        &mut self,
+        alloc: Global,
+        service: &mut D,
+        clock: &mut C,
+        buffer: &mut [u8],
+        guests: &mut G,
+        now: u64,
+    ) -> io::Result<bool>
+        ensures { IfOk result (λ goes. goes ≡ spec.goes_on (D.over service.new) (lets_in self.new.listener.left)
+            self.new.pool.places.items (G.empty guests.new)) }
+    {
         self.pool.visit_all(alloc, service, clock, buffer, now);
         guests.visit(alloc, service, clock, buffer, self.poll.registry(), now);
         service.rest();

@@ -1,21 +1,31 @@
-use Rattle.std.proofs.Common.{◌≡◌, arith, map}
-use Rattle.sqlite.specs.State.{State as Shown, HasCleanDisk}
 use Rattle.registry_names.specs.Maps.{entries}
-use Rattle.registry_access.specs.RowMaps.{organisation_entry}
-use Rattle.registry_tables.specs.Effects.{shown}
-use Rattle.registry_check.specs.Rows.{token_entry}
-use Rattle.registry_check.proofs.LoadFacts.{then_told}
+use Rattle.registry_rows.proofs.QuietFacts.{stays_then}
+use Rattle.registry_check.specs.Spelled.{name_spelled, token_spelled}
+use Rattle.registry_check.proofs.LoadFacts.{answered, left, next, still}
+use Rattle.registry_check.proofs.QueryFacts.{users_listed, tokens_listed, organisations_listed}
 use Rattle.registry_check.proofs.loads.load_accounts.Goals as goal
 
-pub returns-clause-loads : goal.returns-clause-loads
-returns-clause-loads g c clean =
-    let s0 : Shown = shown g.S.Store c.args.tx.now in
-    let s1 : Shown = shown g.S.Store c.load_users.new.tx in
-    let s2 : Shown = shown g.S.Store c.load_tokens.new.tx in
-    let s3 : Shown = shown g.S.Store c.load_organisations.new.tx in
-    let w2 : HasCleanDisk s2 = omega (arith, c.load_organisations.ensures.stays.survives.clean, clean) in
-    let w1 : HasCleanDisk s1 = omega (arith, c.load_tokens.ensures.stays.survives.clean, w2) in
-    let r1 = c.in_ok-users.ensures.loads w1 in
-    let r2 = then_told s0 s1 s2 (λ d. map token_entry c.in_ok-tokens.tokens.items ≡ entries d.tokens) r1.0 (c.in_ok-tokens.ensures.loads w2) in
-    let r3 = then_told s0 s2 s3 (λ d. map organisation_entry c.in_ok-organisations.organisations.items ≡ entries d.organisations) r2.0 (c.in_ok-organisations.ensures.loads clean) in
-    (r3.0, record { users = r1.1; tokens = r2.1; organisations = r3.1 })
+pub returns-in_err-users-clause-stays : goal.returns-in_err-users-clause-stays
+returns-in_err-users-clause-stays g c = left g.S.Store name_spelled (λ d. entries d.users) users_listed c.args.tx.now c.load.new.tx c.requires.in_form c.load.ensures.same_reference c.load.ensures.finds
+
+pub returns-in_err-tokens-clause-stays : goal.returns-in_err-tokens-clause-stays
+returns-in_err-tokens-clause-stays g c =
+    let one = answered g.S.Store name_spelled (λ d. entries d.users) users_listed c.args.tx.now c.load.new.tx _ c.requires.in_form c.load.ensures.same_reference c.in_ok-users.ensures.finds in
+    stays_then g.S.Store c.args.tx.now c.load.new.tx c.load-2.new.tx one.stays (left g.S.Store token_spelled (λ d. entries d.tokens) tokens_listed c.load.new.tx c.load-2.new.tx (still g.S.Store c.args.tx.now c.load.new.tx _ one) c.load-2.ensures.same_reference c.load-2.ensures.finds)
+
+pub returns-in_err-organisations-clause-stays : goal.returns-in_err-organisations-clause-stays
+returns-in_err-organisations-clause-stays g c =
+    let one = answered g.S.Store name_spelled (λ d. entries d.users) users_listed c.args.tx.now c.load.new.tx _ c.requires.in_form c.load.ensures.same_reference c.in_ok-users.ensures.finds in
+    let two = answered g.S.Store token_spelled (λ d. entries d.tokens) tokens_listed c.load.new.tx c.load-2.new.tx _ (still g.S.Store c.args.tx.now c.load.new.tx _ one) c.load-2.ensures.same_reference c.in_ok-tokens.ensures.finds in
+    stays_then g.S.Store c.args.tx.now c.load-2.new.tx c.load-3.new.tx (next g.S.Store c.args.tx.now c.load.new.tx c.load-2.new.tx _ _ one two).stays (left g.S.Store name_spelled (λ d. entries d.organisations) organisations_listed c.load-2.new.tx c.load-3.new.tx (still g.S.Store c.load.new.tx c.load-2.new.tx _ two) c.load-3.ensures.same_reference c.load-3.ensures.finds)
+
+pub returns : goal.returns
+returns g c =
+    let one = answered g.S.Store name_spelled (λ d. entries d.users) users_listed c.args.tx.now c.load.new.tx _ c.requires.in_form c.load.ensures.same_reference c.in_ok-users.ensures.finds in
+    let two = answered g.S.Store token_spelled (λ d. entries d.tokens) tokens_listed c.load.new.tx c.load-2.new.tx _ (still g.S.Store c.args.tx.now c.load.new.tx _ one) c.load-2.ensures.same_reference c.in_ok-tokens.ensures.finds in
+    let three = answered g.S.Store name_spelled (λ d. entries d.organisations) organisations_listed c.load-2.new.tx c.load-3.new.tx _ (still g.S.Store c.load.new.tx c.load-2.new.tx _ two) c.load-3.ensures.same_reference c.in_ok-organisations.ensures.finds in
+    let all = next g.S.Store c.args.tx.now c.load-2.new.tx c.load-3.new.tx _ _ (next g.S.Store c.args.tx.now c.load.new.tx c.load-2.new.tx _ _ one two) three in
+    record {
+      stays = all.stays;
+      loads = λ clean. let r = all.reads clean in (r.0, record { users = r.1.0.0; tokens = r.1.0.1; organisations = r.1.1 });
+    }

@@ -1,20 +1,31 @@
-use Rattle.std.proofs.Common.{◌≡◌, arith, map}
-use Rattle.sqlite.specs.State.{State as Shown, HasCleanDisk}
 use Rattle.registry_names.specs.Maps.{entries}
-use Rattle.registry_access.specs.RowMaps.{team_entry, team_member_entry}
-use Rattle.registry_tables.specs.Effects.{shown}
-use Rattle.registry_check.proofs.LoadFacts.{then_told}
+use Rattle.registry_rows.proofs.QuietFacts.{stays_then}
+use Rattle.registry_check.specs.Spelled.{member_spelled, pair_spelled, triple_spelled}
+use Rattle.registry_check.proofs.LoadFacts.{answered, left, next, still}
+use Rattle.registry_check.proofs.QueryFacts.{members_listed, teams_listed, team_members_listed}
 use Rattle.registry_check.proofs.loads.load_groups.Goals as goal
 
-pub returns-clause-loads : goal.returns-clause-loads
-returns-clause-loads g c clean =
-    let s0 : Shown = shown g.S.Store c.args.tx.now in
-    let s1 : Shown = shown g.S.Store c.load_members.new.tx in
-    let s2 : Shown = shown g.S.Store c.load_teams.new.tx in
-    let s3 : Shown = shown g.S.Store c.load_team_members.new.tx in
-    let w2 : HasCleanDisk s2 = omega (arith, c.load_team_members.ensures.stays.survives.clean, clean) in
-    let w1 : HasCleanDisk s1 = omega (arith, c.load_teams.ensures.stays.survives.clean, w2) in
-    let r1 = c.in_ok-members.ensures.loads w1 in
-    let r2 = then_told s0 s1 s2 (λ d. map team_entry c.in_ok-teams.teams.items ≡ entries d.teams) r1.0 (c.in_ok-teams.ensures.loads w2) in
-    let r3 = then_told s0 s2 s3 (λ d. map team_member_entry c.in_ok-team_members.team_members.items ≡ entries d.team_members) r2.0 (c.in_ok-team_members.ensures.loads clean) in
-    (r3.0, record { members = r1.1; teams = r2.1; team_members = r3.1 })
+pub returns-in_err-members-clause-stays : goal.returns-in_err-members-clause-stays
+returns-in_err-members-clause-stays g c = left g.S.Store member_spelled (λ d. entries d.members) members_listed c.args.tx.now c.load.new.tx c.requires.in_form c.load.ensures.same_reference c.load.ensures.finds
+
+pub returns-in_err-teams-clause-stays : goal.returns-in_err-teams-clause-stays
+returns-in_err-teams-clause-stays g c =
+    let one = answered g.S.Store member_spelled (λ d. entries d.members) members_listed c.args.tx.now c.load.new.tx _ c.requires.in_form c.load.ensures.same_reference c.in_ok-members.ensures.finds in
+    stays_then g.S.Store c.args.tx.now c.load.new.tx c.load-2.new.tx one.stays (left g.S.Store pair_spelled (λ d. entries d.teams) teams_listed c.load.new.tx c.load-2.new.tx (still g.S.Store c.args.tx.now c.load.new.tx _ one) c.load-2.ensures.same_reference c.load-2.ensures.finds)
+
+pub returns-in_err-team_members-clause-stays : goal.returns-in_err-team_members-clause-stays
+returns-in_err-team_members-clause-stays g c =
+    let one = answered g.S.Store member_spelled (λ d. entries d.members) members_listed c.args.tx.now c.load.new.tx _ c.requires.in_form c.load.ensures.same_reference c.in_ok-members.ensures.finds in
+    let two = answered g.S.Store pair_spelled (λ d. entries d.teams) teams_listed c.load.new.tx c.load-2.new.tx _ (still g.S.Store c.args.tx.now c.load.new.tx _ one) c.load-2.ensures.same_reference c.in_ok-teams.ensures.finds in
+    stays_then g.S.Store c.args.tx.now c.load-2.new.tx c.load-3.new.tx (next g.S.Store c.args.tx.now c.load.new.tx c.load-2.new.tx _ _ one two).stays (left g.S.Store triple_spelled (λ d. entries d.team_members) team_members_listed c.load-2.new.tx c.load-3.new.tx (still g.S.Store c.load.new.tx c.load-2.new.tx _ two) c.load-3.ensures.same_reference c.load-3.ensures.finds)
+
+pub returns : goal.returns
+returns g c =
+    let one = answered g.S.Store member_spelled (λ d. entries d.members) members_listed c.args.tx.now c.load.new.tx _ c.requires.in_form c.load.ensures.same_reference c.in_ok-members.ensures.finds in
+    let two = answered g.S.Store pair_spelled (λ d. entries d.teams) teams_listed c.load.new.tx c.load-2.new.tx _ (still g.S.Store c.args.tx.now c.load.new.tx _ one) c.load-2.ensures.same_reference c.in_ok-teams.ensures.finds in
+    let three = answered g.S.Store triple_spelled (λ d. entries d.team_members) team_members_listed c.load-2.new.tx c.load-3.new.tx _ (still g.S.Store c.load.new.tx c.load-2.new.tx _ two) c.load-3.ensures.same_reference c.in_ok-team_members.ensures.finds in
+    let all = next g.S.Store c.args.tx.now c.load-2.new.tx c.load-3.new.tx _ _ (next g.S.Store c.args.tx.now c.load.new.tx c.load-2.new.tx _ _ one two) three in
+    record {
+      stays = all.stays;
+      loads = λ clean. let r = all.reads clean in (r.0, record { members = r.1.0.0; teams = r.1.0.1; team_members = r.1.1 });
+    }

@@ -1,20 +1,31 @@
-use Rattle.std.proofs.Common.{◌≡◌, arith, map}
-use Rattle.sqlite.specs.State.{State as Shown, HasCleanDisk}
 use Rattle.registry_names.specs.Maps.{entries}
-use Rattle.registry_access.specs.RowMaps.{grant_entry, maintainer_entry}
-use Rattle.registry_tables.specs.Effects.{shown}
-use Rattle.registry_check.proofs.LoadFacts.{then_told}
+use Rattle.registry_rows.proofs.QuietFacts.{stays_then}
+use Rattle.registry_check.specs.Spelled.{grant_spelled, package_spelled, pair_spelled}
+use Rattle.registry_check.proofs.LoadFacts.{answered, left, next, still}
+use Rattle.registry_check.proofs.QueryFacts.{packages_listed, grants_listed, maintainers_listed}
 use Rattle.registry_check.proofs.loads.load_packages.Goals as goal
 
-pub returns-clause-loads : goal.returns-clause-loads
-returns-clause-loads g c clean =
-    let s0 : Shown = shown g.S.Store c.args.tx.now in
-    let s1 : Shown = shown g.S.Store c.load_published.new.tx in
-    let s2 : Shown = shown g.S.Store c.load_grants.new.tx in
-    let s3 : Shown = shown g.S.Store c.load_maintainers.new.tx in
-    let w2 : HasCleanDisk s2 = omega (arith, c.load_maintainers.ensures.stays.survives.clean, clean) in
-    let w1 : HasCleanDisk s1 = omega (arith, c.load_grants.ensures.stays.survives.clean, w2) in
-    let r1 = c.in_ok-published.ensures.loads w1 in
-    let r2 = then_told s0 s1 s2 (λ d. map grant_entry c.in_ok-grants.grants.items ≡ entries d.grants) r1.0 (c.in_ok-grants.ensures.loads w2) in
-    let r3 = then_told s0 s2 s3 (λ d. map maintainer_entry c.in_ok-maintainers.maintainers.items ≡ entries d.owners) r2.0 (c.in_ok-maintainers.ensures.loads clean) in
-    (r3.0, record { published = r1.1; grants = r2.1; maintainers = r3.1 })
+pub returns-in_err-published-clause-stays : goal.returns-in_err-published-clause-stays
+returns-in_err-published-clause-stays g c = left g.S.Store package_spelled (λ d. entries d.packages) packages_listed c.args.tx.now c.load.new.tx c.requires.in_form c.load.ensures.same_reference c.load.ensures.finds
+
+pub returns-in_err-grants-clause-stays : goal.returns-in_err-grants-clause-stays
+returns-in_err-grants-clause-stays g c =
+    let one = answered g.S.Store package_spelled (λ d. entries d.packages) packages_listed c.args.tx.now c.load.new.tx _ c.requires.in_form c.load.ensures.same_reference c.in_ok-published.ensures.finds in
+    stays_then g.S.Store c.args.tx.now c.load.new.tx c.load-2.new.tx one.stays (left g.S.Store grant_spelled (λ d. entries d.grants) grants_listed c.load.new.tx c.load-2.new.tx (still g.S.Store c.args.tx.now c.load.new.tx _ one) c.load-2.ensures.same_reference c.load-2.ensures.finds)
+
+pub returns-in_err-maintainers-clause-stays : goal.returns-in_err-maintainers-clause-stays
+returns-in_err-maintainers-clause-stays g c =
+    let one = answered g.S.Store package_spelled (λ d. entries d.packages) packages_listed c.args.tx.now c.load.new.tx _ c.requires.in_form c.load.ensures.same_reference c.in_ok-published.ensures.finds in
+    let two = answered g.S.Store grant_spelled (λ d. entries d.grants) grants_listed c.load.new.tx c.load-2.new.tx _ (still g.S.Store c.args.tx.now c.load.new.tx _ one) c.load-2.ensures.same_reference c.in_ok-grants.ensures.finds in
+    stays_then g.S.Store c.args.tx.now c.load-2.new.tx c.load-3.new.tx (next g.S.Store c.args.tx.now c.load.new.tx c.load-2.new.tx _ _ one two).stays (left g.S.Store pair_spelled (λ d. entries d.owners) maintainers_listed c.load-2.new.tx c.load-3.new.tx (still g.S.Store c.load.new.tx c.load-2.new.tx _ two) c.load-3.ensures.same_reference c.load-3.ensures.finds)
+
+pub returns : goal.returns
+returns g c =
+    let one = answered g.S.Store package_spelled (λ d. entries d.packages) packages_listed c.args.tx.now c.load.new.tx _ c.requires.in_form c.load.ensures.same_reference c.in_ok-published.ensures.finds in
+    let two = answered g.S.Store grant_spelled (λ d. entries d.grants) grants_listed c.load.new.tx c.load-2.new.tx _ (still g.S.Store c.args.tx.now c.load.new.tx _ one) c.load-2.ensures.same_reference c.in_ok-grants.ensures.finds in
+    let three = answered g.S.Store pair_spelled (λ d. entries d.owners) maintainers_listed c.load-2.new.tx c.load-3.new.tx _ (still g.S.Store c.load.new.tx c.load-2.new.tx _ two) c.load-3.ensures.same_reference c.in_ok-maintainers.ensures.finds in
+    let all = next g.S.Store c.args.tx.now c.load-2.new.tx c.load-3.new.tx _ _ (next g.S.Store c.args.tx.now c.load.new.tx c.load-2.new.tx _ _ one two) three in
+    record {
+      stays = all.stays;
+      loads = λ clean. let r = all.reads clean in (r.0, record { published = r.1.0.0; grants = r.1.0.1; maintainers = r.1.1 });
+    }

@@ -1,5 +1,6 @@
 use Rattle.std.proofs.Common.{arith}
 use Rattle.sqlite.specs.State.{State as Shown, HasCleanDisk}
+use Rattle.registry_rows.proofs.QuietFacts.{stays_then}
 use Rattle.registry_tables.specs.Effects.{shown, stored_in}
 use Rattle.registry_check.specs.Loaded.{AreGroups, ArePackages, AreVersions}
 use Rattle.registry_check.proofs.LoadFacts.{all_tables, then_told}
@@ -20,3 +21,24 @@ returns-clause-loads g c clean =
     let r3 = then_told s0 s2 s3 (ArePackages c.in_ok-packages.packages) r2.0 (c.in_ok-packages.ensures.loads w3) in
     let r4 = then_told s0 s3 s4 (AreVersions c.in_ok-versions.versions) r3.0 (c.in_ok-versions.ensures.loads clean) in
     (r4.0, all_tables c.in_ok-accounts.accounts c.in_ok-groups.groups c.in_ok-packages.packages c.in_ok-versions.versions (stored_in g.S.Store c.args.tx.now) r1.1 r2.1 r3.1 r4.1)
+
+pub load_groups-requires : goal.load_groups-requires
+load_groups-requires g c = record { in_form = λ clean up. (c.in_ok-accounts.ensures.loads clean).0.ready }
+
+pub load_packages-requires : goal.load_packages-requires
+load_packages-requires g c = record { in_form = λ clean up. (c.in_ok-groups.ensures.loads clean).0.ready }
+
+pub load_versions-requires : goal.load_versions-requires
+load_versions-requires g c = record { in_form = λ clean up. (c.in_ok-packages.ensures.loads clean).0.ready }
+
+pub returns-in_err-groups-clause-stays : goal.returns-in_err-groups-clause-stays
+returns-in_err-groups-clause-stays g c = stays_then g.S.Store c.args.tx.now c.load_accounts.new.tx c.load_groups.new.tx c.load_accounts.ensures.stays c.load_groups.ensures.stays
+
+pub returns-in_err-packages-clause-stays : goal.returns-in_err-packages-clause-stays
+returns-in_err-packages-clause-stays g c = stays_then g.S.Store c.args.tx.now c.load_groups.new.tx c.load_packages.new.tx (stays_then g.S.Store c.args.tx.now c.load_accounts.new.tx c.load_groups.new.tx c.load_accounts.ensures.stays c.load_groups.ensures.stays) c.load_packages.ensures.stays
+
+pub returns-in_err-versions-clause-stays : goal.returns-in_err-versions-clause-stays
+returns-in_err-versions-clause-stays g c = stays_then g.S.Store c.args.tx.now c.load_packages.new.tx c.load_versions.new.tx (stays_then g.S.Store c.args.tx.now c.load_groups.new.tx c.load_packages.new.tx (stays_then g.S.Store c.args.tx.now c.load_accounts.new.tx c.load_groups.new.tx c.load_accounts.ensures.stays c.load_groups.ensures.stays) c.load_packages.ensures.stays) c.load_versions.ensures.stays
+
+pub returns-clause-stays : goal.returns-clause-stays
+returns-clause-stays g c = stays_then g.S.Store c.args.tx.now c.load_packages.new.tx c.load_versions.new.tx (stays_then g.S.Store c.args.tx.now c.load_groups.new.tx c.load_packages.new.tx (stays_then g.S.Store c.args.tx.now c.load_accounts.new.tx c.load_groups.new.tx c.load_accounts.ensures.stays c.load_groups.ensures.stays) c.load_packages.ensures.stays) c.load_versions.ensures.stays

@@ -1,23 +1,39 @@
-use Rattle.std.proofs.Common.{◌≡◌, arith, map}
-use Rattle.sqlite.specs.State.{State as Shown, HasCleanDisk}
 use Rattle.registry_names.specs.Maps.{entries}
-use Rattle.registry_tables.specs.Effects.{shown}
-use Rattle.registry_check.specs.Rows.{archive_entry, held_entry, need_entry}
-use Rattle.registry_check.proofs.LoadFacts.{then_told}
+use Rattle.registry_rows.proofs.QuietFacts.{stays_then}
+use Rattle.registry_check.specs.Spelled.{archive_spelled, held_spelled, live_spelled, need_spelled}
+use Rattle.registry_check.proofs.LoadFacts.{answered, left, next, still}
+use Rattle.registry_check.proofs.QueryFacts.{live_listed, needs_listed, held_listed, archives_listed}
 use Rattle.registry_check.proofs.loads.load_versions.Goals as goal
 
-pub returns-clause-loads : goal.returns-clause-loads
-returns-clause-loads g c clean =
-    let s0 : Shown = shown g.S.Store c.args.tx.now in
-    let s1 : Shown = shown g.S.Store c.load_live.new.tx in
-    let s2 : Shown = shown g.S.Store c.load_needs.new.tx in
-    let s3 : Shown = shown g.S.Store c.load_held.new.tx in
-    let s4 : Shown = shown g.S.Store c.load_archives.new.tx in
-    let w3 : HasCleanDisk s3 = omega (arith, c.load_archives.ensures.stays.survives.clean, clean) in
-    let w2 : HasCleanDisk s2 = omega (arith, c.load_held.ensures.stays.survives.clean, w3) in
-    let w1 : HasCleanDisk s1 = omega (arith, c.load_needs.ensures.stays.survives.clean, w2) in
-    let r1 = c.in_ok-live.ensures.loads w1 in
-    let r2 = then_told s0 s1 s2 (λ d. map need_entry c.in_ok-needs.needs.items ≡ entries d.need_ranges) r1.0 (c.in_ok-needs.ensures.loads w2) in
-    let r3 = then_told s0 s2 s3 (λ d. map held_entry c.in_ok-held.held.items ≡ entries d.held) r2.0 (c.in_ok-held.ensures.loads w3) in
-    let r4 = then_told s0 s3 s4 (λ d. map archive_entry c.in_ok-archives.archives.items ≡ entries d.archives) r3.0 (c.in_ok-archives.ensures.loads clean) in
-    (r4.0, record { live = r1.1; needs = r2.1; held = r3.1; archives = r4.1 })
+pub returns-in_err-live-clause-stays : goal.returns-in_err-live-clause-stays
+returns-in_err-live-clause-stays g c = left g.S.Store live_spelled (λ d. entries d.versions) live_listed c.args.tx.now c.load.new.tx c.requires.in_form c.load.ensures.same_reference c.load.ensures.finds
+
+pub returns-in_err-needs-clause-stays : goal.returns-in_err-needs-clause-stays
+returns-in_err-needs-clause-stays g c =
+    let one = answered g.S.Store live_spelled (λ d. entries d.versions) live_listed c.args.tx.now c.load.new.tx _ c.requires.in_form c.load.ensures.same_reference c.in_ok-live.ensures.finds in
+    stays_then g.S.Store c.args.tx.now c.load.new.tx c.load-2.new.tx one.stays (left g.S.Store need_spelled (λ d. entries d.need_ranges) needs_listed c.load.new.tx c.load-2.new.tx (still g.S.Store c.args.tx.now c.load.new.tx _ one) c.load-2.ensures.same_reference c.load-2.ensures.finds)
+
+pub returns-in_err-held-clause-stays : goal.returns-in_err-held-clause-stays
+returns-in_err-held-clause-stays g c =
+    let one = answered g.S.Store live_spelled (λ d. entries d.versions) live_listed c.args.tx.now c.load.new.tx _ c.requires.in_form c.load.ensures.same_reference c.in_ok-live.ensures.finds in
+    let two = answered g.S.Store need_spelled (λ d. entries d.need_ranges) needs_listed c.load.new.tx c.load-2.new.tx _ (still g.S.Store c.args.tx.now c.load.new.tx _ one) c.load-2.ensures.same_reference c.in_ok-needs.ensures.finds in
+    stays_then g.S.Store c.args.tx.now c.load-2.new.tx c.load-3.new.tx (next g.S.Store c.args.tx.now c.load.new.tx c.load-2.new.tx _ _ one two).stays (left g.S.Store held_spelled (λ d. entries d.held) held_listed c.load-2.new.tx c.load-3.new.tx (still g.S.Store c.load.new.tx c.load-2.new.tx _ two) c.load-3.ensures.same_reference c.load-3.ensures.finds)
+
+pub returns-in_err-archives-clause-stays : goal.returns-in_err-archives-clause-stays
+returns-in_err-archives-clause-stays g c =
+    let one = answered g.S.Store live_spelled (λ d. entries d.versions) live_listed c.args.tx.now c.load.new.tx _ c.requires.in_form c.load.ensures.same_reference c.in_ok-live.ensures.finds in
+    let two = answered g.S.Store need_spelled (λ d. entries d.need_ranges) needs_listed c.load.new.tx c.load-2.new.tx _ (still g.S.Store c.args.tx.now c.load.new.tx _ one) c.load-2.ensures.same_reference c.in_ok-needs.ensures.finds in
+    let three = answered g.S.Store held_spelled (λ d. entries d.held) held_listed c.load-2.new.tx c.load-3.new.tx _ (still g.S.Store c.load.new.tx c.load-2.new.tx _ two) c.load-3.ensures.same_reference c.in_ok-held.ensures.finds in
+    stays_then g.S.Store c.args.tx.now c.load-3.new.tx c.load-4.new.tx (next g.S.Store c.args.tx.now c.load-2.new.tx c.load-3.new.tx _ _ (next g.S.Store c.args.tx.now c.load.new.tx c.load-2.new.tx _ _ one two) three).stays (left g.S.Store archive_spelled (λ d. entries d.archives) archives_listed c.load-3.new.tx c.load-4.new.tx (still g.S.Store c.load-2.new.tx c.load-3.new.tx _ three) c.load-4.ensures.same_reference c.load-4.ensures.finds)
+
+pub returns : goal.returns
+returns g c =
+    let one = answered g.S.Store live_spelled (λ d. entries d.versions) live_listed c.args.tx.now c.load.new.tx _ c.requires.in_form c.load.ensures.same_reference c.in_ok-live.ensures.finds in
+    let two = answered g.S.Store need_spelled (λ d. entries d.need_ranges) needs_listed c.load.new.tx c.load-2.new.tx _ (still g.S.Store c.args.tx.now c.load.new.tx _ one) c.load-2.ensures.same_reference c.in_ok-needs.ensures.finds in
+    let three = answered g.S.Store held_spelled (λ d. entries d.held) held_listed c.load-2.new.tx c.load-3.new.tx _ (still g.S.Store c.load.new.tx c.load-2.new.tx _ two) c.load-3.ensures.same_reference c.in_ok-held.ensures.finds in
+    let four = answered g.S.Store archive_spelled (λ d. entries d.archives) archives_listed c.load-3.new.tx c.load-4.new.tx _ (still g.S.Store c.load-2.new.tx c.load-3.new.tx _ three) c.load-4.ensures.same_reference c.in_ok-archives.ensures.finds in
+    let all = next g.S.Store c.args.tx.now c.load-3.new.tx c.load-4.new.tx _ _ (next g.S.Store c.args.tx.now c.load-2.new.tx c.load-3.new.tx _ _ (next g.S.Store c.args.tx.now c.load.new.tx c.load-2.new.tx _ _ one two) three) four in
+    record {
+      stays = all.stays;
+      loads = λ clean. let r = all.reads clean in (r.0, record { live = r.1.0.0.0; needs = r.1.0.0.1; held = r.1.0.1; archives = r.1.1 });
+    }

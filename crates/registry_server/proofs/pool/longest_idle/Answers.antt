@@ -1,6 +1,6 @@
-use Rattle.std.proofs.Common.{rules, ◌≡◌, ◌<◌, ◌+◌, ◌∙◌, ℕ, Option, Some, length, subst, sym, arith}
+use Rattle.std.proofs.Common.{rules, ◌≡◌, ◌<◌, ◌+◌, ◌∙◌, ℕ, Option, None, Some, length, subst, sym, arith}
 use Rattle.registry_server.specs.Pools.{IsEarliestOf, idle_times}
-use Rattle.registry_server.proofs.PoolFacts.{earliest-of, earliest-step, idle-read}
+use Rattle.registry_server.proofs.PoolFacts.{earliest-of, earliest-step, first-of-none, idle-read}
 use Rattle.registry_server.proofs.pool.longest_idle.Goals as goal
 
 pub loop-number-preserved : goal.loop-number-preserved
@@ -18,3 +18,13 @@ returns-in-Some g c =
     let all : c.loop-number.number ≡ length places = omega (arith, c.loop-number-test.false, c.loop-number.auto.number-end) in
     let is : c.loop-number.longest ≡ Some (c.in-Some.number, c.in-Some.field-0-1) = search rules in
     earliest-of (idle_times places) c.loop-number.number (length places) c.loop-number.longest c.in-Some.number c.in-Some.field-0-1 c.loop-number.invariant all is
+
+pub loop-number-init : goal.loop-number-init
+loop-number-init g c j below = absurd (omega (arith, below))
+
+pub returns-in-None : goal.returns-in-None
+returns-in-None g c =
+    let places = c.args.places.now in
+    let all : c.loop-number.number ≡ length places = omega (arith, c.loop-number-test.false, c.loop-number.auto.number-end) in
+    let none : c.loop-number.longest ≡ None = search rules in
+    first-of-none (idle_times places) c.loop-number.number (length places) c.loop-number.longest c.loop-number.invariant all none

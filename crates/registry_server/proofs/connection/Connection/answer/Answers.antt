@@ -35,3 +35,18 @@ returns-in-Answered-clause-answers g c =
 pub returns-in-Waits-clause-waits : goal.returns-in-Waits-clause-waits
 returns-in-Waits-clause-waits g c rests =
     waits-for-more _ _ _ (ap (λ (p : Phase). takes_turns p.stage) c.look.ensures.phase ∙ c.in-Waits.ensures.turning refl) (c.look.ensures.waits rests)
+
+pub returns-in-Answered-clause-rests : goal.returns-in-Answered-clause-rests
+returns-in-Answered-clause-rests g c = c.send.ensures.rests
+
+pub returns-in-Answered-clause-waits : goal.returns-in-Answered-clause-waits
+returns-in-Answered-clause-waits g c = c.send.ensures.waits
+
+pub returns-in-Answered-clause-over : goal.returns-in-Answered-clause-over
+returns-in-Answered-clause-over g c = c.send.ensures.over
+
+pub returns-in-Waits-clause-over : goal.returns-in-Waits-clause-over
+returns-in-Waits-clause-over g c = λ over. inl (c.look.ensures.lost over)
+
+pub returns-in-Closed-clause-rest : goal.returns-in-Closed-clause-rest
+returns-in-Closed-clause-rest g c = λ goes. absurd (goes refl)

@@ -1,4 +1,4 @@
-use Rattle.std.proofs.Common.{◌≡◌, ◌∙◌, ◌≤◌, [], List, ℕ, length, ap, refl, subst, sym, take}
+use Rattle.std.proofs.Common.{◌≡◌, ◌∙◌, ◌≤◌, [], List, ℕ, length, ap, inl, refl, subst, sym, take}
 use Rattle.std.specs.Io.KnownBytes.{append_known}
 use Rattle.registry_server.specs.Connections.{OpenConnection, SendsDue, connected}
 use Rattle.registry_server.specs.Phases.{entered}
@@ -84,3 +84,12 @@ returns-in-Broken-clause-sends g c =
       over = refl;
       times = sent-still c.args.now c.self.inside.phase;
     })
+
+pub returns-then-is_empty-clause-waits : goal.returns-then-is_empty-clause-waits
+returns-then-is_empty-clause-waits g c = λ rests. absurd (c.go_on.ensures.rests rests)
+
+pub returns-then-is_empty-clause-over : goal.returns-then-is_empty-clause-over
+returns-then-is_empty-clause-over g c = λ over. inl (c.go_on.ensures.lost over)
+
+pub returns-in-Broken-clause-over : goal.returns-in-Broken-clause-over
+returns-in-Broken-clause-over g c = λ over. inl (c.in-Broken.ensures.broken refl)

@@ -59,3 +59,33 @@ returns-in-Sends-clause-leaves g c = λ goes before. little-sent g.S.Socket.rece
 
 pub returns-in-Drains-clause-leaves : goal.returns-in-Drains-clause-leaves
 returns-in-Drains-clause-leaves g c = λ goes before. little-drained _ c.drain.new.self c.drain.ensures.stage
+
+pub returns-in-Ok-Moved-clause-waits : goal.returns-in-Ok-Moved-clause-waits
+returns-in-Ok-Moved-clause-waits g c = c.answer.ensures.waits
+
+pub returns-in-Ok-Moved-clause-over : goal.returns-in-Ok-Moved-clause-over
+returns-in-Ok-Moved-clause-over g c = c.answer.ensures.over
+
+pub returns-in-Err-clause-waits : goal.returns-in-Err-clause-waits
+returns-in-Err-clause-waits g c = c.starve.ensures.waits
+
+pub returns-in-Err-clause-over : goal.returns-in-Err-clause-over
+returns-in-Err-clause-over g c = c.starve.ensures.over
+
+pub returns-in-Next-clause-waits : goal.returns-in-Next-clause-waits
+returns-in-Next-clause-waits g c = c.answer-in-Next.ensures.waits
+
+pub returns-in-Next-clause-over : goal.returns-in-Next-clause-over
+returns-in-Next-clause-over g c = c.answer-in-Next.ensures.over
+
+pub returns-in-Sends-clause-waits : goal.returns-in-Sends-clause-waits
+returns-in-Sends-clause-waits g c = c.send.ensures.waits
+
+pub returns-in-Sends-clause-over : goal.returns-in-Sends-clause-over
+returns-in-Sends-clause-over g c = c.send.ensures.over
+
+pub returns-in-Drains-clause-waits : goal.returns-in-Drains-clause-waits
+returns-in-Drains-clause-waits g c = c.drain.ensures.waits
+
+pub returns-in-Drains-clause-over : goal.returns-in-Drains-clause-over
+returns-in-Drains-clause-over g c = c.drain.ensures.over
