@@ -3,27 +3,18 @@ use Rattle.std.proofs.Common.{◌≡◌, ◌⊎◌, inl, inr, ◌<◌, ◌+◌, 
 use Rattle.std.specs.List.{list_any}
 use Rattle.std.proofs.lemmas.List.{map-append, take_more}
 use Rattle.std.proofs.lemmas.List.Folds.{list_any-append}
-use Rattle.registry_access.specs.declared.caller.Caller.{Caller}
 use Rattle.registry_names.specs.Texts.{Text, is}
-use Rattle.registry_names.specs.declared.refusal.Refusal.{Refusal}
 use Rattle.registry_cache.specs.Caches.{Cache, asked, forgotten, kept, with_room, with_text}
 use Rattle.registry_cache.proofs.CacheFacts.{kept-asked, kept-kept_where, kept_where-all, kept_where-same, kept_where-twice, limit-with_room, limit-with_text, put_keeps_right, room_keeps_right}
 use Rattle.registry_names.proofs.TextFacts.{is_sym, is_true}
-use Rattle.registry_rules.specs.Actions.{is_command}
 use Rattle.registry_rules.specs.Changes.{Change, change_of}
 use Rattle.registry_rules.specs.declared.change.Change as declared
-use Rattle.registry_rules.specs.declared.reply.Reply.{Reply}
-use Rattle.registry_rules.specs.declared.reply.Reply.TheVariants.{Doc, Refused}
-use Rattle.registry_rules.specs.State.{State}
-use Rattle.registry_rules.specs.declared.request.Action.{Action}
-use Rattle.registry_rules.specs.declared.request.Action.TheVariants.{Packument}
 use Rattle.registry_tables.specs.Archives.{HeldAreStored}
 use Rattle.registry_tables.specs.Changes.{all_stored}
 use Rattle.registry_tables.specs.Contents.{Contents, registry_of}
 use Rattle.registry_tables.proofs.StepFacts.{changes_make}
-use Rattle.registry_history.specs.Answers.{packument_in, reply_to}
 use Rattle.registry_history.specs.Apart.{is_about}
-use Rattle.registry_desk.specs.Caches.{ArePackuments, IsPut, KeepsLatest, KeepsNoMore, LeavesTextsRight, ShowsPackument, live_packument, without_changed, without_touched}
+use Rattle.registry_desk.specs.Caches.{ArePackuments, IsPut, KeepsLatest, KeepsNoMore, LeavesTextsRight, live_packument, without_changed, without_touched}
 use Rattle.registry_desk.proofs.LivingFacts.{live_of_others}
 
 -- ---- what is forgotten
@@ -146,36 +137,15 @@ made_still c cs cache held p text h =
     ap (λ S. live_packument S p) (changes_make cs c held)
     ∙ live_of_others (registry_of c) cs p (untouched_found is_about cs cache p text h).0
 
--- ---- what is answered
-
-shown_by : (S : State) (who : Option Caller) (p text : Text) → Doc text ≡ reply_to S who (Packument p) → text ≡ packument_in S p
-shown_by S None p text e = cc
-shown_by S (Some who) p text e = cc
-
--- a reply that is the machine's shows the packument
-shows_packument : (c : Contents) (cache : Cache) (who : Option Caller) (what : Action) (given : Reply)
-    → ((p : Text) → what ≡ Packument p → ArePackuments c cache → given ≡ reply_to (registry_of c) who what) → ShowsPackument c cache what given
-shows_packument c cache who what given told p text are asks h =
-    shown_by (registry_of c) who p text (sym h ∙ told p asks are ∙ ap (reply_to (registry_of c) who) asks)
-
 -- ---- what becomes of the texts that are kept
 
-pub texts_leave : (c d : Contents) (who : Option Caller) (what : Action) (cs : List Change) (old new : Cache) (given : Reply) → HeldAreStored c → d ≡ all_stored cs c
-    → (is_command what ≡ false → cs ≡ []) → new ≡ without_changed cs old
-    → ((p : Text) → what ≡ Packument p → ArePackuments c old → given ≡ reply_to (registry_of c) who what) → LeavesTextsRight c d what old new given
-texts_leave c d who what cs old new given held is query left told = record {
-  still = λ p text h. ap (λ (e : Contents). live_packument (registry_of e) p) is ∙ made_still c cs old held p text (ap (λ (s : Cache). kept s p) (sym left) ∙ h);
-  shown = shows_packument c old who what given told;
-  asked = λ p asks. ap (λ (e : Contents). packument_in (registry_of e) p) (is ∙ ap (λ changes. all_stored changes c) (query (ap is_command asks)));
-}
+pub texts_leave : (c d : Contents) (cs : List Change) (old new : Cache) → HeldAreStored c → d ≡ all_stored cs c → new ≡ without_changed cs old → LeavesTextsRight c d new
+texts_leave c d cs old new held is left p text h =
+    ap (λ (e : Contents). live_packument (registry_of e) p) is ∙ made_still c cs old held p text (ap (λ (s : Cache). kept s p) (sym left) ∙ h)
 
 -- what is refused changes nothing
-pub texts_refused : (c d : Contents) (what : Action) (cache : Cache) (why : Refusal) → d ≡ c → LeavesTextsRight c d what cache cache (Refused why)
-texts_refused c d what cache why same = record {
-  still = λ p text h. ap (λ (e : Contents). live_packument (registry_of e) p) same;
-  shown = λ p text are asks h. cc;
-  asked = λ p asks. ap (λ (e : Contents). packument_in (registry_of e) p) same;
-}
+pub texts_refused : (c d : Contents) (cache : Cache) → d ≡ c → LeavesTextsRight c d cache
+texts_refused c d cache same p text h = ap (λ (e : Contents). live_packument (registry_of e) p) same
 
 -- ---- what is right after a request
 
@@ -185,8 +155,8 @@ texts_unchanged c d was is_now same keeps are =
     record { right = λ p text h. ap (λ (e : Contents). live_packument (registry_of e) p) same ∙ are.right p text (keeps.before p text h) }
 
 -- the request was answered
-pub texts_answered : (c d : Contents) (what : Action) (was is_now : Cache) (given : Reply) → LeavesTextsRight c d what was is_now given → KeepsNoMore was is_now → ArePackuments c was → ArePackuments d is_now
-texts_answered c d what was is_now given leaves keeps are = record { right = λ p text h. leaves.still p text h ∙ are.right p text (keeps.before p text h) }
+pub texts_answered : (c d : Contents) (was is_now : Cache) → LeavesTextsRight c d is_now → KeepsNoMore was is_now → ArePackuments c was → ArePackuments d is_now
+texts_answered c d was is_now leaves keeps are = record { right = λ p text h. leaves p text h ∙ are.right p text (keeps.before p text h) }
 
 -- what is replied is kept
 pub texts_kept : (d : Contents) (name text : Text) (was is_now : Cache) → ArePackuments d was → live_packument (registry_of d) name ≡ Some text → KeepsLatest name text was is_now → ArePackuments d is_now

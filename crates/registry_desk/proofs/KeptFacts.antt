@@ -59,8 +59,7 @@ module _ (c d : Contents) (who : Option Caller) (what : Action) (cs : List Chang
   leaves_by : (given : Reply) → HeldAreStored c → d ≡ all_stored cs c → (is_command what ≡ false → cs ≡ []) → AreLeftBy cs old new
       → (IsSoundFor what c old → given ≡ reply_to (registry_of c) who what) → LeavesCacheRight c d what old new given
   leaves_by given held is query left told = record {
-    packuments = texts_leave c d who what cs old.packuments new.packuments given held is query left.packuments
-        (λ p asks are. told (subst (λ (w : Action). IsSoundFor w c old) (sym asks) are));
+    packuments = texts_leave c d cs old.packuments new.packuments held is left.packuments;
     archives = archives_leave c d who what cs old.archives new.archives given held is query left.archives
         (λ p v asks are. told (subst (λ (w : Action). IsSoundFor w c old) (sym asks) are));
   }
@@ -74,7 +73,7 @@ module _ (c d : Contents) (who : Option Caller) (what : Action) (cs : List Chang
 -- what is refused changes nothing
 pub leaves_refused : (c d : Contents) (what : Action) (caches : Caches) (why : Refusal) → d ≡ c → LeavesCacheRight c d what caches caches (Refused why)
 leaves_refused c d what caches why same = record {
-  packuments = texts_refused c d what caches.packuments why same;
+  packuments = texts_refused c d caches.packuments same;
   archives = archives_refused c d what caches.archives why same;
 }
 
@@ -93,7 +92,7 @@ right_unchanged old new was is_now same keeps right clean on =
 -- the request was answered
 pub right_answered : (c d : Contents) (what : Action) (was is_now : Caches) (given : Reply) → LeavesCacheRight c d what was is_now given → KeepNoMore was is_now → AreAnswers c was → AreAnswers d is_now
 right_answered c d what was is_now given leaves keeps are = record {
-  packuments = texts_answered c d what was.packuments is_now.packuments given leaves.packuments keeps.packuments are.packuments;
+  packuments = texts_answered c d was.packuments is_now.packuments leaves.packuments keeps.packuments are.packuments;
   archives = archives_answered c d what was.archives is_now.archives given leaves.archives keeps.archives are.archives;
 }
 

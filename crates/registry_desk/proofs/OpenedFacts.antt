@@ -1,5 +1,5 @@
 -- What an open finds in files: rows whose rowids rise.
-use Rattle.std.proofs.Common.{◌≡◌, ◌⊎◌, ◌∙◌, ◌==◌, ℕ, filter, true, false, List, [], ◌∷◌, inl, inr, ap, sym, subst, IsTrue, OnOk, Result, Ok, Err, length, ne_eqb, refl, arith}
+use Rattle.std.proofs.Common.{◌≡◌, ◌⊎◌, ◌∙◌, ℕ, filter, true, List, [], ◌∷◌, inl, inr, ap, sym, subst, IsTrue, OnOk, Result, Ok, Err, length, refl, arith}
 use Rattle.std.proofs.Math.Logic.{∥∥₁_elim}
 use Rattle.std.specs.List.{AllByRecursion}
 use Rattle.sqlite_rules.specs.Lists.{Has}
@@ -112,11 +112,6 @@ migrated_left older old new is survives = record {
 pub both_ok : {A E : Type 0} {P Q R : Type 0} (r : Result A E) → (P → Q → R) → OnOk r P → OnOk r Q → OnOk r R
 both_ok (Ok a) f p q = f p q
 both_ok (Err e) f p q = tt
-
--- a list without a row
-pub no_more : (rows : List Row) → (length rows == 0) ≡ true → rows ≡ []
-no_more [] none = refl
-no_more (r ∷ rows) none = absurd (let some : (length (r ∷ rows) == 0) ≡ false = ne_eqb _ 0 (omega arith) in cc)
 
 -- ---- of the trees that the files hold
 

@@ -24,7 +24,7 @@ use Rattle.registry_desk.specs.declared.cache.Caches.{Caches}
 
 -- ---- what is right
 
--- the packument of a package of which a version lives; None of another
+-- the packument of a package of which a version lives; of any other package None
 abbrev pub live_packument : State → Text → Option Text
 live_packument S p = if has_live S p then Some (packument_in S p) else None
 
@@ -185,23 +185,13 @@ IsSoundFor (Archive p v) c caches = AreArchives c caches.archives
 IsSoundFor (TeamPackages o t) c caches = AreTeamsSound c
 IsSoundFor _ c caches = Unit {0}
 
--- a packument that is answered is the package's
-abbrev pub ShowsPackument : Contents → Cache → Action → Reply → Type 0
-ShowsPackument c cache what given = (p text : Text)
-    → ArePackuments c cache → what ≡ Packument p → given ≡ Doc text
-    → text ≡ packument_in (registry_of c) p
-
 -- an archive that is answered is the version's
 abbrev pub ShowsArchive : Contents → Cache → Action → Reply → Type 0
 ShowsArchive c cache what given = (p : Text) (v : VersionParts) (bytes : List ℕ)
     → AreArchives c cache → what ≡ Archive p v → given ≡ Bytes bytes
     → bytes ≡ archive_in (registry_of c) p (text_of_version v)
 
--- the packument of the package is the same in both
-abbrev pub IsSamePackument : Contents → Contents → Text → Type 0
-IsSamePackument c d p = packument_in (registry_of d) p ≡ packument_in (registry_of c) p
-
--- and so is whether a version of it lives
+-- what is shown of the package is the same in both: its packument, or that no version of it lives
 abbrev pub IsSameLive : Contents → Contents → Text → Type 0
 IsSameLive c d p = live_packument (registry_of d) p ≡ live_packument (registry_of c) p
 
@@ -209,15 +199,12 @@ IsSameLive c d p = live_packument (registry_of d) p ≡ live_packument (registry
 abbrev pub IsSameArchive : Contents → Contents → Text → Text → Type 0
 IsSameArchive c d p v = archive_in (registry_of d) p v ≡ archive_in (registry_of c) p v
 
--- The contents go from c to d: what is kept is of packages whose packuments stay, and of which a
--- version lives as before; and a packument that is answered is the package's, before and after
-pub record LeavesTextsRight (c d : Contents) (what : Action) (old new : Cache) (given : Reply)
-    : Type 0 where
-  pub still : (p text : Text) → kept new p ≡ Some text → IsSameLive c d p
-  pub shown : ShowsPackument c old what given
-  pub asked : (p : Text) → what ≡ Packument p → IsSamePackument c d p
+-- The contents go from c to d: of each package whose packument is kept, the same is shown
+abbrev pub LeavesTextsRight : Contents → Contents → Cache → Type 0
+LeavesTextsRight c d new = (p text : Text) → kept new p ≡ Some text → IsSameLive c d p
 
--- so of archives
+-- of each version whose archive is kept the archive is the same; and an archive that is answered is
+-- the version's, before and after
 pub record LeavesArchivesRight (c d : Contents) (what : Action) (old new : Cache) (given : Reply)
     : Type 0 where
   pub still : (key bytes : Text) → kept new key ≡ Some bytes
@@ -225,8 +212,8 @@ pub record LeavesArchivesRight (c d : Contents) (what : Action) (old new : Cache
   pub shown : ShowsArchive c old what given
   pub asked : (p : Text) (v : VersionParts) → what ≡ Archive p v → IsSameArchive c d p (text_of_version v)
 
--- so of both
+-- both
 pub record LeavesCacheRight (c d : Contents) (what : Action) (old new : Caches) (given : Reply)
     : Type 0 where
-  pub packuments : LeavesTextsRight c d what old.packuments new.packuments given
+  pub packuments : LeavesTextsRight c d new.packuments
   pub archives : LeavesArchivesRight c d what old.archives new.archives given
