@@ -1,6 +1,6 @@
 //! What whoever runs the registry asks for beside requests.
 
-ghost use Rattle.std.specs.Prelude.{◌≡◌, ◌≢◌, ◌≤◌, ◌++◌, [], false, map, true, IfErr, IfOk, IfSome, IsErrAnd, MatchResult, None, OnOk};
+ghost use Rattle.std.specs.Prelude.{◌≡◌, ◌≢◌, ◌≤◌, ◌++◌, ◌∷◌, [], codes, false, map, true, IfErr, IfOk, IfSome, IsErrAnd, MatchResult, None, OnOk};
 ghost use Rattle.clap.specs.Faults.{fault_of};
 ghost use Rattle.clap.specs.Matches.{found_of};
 ghost use Rattle.clap.specs.Simple.{matches_of, subcommand_rows_of};
@@ -11,15 +11,15 @@ ghost use Rattle.clap.specs.declared.error.kind.ErrorKind.TheVariants as kind;
 ghost use Rattle.registry_names.specs.Moments.{last_second};
 ghost use Rattle.registry_cli.specs.Errands as spec;
 ghost use Rattle.registry_cli.specs.Errands.{AddsTokenOf, MeansTokenAdd, errand_of, house, token_add, token_add_arguments};
-ghost use Rattle.registry_cli.specs.Lines.{IsWhole, are_both_in, asks_to_serve};
+ghost use Rattle.registry_cli.specs.Lines.{IsWhole, are_both_in, asks_to_serve, at_in, value_in};
 ghost use Rattle.registry_cli.specs.Subcommands.{registry};
 ghost use Rattle.registry_cli.specs.Usages.{IsMemoryOrBoth};
 ghost use Rattle.registry_cli.specs.declared.usage.Usage.TheVariants as usage;
 
-use crate::arguments::Arguments;
+use crate::arguments::{Arguments, push_text, push_word};
 use crate::command::{house, registry};
 use crate::meaning::{Line, Who};
-use crate::reading::{at, caller, texts, value};
+use crate::reading::{at, caller, line_by, named, parameters_of, texts, value};
 use crate::usage::Usage;
 use clap::error::ErrorKind;
 use clap::{ArgMatches, Error};
@@ -91,65 +91,56 @@ impl NewToken {
         ensures asked { IfOk result (λ words. MeansTokenAdd self.now token.now words.items) }
     {
         let mut words = Vec::new(alloc);
-        push_some(&mut words, who_word(alloc, &self.who)?)?;
-        push_some(&mut words, at_word(alloc, self.at)?)?;
-        words.push(Text::from_str(alloc, "token-add")?)?;
-        words.push(Text::from_str(alloc, "--")?)?;
-        words.push(Text::from_str(alloc, self.user.as_str())?)?;
-        words.push(Text::from_str(alloc, token)?)?;
+        push_who(alloc, &mut words, &self.who)?;
+        push_at(alloc, &mut words, self.at)?;
+        push_token_add(alloc, &mut words, self.user.as_str(), token)?;
         Ok(words)
     }
 }
 
-// Puts a word at the end, if there is one.
-fn push_some(words: &mut Vec<Text>, word: Option<Text>) -> Result<(), AllocError>
-    ensures { OnOk result (words.new.items ≡ words.old.items ++ spec.listed word) }
+// Puts the argument that says who asks at the end, if it is anybody that is known.
+fn push_who(alloc: Global, words: &mut Vec<Text>, who: &Who) -> Result<(), AllocError>
+    ensures { OnOk result (words.new.items ≡ words.old.items ++ spec.listed (spec.who_word who.now)) }
 {
-    match word {
-        Some(word) => Ok(words.push(word)?),
+    match who {
+        Who::Operator => push_text(alloc, words, "--operator"),
+        Who::User(name) => push_word(words, format!(in alloc; "--as={}", name.as_str())?),
+        Who::Anonymous => Ok(()),
+    }
+}
+
+// Puts the argument that says when it is asked at the end, if it is said.
+fn push_at(alloc: Global, words: &mut Vec<Text>, at: Option<Moment>) -> Result<(), AllocError>
+    ensures word { OnOk result (words.new.items ≡ words.old.items ++ spec.listed (spec.at_word at)) }
+    ensures within { IfSome at (λ seconds. seconds ≤ last_second) }
+{
+    match at {
+        Some(at) => push_word(words, format!(in alloc; "--at={}", at.seconds())?),
         None => Ok(()),
     }
 }
 
-// The argument that says who asks. None where it is nobody that is known.
-fn who_word(alloc: Global, who: &Who) -> Result<Option<Text>, AllocError>
-    ensures { IfOk result (λ word. word ≡ spec.who_word who.now) }
+// Puts the subcommand and its arguments at the end.
+fn push_token_add(
+    alloc: Global,
+    words: &mut Vec<Text>,
+    user: &str,
+    token: &str,
+) -> Result<(), AllocError>
+    ensures { OnOk result (words.new.items ≡ words.old.items
+        ++ codes "token-add" ∷ codes "--" ∷ user.now ∷ token.now ∷ []) }
 {
-    match who {
-        Who::Operator => Ok(Some(Text::from_str(alloc, "--operator")?)),
-        Who::User(name) => Ok(Some(after(alloc, "--as=", name.as_str())?)),
-        Who::Anonymous => Ok(None),
-    }
-}
-
-// The argument that says when it is asked, if it is said.
-fn at_word(alloc: Global, at: Option<Moment>) -> Result<Option<Text>, AllocError>
-    ensures word { IfOk result (λ word. word ≡ spec.at_word at) }
-    ensures within { IfSome at (λ seconds. seconds ≤ last_second) }
-{
-    match at {
-        Some(at) => {
-            let seconds = format!(in alloc; "{}", at.seconds())?;
-            Ok(Some(after(alloc, "--at=", seconds.as_str())?))
-        }
-        None => Ok(None),
-    }
-}
-
-// A text after another.
-fn after(alloc: Global, front: &str, text: &str) -> Result<Text, AllocError>
-    ensures { IfOk result (λ t. t ≡ front.now ++ text.now) }
-{
-    let mut whole = String::from_str(alloc, front)?;
-    whole.push_str(text)?;
-    Ok(Text::from(whole))
+    push_text(alloc, words, "token-add")?;
+    push_text(alloc, words, "--")?;
+    push_text(alloc, words, user)?;
+    push_text(alloc, words, token)
 }
 
 fn token_add_words(alloc: Global, user: Text, token: Text) -> Result<Arguments, AllocError>
     ensures { IfOk result (λ what. what ≡ spec.token_add_words user token) }
 {
     let mut what = Vec::new(alloc);
-    what.push(Text::from_str(alloc, "token-add")?)?;
+    push_text(alloc, &mut what, "token-add")?;
     what.push(user)?;
     what.push(token)?;
     Ok(Arguments::from(what))
@@ -383,18 +374,26 @@ fn serve(
     ensures { IfOk result (λ e. e ≡ spec.serve who (rows_of (found_of matches.now))
         (rows_of (found_of found.now))) }
 {
-    let mut what = Vec::new(alloc);
-    what.push(Text::from_str(alloc, "serve")?)?;
-    what.push(Text::from_str(alloc, value(found, "PORT"))?)?;
-    what.push(Text::from_str(alloc, value(found, "CONNECTIONS"))?)?;
-    let line = Line {
-        db: Text::from_str(alloc, value(matches, "PATH"))?,
-        who,
-        at: at(matches),
-        what: Arguments::from(what),
-    };
-    Ok(Some(Errand::Serve {
-        line,
-        log: Text::from_str(alloc, value(found, "LOG"))?,
-    }))
+    let log = Text::from_str(alloc, value(found, "LOG"))?;
+    let line = serving_line(alloc, matches, who, found)?;
+    Ok(Some(Errand::Serve { line, log }))
+}
+
+// The line that serves without a log.
+fn serving_line(
+    alloc: Global,
+    matches: &ArgMatches<'_>,
+    who: Who,
+    found: &ArgMatches<'_>,
+) -> Result<Line, AllocError>
+    ensures { IfOk result (λ l. l ≡ record {
+      db = value_in (rows_of (found_of matches.now)) (codes "PATH");
+      who = who;
+      at = at_in (rows_of (found_of matches.now));
+      what = codes "serve" ∷ value_in (rows_of (found_of found.now)) (codes "PORT")
+          ∷ value_in (rows_of (found_of found.now)) (codes "CONNECTIONS") ∷ [];
+    }) }
+{
+    let what = named(alloc, "serve", found, parameters_of("serve"))?;
+    line_by(alloc, matches, who, Arguments::from(what))
 }

@@ -1,6 +1,6 @@
 //! Reading arguments.
 
-ghost use Rattle.std.specs.Prelude.{◌≡◌, [], ◌∷◌, true, false, map, option_and_then, option_map, IfErr, IfOk};
+ghost use Rattle.std.specs.Prelude.{◌≡◌, [], ◌∷◌, codes, true, false, map, option_and_then, option_map, IfErr, IfOk};
 ghost use Rattle.clap.specs.Faults.{fault_of};
 ghost use Rattle.clap.specs.Matches.{found_of};
 ghost use Rattle.clap.specs.Simple.{subcommand_rows_of};
@@ -12,7 +12,7 @@ ghost use Rattle.registry_cli.specs.Subcommands.{registry};
 ghost use Rattle.registry_cli.specs.Usages.{IsMemoryOrBoth, said_of_both};
 
 use crate::argument_values::is_same;
-use crate::arguments::Arguments;
+use crate::arguments::{Arguments, push_text};
 use crate::command::registry;
 use crate::meaning::{Line, Who};
 use crate::subcommand::{Parameter, called};
@@ -34,7 +34,19 @@ pub fn line(alloc: Global, arguments: &[Text]) -> Result<Line, Usage>
         → IsMemoryOrBoth u (has_both arguments.now)) }
 {
     let texts = texts(alloc, arguments)?;
-    match registry(alloc)?.try_get_matches_from(texts.as_slice()) {
+    line_in_texts(alloc, texts.as_slice())
+}
+
+// The same of the texts as `clap` takes them.
+fn line_in_texts(alloc: Global, texts: &[&str]) -> Result<Line, Usage>
+    ensures ok { IfOk result (λ l. (l ≡ line_of (map (λ s. s.now) texts.now))
+        × (has_both (map (λ s. s.now) texts.now) ≡ false)) }
+    ensures whole { IfOk result (λ l. IsWhole l.what) }
+    ensures faultless { IfOk result (λ _. fault_of registry (map (λ s. s.now) texts.now) ≡ []) }
+    ensures err { IfErr result (λ u. takes registry (map (λ s. s.now) texts.now) ≡ true
+        → IsMemoryOrBoth u (has_both (map (λ s. s.now) texts.now))) }
+{
+    match registry(alloc)?.try_get_matches_from(texts) {
         Ok(matches) => line_in(alloc, &matches),
         Err(error) => Err(Usage::said(alloc, &error)),
     }
@@ -58,11 +70,30 @@ fn line_in(alloc: Global, matches: &ArgMatches<'_>) -> Result<Line, Usage>
     ensures err { IfErr result (λ u.
         IsMemoryOrBoth u (are_both_in (rows_of (found_of matches.now)))) }
 {
+    let who = caller(alloc, matches)?;
+    let what = Arguments::from(what(alloc, matches)?);
+    Ok(line_by(alloc, matches, who, what)?)
+}
+
+// The line, of which it is known who asks for what.
+pub(crate) fn line_by(
+    alloc: Global,
+    matches: &ArgMatches<'_>,
+    who: Who,
+    what: Arguments,
+) -> Result<Line, AllocError>
+    ensures { IfOk result (λ l. l ≡ record {
+      db = value_in (rows_of (found_of matches.now)) (codes "PATH");
+      who = who;
+      at = at_in (rows_of (found_of matches.now));
+      what = what;
+    }) }
+{
     Ok(Line {
         db: Text::from_str(alloc, value(matches, "PATH"))?,
-        who: caller(alloc, matches)?,
+        who,
         at: at(matches),
-        what: Arguments::from(what(alloc, matches)?),
+        what,
     })
 }
 
@@ -148,7 +179,7 @@ pub(crate) fn at(matches: &ArgMatches<'_>) -> Option<Moment>
 }
 
 // The arguments of the subcommand that is called so.
-fn parameters_of(name: &str) -> &'static [Parameter]
+pub(crate) fn parameters_of(name: &str) -> &'static [Parameter]
     ensures { map (λ w. w.id.now) result.now ≡ spec.parameters_of name.now }
 {
     match called(name) {
@@ -158,7 +189,7 @@ fn parameters_of(name: &str) -> &'static [Parameter]
 }
 
 // A subcommand's name, and the values of its arguments.
-fn named(
+pub(crate) fn named(
     alloc: Global,
     name: &str,
     matches: &ArgMatches<'_>,
@@ -169,9 +200,9 @@ fn named(
         (map (λ w. w.id.now) parameters.now)) }
 {
     let mut values = Vec::new(alloc);
-    values.push(Text::from_str(alloc, name)?)?;
+    push_text(alloc, &mut values, name)?;
     for parameter in parameters {
-        values.push(Text::from_str(alloc, value(matches, parameter.id))?)?;
+        push_text(alloc, &mut values, value(matches, parameter.id))?;
     }
     Ok(values)
 }

@@ -1,37 +1,20 @@
-use Rattle.std.proofs.Common.{◌≡◌, ◌∙◌, ap, ap₂, inl, is_some, map, subst, sym, true, List}
-use Rattle.std.proofs.lemmas.Result.{IfErr-weaker, IfOk-weaker}
-use Rattle.clap.specs.Faults.{fault_of, is_simple_and_free}
-use Rattle.clap.specs.Matches.{found_of}
-use Rattle.clap.specs.Simple.{App, app_of, is_simple, matches_of, subcommand_of, subcommand_rows_of}
+use Rattle.std.proofs.Common.{◌≡◌, ◌∙◌, ap, map, subst, List, [], false, true}
+use Rattle.std.specs.Prelude.{IfErr, IfOk}
+use Rattle.clap.specs.Faults.{fault_of}
 use Rattle.clap.specs.Takes.{takes}
-use Rattle.clap.specs.Walk.{Row, Text, rows_of}
-use Rattle.registry_cli.proofs.WholeFacts.{used_is, whole_of}
-use Rattle.registry_cli.specs.Lines.{IsWhole, are_both_in, line_in}
-use Rattle.registry_cli.specs.declared.meaning.Line.{Line}
+use Rattle.clap.specs.Walk.{Text}
+use Rattle.registry_cli.specs.Lines.{has_both, line_of}
 use Rattle.registry_cli.specs.Subcommands.{registry}
 use Rattle.registry_cli.specs.Usages.{IsMemoryOrBoth}
 use Rattle.registry_cli.proofs.reading.line.Goals as goal
 
-pub returns-in-Ok : goal.returns-in-Ok
-returns-in-Ok c =
-    let app_is : app_of c.in_ok-registry.field-0 ≡ registry = c.in_ok-registry.ensures.app in
-    let parameters_are : map (λ s. s.now) c.as_slice.result.now ≡ c.args.arguments.now = ap (map (λ s. s.now)) c.as_slice.ensures.value ∙ c.in_ok-texts.ensures in
-    let has = c.in-Ok.ensures.matches (ap is_simple app_is) in
-    let rows_are : rows_of (found_of c.in-Ok.matches) ≡ matches_of registry c.args.arguments.now = has.0 ∙ ap₂ matches_of app_is parameters_are in
-    let found_is : subcommand_rows_of c.in-Ok.matches ≡ subcommand_of registry c.args.arguments.now = has.1 ∙ ap₂ subcommand_of app_is parameters_are in
-    let parsed = c.in-Ok.ensures.parsed in
-    let checked = (parsed.parsed (parsed.from.globals ∙ c.in_ok-registry.ensures.local)).checked in
-    let used = checked.subcommand (parsed.from.needs_subcommand ∙ ap (λ (a : App). a.top.subcommand_required) app_is) in
-    let given : is_some (subcommand_rows_of c.in-Ok.matches) ≡ true = used_is _ used in
+pub returns : goal.returns
+returns c =
+    let result = c.line_in_texts.result in
+    let arguments_are : map (λ s. s.now) c.as_slice.result.now ≡ c.args.arguments.now = ap (map (λ s. s.now)) c.as_slice.ensures.value ∙ c.in_ok-texts.ensures in
     record {
-      ok = IfOk-weaker c.line_in.result _ _ (λ l h. (h.0 ∙ ap₂ line_in rows_are found_is, sym (ap are_both_in rows_are) ∙ h.1)) c.line_in.ensures.ok;
-      whole = IfOk-weaker c.line_in.result _ _ (λ l h. subst (λ (what : List Text). IsWhole what) (sym (ap (λ (l : Line). l.what) (h.0 ∙ ap₂ line_in rows_are found_is))) (whole_of c.args.arguments.now (ap is_some (sym found_is) ∙ given))) c.line_in.ensures.ok;
-      faultless = IfOk-weaker c.line_in.result _ _ (λ l h. sym (ap₂ fault_of app_is parameters_are) ∙ c.in-Ok.ensures.kinds (ap is_simple_and_free app_is)) c.line_in.ensures.ok;
-      err = IfErr-weaker c.line_in.result _ _ (λ u h taken. subst (λ (rows : List Row). IsMemoryOrBoth u (are_both_in rows)) rows_are h) c.line_in.ensures.err;
+      ok = subst (λ (a : List Text). IfOk result (λ l. (l ≡ line_of a) × (has_both a ≡ false))) arguments_are c.line_in_texts.ensures.ok;
+      whole = c.line_in_texts.ensures.whole;
+      faultless = subst (λ (a : List Text). IfOk result (λ _. fault_of registry a ≡ [])) arguments_are c.line_in_texts.ensures.faultless;
+      err = subst (λ (a : List Text). IfErr result (λ u. takes registry a ≡ true → IsMemoryOrBoth u (has_both a))) arguments_are c.line_in_texts.ensures.err;
     }
-
-pub returns-clause-err : goal.returns-clause-err
-returns-clause-err c =
-    let app_is : app_of c.in_ok-registry.field-0 ≡ registry = c.in_ok-registry.ensures.app in
-    let parameters_are : map (λ s. s.now) c.as_slice.result.now ≡ c.args.arguments.now = ap (map (λ s. s.now)) c.as_slice.ensures.value ∙ c.in_ok-texts.ensures in
-    λ taken. inl (c.said.ensures (c.in-Err.ensures.passes (ap₂ takes app_is parameters_are ∙ taken)))

@@ -8,5 +8,5 @@ pub returns-clause-asked : goal.returns-clause-asked
 returns-clause-asked c =
     let n = c.args.self.now in
     let token = c.args.token.now in
-    let words_are : c.push-4.new.self.items ≡ token_add_arguments n token = search rules in
-    subst (λ (words : List Text). MeansTokenAdd n token words) (sym words_are) (asked n token c.in_ok-at_word.ensures.within)
+    let words_are : c.push_token_add.new.words.items ≡ token_add_arguments n token = search rules in
+    subst (λ (words : List Text). MeansTokenAdd n token words) (sym words_are) (asked n token c.push_at.ensures.within)
