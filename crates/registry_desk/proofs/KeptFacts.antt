@@ -36,7 +36,6 @@ left_no_more cs old new left = record {
 }
 
 pub sound_for : (what : Action) (c : Contents) (caches : Caches) → AreTeamsSound c → AreAnswers c caches → IsSoundFor what c caches
-sound_for (Packument p) c caches sound are = are.packuments
 sound_for (Archive p v) c caches sound are = are.archives
 sound_for (TeamPackages o t) c caches sound are = sound
 sound_for _ c caches sound are = tt

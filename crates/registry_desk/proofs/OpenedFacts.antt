@@ -1,5 +1,5 @@
 -- What an open finds in files: rows whose rowids rise.
-use Rattle.std.proofs.Common.{◌≡◌, ◌⊎◌, ◌∙◌, ℕ, filter, true, List, [], ◌∷◌, inl, inr, ap, sym, subst, IsTrue, OnOk, Result, Ok, Err, length, refl, arith}
+use Rattle.std.proofs.Common.{◌≡◌, ◌⊎◌, ◌∙◌, ℕ, filter, true, List, [], inl, inr, ap, sym, subst, IsTrue, OnOk, Result, Ok, Err, length, refl, arith}
 use Rattle.std.proofs.Math.Logic.{∥∥₁_elim}
 use Rattle.std.specs.List.{AllByRecursion}
 use Rattle.sqlite_rules.specs.Lists.{Has}
@@ -9,7 +9,6 @@ use Rattle.sqlite_schema.specs.declared.schema.Table.{Table}
 use Rattle.sqlite_catalog.specs.Listing.{IsSound, IsTableRow, is_table_row}
 use Rattle.sqlite_catalog.proofs.LayoutLemmas.{table_shape, zipped_left}
 use Rattle.sqlite_trees.specs.Tree.{Trees}
-use Rattle.sqlite_value.specs.Order.{Row}
 use Rattle.sqlite_trees.specs.Objects.{IsListed, catalog_tree}
 use Rattle.sqlite_trees.specs.View.{IsOrdered, IsShaped}
 use Rattle.sqlite_trees.specs.Props.{IsOrdered-prop}

@@ -177,10 +177,9 @@ KeepsAnswer what old new given = (still : Caches) × KeepNoMore old still × Kee
 
 -- ---- a request
 
--- What is stored and kept is sound for an action: for a packument the texts that are kept, for an
--- archive the archives, and for what a team is granted the teams
+-- What is stored and kept is sound for an action: for an archive the archives that are kept, and for
+-- what a team is granted the teams
 abbrev pub IsSoundFor : Action → Contents → Caches → Type 0
-IsSoundFor (Packument p) c caches = ArePackuments c caches.packuments
 IsSoundFor (Archive p v) c caches = AreArchives c caches.archives
 IsSoundFor (TeamPackages o t) c caches = AreTeamsSound c
 IsSoundFor _ c caches = Unit {0}

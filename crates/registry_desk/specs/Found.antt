@@ -16,13 +16,13 @@ use Rattle.registry_rules.specs.Callers.{caller_of}
 use Rattle.registry_rules.specs.State.{State, Release, has_grant, has_live, has_maintainer, has_other_maintainer, has_other_owner, has_team, has_user, is_in_team, is_live, is_member, is_published, is_spent, stands}
 use Rattle.registry_rules.specs.Withdrawals.{is_depended, last_withdrawal, live_versions, tags_of}
 use Rattle.registry_rules.specs.declared.request.Action.{Action}
-use Rattle.registry_rules.specs.declared.request.Action.TheVariants.{Deprecate, Packument, VersionDoc, Archive, Tags, Members, Teams, TeamMembers, TeamPackages, Withdraw}
+use Rattle.registry_rules.specs.declared.request.Action.TheVariants.{Deprecate, VersionDoc, Archive, Tags, Members, Teams, TeamMembers, TeamPackages, Withdraw}
 use Rattle.registry_rules.specs.declared.request.Request.{Request}
 use Rattle.registry_tables.specs.Contents.{Contents, registry_of}
 use Rattle.registry_tables.specs.Needs.{HoldsNeeds}
-use Rattle.registry_tables.specs.Spelled.{document, document_entry, member_entry, published, row_entry, tag_entry}
+use Rattle.registry_tables.specs.Spelled.{document, document_entry, member_entry, published, tag_entry}
 use Rattle.registry_tables.specs.Teams.{granted_entry}
-use Rattle.registry_history.specs.Answers.{archive_in, asked_release, created_at, modified_at, packument_in}
+use Rattle.registry_history.specs.Answers.{archive_in, asked_release, created_at, modified_at}
 use Rattle.registry_desk.specs.declared.grants.Grantable.{Grantable}
 use Rattle.registry_desk.specs.declared.maintainers.Leaver.{Leaver}
 use Rattle.registry_desk.specs.declared.maintainers.Newcomer.{Newcomer}
@@ -41,11 +41,8 @@ pub record AreTimesOf (times : PackTimes) (S : State) (p : Text) : Type 0 where
   pub modified : modified_at (of S.live p) (of S.spent p) ≡ Some times.modified
 
 -- The rows are those that answer the caller's action. A command is answered by none, but a
--- deprecation by the live versions
+-- deprecation by the live versions; and no rows answer a query for a packument
 abbrev pub AreRowsOf : Rows → State → Caller → Action → Type 0
-AreRowsOf (rows.Packument versions tags times) S who (Packument p) =
-    (map row_entry versions.items ≡ map (seen document) (of S.live p)) × ((map tag_entry tags.items ≡ of S.tags p) × AreTimesOf times S p)
-AreRowsOf (rows.Known text) S who (Packument p) = text ≡ packument_in S p
 AreRowsOf (rows.Document found) S who (VersionDoc p asked) = option_map document_entry found ≡ option_map document (asked_release S p asked)
 AreRowsOf (rows.KnownArchive archive) S who (Archive p v) = archive ≡ archive_in S p (text_of_version v)
 AreRowsOf (rows.Archive archive) S who (Archive p v) = archive ≡ option_map (λ (r : Release). r.archive) (at S.live (p, text_of_version v))

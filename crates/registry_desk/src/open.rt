@@ -1,6 +1,6 @@
 //! A registry in a file.
 
-ghost use Rattle.std.specs.Prelude.{◌≡◌, codes, false, true, Err, IfErr, IfOk, IfSome, IsErrAnd, IsTrue, OnErr, OnOk};
+ghost use Rattle.std.specs.Prelude.{◌≡◌, codes, false, true, Err, IfErr, IfOk, IsErrAnd, IsTrue, OnErr, OnOk};
 ghost use Rattle.sqlite.specs.Files.{Finds, IsBlankAs, IsCleanLeft, IsOpened, LeavesFiles, file_state, image_of};
 ghost use Rattle.sqlite.specs.Held.{IsNew, state};
 ghost use Rattle.sqlite.specs.Start.{FindsIn};
@@ -80,18 +80,11 @@ impl<D: Disk + Drop> Unopened<D> {
     {
         match self {
             Unopened::Files(left) => left.into_files(),
-            Unopened::Database(conn) => closed(conn),
+            Unopened::Database(conn) => match conn.close_files() {
+                Ok(files) => files,
+                Err((_, store)) => store.close(),
+            },
         }
-    }
-}
-
-// The files of a connection, closed if they can be.
-fn closed<D: Disk + Drop>(conn: Connection<FileStore<D>>) -> Files<D>
-    ensures { AreFilesOf (Unopened.Database conn) result }
-{
-    match conn.close_files() {
-        Ok(files) => files,
-        Err((_, store)) => store.close(),
     }
 }
 
@@ -139,7 +132,9 @@ impl<S: Start> Registry<FileStore<FileFrom<S>>> {
         ensures memory { path.now ≡ codes ":memory:" → result ≡ Err Fault.Database }
         ensures uri { IsUri path.now → result ≡ Err Fault.Database }
     {
-        match opened_from(rt, path, start) {
+        let options = options(rt)?;
+        let files = files_at(rt, path, start)?;
+        match Registry::open_files(rt.alloc(), files, options) {
             Ok(registry) => Ok(registry),
             Err((fault, _)) => Err(fault),
         }
@@ -257,41 +252,6 @@ impl<S: Alter> Registry<S> {
             Ok(()) => Ok(Registry { conn, caches }),
             Err(fault) => Err((fault, conn)),
         }
-    }
-}
-
-// Opens the files at the path, and hands back what is left of them at a fault: nothing where they
-// weren't reached.
-fn opened_from<S: Start>(
-    rt: &HostRuntime,
-    path: &str,
-    start: S,
-) -> Result<Registry<FileStore<FileFrom<S>>>, (Fault, Option<Unopened<FileFrom<S>>>)>
-    ensures found { IfOk result (λ r. HoldsFound (image_at S.Start) (file_state r)) }
-    ensures each { IfOk result (λ r. HoldsEach (image_at S.Start) (file_state r)) }
-    ensures empty { IfOk result (λ r. IsFreshIfEmpty (image_at S.Start) (file_state r)) }
-    ensures served { IfOk result (λ r. HasCleanDisk (file_state r)
-        → IsTrue (file_state r).is_open) }
-    ensures stays { IfOk result (λ r. HasCleanDisk (file_state r) → IsSure (file_state r)) }
-    ensures guarded { IfOk result (λ r. IsGuarded (file_state r)) }
-    ensures unlimited { IfOk result (λ r. IsUnlimited (file_state r)) }
-    ensures memory { path.now ≡ codes ":memory:"
-        → IsErrAnd result (λ e. e.0 ≡ Fault.Database) }
-    ensures uri { IsUri path.now → IsErrAnd result (λ e. e.0 ≡ Fault.Database) }
-    ensures left { IfErr result (λ e. IfSome e.1 (λ left. (files : _)
-        × IsFresh true files.log × IsFresh false files.db × LeavesAtMost files left)) }
-{
-    let options = match options(rt) {
-        Ok(options) => options,
-        Err(fault) => return Err((fault, None)),
-    };
-    let files = match files_at(rt, path, start) {
-        Ok(files) => files,
-        Err(fault) => return Err((fault, None)),
-    };
-    match Registry::open_files(rt.alloc(), files, options) {
-        Ok(registry) => Ok(registry),
-        Err((fault, left)) => Err((fault, Some(left))),
     }
 }
 

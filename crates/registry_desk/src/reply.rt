@@ -1,7 +1,7 @@
 //! The reply to a request that isn't refused.
 
 ghost use Rattle.std.specs.Prelude.{◌≡◌, ℕ, true, List as Sequence, Some, Ok, IfOk, filter, length, map};
-ghost use Rattle.registry_names.specs.Maps.{of, pairs_of, parts, seen};
+ghost use Rattle.registry_names.specs.Maps.{of, pairs_of, parts};
 ghost use Rattle.registry_names.specs.Versions.{text_of_version};
 ghost use Rattle.registry_packument.specs.Documents.{document_text};
 ghost use Rattle.registry_access.specs.Levels.{reads};
@@ -11,20 +11,17 @@ ghost use Rattle.registry_access.specs.declared.grant.Grant.{Grant as Right};
 ghost use Rattle.registry_rules.specs.State.{State};
 ghost use Rattle.registry_rules.specs.Withdrawals as definitions;
 ghost use Rattle.registry_rules.specs.Withdrawals.{selected};
-ghost use Rattle.registry_tables.specs.Spelled.{document, member_entry, row_entry, tag_entry};
+ghost use Rattle.registry_tables.specs.Spelled.{member_entry, tag_entry};
 ghost use Rattle.registry_tables.specs.Teams.{granted_entry};
 ghost use Rattle.registry_history.specs.Answers as answers;
-ghost use Rattle.registry_history.specs.Answers.{members_in, packument_in, tags_in, team_packages_in};
+ghost use Rattle.registry_history.specs.Answers.{members_in, tags_in, team_packages_in};
 ghost use Rattle.registry_history.specs.Runs.{accepts};
-ghost use Rattle.registry_desk.specs.Found.{AreRowsOf, AreTimesOf};
+ghost use Rattle.registry_desk.specs.Found.{AreRowsOf};
 
 use crate::rows::Rows;
 use registry_cache::{SharedBlob, SharedText};
-use registry_names::{Blob, DistTag, Fault, Name, Text, Ver};
-use registry_packument::{
-    Granted, List, Member, PackHead, PackTimes, VersionRow, VersionRows, list_text, packument_text,
-    version_text,
-};
+use registry_names::{Blob, DistTag, Fault, Text, Ver};
+use registry_packument::{Granted, List, Member, list_text, version_text};
 use registry_ranges::Selector;
 use registry_rules::{Action, Reply};
 use registry_tables::DocumentRow;
@@ -55,14 +52,12 @@ pub(crate) fn reply(alloc: Global, what: &Action, rows: Rows) -> Result<Reply, F
         | Action::TagSet { .. }
         | Action::TagRemove { .. }
         | Action::Withdraw { .. } => Ok(Reply::Done),
-        Action::Deprecate { .. } | Action::Packument { .. } | Action::Archive { .. } => {
-            reply_of(alloc, what, rows)
-        }
+        Action::Deprecate { .. } | Action::Archive { .. } => reply_of(alloc, what, rows),
         _ => doc(text_of(alloc, what, rows)?),
     }
 }
 
-// The reply to a deprecation, and to a query for a packument or an archive.
+// The reply to a deprecation, and to a query for an archive.
 fn reply_of(alloc: Global, what: &Action, rows: Rows) -> Result<Reply, Fault>
     ensures is { IfOk result (λ told. (S : State) (who : Caller) → AreRowsOf rows S who what.now
         → told ≡ answers.reply S who what.now) }
@@ -72,15 +67,6 @@ fn reply_of(alloc: Global, what: &Action, rows: Rows) -> Result<Reply, Fault>
         (Action::Deprecate { selector, .. }, Rows::Live(live)) => {
             Ok(Reply::Count(count(selector, &live)))
         }
-        (
-            Action::Packument { package },
-            Rows::Packument {
-                versions,
-                tags,
-                times,
-            },
-        ) => doc(packument(alloc, package, versions, tags, times)?),
-        (Action::Packument { .. }, Rows::Known(text)) => Ok(Reply::Doc(text)),
         (Action::Archive { .. }, Rows::Archive(Some(archive))) => bytes(alloc, archive),
         (Action::Archive { .. }, Rows::KnownArchive(archive)) => Ok(Reply::Bytes(archive)),
         _ => Err(Fault::Database),
@@ -136,31 +122,6 @@ fn selects(selector: &Selector, version: &Ver) -> bool
 {
     version.text();
     selector.selects(version)
-}
-
-// The packument of a package, whose versions, tags and moments these are. A database gives its rows
-// in order.
-fn packument(
-    alloc: Global,
-    name: &Name,
-    versions: Vec<VersionRow>,
-    tags: Vec<DistTag>,
-    times: PackTimes,
-) -> Result<Text, Fault>
-    ensures { IfOk result (λ text. (S : State)
-        → map row_entry versions.items ≡ map (seen document) (of S.live name.now)
-        → map tag_entry tags.items ≡ of S.tags name.now
-        → AreTimesOf times S name.now
-        → text ≡ packument_in S name.now) }
-{
-    let name = Text::from_str(alloc, name.text())?;
-    let Some(head) = PackHead::new(name, tags, times) else {
-        return Err(Fault::Database);
-    };
-    let Some(mut source) = VersionRows::new(versions) else {
-        return Err(Fault::Database);
-    };
-    packument_text(alloc, &head, &mut source)
 }
 
 // The document of a version, with its message where it has one.

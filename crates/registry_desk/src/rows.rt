@@ -14,7 +14,8 @@ ghost use Rattle.registry_tables.specs.Spelled.{document, document_entry, publis
 ghost use Rattle.registry_tables.specs.Teams.{AreTeamsSound};
 ghost use Rattle.registry_cache.specs.Caches.{kept};
 ghost use Rattle.registry_desk.specs.Found.{AreRowsOf, AreTimesOf};
-ghost use Rattle.registry_desk.specs.Caches.{AreArchives, ArePackuments, IsSoundFor};
+ghost use Rattle.registry_desk.specs.Caches.{AreArchives, IsSoundFor};
+ghost use Rattle.registry_desk.specs.Sending.{IsPackument};
 ghost use Rattle.registry_rules.specs.declared.request.Action.TheVariants as asked;
 ghost use Rattle.registry_rules.specs.declared.request.Asked.TheVariants as which;
 
@@ -22,12 +23,11 @@ use crate::cache::{Caches, cached_archive};
 use registry_access::Caller;
 use registry_cache::{BlobCache, Shared, SharedBlob, SharedText, TextCache};
 use registry_names::{Blob, DistTag, Fault, Ident, LATEST, Name, Text, Ver};
-use registry_packument::{Granted, Member, PackTimes, VersionRow, VersionTime};
+use registry_packument::{Granted, Member, PackTimes, VersionTime};
 use registry_rules::{Action, Asked};
 use registry_tables::{
-    DocumentRow, LiveVersions, load_archive, load_document, load_last_withdrawal, load_live,
-    load_members, load_spent_publications, load_tag, load_tags, load_team_packages,
-    load_team_users, load_teams, load_versions,
+    DocumentRow, load_archive, load_document, load_last_withdrawal, load_live, load_members,
+    load_spent_publications, load_tag, load_tags, load_team_packages, load_team_users, load_teams,
 };
 use sqlite::{Alter, Transaction};
 use std::alloc::Global;
@@ -39,17 +39,6 @@ pub(crate) enum Rows {
     Nothing,
     /// Of a deprecation: the live versions, in byte order of their texts.
     Live(Vec<Ver>),
-    /// Of a packument.
-    Packument {
-        /// The live versions, in byte order.
-        versions: Vec<VersionRow>,
-        /// The tags, in byte order.
-        tags: Vec<DistTag>,
-        /// The moments.
-        times: PackTimes,
-    },
-    /// Of a packument: its text, which was made before.
-    Known(SharedText),
     /// The manifest and the message of a version, if that lives.
     Document(Option<DocumentRow>),
     /// The archive of a version, if that lives.
@@ -75,6 +64,7 @@ pub(crate) fn rows_for<S: Alter>(
     what: &Action,
 ) -> Result<Rows, Fault>
     requires in_form { InForm S.Store tx.old }
+    requires other { ¬ IsPackument what.now }
     ensures stays { Stays S.Store tx.old tx.new }
     ensures knows { Knows S.Store tx.old tx.new result (λ rows c. IsSoundFor what.now c caches.now
         → AreRowsOf rows (registry_of c) caller.now what.now) }
@@ -99,7 +89,8 @@ pub(crate) fn rows_for<S: Alter>(
         | Action::TagRemove { .. }
         | Action::Withdraw { .. } => Ok(Rows::Nothing),
         Action::Deprecate { package, .. } => live_rows(alloc, tx, package),
-        Action::Packument { package } => packument_rows(alloc, tx, &caches.packuments, package),
+        // Such a query doesn't come here: `queried` and `sent` answer it.
+        Action::Packument { .. } => unreachable!(),
         Action::VersionDoc { package, version } => document_row(tx, package, version),
         Action::Archive { package, version } => {
             archive_row(alloc, tx, &caches.archives, package, version)
@@ -130,49 +121,11 @@ fn live_rows<S: Alter>(
     Ok(Rows::Live(load_live(alloc, tx, name)?))
 }
 
-fn packument_rows<S: Alter>(
-    alloc: Global,
-    tx: &mut Transaction<'_, S>,
-    cache: &TextCache,
-    name: &Name,
-) -> Result<Rows, Fault>
-    requires in_form { InForm S.Store tx.old }
-    ensures stays { Stays S.Store tx.old tx.new }
-    ensures knows { Knows S.Store tx.old tx.new result (λ rows c. (who : Caller)
-        → ArePackuments c cache.now
-        → AreRowsOf rows (registry_of c) who (asked.Packument name.now)) }
-{
-    match cached_text(cache, name) {
-        Some(text) => Ok(Rows::Known(text)),
-        None => stored_rows(alloc, tx, name),
-    }
-}
-
 /// The text that is kept of a packument. None where it can't be shared.
 pub(crate) fn cached_text(cache: &TextCache, name: &Name) -> Option<SharedText>
     ensures { IfSome result (λ text. kept cache.now name.now ≡ Some text) }
 {
     cache.peek(name.text())?.share().ok()
-}
-
-fn stored_rows<S: Alter>(
-    alloc: Global,
-    tx: &mut Transaction<'_, S>,
-    name: &Name,
-) -> Result<Rows, Fault>
-    requires in_form { InForm S.Store tx.old }
-    ensures stays { Stays S.Store tx.old tx.new }
-    ensures loads { Loads S.Store tx.old tx.new result
-        (λ rows c. (who : Caller) → AreRowsOf rows (registry_of c) who (asked.Packument name.now)) }
-{
-    let LiveVersions { versions, times } = load_versions(alloc, tx, name)?;
-    let tags = load_tags(alloc, tx, name)?;
-    let times = pack_times(alloc, tx, name, times)?;
-    Ok(Rows::Packument {
-        versions,
-        tags,
-        times,
-    })
 }
 
 /// The moments of a package of which a version was published, where its live versions are these.

@@ -23,6 +23,7 @@ answered_by-requires g c = record {
       let reads = (c.in_ok-refusal.ensures.loads clean).0 in
       record { holds = refl; ready = reads.ready; mode = reads.mode ∙ c.requires.begun (omega (arith, c.facts.ensures.stays.survives.clean, clean)) };
   known = refl;
+  other = c.requires.other;
 }
 
 -- ---- refused early

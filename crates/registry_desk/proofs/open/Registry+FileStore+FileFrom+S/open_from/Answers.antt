@@ -1,4 +1,50 @@
+use Rattle.std.proofs.Common.{◌≡◌, ℕ, Bool, List, ap₂, cond, false, subst, true}
+use Rattle.sqlite.specs.Files.{file_state}
+use Rattle.sqlite_disk.specs.Events.{Event, replay}
+use Rattle.sqlite_disk.specs.declared.calls.Calls as calls
+use Rattle.sqlite_disk.specs.declared.files.Files.{Files}
+use Rattle.sqlite_disk.specs.declared.modelled.Modelled.{Modelled}
+use Rattle.sqlite_disk.specs.declared.start.Start.{Ghosts}
+use Rattle.sqlite_std_file.specs.File.{IsFresh}
+use Rattle.sqlite_std_file.specs.declared.host.Host.{Host}
+use Rattle.sqlite_wal.specs.Files.{image_at}
+use Rattle.sqlite_wal.specs.Recovery.{Image}
+use Rattle.registry_desk.specs.Opened.{HoldsEach, HoldsFound, IsFreshIfEmpty}
 use Rattle.registry_desk.proofs.open.Registry+FileStore+FileFrom+S.open_from.Goals as goal
 
+abbrev image : List ℕ → List ℕ → Image
+image log db = record { log = log; db = db }
+
+abbrev seen : List ℕ → List ℕ → Bool → List Event → List ℕ
+seen log db is_log history = (replay (cond is_log log db) history).seen
+
+module _ {S : Type 0} {g : calls.Ghosts Host} {start : Ghosts S} where
+  abbrev seen_in : Modelled Host S g start → List ℕ
+  seen_in file = seen start.log start.db file.is_log file.calls.log.events
+
+  -- files that nothing has happened to hold what they were opened with
+  fresh_image : (files : Files (Modelled Host S g start)) → IsFresh true files.log → IsFresh false files.db → image (seen_in files.log) (seen_in files.db) ≡ image_at start
+  fresh_image files log db = ap₂ image (ap₂ (seen start.log start.db) log.0 log.1) (ap₂ (seen start.log start.db) db.0 db.1)
+
+pub returns-in-Ok-clause-found : goal.returns-in-Ok-clause-found
+returns-in-Ok-clause-found g c = subst (λ i. HoldsFound i (file_state c.in-Ok.registry)) (fresh_image c.in_ok-files.files c.in_ok-files.ensures.fresh.0 c.in_ok-files.ensures.fresh.1) c.in-Ok.ensures.found
+
+pub returns-in-Ok-clause-each : goal.returns-in-Ok-clause-each
+returns-in-Ok-clause-each g c = subst (λ i. HoldsEach i (file_state c.in-Ok.registry)) (fresh_image c.in_ok-files.files c.in_ok-files.ensures.fresh.0 c.in_ok-files.ensures.fresh.1) c.in-Ok.ensures.each
+
+pub returns-in-Ok-clause-empty : goal.returns-in-Ok-clause-empty
+returns-in-Ok-clause-empty g c = subst (λ i. IsFreshIfEmpty i (file_state c.in-Ok.registry)) (fresh_image c.in_ok-files.files c.in_ok-files.ensures.fresh.0 c.in_ok-files.ensures.fresh.1) c.in-Ok.ensures.empty
+
+-- ---- a path that is no file's
+
+pub returns-in-Ok-clause-memory : goal.returns-in-Ok-clause-memory
+returns-in-Ok-clause-memory g c memory = absurd (c.in_ok-files.ensures.memory memory)
+
 pub returns-in-Ok-clause-uri : goal.returns-in-Ok-clause-uri
-returns-in-Ok-clause-uri g c uri = absurd (c.in-Ok.ensures.uri uri)
+returns-in-Ok-clause-uri g c uri = absurd (c.in_ok-files.ensures.uri uri)
+
+pub returns-clause-memory : goal.returns-clause-memory
+returns-clause-memory g c memory = absurd (c.in_ok-files.ensures.memory memory)
+
+pub returns-clause-uri : goal.returns-clause-uri
+returns-clause-uri g c uri = absurd (c.in_ok-files.ensures.uri uri)
